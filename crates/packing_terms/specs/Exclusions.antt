@@ -1,0 +1,53 @@
+-- Sets of exclusions, and the places that respect them.
+use Rattle.std.specs.Prelude.{ℕ, ◌<◌, ◌≢◌, ◌==◌, ◌&&◌, ◌||◌, List, Bool, true, false, IsTrue}
+use Rattle.std.specs.List.{list_any}
+use Rattle.packing_terms.specs.declared.Rel.{Rel}
+use Rattle.packing_terms.specs.declared.Rel.TheVariants.{Overlap, Before, After}
+use Rattle.packing_terms.specs.declared.Exclusion.{Exclusion}
+use Rattle.packing_terms.specs.Packing.{PlainInstance, dims, box_count}
+use Rattle.packing_terms.specs.Relations.{Holds, mirror}
+
+-- a set of exclusions: whether a relation is excluded in a dimension, at a pair
+abbrev pub Exclusions : Type 0
+Exclusions = ℕ → ℕ → ℕ → Rel → Bool
+
+abbrev pub is_same_rel : Rel → Rel → Bool
+is_same_rel Overlap Overlap = true
+is_same_rel Before Before = true
+is_same_rel After After = true
+is_same_rel _ _ = false
+
+-- whether the exclusion is of this relation in this dimension, at this pair in this order
+abbrev pub is_at : Exclusion → Exclusions
+is_at e i u v r = (e.dim == i) && (e.u == u) && (e.v == v) && is_same_rel e.rel r
+
+-- an exclusion is the same as its mirror
+abbrev pub is_of : Exclusion → Exclusions
+is_of e i u v r = is_at e i u v r || is_at e i v u (mirror r)
+
+-- the set of the exclusions of a list
+abbrev pub excludes : List Exclusion → Exclusions
+excludes es i u v r = list_any (λ e. is_of e i u v r) es
+
+-- the dimension is there, and the boxes are two boxes that are there
+pub record IsPlaceAmong (d n i u v : ℕ) : Type 0 where
+  pub dim : i < d
+  pub first : u < n
+  pub second : v < n
+  pub distinct : u ≢ v
+
+abbrev pub IsPlace : PlainInstance → ℕ → ℕ → ℕ → Type 0
+IsPlace instance i u v = IsPlaceAmong (dims instance) (box_count instance) i u v
+
+-- none of the excluded relations holds
+abbrev pub Respects : PlainInstance → List ℕ → Exclusions → Type 0
+Respects instance places X = (i u v : ℕ) (r : Rel) → IsTrue (X i u v r) → ¬ Holds instance places i u v r
+
+abbrev pub IsApart : Exclusions → ℕ → ℕ → ℕ → Type 0
+IsApart X i u v = IsTrue (X i u v Overlap)
+
+abbrev pub IsJoined : Exclusions → ℕ → ℕ → ℕ → Type 0
+IsJoined X i u v = IsTrue (X i u v Before) × IsTrue (X i u v After)
+
+abbrev pub IsSurelyBefore : Exclusions → ℕ → ℕ → ℕ → Type 0
+IsSurelyBefore X i u v = IsTrue (X i u v Overlap) × IsTrue (X i u v After)

@@ -1,0 +1,9 @@
+pub mod Packing
+pub mod Limits
+pub mod Goals
+pub mod Relations
+pub mod Exclusions
+pub mod Rules
+pub mod Closure
+pub mod Scales
+pub mod Tuples

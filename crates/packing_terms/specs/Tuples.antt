@@ -1,0 +1,52 @@
+-- The list of tuples that are tried, in its order.
+use Rattle.std.specs.Prelude.{ℕ, zero, suc, ◌+◌, ◌-◌, ◌*◌, ◌/◌, ◌==◌, ◌||◌, List, [], ◌∷◌, ◌++◌, map, Option, Bool, true, false, nat_lt, nat_le}
+use Rattle.std.specs.List.{filter, flat_map, range_with_len, find, count_by}
+use Rattle.packing_terms.specs.declared.ScaleFn.{ScaleFn}
+use Rattle.packing_terms.specs.declared.ScaleFn.TheVariants.{Id, Step, Cut, Count}
+use Rattle.packing_terms.specs.Packing.{PlainInstance, dims, box_count, container_side, side}
+use Rattle.packing_terms.specs.Scales.{sum_below, image_product, whole_product}
+
+-- whether f 0 or .. or f (n - 1)
+abbrev pub any_below : ℕ → (ℕ → Bool) → Bool
+any_below zero f = false
+any_below (suc n) f = any_below n f || f n
+
+-- half of the container's side, rounded down, or the side of a box
+abbrev pub is_edge : PlainInstance → ℕ → ℕ → Bool
+is_edge instance i e = (e == container_side instance i / 2) || any_below (box_count instance) (λ v. side instance v i == e)
+
+-- those above the given number and up to half of the container's side, rising
+abbrev pub edges_above : PlainInstance → ℕ → ℕ → List ℕ
+edges_above instance i low =
+    filter (λ e. is_edge instance i e) (range_with_len (low + 1) (container_side instance i / 2 - low))
+
+-- the functions that stand after the given one in the list of dimension i
+abbrev pub functions_after : PlainInstance → ℕ → ScaleFn → List ScaleFn
+functions_after instance i Id =
+    map (λ k. Step k) (range_with_len 1 4) ++ map (λ e. Cut e) (edges_above instance i 0) ++ map (λ e. Count e) (edges_above instance i 0)
+functions_after instance i (Step k) =
+    map (λ k. Step k) (range_with_len (k + 1) (4 - k)) ++ map (λ e. Cut e) (edges_above instance i 0) ++ map (λ e. Count e) (edges_above instance i 0)
+functions_after instance i (Cut e) = map (λ e. Cut e) (edges_above instance i e) ++ map (λ e. Count e) (edges_above instance i 0)
+functions_after instance i (Count e) = map (λ e. Count e) (edges_above instance i e)
+
+abbrev pub functions_of : PlainInstance → ℕ → List ScaleFn
+functions_of instance i = Id ∷ functions_after instance i Id
+
+-- every choice for the dimensions below i, that of dimension 0 varying fastest, before the given functions
+abbrev pub choices : PlainInstance → ℕ → List ScaleFn → List (List ScaleFn)
+choices instance zero rest = rest ∷ []
+choices instance (suc i) rest = flat_map (λ f. choices instance i (f ∷ rest)) (functions_of instance i)
+
+abbrev pub is_other : ScaleFn → Bool
+is_other Id = false
+is_other _ = true
+
+-- at most two functions other than id
+abbrev pub tuples : PlainInstance → List (List ScaleFn)
+tuples instance = filter (λ t. nat_le (count_by is_other t) 2) (choices instance (dims instance) [])
+
+abbrev pub has_excess : PlainInstance → ℕ → List ScaleFn → Bool
+has_excess instance c fs = nat_lt (c * whole_product instance fs) (sum_below (box_count instance) (λ v. image_product instance fs v))
+
+abbrev pub first_excess : PlainInstance → ℕ → Option (List ScaleFn)
+first_excess instance c = find (λ t. has_excess instance c t) (tuples instance)

@@ -1,0 +1,9 @@
+pub mod Tests
+pub mod RoundsLemmas
+pub mod PlacesLemmas
+pub mod Steps
+pub mod Applied
+pub mod Runs
+pub mod Turned
+pub mod HeadPlaces
+pub mod AppliedSound

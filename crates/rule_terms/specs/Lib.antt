@@ -1,0 +1,5 @@
+pub mod Rounds
+pub mod Steps
+pub mod Applied
+pub mod Runs
+pub mod Places

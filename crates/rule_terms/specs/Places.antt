@@ -1,0 +1,19 @@
+-- Section 5: the places of a settled node, said as an equation and not as steps.
+use Rattle.std.specs.Prelude.{ℕ, ◌+◌, ◌<◌, ◌≤◌, ◌≡◌, ◌⊎◌, List, false}
+use Rattle.packing_terms.specs.declared.Rel.{Rel}
+use Rattle.packing_terms.specs.Packing.{PlainInstance, dims, box_count, side, place}
+use Rattle.packing_terms.specs.Exclusions.{Exclusions, IsPlace, IsSurelyBefore}
+
+-- in some dimension the mask is exactly before, or exactly after
+abbrev pub IsSettled : PlainInstance → Exclusions → ℕ → ℕ → Type 0
+IsSettled instance X u v =
+    (i : ℕ) × (i < dims instance) × (IsSurelyBefore X i u v ⊎ IsSurelyBefore X i v u)
+
+-- no mask is empty
+abbrev pub HasNoEmptyMask : PlainInstance → Exclusions → Type 0
+HasNoEmptyMask instance X = (i u v : ℕ) → IsPlace instance i u v → (r : Rel) × (X i u v r ≡ false)
+
+-- p is the greatest end of a box that is surely before v, and 0 where there is none
+pub record IsGreatestEnd (instance : PlainInstance) (X : Exclusions) (places : List ℕ) (i v : ℕ) : Type 0 where
+  pub above : (u : ℕ) → u < box_count instance → IsSurelyBefore X i u v → place instance places u i + side instance u i ≤ place instance places v i
+  pub reached : (place instance places v i ≡ 0) ⊎ ((u : ℕ) × (u < box_count instance) × IsSurelyBefore X i u v × (place instance places v i ≡ place instance places u i + side instance u i))

@@ -1,0 +1,75 @@
+-- Runs: lists of distinct boxes, each related to the next. Chains are runs, read forwards or backwards.
+use Rattle.std.specs.Prelude.{ℕ, ◌+◌, ◌-◌, ◌<◌, ◌≤◌, ◌≡◌, ◌≢◌, List, [], ◌∷◌, ◌++◌, Bool, true, false, slice_index, IsTrue}
+use Rattle.std.specs.List.{sum_by}
+use Rattle.packing_terms.specs.Packing.{PlainInstance, side}
+use Rattle.packing_terms.specs.Exclusions.{Exclusions, IsSurelyBefore}
+use Rattle.packing_terms.specs.Rules.{AreBoxesAmong, AreBoxes, IsChain, weight}
+
+abbrev pub IsRun : (ℕ → ℕ → Type 0) → List ℕ → Type 0
+IsRun R [] = Unit {0}
+IsRun R (v ∷ []) = Unit {0}
+IsRun R (v ∷ x ∷ l) = R v x × IsRun R (x ∷ l)
+
+-- some run that starts in v has the weight k
+pub record HasRun (n : ℕ) (R : ℕ → ℕ → Type 0) (w : ℕ → ℕ) (v k : ℕ) : Type 0 where
+  pub rest : List ℕ
+  pub boxes : AreBoxesAmong n (v ∷ rest)
+  pub run : IsRun R (v ∷ rest)
+  pub heavy : sum_by w (v ∷ rest) ≡ k
+
+-- each number is the weight of a run that starts in that box
+abbrev pub AreRuns : ℕ → (ℕ → ℕ → Type 0) → (ℕ → ℕ) → List ℕ → Type 0
+AreRuns n R w ks = (v : ℕ) → v < n → HasRun n R w v (slice_index ks v)
+
+-- each number is the weight of the heaviest run that starts in that box
+pub record IsHeaviestRun (n : ℕ) (R : ℕ → ℕ → Type 0) (w : ℕ → ℕ) (v k : ℕ) : Type 0 where
+  pub some : HasRun n R w v k
+  pub most : (rest : List ℕ) → AreBoxesAmong n (v ∷ rest) → IsRun R (v ∷ rest) → sum_by w (v ∷ rest) ≤ k
+
+-- what is next in a chain, forwards or backwards
+abbrev pub Leads : Exclusions → ℕ → Bool → ℕ → ℕ → Type 0
+Leads X i true u v = IsSurelyBefore X i v u
+Leads X i false u v = IsSurelyBefore X i u v
+
+abbrev pub IsTransitive : ℕ → (ℕ → ℕ → Type 0) → Type 0
+IsTransitive n R = (u v x : ℕ) → AreBoxesAmong n (u ∷ v ∷ x ∷ []) → R u v → R v x → R u x
+
+abbrev pub IsOneWay : ℕ → (ℕ → ℕ → Type 0) → Type 0
+IsOneWay n R = (u v : ℕ) → AreBoxesAmong n (u ∷ v ∷ []) → R u v → R v u → ⊥
+
+-- how far the numbers may still rise
+abbrev pub room : List ℕ → ℕ
+room ks = sum_by (λ k. 64000000 - k) ks
+
+-- numbers were raised to weights of runs, or left
+pub record IsRaise (n : ℕ) (R : ℕ → ℕ → Type 0) (w : ℕ → ℕ) (old new : List ℕ) (changed : Bool) : Type 0 where
+  pub runs : AreRuns n R w new
+  pub fewer : room new ≤ room old
+  pub shrinks : IsTrue changed → room new < room old
+  pub same : changed ≡ false → new ≡ old
+
+-- no run from v by x on is heavier
+pub record IsSettledAt (R : ℕ → ℕ → Type 0) (w : ℕ → ℕ) (ks : List ℕ) (v x : ℕ) : Type 0 where
+  pub below : v ≢ x → R v x → w v + slice_index ks x ≤ slice_index ks v
+
+-- some chain that ends in v has the weight k, and some chain that starts there
+pub record HasHead (instance : PlainInstance) (X : Exclusions) (i v k : ℕ) : Type 0 where
+  pub before : List ℕ
+  pub boxes : AreBoxes instance (before ++ v ∷ [])
+  pub chain : IsChain X i (before ++ v ∷ [])
+  pub heavy : weight instance i (before ++ v ∷ []) ≡ k
+
+pub record HasTail (instance : PlainInstance) (X : Exclusions) (i v k : ℕ) : Type 0 where
+  pub after : List ℕ
+  pub boxes : AreBoxes instance (v ∷ after)
+  pub chain : IsChain X i (v ∷ after)
+  pub heavy : weight instance i (v ∷ after) ≡ k
+
+-- the weight of the heaviest chain that ends in v, and that starts there
+pub record IsHeaviestHead (instance : PlainInstance) (X : Exclusions) (i v k : ℕ) : Type 0 where
+  pub some : HasHead instance X i v k
+  pub most : (before : List ℕ) → AreBoxes instance (before ++ v ∷ []) → IsChain X i (before ++ v ∷ []) → weight instance i (before ++ v ∷ []) ≤ k
+
+pub record IsHeaviestTail (instance : PlainInstance) (X : Exclusions) (i v k : ℕ) : Type 0 where
+  pub some : HasTail instance X i v k
+  pub most : (after : List ℕ) → AreBoxes instance (v ∷ after) → IsChain X i (v ∷ after) → weight instance i (v ∷ after) ≤ k
