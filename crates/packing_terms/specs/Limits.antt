@@ -1,6 +1,6 @@
 -- The limits of instances.
 use Rattle.std.specs.Prelude.{ℕ, ◌+◌, ◌-◌, ◌<◌, ◌≤◌, ◌≡◌, List, length, slice_index, slice_index_or}
-use Rattle.packing_terms.specs.Packing.{PlainBox, PlainInstance, no_box, dims, box_count}
+use Rattle.packing_terms.specs.Packing.{PlainBox, PlainInstance, no_box, dims}
 
 -- 2 to 4 dimensions
 abbrev pub IsDimCount : ℕ → Type 0
