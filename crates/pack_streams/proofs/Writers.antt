@@ -17,7 +17,7 @@ pub wrote_same : {E : Type 0} (a b : Option (List ℕ)) (f g : ℕ) (x y : List 
     → Writes {E = E} a b f g x r → Writes {E = E} a b f g y r
 wrote_same {E = E} a b f g x y r e p = subst (λ text. Writes {E = E} a b f g text r) e p
 
--- a part of what comes later
+-- a part of what comes after
 part_more : (a b c : Option (List ℕ)) (x y : List ℕ) → Gains a b x → GainsPart b c y → GainsPart a c (x ++ y)
 part_more a b c x y p q =
     (length x + q.0, subst (λ text. Gains a c text) (sym (take-append-add x y q.0)) (gains_more a b c x (take q.0 y) p q.1))
@@ -45,7 +45,9 @@ wrote_after a b c f g h x y e (Err e') p q =
     let rose : Rose f g = p.cause in
     record { whole = tt; part = subst (λ d. GainsPart a d (x ++ y)) (sym q.1) (part_front a b x y p.part); count = omega (arith, p.count, q.2); cause = omega (arith, rose, q.2) }
 
-later : {E : Type 0} (a b c : Option (List ℕ)) (f g h : ℕ) (x y : List ℕ) (r s : Result (Unit {0}) E)
+
+-- a text that is written after another was
+pub later : {E : Type 0} (a b c : Option (List ℕ)) (f g h : ℕ) (x y : List ℕ) (r s : Result (Unit {0}) E)
     → Writes {E = E} a b f g x r → Continues b c g h y r s → Writes {E = E} a c f h (x ++ y) s
 later a b c f g h x y (Ok u) s p q = wrote_more a b c f g h x y s p q.goes
 later a b c f g h x y (Err e) s p q = wrote_after a b c f g h x y e s p q.stays
