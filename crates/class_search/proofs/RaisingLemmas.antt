@@ -1,13 +1,13 @@
 -- Why raising boxes misses no packing, and why it ends.
-use Rattle.std.proofs.Common.{ℕ, ◌+◌, ◌-◌, ◌*◌, ◌<◌, ◌≤◌, ◌≡◌, ◌≢◌, List, [], ◌∷◌, zero, suc, length, get_or, set, ◌⊎◌, inl, inr, arith, refl, sym, ap, ◌∙◌, sum_by, get_or-set_other, get_or-set_same}
+use Rattle.std.proofs.Common.{ℕ, ◌+◌, ◌-◌, ◌*◌, ◌<◌, ◌≤◌, ◌≡◌, List, [], ◌∷◌, zero, suc, length, get_or, set, ◌⊎◌, inl, inr, arith, refl, ap, ◌∙◌, sum_by, get_or-set_other, get_or-set_same}
 use Rattle.std.proofs.Math.Nat.{mul_comm}
 use Rattle.std.proofs.lemmas.List.{length-set, get_or-replicate, get_or_past, length-replicate}
 use Rattle.std.proofs.lemmas.List.Sums.{sum_by-set}
 use Rattle.std.proofs.lemmas.Nat.{same_from_place, mul-add-lt}
 use Rattle.std.proofs.lemmas.Bool.{cases_eq, cases_lt}
 use Rattle.std.proofs.Math.ListN.{replicate}
-use Rattle.packing_terms.specs.Packing.{PlainInstance, IsPacking, EndsBefore, AreDisjoint, dims, box_count, container_side, side, place}
-use Rattle.class_search.specs.Raising.{IsInside, IsAtLeast, AreOverlapping, NonePacksFrom, NonePacksBefore}
+use Rattle.packing_terms.specs.Packing.{PlainInstance, IsPacking, AreDisjoint, dims, box_count, container_side, side, place}
+use Rattle.class_search.specs.Raising.{IsInside, NonePacksFrom, NonePacksBefore}
 
 -- how far all coordinates together are below a limit
 abbrev pub room : List ℕ → ℕ

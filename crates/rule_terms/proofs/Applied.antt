@@ -1,14 +1,14 @@
 -- A rule is applied by keeping only some relations at its pair.
-use Rattle.std.proofs.Common.{◌≡◌, ◌≢◌, ℕ, ◌+◌, ◌<◌, ◌≤◌, ◌⊎◌, ◌↔◌, inl, inr, refl, sym, ap, subst, ◌∙◌, arith, Bool, true, false, not, cond, ◌&&◌, ◌||◌, List, [], ◌∷◌, IsTrue}
-use Rattle.std.proofs.lemmas.Bool.{true≢false, cases_Bool, or_cases, and_parts, and_from}
+use Rattle.std.proofs.Common.{◌≡◌, ℕ, ◌<◌, ◌⊎◌, inl, inr, refl, sym, ap, subst, ◌∙◌, arith, Bool, true, false, not, cond, ◌&&◌, ◌||◌, List, [], ◌∷◌, ◌++◌, append_assoc, IsTrue}
+use Rattle.std.proofs.lemmas.Bool.{true≢false, or_cases}
 use Rattle.packing_terms.specs.declared.Rel.{Rel}
 use Rattle.packing_terms.specs.declared.Rel.TheVariants.{Overlap, Before, After}
 use Rattle.packing_terms.specs.declared.Exclusion.{Exclusion}
 use Rattle.packing_terms.specs.Packing.{PlainInstance, dims, box_count}
 use Rattle.packing_terms.specs.Relations.{mirror}
-use Rattle.packing_terms.specs.Exclusions.{Exclusions, excludes, is_of, is_at, is_same_rel, IsPlace}
+use Rattle.packing_terms.specs.Exclusions.{Exclusions, excludes, is_of, IsPlace}
 use Rattle.packing_terms.specs.Rules.{Rule, IsRuleInstance, Premises, Concludes, Follows, by_rule, dim_of, first_of, second_of}
-use Rattle.packing_terms.specs.Closure.{IsSubset, IsDerivation}
+use Rattle.packing_terms.specs.Closure.{IsSubset}
 use Rattle.rule_terms.specs.Steps.{open_count, with_exclusion}
 use Rattle.rule_terms.specs.Applied.{Adds, added, mirror_added, Extends, IsStep, IsApplied, narrowed_by, narrows, narrowed, is_narrowed}
 use Rattle.packing_terms.proofs.Sets.{or_true, of_own, excludes_symmetric, mirror_twice}
@@ -17,10 +17,12 @@ use Rattle.packing_terms.proofs.Monotone.{premises_more, concludes_more}
 use Rattle.rule_terms.proofs.Steps.{fewer_open}
 
 pub extends_refl : (instance : PlainInstance) (es : List Exclusion) → Extends instance es es
-extends_refl instance es = record { derived = λ E d. d; kept = λ i u v r h. h; fewer = omega arith }
+extends_refl instance es = record { more = []; grown = refl; derived = λ E d. d; kept = λ i u v r h. h; fewer = omega arith }
 
 pub extends_trans : (instance : PlainInstance) (a b c : List Exclusion) → Extends instance a b → Extends instance b c → Extends instance a c
 extends_trans instance a b c h k = record {
+  more = k.more ++ h.more;
+  grown = k.grown ∙ (ap (λ (es : List Exclusion). k.more ++ es) h.grown ∙ sym (append_assoc k.more h.more a));
   derived = λ E d. k.derived E (h.derived E d);
   kept = λ i u v r x. k.kept i u v r (h.kept i u v r x);
   fewer = omega (arith, h.fewer, k.fewer);
@@ -54,6 +56,8 @@ step_follows instance es e place follows = go (excludes es e.dim e.u e.v e.rel) 
     go true k = step_none instance es
     go false k = record {
       extends = record {
+        more = e ∷ [];
+        grown = refl;
         derived = λ E d. (inr follows, d);
         kept = λ i u v r h. or_true _ _ (inr h);
         fewer = let l = fewer_open _ _ es e place k in omega arith;

@@ -1,12 +1,12 @@
 -- A box that starts where the heaviest chain that ends in it leaves it starts at the greatest end before it.
-use Rattle.std.proofs.Common.{◌≡◌, ◌≢◌, ℕ, ◌+◌, ◌<◌, ◌≤◌, ◌⊎◌, inl, inr, refl, sym, ◌∙◌, arith, Bool, true, false, List, [], ◌∷◌}
+use Rattle.std.proofs.Common.{◌≡◌, ◌≢◌, ℕ, ◌+◌, ◌<◌, ◌≤◌, ◌⊎◌, inl, inr, sym, arith, true, List, [], ◌∷◌}
 use Rattle.std.proofs.lemmas.List.Sums.{sum_by-cons}
-use Rattle.packing_terms.specs.Packing.{PlainInstance, dims, box_count, side, place}
+use Rattle.packing_terms.specs.Packing.{PlainInstance, box_count, side, place}
 use Rattle.packing_terms.specs.Exclusions.{Exclusions, IsSurelyBefore}
 use Rattle.std.specs.List.{sum_by}
 use Rattle.packing_terms.specs.Rules.{AreBoxesAmong}
 use Rattle.rule_terms.specs.Places.{IsGreatestEnd}
-use Rattle.rule_terms.specs.Runs.{HasRun, IsRun, IsHeaviestRun, IsHeaviestHead, Leads, IsTransitive, IsOneWay}
+use Rattle.rule_terms.specs.Runs.{IsRun, IsHeaviestRun, IsHeaviestHead, Leads, IsTransitive, IsOneWay}
 use Rattle.rule_terms.proofs.Runs.{run_more}
 use Rattle.rule_terms.proofs.Turned.{run_of_heaviest}
 

@@ -7,3 +7,5 @@ pub mod Runs
 pub mod Turned
 pub mod HeadPlaces
 pub mod AppliedSound
+pub mod TableLaws
+pub mod ChainsMore

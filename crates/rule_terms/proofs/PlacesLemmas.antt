@@ -118,7 +118,7 @@ module _ (instance : PlainInstance) (X : Exclusions) (stable : IsStable instance
             split (inl l) = absurd (too_long u hu uv (rest u hu) l)
             split (inr l) = omega (arith, e)
 
-    -- T2.7
+    -- the places are a packing
     pub places_pack : length places ≡ box_count instance * dims instance → ((u v : ℕ) → u < v → v < box_count instance → IsSettled instance X u v) → IsPacking instance places
     places_pack count settled = record { count = count; inside = inside; disjoint = λ u v l hv. go u v l hv (settled u v l hv) }
       where

@@ -1,5 +1,5 @@
 -- One more exclusion leaves fewer relations open, so a trail has room.
-use Rattle.std.proofs.Common.{◌≡◌, ◌≢◌, ℕ, ◌+◌, ◌-◌, ◌*◌, ◌/◌, ◌<◌, ◌≤◌, ◌⊎◌, inl, inr, refl, sym, subst, ◌∙◌, arith, Bool, true, false, not, cond, List, [], ◌∷◌, ◌++◌, length, replicate}
+use Rattle.std.proofs.Common.{◌≡◌, ◌≢◌, ℕ, ◌+◌, ◌-◌, ◌*◌, ◌/◌, ◌<◌, ◌≤◌, ◌⊎◌, inl, inr, refl, sym, subst, ◌∙◌, arith, true, false, not, List, [], ◌∷◌, length, replicate}
 use Rattle.std.proofs.lemmas.Bool.{true≢false, cases_Bool, cases_lt, or_cases, and_parts, eqb-true}
 use Rattle.std.proofs.lemmas.List.{length-replicate}
 use Rattle.packing_terms.specs.declared.Rel.{Rel}
@@ -8,9 +8,9 @@ use Rattle.packing_terms.specs.Packing.{PlainInstance, no_box, dims, box_count}
 use Rattle.packing_terms.specs.Relations.{mirror}
 use Rattle.packing_terms.specs.Exclusions.{excludes, is_of, is_at, IsPlaceAmong}
 use Rattle.rule_terms.specs.Rounds.{all_exclusions}
-use Rattle.rule_terms.specs.Steps.{open_count, with_exclusion, IsTrail}
+use Rattle.rule_terms.specs.Steps.{open_count, IsTrail}
 use Rattle.packing_terms.proofs.Sets.{or_true, mirror_twice, excludes_symmetric}
-use Rattle.rule_terms.proofs.RoundsLemmas.{length_filter_less, length_filter_fewer, in_all, excludes_own, few_passing}
+use Rattle.rule_terms.proofs.RoundsLemmas.{length_filter_fewer, in_all, excludes_own, few_passing}
 use Rattle.rule_terms.proofs.Tests.{is_not, not_so}
 use Rattle.packing_terms.proofs.Members.{IsIn}
 

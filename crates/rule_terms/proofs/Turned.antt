@@ -1,6 +1,6 @@
 -- Runs read backwards are chains.
-use Rattle.std.proofs.Common.{◌≡◌, ◌≢◌, ℕ, ◌+◌, ◌<◌, ◌≤◌, ◌⊎◌, inl, inr, refl, sym, ap, subst, ◌∙◌, arith, Bool, true, false, List, [], ◌∷◌, ◌++◌}
-use Rattle.std.specs.List.{sum_by, AllByRecursion}
+use Rattle.std.proofs.Common.{◌≡◌, ◌≢◌, ℕ, ◌<◌, ◌≤◌, ◌⊎◌, inl, inr, refl, sym, subst, ◌∙◌, arith, Bool, true, false, List, [], ◌∷◌, ◌++◌}
+use Rattle.std.specs.List.{sum_by}
 use Rattle.std.proofs.lemmas.Bool.{true≢false}
 use Rattle.std.proofs.lemmas.List.Sums.{sum_by-cons, sum_by_push}
 use Rattle.packing_terms.specs.declared.Rel.{Rel}
@@ -9,7 +9,7 @@ use Rattle.packing_terms.specs.Packing.{PlainInstance, dims, box_count, side}
 use Rattle.packing_terms.specs.Exclusions.{Exclusions, IsSurelyBefore, IsPlaceAmong}
 use Rattle.rule_terms.specs.Places.{HasNoEmptyMask}
 use Rattle.packing_terms.specs.Closure.{IsSymmetric}
-use Rattle.packing_terms.specs.Rules.{AreBoxesAmong, IsChain, weight}
+use Rattle.packing_terms.specs.Rules.{AreBoxesAmong, IsChain}
 use Rattle.rule_terms.specs.Runs.{IsRun, HasRun, IsHeaviestRun, Leads, IsTransitive, IsOneWay, HasHead, HasTail, IsHeaviestHead, IsHeaviestTail}
 use Rattle.packing_terms.proofs.Members.{IsIn, append_in, in_append}
 use Rattle.rule_terms.proofs.Runs.{each_in, each_from}

@@ -1,10 +1,11 @@
--- Section 5: the places of a settled node, said as an equation and not as steps.
+-- The places of a settled state: in each dimension each box starts at the greatest end of a box that is surely before it.
+-- Source: coordinates from a packing class by longest paths, Fekete, Schepers and van der Veen (2007).
 use Rattle.std.specs.Prelude.{ℕ, ◌+◌, ◌<◌, ◌≤◌, ◌≡◌, ◌⊎◌, List, false}
 use Rattle.packing_terms.specs.declared.Rel.{Rel}
 use Rattle.packing_terms.specs.Packing.{PlainInstance, dims, box_count, side, place}
 use Rattle.packing_terms.specs.Exclusions.{Exclusions, IsPlace, IsSurelyBefore}
 
--- in some dimension the mask is exactly before, or exactly after
+-- in some dimension one of the two boxes is surely before the other; where no mask is empty, the mask there is exactly before or exactly after
 abbrev pub IsSettled : PlainInstance → Exclusions → ℕ → ℕ → Type 0
 IsSettled instance X u v =
     (i : ℕ) × (i < dims instance) × (IsSurelyBefore X i u v ⊎ IsSurelyBefore X i v u)

@@ -1,4 +1,5 @@
--- D10, where a value is needed: the closure by rounds.
+-- The closure as a value, by rounds. Each round adds every conclusion of every rule instance whose premises hold; no program runs it.
+-- Source: the closure is that of the rules of Fekete, Schepers and van der Veen (2007), and no order of work is part of it.
 use Rattle.std.specs.Prelude.{ℕ, zero, suc, ◌+◌, ◌-◌, ◌*◌, ◌/◌, ◌==◌, ◌&&◌, ◌||◌, not, List, [], ◌∷◌, ◌++◌, Bool, true, nat_lt, map}
 use Rattle.std.specs.List.{list_any, list_all, filter, flat_map, range_with_len}
 use Rattle.packing_terms.specs.declared.Rel.{Rel}
@@ -82,7 +83,7 @@ abbrev pub all_exclusions : ℕ → ℕ → List Exclusion
 all_exclusions d n =
     flat_map (λ i. flat_map (λ v. flat_map (λ u. map (λ r. record { dim = i; u = u; v = v; rel = r }) rels) (below v)) (below n)) (below d)
 
--- what one round adds
+-- what one round adds: every relation that isn't excluded yet, and that some rule excludes at its pair or at the pair turned round
 abbrev pub additions : PlainInstance → List Exclusion → List Exclusion
 additions instance es =
     filter (λ e. not (excludes es e.dim e.u e.v e.rel)

@@ -1,10 +1,11 @@
--- Runs: lists of distinct boxes, each related to the next. Chains are runs, read forwards or backwards.
+-- Runs: lists of distinct boxes, each related to the next. Chains are runs, read forwards or backwards. The weight of a run is the sum of its sides.
 use Rattle.std.specs.Prelude.{ℕ, ◌+◌, ◌-◌, ◌<◌, ◌≤◌, ◌≡◌, ◌≢◌, List, [], ◌∷◌, ◌++◌, Bool, true, false, slice_index, IsTrue}
 use Rattle.std.specs.List.{sum_by}
-use Rattle.packing_terms.specs.Packing.{PlainInstance, side}
+use Rattle.packing_terms.specs.Packing.{PlainInstance}
 use Rattle.packing_terms.specs.Exclusions.{Exclusions, IsSurelyBefore}
 use Rattle.packing_terms.specs.Rules.{AreBoxesAmong, AreBoxes, IsChain, weight}
 
+-- each box of the list is related to the next
 abbrev pub IsRun : (ℕ → ℕ → Type 0) → List ℕ → Type 0
 IsRun R [] = Unit {0}
 IsRun R (v ∷ []) = Unit {0}
@@ -31,15 +32,21 @@ abbrev pub Leads : Exclusions → ℕ → Bool → ℕ → ℕ → Type 0
 Leads X i true u v = IsSurelyBefore X i v u
 Leads X i false u v = IsSurelyBefore X i u v
 
+-- related boxes lead on, among so many distinct boxes
 abbrev pub IsTransitive : ℕ → (ℕ → ℕ → Type 0) → Type 0
 IsTransitive n R = (u v x : ℕ) → AreBoxesAmong n (u ∷ v ∷ x ∷ []) → R u v → R v x → R u x
 
+-- no two boxes are related both ways
 abbrev pub IsOneWay : ℕ → (ℕ → ℕ → Type 0) → Type 0
 IsOneWay n R = (u v : ℕ) → AreBoxesAmong n (u ∷ v ∷ []) → R u v → R v u → ⊥
 
+-- no chain weighs more: 64 boxes with sides of at most 1,000,000
+abbrev pub most_weight : ℕ
+most_weight = 64000000
+
 -- how far the numbers may still rise
 abbrev pub room : List ℕ → ℕ
-room ks = sum_by (λ k. 64000000 - k) ks
+room ks = sum_by (λ k. most_weight - k) ks
 
 -- numbers were raised to weights of runs, or left
 pub record IsRaise (n : ℕ) (R : ℕ → ℕ → Type 0) (w : ℕ → ℕ) (old new : List ℕ) (changed : Bool) : Type 0 where
@@ -52,24 +59,26 @@ pub record IsRaise (n : ℕ) (R : ℕ → ℕ → Type 0) (w : ℕ → ℕ) (old
 pub record IsSettledAt (R : ℕ → ℕ → Type 0) (w : ℕ → ℕ) (ks : List ℕ) (v x : ℕ) : Type 0 where
   pub below : v ≢ x → R v x → w v + slice_index ks x ≤ slice_index ks v
 
--- some chain that ends in v has the weight k, and some chain that starts there
+-- some chain that ends in v has the weight k
 pub record HasHead (instance : PlainInstance) (X : Exclusions) (i v k : ℕ) : Type 0 where
   pub before : List ℕ
   pub boxes : AreBoxes instance (before ++ v ∷ [])
   pub chain : IsChain X i (before ++ v ∷ [])
   pub heavy : weight instance i (before ++ v ∷ []) ≡ k
 
+-- some chain that starts in v has the weight k
 pub record HasTail (instance : PlainInstance) (X : Exclusions) (i v k : ℕ) : Type 0 where
   pub after : List ℕ
   pub boxes : AreBoxes instance (v ∷ after)
   pub chain : IsChain X i (v ∷ after)
   pub heavy : weight instance i (v ∷ after) ≡ k
 
--- the weight of the heaviest chain that ends in v, and that starts there
+-- k is the weight of the heaviest chain that ends in v
 pub record IsHeaviestHead (instance : PlainInstance) (X : Exclusions) (i v k : ℕ) : Type 0 where
   pub some : HasHead instance X i v k
   pub most : (before : List ℕ) → AreBoxes instance (before ++ v ∷ []) → IsChain X i (before ++ v ∷ []) → weight instance i (before ++ v ∷ []) ≤ k
 
+-- k is the weight of the heaviest chain that starts in v
 pub record IsHeaviestTail (instance : PlainInstance) (X : Exclusions) (i v k : ℕ) : Type 0 where
   pub some : HasTail instance X i v k
   pub most : (after : List ℕ) → AreBoxes instance (v ∷ after) → IsChain X i (v ∷ after) → weight instance i (v ∷ after) ≤ k

@@ -1,5 +1,4 @@
-use Rattle.std.proofs.Common.{◌≡◌, ◌<◌, ◌+◌, ◌*◌, ℕ}
-use Rattle.class_search.specs.Raising.{IsInside, AreOverlapping, NonePacksBefore}
+use Rattle.std.proofs.Common.{◌≡◌, ◌+◌, ◌*◌}
 use Rattle.class_search.proofs.RaisingLemmas.{room, Tried}
 use Rattle.class_search.proofs.small.+search.Given as goal
 

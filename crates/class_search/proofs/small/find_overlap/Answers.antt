@@ -1,4 +1,4 @@
-use Rattle.std.proofs.Common.{below_more, ℕ, ◌<◌, ◌≡◌, arith}
+use Rattle.std.proofs.Common.{below_more, ℕ, ◌<◌, arith}
 use Rattle.packing_terms.specs.Packing.{AreDisjoint}
 use Rattle.class_search.proofs.small.find_overlap.Goals as goal
 

@@ -1,0 +1,65 @@
+-- What the calls that read a line give.
+use Rattle.std.specs.Prelude.{ℕ, ◌≡◌, Bool, true, List, ◌∷◌, [], ◌++◌, map, Option, Some, None, Result, Ok, Err, Vec}
+use Rattle.std.specs.declared.alloc.Global.{Global}
+use Rattle.std.specs.Prelude.{◌⊎◌}
+use Rattle.smallvec.specs.SmallVec.{SmallVec}
+use Rattle.packing_terms.specs.Packing.{PlainInstance}
+use Rattle.box_instances.specs.declared.instance.BoxItem.{BoxItem}
+use Rattle.box_instances.specs.Plain.{plain_box}
+use Rattle.text_terms.specs.declared.fault.TextFault.{TextFault}
+use Rattle.text_terms.specs.Texts.{Parts, IsWithinLimits, at_end}
+use Rattle.text_terms.specs.Feeding.{Lexer, take_line}
+use Rattle.instance_text.specs.declared.reading.Added.{Added}
+use Rattle.instance_text.specs.declared.reading.Added.TheVariants.{Nothing, Format, Container, Item}
+use Rattle.instance_text.specs.declared.reader.ReadTextError.{ReadTextError}
+use Rattle.instance_text.specs.declared.reader.ReadTextError.TheVariants.{Fault, NoMemory}
+
+-- the parts with what a line adds
+abbrev pub with_added : Parts → Added → Parts
+with_added parts Nothing = parts
+with_added parts Format = record parts { format = true }
+with_added parts (Container sides) = record parts { container = sides.items }
+with_added parts (Item item) = record parts { boxes = parts.boxes ++ plain_box item ∷ [] }
+
+-- what is given, seen by view, is what reading gives
+abbrev pub Gives : {X Y : Type 0} → (X → Y) → Result X ℕ → Result Y ℕ → Type 0
+Gives view (Ok x) read = read ≡ Ok (view x)
+Gives view (Err code) read = read ≡ Err code
+
+abbrev pub parts_of : Bool → List ℕ → List BoxItem → Parts
+parts_of format container boxes = record { format = format; container = container; boxes = map plain_box boxes }
+
+-- a reader is its parts, or its error
+abbrev pub reader_view : Bool → SmallVec ℕ → Vec BoxItem Global → Option ReadTextError → Result Parts ReadTextError
+reader_view format container boxes None = Ok (parts_of format container.items boxes.items)
+reader_view format container boxes (Some error) = Err error
+
+abbrev pub IsReaderWithinLimits : Result Parts ReadTextError → Type 0
+IsReaderWithinLimits (Ok parts) = IsWithinLimits parts
+IsReaderWithinLimits (Err error) = Unit {0}
+
+abbrev pub as_read : {X : Type 0} → Result X TextFault → Result X ReadTextError
+as_read (Ok x) = Ok x
+as_read (Err fault) = Err (Fault fault)
+
+-- a line: an error stays, and else the line is added, its fault is kept, or memory was refused
+abbrev pub Steps : Result Parts ReadTextError → Lexer → Result Parts ReadTextError → Type 0
+Steps (Err error) line new = new ≡ Err error
+Steps (Ok parts) line new = (new ≡ Err NoMemory) ⊎ (new ≡ as_read (take_line parts line))
+
+-- a call answers the error that is kept
+abbrev pub Answers : {X Y : Type 0} → Result X ReadTextError → Result Y ReadTextError → Type 0
+Answers (Ok x) (Ok y) = Unit {0}
+Answers (Err e) (Err f) = f ≡ e
+Answers _ _ = ⊥
+
+-- the instance of what is held after n lines, or the error that is kept
+abbrev pub finished : Result Parts ReadTextError → ℕ → Result PlainInstance ReadTextError
+finished (Ok parts) n = as_read (at_end parts n)
+finished (Err error) n = Err error
+
+-- what is read, unless memory was refused
+abbrev pub ReadsAs : {X : Type 0} → Result X TextFault → Result X ReadTextError → Type 0
+ReadsAs read (Ok x) = read ≡ Ok x
+ReadsAs read (Err (Fault fault)) = read ≡ Err fault
+ReadsAs read (Err NoMemory) = Unit {0}

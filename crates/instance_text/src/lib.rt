@@ -1,0 +1,17 @@
+//! Instance texts: read byte by byte and line by line, with the line and the code of the first fault, and written in their
+//! one spelling.
+#![tactic(auto)]
+
+mod held;
+mod lexer;
+mod reader;
+mod reading;
+mod writing;
+
+pub use lexer::{LexStep, LineLexer};
+pub use reader::{InstanceReader, ReadTextError, read_instance};
+pub use text_terms::TextFault;
+pub use writing::write_instance;
+
+#[cfg(test)]
+mod tests;

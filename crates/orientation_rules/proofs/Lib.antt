@@ -1,0 +1,4 @@
+pub mod Keeps
+pub mod Compositions
+pub mod ChainLaws
+pub mod Rows

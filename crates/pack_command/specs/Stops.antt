@@ -1,0 +1,23 @@
+-- What is said of a job that ended without an answer.
+use Rattle.std.specs.Prelude.{ℕ, List, ◌++◌, codes}
+use Rattle.std.specs.Fmt.{decimal}
+use Rattle.pack_command.specs.declared.stop.Stop.{Stop}
+use Rattle.pack_command.specs.declared.stop.Stop.TheVariants.{Words, Unbuilt, TooLong, Text, ReadFault, WriteFault, NoMemory}
+
+abbrev pub status_of : Stop → ℕ
+status_of Words = 2
+status_of Unbuilt = 2
+status_of TooLong = 2
+status_of (Text fault) = 2
+status_of ReadFault = 4
+status_of WriteFault = 5
+status_of NoMemory = 6
+
+abbrev pub message_of : Stop → List ℕ
+message_of Words = codes "usage: pack JOB [--workers N] [--budget B] [--scales yes|no] [--number X]\n"
+message_of Unbuilt = codes "pack: unbuilt\n"
+message_of TooLong = codes "pack: input too long\n"
+message_of (Text fault) = codes "pack: line " ++ decimal fault.line ++ codes ": code " ++ decimal fault.code ++ codes "\n"
+message_of ReadFault = codes "pack: read fault\n"
+message_of WriteFault = codes "pack: write fault\n"
+message_of NoMemory = codes "pack: out of memory\n"

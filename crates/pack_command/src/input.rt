@@ -1,0 +1,38 @@
+// The instance that a source gives.
+ghost use Rattle.std.specs.Prelude.{◌≡◌, ◌≤◌, IfOk};
+ghost use Rattle.packing_terms.specs.Limits.{IsInstance};
+ghost use Rattle.pack_streams.specs.Faults.{Rose};
+ghost use Rattle.pack_command.specs.Inputs.{IsRead};
+
+use crate::stop::Stop;
+use box_instances::Instance;
+use instance_text::{ReadTextError, read_instance};
+use pack_streams::{ReadStop, Source, read_up_to};
+use std::alloc::Global;
+
+// The most bytes that the text of an instance may have.
+const LIMIT: usize = 1_048_576;
+
+/// Reads the whole source as the text of an instance that is built.
+pub fn read_input<S: Source>(alloc: Global, input: &mut S) -> Result<Instance, Stop>
+    ensures moves { IsRead (S.left input.old) (S.left input.new) result }
+    ensures limits { IfOk result IsInstance }
+    ensures count { S.faults input.old ≤ S.faults input.new }
+    ensures cause { result ≡ Err Stop.ReadFault → Rose (S.faults input.old) (S.faults input.new) }
+{
+    let text = match read_up_to(alloc, input, LIMIT) {
+        Ok(text) => text,
+        Err(ReadStop::TooLong) => return Err(Stop::TooLong),
+        Err(ReadStop::ReadFault) => return Err(Stop::ReadFault),
+        Err(ReadStop::NoMemory) => return Err(Stop::NoMemory),
+    };
+    let instance = match read_instance(alloc, &text) {
+        Ok(instance) => instance,
+        Err(ReadTextError::Fault(fault)) => return Err(Stop::Text(fault)),
+        Err(ReadTextError::NoMemory) => return Err(Stop::NoMemory),
+    };
+    if instance.dims() > 2 || instance.len() > 3 {
+        return Err(Stop::Unbuilt);
+    }
+    Ok(instance)
+}

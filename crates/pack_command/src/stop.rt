@@ -1,0 +1,68 @@
+// Why a job ended without an answer, and what is said of it.
+ghost use Rattle.std.specs.Prelude.{◌≡◌};
+ghost use Rattle.pack_streams.specs.Writing.{Writes};
+ghost use Rattle.pack_command.specs.Stops.{message_of, status_of};
+
+use pack_streams::{Sink, WriteFault, write_number, write_on};
+use text_terms::TextFault;
+
+/// Why a job ended without an answer.
+#[derive(Clone, Copy, Debug, PartialEq, Eq)]
+pub enum Stop {
+    /// The words are no job.
+    Words,
+    /// What is asked for isn't built yet.
+    Unbuilt,
+    /// The input is longer than 1,048,576 bytes.
+    TooLong,
+    /// The input is no instance text.
+    Text(TextFault),
+    /// The source failed.
+    ReadFault,
+    /// The sink failed.
+    WriteFault,
+    /// Memory was refused.
+    NoMemory,
+}
+
+impl Stop {
+    /// The status that the program ends with.
+    pub fn status(self) -> u8
+        ensures { result ≡ status_of self }
+    {
+        match self {
+            Stop::Words | Stop::Unbuilt | Stop::TooLong | Stop::Text(_) => 2,
+            Stop::ReadFault => 4,
+            Stop::WriteFault => 5,
+            Stop::NoMemory => 6,
+        }
+    }
+
+    /// Writes the one line that names the cause.
+    pub fn tell<E: Sink>(self, err: &mut E) -> Result<(), WriteFault>
+        ensures { Writes (E.written err.old) (E.written err.new) (E.faults err.old) (E.faults err.new) (message_of self) result }
+    {
+        match self {
+            Stop::Words => write_on(err, Ok(()), USAGE),
+            Stop::Unbuilt => write_on(err, Ok(()), b"pack: unbuilt\n"),
+            Stop::TooLong => write_on(err, Ok(()), b"pack: input too long\n"),
+            Stop::Text(fault) => tell_fault(err, fault),
+            Stop::ReadFault => write_on(err, Ok(()), b"pack: read fault\n"),
+            Stop::WriteFault => write_on(err, Ok(()), b"pack: write fault\n"),
+            Stop::NoMemory => write_on(err, Ok(()), b"pack: out of memory\n"),
+        }
+    }
+}
+
+const USAGE: &[u8] = b"usage: pack JOB [--workers N] [--budget B] [--scales yes|no] [--number X]\n";
+
+// Writes the line and the code of a faulty text.
+fn tell_fault<E: Sink>(err: &mut E, fault: TextFault) -> Result<(), WriteFault>
+    ensures { Writes (E.written err.old) (E.written err.new) (E.faults err.old) (E.faults err.new) (message_of (Stop.Text fault)) result }
+{
+    let named = write_on(err, Ok(()), b"pack: line ");
+    let numbered = write_number(err, named, fault.line);
+    let coded = write_on(err, numbered, b": code ");
+    let told = write_number(err, coded, fault.code as u64);
+    write_on(err, told, b"\n")
+}

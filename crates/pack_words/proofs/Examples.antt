@@ -1,0 +1,63 @@
+-- Command lines with their jobs.
+use Rattle.std.proofs.Common.{◌≡◌, [], ◌∷◌, Some, None, refl, codes, true, false}
+use Rattle.text_terms.specs.Lines.{number_of}
+use Rattle.pack_words.specs.declared.job.Job.TheVariants.{Fit, Make}
+use Rattle.pack_words.specs.Job.{job_of_words}
+
+eight_workers : job_of_words (codes "fit" ∷ codes "--workers=08" ∷ [])
+    ≡ Some (record { job = Fit; settings = record { workers = 8; budget = 1000000; scales = true }; number = 0 })
+unfolding job_of_words number_of
+eight_workers = refl
+
+all_options : job_of_words (codes "--number" ∷ codes "2147483647" ∷ codes "--budget=10000000" ∷ codes "--scales" ∷ codes "no" ∷ codes "--" ∷ codes "make" ∷ [])
+    ≡ Some (record { job = Make; settings = record { workers = 1; budget = 10000000; scales = false }; number = 2147483647 })
+unfolding job_of_words number_of
+all_options = refl
+
+no_words : job_of_words [] ≡ None
+unfolding job_of_words number_of
+no_words = refl
+
+no_such_job : job_of_words (codes "pile" ∷ []) ≡ None
+unfolding job_of_words number_of
+no_such_job = refl
+
+two_jobs : job_of_words (codes "fit" ∷ codes "fit" ∷ []) ≡ None
+unfolding job_of_words number_of
+two_jobs = refl
+
+many_workers : job_of_words (codes "fit" ∷ codes "--workers" ∷ codes "65" ∷ []) ≡ None
+unfolding job_of_words number_of
+many_workers = refl
+
+no_workers : job_of_words (codes "fit" ∷ codes "--workers" ∷ codes "0" ∷ []) ≡ None
+unfolding job_of_words number_of
+no_workers = refl
+
+foreign_number : job_of_words (codes "fit" ∷ codes "--number" ∷ codes "3" ∷ []) ≡ None
+unfolding job_of_words number_of
+foreign_number = refl
+
+foreign_budget : job_of_words (codes "check" ∷ codes "--budget" ∷ codes "5" ∷ []) ≡ None
+unfolding job_of_words number_of
+foreign_budget = refl
+
+budget_twice : job_of_words (codes "fit" ∷ codes "--budget" ∷ codes "5" ∷ codes "--budget" ∷ codes "5" ∷ []) ≡ None
+unfolding job_of_words number_of
+budget_twice = refl
+
+other_scales : job_of_words (codes "fit" ∷ codes "--scales" ∷ codes "maybe" ∷ []) ≡ None
+unfolding job_of_words number_of
+other_scales = refl
+
+shortened : job_of_words (codes "fit" ∷ codes "--work" ∷ codes "2" ∷ []) ≡ None
+unfolding job_of_words number_of
+shortened = refl
+
+no_value : job_of_words (codes "fit" ∷ codes "--budget" ∷ []) ≡ None
+unfolding job_of_words number_of
+no_value = refl
+
+hyphen_alone : job_of_words (codes "fit" ∷ codes "--budget" ∷ codes "-" ∷ []) ≡ None
+unfolding job_of_words number_of
+hyphen_alone = refl

@@ -1,0 +1,7 @@
+pub mod Steps
+pub mod ClapReading
+pub mod Walking
+pub mod Rows
+pub mod Alike
+pub mod Judged
+pub mod Examples

@@ -1,0 +1,12 @@
+use Rattle.std.proofs.Common.{ap₂, ◌∙◌}
+use Rattle.std.proofs.lemmas.Result.{IfOk-weaker}
+use Rattle.clap.specs.Simple.{with_rule}
+use Rattle.pack_words.proofs.command.pack_command.Goals as goal
+
+pub returns : goal.returns
+returns c =
+    let one = c.in_ok-arg.ensures.shape c.option_arg.ensures.local ∙ ap₂ with_rule c.bare_command.ensures c.option_arg.ensures.rule in
+    let two = c.in_ok-arg-2.ensures.shape c.option_arg-2.ensures.local ∙ ap₂ with_rule one c.option_arg-2.ensures.rule in
+    let three = c.in_ok-arg-3.ensures.shape c.option_arg-3.ensures.local ∙ ap₂ with_rule two c.option_arg-3.ensures.rule in
+    let four = c.in_ok-arg-4.ensures.shape c.option_arg-4.ensures.local ∙ ap₂ with_rule three c.option_arg-4.ensures.rule in
+    IfOk-weaker c.arg-5.result _ _ (λ r h. h.shape c.job_arg.ensures.local ∙ ap₂ with_rule four c.job_arg.ensures.rule) c.arg-5.ensures

@@ -1,0 +1,114 @@
+-- The job that the words of a command line name, with its settings and number.
+use Rattle.std.specs.Prelude.{ℕ, ◌≡◌, ◌&&◌, ◌||◌, Bool, true, false, not, nat_le, List, [], ◌∷◌, Option, Some, None, Result, Ok, Err, codes, is_some, if◌then◌else◌}
+use Rattle.std.specs.Str.{bytes_eq}
+use Rattle.text_terms.specs.Lines.{number_of}
+use Rattle.pack_words.specs.Items.{Text, Item, option, word, items_from}
+use Rattle.pack_words.specs.declared.job.Job.{Job}
+use Rattle.pack_words.specs.declared.job.Job.TheVariants.{Fit, Strip, Bins, Knapsack, Check, Make}
+use Rattle.pack_words.specs.declared.job.JobWords.{JobWords}
+use Rattle.pack_words.specs.declared.job.WordsError.{WordsError}
+use Rattle.pack_words.specs.declared.job.WordsError.TheVariants.{Refused, NoMemory}
+
+infixl 10 ◌>>=◌
+abbrev pub ◌>>=◌ : {A B : Type 0} → Option A → (A → Option B) → Option B
+None >>= f = None
+(Some x) >>= f = f x
+
+-- the text of the job word, and that of each option that is given
+pub record Texts : Type 0 where
+  pub job : Option Text
+  pub workers : Option Text
+  pub budget : Option Text
+  pub scales : Option Text
+  pub number : Option Text
+
+-- the values that an option is given
+abbrev pub values_of : Text → List Item → List Text
+values_of name [] = []
+values_of name (option other value ∷ items) = if bytes_eq other name then value ∷ values_of name items else values_of name items
+values_of name (word text ∷ items) = values_of name items
+
+abbrev pub job_words : List Item → List Text
+job_words [] = []
+job_words (option name value ∷ items) = job_words items
+job_words (word text ∷ items) = text ∷ job_words items
+
+-- what stands at most once
+abbrev pub at_most_once : List Text → Option (Option Text)
+at_most_once [] = Some None
+at_most_once (text ∷ []) = Some (Some text)
+at_most_once (text ∷ other ∷ texts) = None
+
+-- the texts of the items, where the job word and each option stand at most once
+abbrev pub texts_of : List Item → Option Texts
+texts_of items =
+    at_most_once (job_words items) >>= λ job.
+    at_most_once (values_of (codes "workers") items) >>= λ workers.
+    at_most_once (values_of (codes "budget") items) >>= λ budget.
+    at_most_once (values_of (codes "scales") items) >>= λ scales.
+    at_most_once (values_of (codes "number") items) >>= λ number.
+    Some (record { job = job; workers = workers; budget = budget; scales = scales; number = number })
+
+abbrev pub job_named : Text → Option Job
+job_named text =
+    if bytes_eq text (codes "fit") then Some Fit
+    else (if bytes_eq text (codes "strip") then Some Strip
+    else (if bytes_eq text (codes "bins") then Some Bins
+    else (if bytes_eq text (codes "knapsack") then Some Knapsack
+    else (if bytes_eq text (codes "check") then Some Check
+    else (if bytes_eq text (codes "make") then Some Make
+    else None)))))
+
+-- `check` takes no option, and `make` alone takes a number
+abbrev pub takes_settings : Job → Bool
+takes_settings Check = false
+takes_settings _ = true
+
+abbrev pub takes_number : Job → Bool
+takes_number Make = true
+takes_number _ = false
+
+-- each option that is given is one that the job takes
+abbrev pub are_taken : Job → Texts → Bool
+are_taken job texts =
+    (takes_settings job || not (is_some texts.workers || (is_some texts.budget || is_some texts.scales)))
+    && (takes_number job || not (is_some texts.number))
+
+-- a number in its range, both ends included
+abbrev pub ranged : ℕ → ℕ → Option ℕ → Option ℕ
+ranged low high None = None
+ranged low high (Some n) = if nat_le low n && nat_le n high then Some n else None
+
+-- the number that a value is, or the default where none is given
+abbrev pub number_or : ℕ → ℕ → ℕ → Option Text → Option ℕ
+number_or low high default None = Some default
+number_or low high default (Some text) = ranged low high (number_of text)
+
+-- `yes`, the default, or `no`
+abbrev pub scales_in : Option Text → Option Bool
+scales_in None = Some true
+scales_in (Some text) = if bytes_eq text (codes "yes") then Some true else (if bytes_eq text (codes "no") then Some false else None)
+
+-- the settings and the number of a job that these texts give
+abbrev pub settings_of : Job → Texts → Option JobWords
+settings_of job texts =
+    number_or 1 64 1 texts.workers >>= λ workers.
+    number_or 0 10000000 1000000 texts.budget >>= λ budget.
+    scales_in texts.scales >>= λ scales.
+    number_or 0 2147483647 0 texts.number >>= λ number.
+    Some (record { job = job; settings = record { workers = workers; budget = budget; scales = scales }; number = number })
+
+-- the job of these texts: there is a job word, which is a job that takes these options, and their values are in range
+abbrev pub job_of_texts : Texts → Option JobWords
+job_of_texts texts =
+    texts.job >>= λ text. job_named text >>= λ job. if are_taken job texts then settings_of job texts else None
+
+-- the job that the words name, with its settings and number, or none
+unfoldable pub job_of_words : List Text → Option JobWords
+job_of_words words = items_from None words >>= λ items. texts_of items >>= λ texts. job_of_texts texts
+
+-- what is answered is the job, or a refusal where there is none, or that memory was refused
+abbrev pub IsAnswer : Option JobWords → Result JobWords WordsError → Type 0
+IsAnswer job (Ok answer) = job ≡ Some answer
+IsAnswer job (Err Refused) = job ≡ None
+IsAnswer job (Err NoMemory) = Unit {0}

@@ -1,0 +1,4 @@
+pub mod Items
+pub mod Job
+pub mod Command
+pub mod Said

@@ -1,0 +1,93 @@
+// From texts to a job and its settings.
+ghost use Rattle.std.specs.Prelude.{◌≡◌, option_map};
+ghost use Rattle.pack_words.specs.Job.{job_named, takes_settings, takes_number, are_taken, number_or, scales_in, settings_of, job_of_texts};
+ghost use Rattle.pack_words.specs.Said.{plain_found};
+
+use crate::job::{Job, JobWords};
+use crate::words::Found;
+use text_terms::read_number;
+use work_share::Settings;
+
+fn job_named(word: &str) -> Option<Job>
+    ensures { result ≡ job_named word.now }
+{
+    match word {
+        "fit" => Some(Job::Fit),
+        "strip" => Some(Job::Strip),
+        "bins" => Some(Job::Bins),
+        "knapsack" => Some(Job::Knapsack),
+        "check" => Some(Job::Check),
+        "make" => Some(Job::Make),
+        _ => None,
+    }
+}
+
+// Whether each option that is given is one that the job takes.
+fn are_taken(job: Job, found: Found<'_>) -> bool
+    ensures { result ≡ are_taken job (plain_found found.entry) }
+{
+    let has_settings = found.workers.is_some() | found.budget.is_some() | found.scales.is_some();
+    match job {
+        Job::Check => !has_settings & found.number.is_none(),
+        Job::Make => true,
+        _ => found.number.is_none(),
+    }
+}
+
+// The number that a value is, in its range with both ends included, or the default where none is given.
+fn number_or(low: u32, high: u32, default: u32, value: Option<&str>) -> Option<u32>
+    ensures { result ≡ number_or low high default (option_map (λ s. s.now) value.entry) }
+{
+    match value {
+        None => Some(default),
+        Some(text) => {
+            let number = read_number(text.as_bytes())?;
+            if low as u128 <= number && number <= high as u128 {
+                Some(number as u32)
+            } else {
+                None
+            }
+        }
+    }
+}
+
+fn scales_in(value: Option<&str>) -> Option<bool>
+    ensures { result ≡ scales_in (option_map (λ s. s.now) value.entry) }
+{
+    match value {
+        None => Some(true),
+        Some("yes") => Some(true),
+        Some("no") => Some(false),
+        Some(_) => None,
+    }
+}
+
+fn settings_of(job: Job, found: Found<'_>) -> Option<JobWords>
+    ensures { result ≡ settings_of job (plain_found found.entry) }
+{
+    let workers = number_or(1, 64, 1, found.workers)?;
+    let budget = number_or(0, 10_000_000, 1_000_000, found.budget)?;
+    let scales = scales_in(found.scales)?;
+    let number = number_or(0, 2_147_483_647, 0, found.number)?;
+    let settings = Settings {
+        workers,
+        budget: budget as u64,
+        scales,
+    };
+    Some(JobWords {
+        job,
+        settings,
+        number,
+    })
+}
+
+/// The job that these texts give.
+pub fn job_in(found: Found<'_>) -> Option<JobWords>
+    ensures { result ≡ job_of_texts (plain_found found.entry) }
+{
+    let job = job_named(found.job?)?;
+    if !are_taken(job, found) {
+        return None;
+    }
+    settings_of(job, found)
+}

@@ -1,0 +1,12 @@
+pub mod Rows
+pub mod Back
+pub mod Spelled
+pub mod Sides
+pub mod Keys
+pub mod Numbers
+pub mod Fronts
+pub mod Fed
+pub mod Cut
+pub mod Good
+pub mod Texts
+pub mod LinesFed

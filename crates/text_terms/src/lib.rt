@@ -1,0 +1,13 @@
+//! Texts: their lines, words and numbers, which of them are instances, how they are read byte by byte, and how an instance is
+//! written.
+#![tactic(auto)]
+
+mod fault;
+mod laws;
+mod number;
+
+pub use fault::TextFault;
+pub use laws::{
+    lines_are_told, texts_are_fed, texts_are_instances, texts_are_lines, texts_are_read_back,
+};
+pub use number::read_number;

@@ -1,0 +1,11 @@
+//! Tests of the whole program over memory: words and bytes in, bytes and a status out.
+#![tactic(auto)]
+
+#[cfg(test)]
+mod faults;
+#[cfg(test)]
+mod fits;
+#[cfg(test)]
+mod refusals;
+#[cfg(test)]
+mod runs;

@@ -1,0 +1,50 @@
+// One run of the program over memory.
+use pack_command::run;
+use pack_streams::{MemorySink, MemorySource, ReadStep, WriteStep};
+use std::alloc::{AllocError, Global};
+use std::test::Fail;
+
+/// What a run answered and wrote.
+#[derive(Drop)]
+pub struct Told {
+    pub status: u8,
+    pub out: Vec<u8>,
+    pub err: Vec<u8>,
+}
+
+/// Runs the words on the input, where the source and the sink follow these plans.
+pub fn told_with(
+    rt: &HostRuntime,
+    words: &[&str],
+    input: &[u8],
+    reads: &[ReadStep],
+    writes: &[WriteStep],
+) -> Result<Told, Fail> {
+    let alloc = rt.alloc();
+    let mut given = Vec::new(alloc);
+    for word in words {
+        given.push(String::from_str(alloc, word)?)?;
+    }
+    let mut source = MemorySource::new(listed(alloc, input)?, listed(alloc, reads)?);
+    let mut out = MemorySink::new(alloc, 65536, listed(alloc, writes)?)?;
+    let mut err = MemorySink::new(alloc, 256, Vec::new(alloc))?;
+    let status = run(rt, alloc, &given, &mut source, &mut out, &mut err);
+    Ok(Told {
+        status,
+        out: listed(alloc, out.written())?,
+        err: listed(alloc, err.written())?,
+    })
+}
+
+/// Runs the words on the input, where nothing fails.
+pub fn told_of(rt: &HostRuntime, words: &[&str], input: &[u8]) -> Result<Told, Fail> {
+    told_with(rt, words, input, &[], &[])
+}
+
+fn listed<T: Copy>(alloc: Global, items: &[T]) -> Result<Vec<T>, AllocError> {
+    let mut list = Vec::new(alloc);
+    for item in items {
+        list.push(*item)?;
+    }
+    Ok(list)
+}
