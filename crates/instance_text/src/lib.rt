@@ -2,6 +2,7 @@
 //! one spelling.
 #![tactic(auto)]
 
+mod codes;
 mod held;
 mod lexer;
 mod reader;

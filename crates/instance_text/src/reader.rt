@@ -4,6 +4,7 @@ ghost use Rattle.text_terms.specs.Texts.{no_parts, text_instance};
 ghost use Rattle.packing_terms.specs.Limits.{IsInstance};
 ghost use Rattle.instance_text.specs.Reading.{Steps, Answers, finished, ReadsAs};
 
+use crate::codes;
 use crate::lexer::{LexStep, LineLexer};
 use crate::reading::{Added, read_line};
 use box_instances::{BoxItem, Instance, Sides};
@@ -64,8 +65,8 @@ impl InstanceReader {
 
     /// Takes one line, which `line` describes after it answered `Line`.
     ///
-    /// It answers the fault of the line, with the line's number, exactly where the line has one behind the lines before, and
-    /// else may answer want of memory. After an error every further call answers the same error.
+    /// It answers the fault of the line, with the line's number, exactly where the line has one behind the lines before, unless
+    /// memory was refused. After an error every further call answers the same error.
     pub fn line(&mut self, line: &LineLexer) -> Result<(), ReadTextError>
         ensures step { Steps self.old line.now self.new }
         ensures answer { Answers self.new result }
@@ -128,13 +129,13 @@ impl InstanceReader {
         if !format || container.is_empty() {
             return Err(ReadTextError::Fault(TextFault {
                 line: last_line + 1,
-                code: 7,
+                code: codes::MISSING_LINE,
             }));
         }
         if boxes.is_empty() {
             return Err(ReadTextError::Fault(TextFault {
                 line: last_line + 1,
-                code: 10,
+                code: codes::NO_BOX,
             }));
         }
         match Instance::new(container, boxes) {

@@ -7,6 +7,7 @@ ghost use Rattle.box_instances.specs.Plain.{plain_box};
 ghost use Rattle.instance_text.specs.Plain.{AreCounted};
 ghost use Rattle.instance_text.specs.Reading.{with_added, Gives, parts_of};
 
+use crate::codes;
 use crate::lexer::LineLexer;
 use box_instances::{BoxItem, Sides};
 use std::alloc::Global;
@@ -26,12 +27,12 @@ fn number_within(word: &[u8], low: u32, high: u32) -> Result<u32, u8>
     ensures { result ≡ ranged low high word.now }
 {
     match read_number(word) {
-        None => Err(3),
+        None => Err(codes::NO_NUMBER),
         Some(number) => {
             if low as u128 <= number && number <= high as u128 {
                 Ok(number as u32)
             } else {
-                Err(4)
+                Err(codes::OUT_OF_RANGE)
             }
         }
     }
@@ -72,7 +73,7 @@ fn value_from(line: &LineLexer, from: u32) -> Result<u64, u8>
         return Ok(1);
     }
     if !is_word(line.word(from), b"value") {
-        return Err(1);
+        return Err(codes::UNKNOWN_WORD);
     }
     let value = number_within(line.word(from + 1), 0, 1_000_000_000)?;
     Ok(value as u64)
@@ -85,10 +86,10 @@ fn format_added(format: bool, line: &LineLexer) -> Result<Added, u8>
         → Gives (with_added (parts_of format container boxes)) result (format_line (parts_of format container boxes) (drop 1 line.now.held.words)) }
 {
     if format {
-        return Err(6);
+        return Err(codes::SECOND_LINE);
     }
     if line.word_count() != 2 {
-        return Err(2);
+        return Err(codes::WORD_COUNT);
     }
     let _one = number_within(line.word(1), 1, 1)?;
     Ok(Added::Format)
@@ -106,14 +107,14 @@ fn container_added(
         → Gives (with_added (parts_of format container.now boxes)) result (container_line (parts_of format container.now boxes) (drop 1 line.now.held.words)) }
 {
     if !format {
-        return Err(5);
+        return Err(codes::OUT_OF_ORDER);
     }
     if !container.is_empty() {
-        return Err(6);
+        return Err(codes::SECOND_LINE);
     }
     let count = line.word_count();
     if count < 3 || count > 5 {
-        return Err(2);
+        return Err(codes::WORD_COUNT);
     }
     let sides = sides_from(alloc, line, 1, count - 1)?;
     Ok(Added::Container(sides))
@@ -132,15 +133,15 @@ fn box_added(
     ensures { Gives (with_added (parts_of format container.now boxes.now)) result (box_line (parts_of format container.now boxes.now) (drop 1 line.now.held.words)) }
 {
     if !format || container.is_empty() {
-        return Err(5);
+        return Err(codes::OUT_OF_ORDER);
     }
     if boxes.len() >= 64 {
-        return Err(9);
+        return Err(codes::TOO_MANY_BOXES);
     }
     let count = line.word_count();
     let dims = container.len() as u32;
     if count != dims + 1 && count != dims + 3 {
-        return Err(2);
+        return Err(codes::WORD_COUNT);
     }
     match sides_from(alloc, line, 1, dims) {
         Ok(sides) => match value_from(line, dims + 1) {
@@ -163,7 +164,7 @@ pub fn read_line(
     ensures { Gives (with_added (parts_of format container.now boxes.now)) result (add_line (parts_of format container.now boxes.now) (told line.now.held)) }
 {
     if line.bad_byte() {
-        return Err(8);
+        return Err(codes::BAD_BYTE);
     }
     if line.word_count() == 0 {
         return Ok(Added::Nothing);
@@ -178,5 +179,5 @@ pub fn read_line(
     if is_word(word, b"box") {
         return box_added(alloc, format, container, boxes, line);
     }
-    Err(1)
+    Err(codes::UNKNOWN_WORD)
 }

@@ -205,20 +205,27 @@ fn is_written_as(alloc: Global, text: &[u8], spelling: &[u8]) -> Result<bool, Fa
     Ok(sink.written() == spelling)
 }
 
+const FOUR_DIMENSIONS: &[u8] = b"format 1\ncontainer 9 8 7 6\nbox 1 2 3 4 value 0\nbox 5 6 7 6\n";
+
+#[test]
+fn four_dimensions_and_the_value_0_come_back(rt: HostRuntime) -> Result<(), Fail> {
+    let alloc = rt.alloc();
+    assert!(rt; is_written_as(alloc, FOUR_DIMENSIONS, FOUR_DIMENSIONS)?);
+    let bounds = b"format 1\ncontainer 1000000 1\nbox 1 1000000 value 1000000000\n";
+    assert!(rt; is_written_as(alloc, bounds, bounds)?);
+    Ok(())
+}
+
 #[test]
 fn every_spelling_is_read_and_one_is_written(rt: HostRuntime) -> Result<(), Fail> {
     let alloc = rt.alloc();
-    let spelling = b"format 1\ncontainer 9 8 7 6\nbox 1 2 3 4 value 0\nbox 5 6 7 6\n";
-    assert!(rt; is_written_as(alloc, spelling, spelling)?);
     assert!(rt;
         is_written_as(
             alloc,
             b"\r\n#\r\nformat 01\r\n\tcontainer 9 8 7 0006 # c\xff\r\nbox 1 2 3 4 value 0\n box 5 6\t7 6  value 1#",
-            spelling,
+            FOUR_DIMENSIONS,
         )?
     );
-    let bounds = b"format 1\ncontainer 1000000 1\nbox 1 1000000 value 1000000000\n";
-    assert!(rt; is_written_as(alloc, bounds, bounds)?);
     Ok(())
 }
 

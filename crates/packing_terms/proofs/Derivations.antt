@@ -1,4 +1,4 @@
--- The two laws over tables, and that a derivation is sound.
+-- A stable table holds the closure, and a derivation is sound.
 use Rattle.std.proofs.Common.{◌≡◌, ℕ, ◌⊎◌, inl, inr, sym, subst, true, List, [], ◌∷◌, IsTrue}
 use Rattle.std.proofs.lemmas.Bool.{true≢false, or_cases}
 use Rattle.packing_terms.specs.declared.Rel.{Rel}
@@ -14,7 +14,7 @@ use Rattle.packing_terms.proofs.Soundness.{follows_sound}
 use Rattle.packing_terms.proofs.Sets.{of_own, mirror_twice}
 use Rattle.packing_terms.proofs.Intervals.{some_relation}
 
--- Law 2: a table that holds E, and to which no rule adds an exclusion, holds each derivation.
+-- A table that holds E, and to which no rule adds an exclusion, holds each derivation.
 pub stable_holds : (instance : PlainInstance) (E X : Exclusions) → IsSymmetric X → IsSubset E X → IsStable instance X
     → (es : List Exclusion) → IsDerivation instance E es → IsSubset (excludes es) X
 stable_holds instance E X symmetric holds stable [] d i u v r h = absurd (true≢false (sym h))

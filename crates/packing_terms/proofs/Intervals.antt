@@ -39,7 +39,7 @@ composes p w q x s y hw hx hy After After After h k l = refl
 composes p w q x s y hw hx hy After After Before h k l = absurd (omega arith)
 composes p w q x s y hw hx hy After After Overlap h k l = absurd (omega arith)
 
--- each of the three that is allowed comes about (the other half of T2.2): here at the nine entries by one witness each is left out
+-- projections that don't overlap lie before or after
 pub apart_relation : (p w q x : ℕ) → (AreRelated p w q x Overlap → ⊥) → AreRelated p w q x Before ⊎ AreRelated p w q x After
 apart_relation p w q x none = go (some_relation p w q x)
   where

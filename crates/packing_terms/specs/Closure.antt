@@ -1,4 +1,5 @@
--- What has a derivation from a set of exclusions, its closure, and when that has a conflict.
+-- What has a derivation from a set of exclusions, its closure, and when that has a conflict. A derivation is a list, the newest exclusion first, in
+-- which each is given or follows from older ones by one rule. Nothing is said of an order of work: the closure is all that stands in some derivation.
 use Rattle.std.specs.Prelude.{ℕ, ◌⊎◌, List, [], ◌∷◌, IsTrue}
 use Rattle.packing_terms.specs.declared.Rel.{Rel}
 use Rattle.packing_terms.specs.declared.Exclusion.{Exclusion}
@@ -42,3 +43,7 @@ IsStable instance X = (i u v : ℕ) (r : Rel) → Follows instance X i u v r →
 -- each exclusion of the set has a derivation from E
 abbrev pub AreDerived : PlainInstance → Exclusions → Exclusions → Type 0
 AreDerived instance E X = (i u v : ℕ) (r : Rel) → IsTrue (X i u v r) → IsDerived instance E i u v r
+
+-- all that the first set derives, the second derives: the closure of the first lies in that of the second
+abbrev pub Derives : PlainInstance → Exclusions → Exclusions → Type 0
+Derives instance E F = (i u v : ℕ) (r : Rel) → IsDerived instance E i u v r → IsDerived instance F i u v r

@@ -7,3 +7,9 @@ pub mod Rules
 pub mod Closure
 pub mod Scales
 pub mod Tuples
+pub mod Tokens
+pub mod Refutation
+pub mod Feeding
+pub mod OuterRefutation
+pub mod OuterFeeding
+pub mod ExcessLaw

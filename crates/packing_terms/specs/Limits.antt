@@ -1,4 +1,5 @@
--- The limits of instances.
+-- The limits of instances. A written instance has 2 to 4 dimensions, 1 to 64 boxes and sides from 1 to 1,000,000; while heights are tried, the
+-- last container side is set, from 0 to the 64,000,000 that a stack of all boxes may need.
 use Rattle.std.specs.Prelude.{ℕ, ◌+◌, ◌-◌, ◌<◌, ◌≤◌, ◌≡◌, List, length, slice_index, slice_index_or}
 use Rattle.packing_terms.specs.Packing.{PlainBox, PlainInstance, no_box, dims}
 

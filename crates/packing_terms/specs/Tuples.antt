@@ -1,4 +1,8 @@
 -- The list of tuples that are tried, in its order.
+--
+-- The functions of dimension i are id; step 1 to step 4; cut e for each e of E, rising; count e for each e of E, rising. E has the box sides in
+-- that dimension of which two fit in W, and half of W rounded down where that is at least 1. The list of tuples has every choice with at most two
+-- functions other than id; the function of dimension 0 varies fastest, then that of dimension 1, and so on.
 use Rattle.std.specs.Prelude.{ℕ, zero, suc, ◌+◌, ◌-◌, ◌*◌, ◌/◌, ◌==◌, ◌||◌, List, [], ◌∷◌, ◌++◌, map, Option, Bool, true, false, nat_lt, nat_le}
 use Rattle.std.specs.List.{filter, flat_map, range_with_len, find, count_by}
 use Rattle.packing_terms.specs.declared.ScaleFn.{ScaleFn}
@@ -29,6 +33,7 @@ functions_after instance i (Step k) =
 functions_after instance i (Cut e) = map (λ e. Cut e) (edges_above instance i e) ++ map (λ e. Count e) (edges_above instance i 0)
 functions_after instance i (Count e) = map (λ e. Count e) (edges_above instance i e)
 
+-- the functions of dimension i, in their order
 abbrev pub functions_of : PlainInstance → ℕ → List ScaleFn
 functions_of instance i = Id ∷ functions_after instance i Id
 
@@ -37,16 +42,19 @@ abbrev pub choices : PlainInstance → ℕ → List ScaleFn → List (List Scale
 choices instance zero rest = rest ∷ []
 choices instance (suc i) rest = flat_map (λ f. choices instance i (f ∷ rest)) (functions_of instance i)
 
+-- whether the function isn't id
 abbrev pub is_other : ScaleFn → Bool
 is_other Id = false
 is_other _ = true
 
--- at most two functions other than id
+-- the list of tuples: every choice with at most two functions other than id
 abbrev pub tuples : PlainInstance → List (List ScaleFn)
 tuples instance = filter (λ t. nat_le (count_by is_other t) 2) (choices instance (dims instance) [])
 
+-- whether the products of the images are more than c products of the wholes
 abbrev pub has_excess : PlainInstance → ℕ → List ScaleFn → Bool
 has_excess instance c fs = nat_lt (c * whole_product instance fs) (sum_below (box_count instance) (λ v. image_product instance fs v))
 
+-- the first tuple of the list with excess for c copies
 abbrev pub first_excess : PlainInstance → ℕ → Option (List ScaleFn)
 first_excess instance c = find (λ t. has_excess instance c t) (tuples instance)

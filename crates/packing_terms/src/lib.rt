@@ -1,14 +1,16 @@
 //! What `pack` claims: the definitions of exact orthogonal packing that every contract cites, and the laws over them.
+//!
+//! The definitions stand in specs/, one topic a file. Each law is the contract of a function with an empty body in `laws`.
 #![tactic(auto)]
 
-ghost use Rattle.std.specs.Prelude.{◌≡◌, ℕ, List, IsTrue};
-ghost use Rattle.packing_terms.specs.Packing.{PlainInstance, IsPacking, HasSides};
-ghost use Rattle.packing_terms.specs.Relations.{Holds};
-ghost use Rattle.packing_terms.specs.Exclusions.{Exclusions, Respects, excludes};
-ghost use Rattle.packing_terms.specs.Rules.{Follows};
-ghost use Rattle.packing_terms.specs.Closure.{IsDerived, AreDerived, IsDerivation, IsSubset, IsSymmetric, IsStable, HasConflict};
-ghost use Rattle.packing_terms.specs.declared.Exclusion.{Exclusion as PlainExclusion};
-ghost use Rattle.packing_terms.specs.declared.Rel.{Rel as PlainRel};
+mod laws;
+
+pub use laws::{
+    closure_laws, composition_is_exact, derivations_depend_on_the_closure, feeding_is_refuting,
+    goals_are_monotone, limits_give_sides, listed_tuples_exceed, neighbours_are_best,
+    one_relation_holds, outer_feeding_is_refuting, outer_refutations_are_sound,
+    refutations_are_sound, rules_are_sound, too_large_fits_nowhere,
+};
 
 /// How the projections of two boxes on one dimension lie to one another.
 ///
@@ -42,17 +44,3 @@ pub enum ScaleFn {
     Cut(u32),
     Count(u32),
 }
-
-/// A packing that respects a set of exclusions respects what follows from them by one rule.
-pub fn rules_are_sound()
-    ensures { (instance : PlainInstance) (places : List ℕ) (X : Exclusions) → HasSides instance → IsPacking instance places
-        → Respects instance places X → (i u v : ℕ) (r : PlainRel) → Follows instance X i u v r → ¬ Holds instance places i u v r }
-{}
-
-/// A stable set that holds the given exclusions holds their closure, and no packing respects a set whose closure has a conflict.
-pub fn closure_laws()
-    ensures stable { (instance : PlainInstance) (E X : Exclusions) → IsSymmetric X → IsSubset E X → IsStable instance X
-        → (es : List PlainExclusion) → IsDerivation instance E es → IsSubset (excludes es) X }
-    ensures conflict { (instance : PlainInstance) (places : List ℕ) (E : Exclusions) → HasSides instance → IsPacking instance places
-        → HasConflict instance E → ¬ Respects instance places E }
-{}

@@ -10,3 +10,5 @@ pub mod Cut
 pub mod Good
 pub mod Texts
 pub mod LinesFed
+pub mod FormRead
+pub mod FormTold

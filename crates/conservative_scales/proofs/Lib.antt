@@ -1,0 +1,6 @@
+pub mod Products
+pub mod Edges
+pub mod Named
+pub mod Tuples
+pub mod Searching
+mod PartialProducts

@@ -1,0 +1,53 @@
+// The laws over scale functions, each the contract of a function with an empty body.
+ghost use Rattle.std.specs.Prelude.{◌≤◌, ◌*◌, ℕ, List, []};
+ghost use Rattle.packing_terms.specs.Packing.{PlainInstance, IsPacking, Fits, HasSides};
+ghost use Rattle.packing_terms.specs.Goals.{FitsInBins, ReachesValue};
+ghost use Rattle.packing_terms.specs.Exclusions.{Respects, excludes};
+ghost use Rattle.packing_terms.specs.Scales.{IsLegal, image, whole, IsDualFeasible, Exceeds, sum_below};
+ghost use Rattle.packing_terms.specs.ExcessLaw.{ExcessLaw};
+ghost use Rattle.packing_terms.specs.Tokens.{PlainToken};
+ghost use Rattle.packing_terms.specs.Refutation.{Refutes};
+ghost use Rattle.packing_terms.specs.OuterRefutation.{IsBinRefutation, IsValueRefutation};
+ghost use Rattle.packing_terms.specs.declared.ScaleFn.{ScaleFn as PlainScale};
+ghost use Rattle.packing_terms.specs.declared.Exclusion.{Exclusion as PlainExclusion};
+ghost use Rattle.scale_terms.specs.Containers.{FitsIn};
+ghost use Rattle.scale_terms.specs.Intervals.{AreWithin};
+
+/// Widths that fit beside one another in a side have images that fit beside one another in the whole.
+pub fn scales_are_dual_feasible()
+    ensures { (f : PlainScale) (W : ℕ) → IsLegal f W → IsDualFeasible W (whole f W) (image f W) }
+{}
+
+/// Intervals within a side, whose weights over each unit step are together at most P, have lengths whose images, weighted, are
+/// together at most P wholes. This holds of every dual feasible function, and so of each scale function.
+pub fn weighted_intervals()
+    ensures any { (W F n P : ℕ) (f : ℕ → ℕ) (start len weight : ℕ → ℕ) → IsDualFeasible W F f → AreWithin n W P start len weight
+        → sum_below n (λ v. weight v * f (len v)) ≤ P * F }
+    ensures scales { (f : PlainScale) (W n P : ℕ) (start len weight : ℕ → ℕ) → IsLegal f W → AreWithin n W P start len weight
+        → sum_below n (λ v. weight v * image f W (len v)) ≤ P * whole f W }
+{}
+
+/// Where a tuple exceeds for c copies, c containers don't hold the boxes, in whatever way the boxes are shared out.
+pub fn excess_refutes()
+    ensures one { (instance : PlainInstance) (fs : List PlainScale) → Exceeds instance fs 1 → ¬ Fits instance }
+    ensures many { (instance : PlainInstance) (fs : List PlainScale) (c : ℕ) → Exceeds instance fs c → ¬ FitsIn instance c }
+    ensures bins { (instance : PlainInstance) (fs : List PlainScale) (c : ℕ) → Exceeds instance fs c → ¬ FitsInBins instance c }
+{}
+
+/// What the soundness of refutations takes as its premise on scales holds.
+pub fn excess_law_holds()
+    ensures { ExcessLaw }
+{}
+
+/// What a refutation says is true. No packing respects exclusions under which the instance is refuted; an instance with an inner
+/// refutation doesn't fit; one with a refutation for k bins doesn't fit in k bins; one with a refutation for a value doesn't
+/// reach it.
+pub fn refutations_refute()
+    ensures under { (instance : PlainInstance) (places : List ℕ) (es : List PlainExclusion) (tokens : List PlainToken) → HasSides instance
+        → IsPacking instance places → Refutes instance es tokens → ¬ Respects instance places (excludes es) }
+    ensures fits { (instance : PlainInstance) (tokens : List PlainToken) → HasSides instance → Refutes instance [] tokens → ¬ Fits instance }
+    ensures bins { (instance : PlainInstance) (k : ℕ) (tokens : List PlainToken) → HasSides instance → IsBinRefutation instance k tokens
+        → ¬ FitsInBins instance k }
+    ensures value { (instance : PlainInstance) (goal : ℕ) (tokens : List PlainToken) → HasSides instance → IsValueRefutation instance goal tokens
+        → ¬ ReachesValue instance goal }
+{}

@@ -1,0 +1,8 @@
+use Rattle.tree_terms.proofs.laws.outer_trees_decide.Goals as goal
+use Rattle.tree_terms.proofs.OuterDecisions.{decides_bins, decides_value}
+
+pub returns-clause-bins : goal.returns-clause-bins
+returns-clause-bins c law instance k scales limits = decides_bins instance limits law k scales
+
+pub returns-clause-value : goal.returns-clause-value
+returns-clause-value c law instance goal scales limits = decides_value instance limits law goal scales

@@ -1,0 +1,9 @@
+pub mod Trees
+pub mod Joined
+pub mod Rank
+pub mod InnerTree
+pub mod ClassTree
+pub mod OuterTrees
+pub mod Levels
+pub mod Search
+pub mod OuterSearch
