@@ -10,19 +10,10 @@ ghost use Rattle.text_terms.specs.Texts.{text_instance};
 ghost use Rattle.std.specs.List.{flat_map};
 
 use box_instances::Instance;
-use pack_streams::{Sink, WriteFault, write_on};
+use pack_streams::{Sink, WriteFault, write_number, write_on};
 
 // Each call below writes where no fault came before, and else does nothing.
 type Written = Result<(), WriteFault>;
-
-// Writes a number without leading zeros.
-fn write_number<K: Sink>(sink: &mut K, so_far: Written, number: u64) -> Written
-    ensures { Continues (K.written sink.old) (K.written sink.new) (K.faults sink.old) (K.faults sink.new) (decimal number) so_far result }
-{
-    let mut room = [0u8; 20];
-    let start = itoa::write_digits(number, &mut room, 20);
-    write_on(sink, so_far, &room[start..])
-}
 
 // Writes a number after a space.
 fn write_next<K: Sink>(sink: &mut K, so_far: Written, number: u64) -> Written
