@@ -3,7 +3,7 @@ use Rattle.std.proofs.Common.{◌≡◌, ℕ, zero, suc, ◌+◌, ◌-◌, ◌*�
 use Rattle.std.proofs.lemmas.List.{get_or-map, length-map}
 use Rattle.packing_terms.specs.Packing.{PlainInstance, PlainBox, no_box, dims, box_count, container_side, side}
 use Rattle.packing_terms.specs.declared.ScaleFn.{ScaleFn}
-use Rattle.packing_terms.specs.Scales.{product_below, image_product, image, function_at, SidesFit}
+use Rattle.packing_terms.specs.Scales.{product_below, image_product, scale_image, function_at, SidesFit}
 use Rattle.packing_terms.specs.Goals.{subset}
 use Rattle.conservative_scales.specs.Among.{AreNamed}
 use Rattle.conservative_scales.proofs.Products.{image_of}
@@ -21,7 +21,7 @@ pub image_of_named : (instance : PlainInstance) (keep : List ℕ) (fs : List Sca
     → image_product instance fs (get_or keep k 0) ≡ image_product (subset instance keep) fs k
 image_of_named instance keep fs k l =
     product_same (dims instance) (image_of instance fs (get_or keep k 0)) (image_of (subset instance keep) fs k)
-    (λ i. ap (λ x. image (function_at fs i) (container_side instance i) x) (sym (side_of instance keep k i l)))
+    (λ i. ap (λ x. scale_image (function_at fs i) (container_side instance i) x) (sym (side_of instance keep k i l)))
 
 pub named_fits : (instance : PlainInstance) (keep : List ℕ) (k : ℕ) → k < length keep → SidesFit (subset instance keep)
     → (i : ℕ) → i < dims instance → side instance (get_or keep k 0) i ≤ container_side instance i

@@ -7,7 +7,7 @@ use Rattle.std.proofs.Math.Nat.{le_trans, mul_comm, mul_assoc, pow-le-pow_right}
 use Rattle.packing_terms.specs.declared.ScaleFn.{ScaleFn}
 use Rattle.packing_terms.specs.Packing.{PlainInstance, dims, box_count, container_side, side}
 use Rattle.packing_terms.specs.Limits.{IsInternalInstance}
-use Rattle.packing_terms.specs.Scales.{IsLegal, SidesFit, image, whole, function_at, product_below, sum_below, image_product, whole_product}
+use Rattle.packing_terms.specs.Scales.{IsLegalScale, SidesFit, scale_image, scale_whole, function_at, product_below, sum_below, image_product, whole_product}
 use Rattle.packing_terms.specs.Tuples.{has_excess}
 use Rattle.scale_terms.proofs.Bounds.{image_small, whole_small, container_small, next_power}
 use Rattle.scale_terms.proofs.Sums.{sum-same}
@@ -51,12 +51,12 @@ partial_none instance images total limits e one =
 
 -- wholes are small numbers
 pub whole_most : (instance : PlainInstance) (f : ScaleFn) (d : ℕ) → IsInternalInstance instance → d < dims instance
-    → IsLegal f (container_side instance d) → whole f (container_side instance d) ≤ 2 ^ 30
+    → IsLegalScale f (container_side instance d) → scale_whole f (container_side instance d) ≤ 2 ^ 30
 whole_most instance f d limits there legal = whole_small f (container_side instance d) legal (container_small instance d limits there)
 
 -- and so are images
 pub image_most : (instance : PlainInstance) (f : ScaleFn) (v d : ℕ) → IsInternalInstance instance → SidesFit instance → d < dims instance
-    → IsLegal f (container_side instance d) → v < box_count instance → image f (container_side instance d) (side instance v d) ≤ 2 ^ 30
+    → IsLegalScale f (container_side instance d) → v < box_count instance → scale_image f (container_side instance d) (side instance v d) ≤ 2 ^ 30
 image_most instance f v d limits fit there legal l =
     le_trans (image_small f (container_side instance d) (side instance v d) legal (fit v d l there)) (whole_most instance f d limits there legal)
 
@@ -75,21 +75,21 @@ scaled_more images old n x scale l before e v m = go (cases_eq v n)
 
 -- one dimension more
 pub partial_more : (instance : PlainInstance) (d : ℕ) (f : ScaleFn) (fs : List ScaleFn) (images more : List ℕ) (total whole_now : ℕ)
-    → IsInternalInstance instance → SidesFit instance → d < dims instance → IsLegal f (container_side instance d)
-    → ((v : ℕ) → v < box_count instance → get_or more v 0 ≡ get_or images v 0 * image f (container_side instance d) (side instance v d))
-    → whole_now ≡ total * whole f (container_side instance d)
+    → IsInternalInstance instance → SidesFit instance → d < dims instance → IsLegalScale f (container_side instance d)
+    → ((v : ℕ) → v < box_count instance → get_or more v 0 ≡ get_or images v 0 * scale_image f (container_side instance d) (side instance v d))
+    → whole_now ≡ total * scale_whole f (container_side instance d)
     → IsPartial instance (suc d) fs images total → IsPartial instance d (f ∷ fs) more whole_now
 partial_more instance d f fs images more total whole_now limits fit there legal scaled all p =
     let small = whole_most instance f d limits there legal in
     let power : 30 * (length fs + 1) ≡ 30 * length (f ∷ fs) = omega arith in record {
-      each = λ v l. scaled v l ∙ ap (λ x. x * image f (container_side instance d) (side instance v d)) (p.each v l);
+      each = λ v l. scaled v l ∙ ap (λ x. x * scale_image f (container_side instance d) (side instance v d)) (p.each v l);
       small = λ v l.
-          (let most : get_or images v 0 * image f (container_side instance d) (side instance v d) ≤ 2 ^ (30 * (length fs + 1)) =
+          (let most : get_or images v 0 * scale_image f (container_side instance d) (side instance v d) ≤ 2 ^ (30 * (length fs + 1)) =
           next_power (length fs) _ _ (p.small v l) (image_most instance f v d limits fit there legal l) in
           rw (scaled v l, sym power) most);
-      all = all ∙ ap (λ x. x * whole f (container_side instance d)) p.all;
+      all = all ∙ ap (λ x. x * scale_whole f (container_side instance d)) p.all;
       all_small =
-          (let most : total * whole f (container_side instance d) ≤ 2 ^ (30 * (length fs + 1)) = next_power (length fs) _ _ p.all_small small in
+          (let most : total * scale_whole f (container_side instance d) ≤ 2 ^ (30 * (length fs + 1)) = next_power (length fs) _ _ p.all_small small in
           rw (all, sym power) most);
     }
 

@@ -7,10 +7,10 @@ use Rattle.packing_terms.specs.Limits.{IsInternalInstance}
 use Rattle.packing_terms.specs.Packing.{PlainInstance, dims, box_count, side, container_side}
 use Rattle.packing_terms.specs.declared.ScaleFn.{ScaleFn}
 use Rattle.packing_terms.specs.declared.ScaleFn.TheVariants.{Id}
-use Rattle.packing_terms.specs.Scales.{IsLegal, IsTuple, SidesFit, function_at}
+use Rattle.packing_terms.specs.Scales.{IsLegalScale, IsTuple, SidesFit, function_at}
 use Rattle.packing_terms.specs.Tuples.{functions_after, has_excess}
 use Rattle.conservative_scales.specs.Within.{within, from_next, AreLegalFrom}
-use Rattle.packing_terms.specs.Scales.{image, whole, sum_below}
+use Rattle.packing_terms.specs.Scales.{scale_image, scale_whole, sum_below}
 use Rattle.conservative_scales.specs.Partials.{IsPartial}
 use Rattle.conservative_scales.proofs.PartialProducts.{partial_more, partial_excess}
 use Rattle.conservative_scales.proofs.Tuples.{found_first, none_first}
@@ -20,7 +20,7 @@ pub record IsOpen (instance : PlainInstance) (c d i left : ℕ) (rest tuple : Li
   pub kept : drop d tuple ≡ rest
   pub same : find (has_excess instance c) (within instance d left rest)
       ≡ find (has_excess instance c) (flat_map (λ f. within instance i (left - 1) (f ∷ rest)) (from_next instance i next))
-  pub legal : IfSome next (λ g. IsLegal g (container_side instance i))
+  pub legal : IfSome next (λ g. IsLegalScale g (container_side instance i))
 
 pub deeper : (i : ℕ) (xs rest : List ScaleFn) (f : ScaleFn) → drop i xs ≡ f ∷ rest → drop (suc i) xs ≡ rest
 deeper zero [] rest f e = absurd cc
@@ -31,7 +31,7 @@ deeper (suc i) (x ∷ xs) rest f e = deeper i xs rest f e
 pub written : (tuple : List ScaleFn) (d i : ℕ) (f : ScaleFn) → d ≡ i + 1 → i < length tuple → drop i (slice_set tuple i f) ≡ f ∷ drop d tuple
 written tuple d i f e l = rw e (drop-set tuple i f l)
 
-pub legal_more : (instance : PlainInstance) (d i : ℕ) (f : ScaleFn) (rest : List ScaleFn) → d ≡ i + 1 → IsLegal f (container_side instance i)
+pub legal_more : (instance : PlainInstance) (d i : ℕ) (f : ScaleFn) (rest : List ScaleFn) → d ≡ i + 1 → IsLegalScale f (container_side instance i)
     → AreLegalFrom instance d rest → AreLegalFrom instance i (f ∷ rest)
 legal_more instance d i f rest e h r zero l = let g : i + 0 ≡ i = omega arith in rw g h
 legal_more instance d i f rest e h r (suc j) l = let g : i + suc j ≡ d + j = omega arith in rw g (r j (omega arith))
@@ -73,15 +73,15 @@ module _ (instance : PlainInstance) (c d i left : ℕ) (rest tuple : List ScaleF
 
   -- the products with that function
   pub partial_written : (images more : List ℕ) (total now : ℕ) → IsInternalInstance instance → SidesFit instance → i < dims instance
-      → IsLegal f (container_side instance i)
-      → ((v : ℕ) → v < box_count instance → get_or more v 0 ≡ get_or images v 0 * image f (container_side instance i) (side instance v i))
-      → now ≡ total * whole f (container_side instance i) → IsPartial instance d rest images total
+      → IsLegalScale f (container_side instance i)
+      → ((v : ℕ) → v < box_count instance → get_or more v 0 ≡ get_or images v 0 * scale_image f (container_side instance i) (side instance v i))
+      → now ≡ total * scale_whole f (container_side instance i) → IsPartial instance d rest images total
       → IsPartial instance i (drop i (slice_set tuple i f)) more now
   partial_written images more total now limits fit there legal scaled all p =
       let g : d ≡ suc i = omega arith in
       rw at_written (partial_more instance i f rest images more total now limits fit there legal scaled all (rw g at p))
 
-  pub legal_written : IsLegal f (container_side instance i) → AreLegalFrom instance d rest → AreLegalFrom instance i (drop i (slice_set tuple i f))
+  pub legal_written : IsLegalScale f (container_side instance i) → AreLegalFrom instance d rest → AreLegalFrom instance i (drop i (slice_set tuple i f))
   legal_written h r = rw at_written (legal_more instance d i f rest e h r)
 
   pub kept_written : (new : List ScaleFn) → drop i new ≡ drop i (slice_set tuple i f) → drop d new ≡ rest
@@ -94,7 +94,7 @@ module _ (instance : PlainInstance) (c d i left : ℕ) (rest tuple : List ScaleF
 
   pub open_next : (new : List ScaleFn) (next : Option ScaleFn) → IsOpen instance c d i left rest tuple (Some f)
       → find (has_excess instance c) (within instance i (left - 1) (drop i (slice_set tuple i f))) ≡ None
-      → functions_after instance i f ≡ from_next instance i next → IfSome next (λ g. IsLegal g (container_side instance i))
+      → functions_after instance i f ≡ from_next instance i next → IfSome next (λ g. IsLegalScale g (container_side instance i))
       → drop i new ≡ drop i (slice_set tuple i f) → IsOpen instance c d i left rest new next
   open_next new next o h n g w = record {
     kept = kept_written new w;

@@ -2,7 +2,7 @@
 use Rattle.std.specs.Prelude.{ℕ, suc, ◌*◌, ◌+◌, ◌^◌, ◌<◌, ◌≤◌, ◌≡◌, List, [], ◌∷◌, length, slice_index}
 use Rattle.packing_terms.specs.declared.ScaleFn.{ScaleFn}
 use Rattle.packing_terms.specs.Packing.{PlainInstance, box_count, container_side, side}
-use Rattle.packing_terms.specs.Scales.{image, whole}
+use Rattle.packing_terms.specs.Scales.{scale_image, scale_whole}
 
 -- the first function in dimension d, the next one in the dimension after it, and so on
 abbrev pub product_from : (ScaleFn → ℕ → ℕ) → ℕ → List ScaleFn → ℕ
@@ -10,10 +10,10 @@ product_from value d [] = 1
 product_from value d (f ∷ fs) = product_from value (suc d) fs * value f d
 
 abbrev pub image_in : PlainInstance → ℕ → ScaleFn → ℕ → ℕ
-image_in instance v f i = image f (container_side instance i) (side instance v i)
+image_in instance v f i = scale_image f (container_side instance i) (side instance v i)
 
 abbrev pub whole_in : PlainInstance → ScaleFn → ℕ → ℕ
-whole_in instance f i = whole f (container_side instance i)
+whole_in instance f i = scale_whole f (container_side instance i)
 
 -- the products of the images of each box, and of the wholes, over the dimensions from d on
 pub record IsPartial (instance : PlainInstance) (d : ℕ) (fs : List ScaleFn) (images : List ℕ) (total : ℕ) : Type 0 where

@@ -2,7 +2,7 @@
 use Rattle.std.specs.Prelude.{ℕ, zero, suc, ◌+◌, ◌<◌, length, List, [], ◌∷◌, ◌++◌, Option, Some, None}
 use Rattle.std.specs.List.{flat_map}
 use Rattle.packing_terms.specs.Packing.{PlainInstance, container_side}
-use Rattle.packing_terms.specs.Scales.{IsLegal, function_at}
+use Rattle.packing_terms.specs.Scales.{IsLegalScale, function_at}
 use Rattle.packing_terms.specs.declared.ScaleFn.{ScaleFn}
 use Rattle.packing_terms.specs.declared.ScaleFn.TheVariants.{Id}
 use Rattle.packing_terms.specs.Tuples.{functions_after}
@@ -21,4 +21,4 @@ from_next instance i (Some f) = f ∷ functions_after instance i f
 
 -- legal functions for the dimensions from i on
 abbrev pub AreLegalFrom : PlainInstance → ℕ → List ScaleFn → Type 0
-AreLegalFrom instance i rest = (j : ℕ) → j < length rest → IsLegal (function_at rest j) (container_side instance (i + j))
+AreLegalFrom instance i rest = (j : ℕ) → j < length rest → IsLegalScale (function_at rest j) (container_side instance (i + j))

@@ -1,13 +1,13 @@
 // The scale functions of one dimension.
 ghost use Rattle.std.specs.Prelude.{◌≡◌, ◌≤◌, IsTrue, ◌↔◌};
-ghost use Rattle.packing_terms.specs.Scales.{IsLegal, image, whole};
+ghost use Rattle.packing_terms.specs.Scales.{IsLegalScale, scale_image, scale_whole};
 
 use packing_terms::ScaleFn;
 
 /// Whether the parameter of the function is in its range for a container side: any for `Id`; 1 to 16 for `Step`, where the side
 /// is at least 1; 1 to half of the side for `Cut` and `Count`.
 pub fn legal(f: ScaleFn, whole_side: u32) -> bool
-    ensures { IsTrue result ↔ IsLegal f whole_side }
+    ensures { IsTrue result ↔ IsLegalScale f whole_side }
 {
     match f {
         ScaleFn::Id => true,
@@ -19,8 +19,8 @@ pub fn legal(f: ScaleFn, whole_side: u32) -> bool
 /// What stands in place of the container's side: the most that the images of widths that fit beside one another add up to.
 /// The function is legal for the side.
 pub fn whole(f: ScaleFn, whole_side: u32) -> u64
-    requires { IsLegal f whole_side }
-    ensures { result ≡ whole f whole_side }
+    requires { IsLegalScale f whole_side }
+    ensures { result ≡ scale_whole f whole_side }
 {
     let side = whole_side as u64;
     match f {
@@ -36,9 +36,9 @@ pub fn whole(f: ScaleFn, whole_side: u32) -> u64
 /// nothing is rounded. `Cut(e)` gives 0 to widths below `e` and the whole side to those above the side less `e`. `Count(e)`
 /// counts how often `e` fits, in what is left of the side where the width is more than half of it.
 pub fn image(f: ScaleFn, whole_side: u32, x: u32) -> u64
-    requires legal { IsLegal f whole_side }
+    requires legal { IsLegalScale f whole_side }
     requires within { x ≤ whole_side }
-    ensures { result ≡ image f whole_side x }
+    ensures { result ≡ scale_image f whole_side x }
 {
     let side = whole_side as u64;
     let x = x as u64;

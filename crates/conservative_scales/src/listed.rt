@@ -1,7 +1,7 @@
 // The list of scale functions of a dimension, one after another.
 ghost use Rattle.std.specs.Prelude.{◌≡◌, ◌<◌, ◌≤◌, ◌*◌, [], ◌∷◌, MatchOption, IfSome};
 ghost use Rattle.packing_terms.specs.Packing.{dims, container_side};
-ghost use Rattle.packing_terms.specs.Scales.{IsLegal};
+ghost use Rattle.packing_terms.specs.Scales.{IsLegalScale};
 ghost use Rattle.packing_terms.specs.Tuples.{edges_above, functions_after};
 ghost use Rattle.conservative_scales.specs.Within.{from_next};
 
@@ -34,7 +34,7 @@ pub fn next_function(instance: &Instance, dim: u32, f: ScaleFn) -> Option<ScaleF
     requires there { dim < dims instance.now }
     requires whole { 1 ≤ container_side instance.now dim }
     ensures next { functions_after instance.now dim f ≡ from_next instance.now dim result }
-    ensures legal { IfSome result (λ g. IsLegal g (container_side instance.now dim)) }
+    ensures legal { IfSome result (λ g. IsLegalScale g (container_side instance.now dim)) }
 {
     match f {
         ScaleFn::Id => Some(ScaleFn::Step(1)),

@@ -1,7 +1,7 @@
 // What the functions that are chosen so far make of the boxes, so that an image is computed once for each choice of a function.
 ghost use Rattle.std.specs.Prelude.{◌≡◌, ◌<◌, ◌≤◌, ◌*◌, ◌^◌, ℕ, replicate, slice_index, nat_lt};
 ghost use Rattle.packing_terms.specs.Packing.{dims, box_count, container_side, side};
-ghost use Rattle.packing_terms.specs.Scales.{IsLegal, SidesFit, image, whole, sum_below};
+ghost use Rattle.packing_terms.specs.Scales.{IsLegalScale, SidesFit, scale_image, scale_whole, sum_below};
 
 use crate::functions::{image, whole};
 use box_instances::Instance;
@@ -29,13 +29,13 @@ impl Partial {
     /// One dimension more, with this function.
     pub fn with(&self, instance: &Instance, dim: u32, f: ScaleFn) -> Partial
         requires there { dim < dims instance.now }
-        requires legal { IsLegal f (container_side instance.now dim) }
+        requires legal { IsLegalScale f (container_side instance.now dim) }
         requires fit { SidesFit instance.now }
         requires small { (v : ℕ) → v < box_count instance.now → slice_index self.now.images v ≤ 2 ^ 90 }
         requires whole_small { self.now.whole ≤ 2 ^ 90 }
         ensures images { (v : ℕ) → v < box_count instance.now → slice_index result.images v
-            ≡ slice_index self.now.images v * image f (container_side instance.now dim) (side instance.now v dim) }
-        ensures whole { result.whole ≡ self.now.whole * whole f (container_side instance.now dim) }
+            ≡ slice_index self.now.images v * scale_image f (container_side instance.now dim) (side instance.now v dim) }
+        ensures whole { result.whole ≡ self.now.whole * scale_whole f (container_side instance.now dim) }
     {
         let whole_side = instance.container_side(dim);
         let mut images = [0; 64];

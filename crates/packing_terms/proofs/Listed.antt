@@ -5,7 +5,7 @@ use Rattle.std.proofs.lemmas.Bool.{ltb-true, lt-ltb, true≢false, cases_eq}
 use Rattle.packing_terms.specs.declared.ScaleFn.{ScaleFn}
 use Rattle.packing_terms.specs.declared.ScaleFn.TheVariants.{Step, Cut, Count}
 use Rattle.packing_terms.specs.Packing.{PlainInstance, HasSides, dims, box_count, container_side}
-use Rattle.packing_terms.specs.Scales.{IsLegal, IsTuple, function_at, SidesFit, HasExcess, Exceeds}
+use Rattle.packing_terms.specs.Scales.{IsLegalScale, IsTuple, function_at, SidesFit, HasExcess, Exceeds}
 use Rattle.packing_terms.specs.Tuples.{is_edge, edges_above, functions_of, choices, is_other, tuples, has_excess, first_excess}
 use Rattle.packing_terms.proofs.Members.{IsIn, append_in, map_in, flat_map_in, filter_in, range_in}
 use Rattle.packing_terms.proofs.Found.{find_some, find_none}
@@ -17,35 +17,35 @@ module _ (instance : PlainInstance) (wide : (i : ℕ) → i < dims instance → 
       let r = range_in (low + 1) (container_side instance i / 2 - low) e k.0 in
       (omega (arith, r), omega (arith, r))
 
-  function_legal : (i : ℕ) → i < dims instance → (f : ScaleFn) → IsIn f (functions_of instance i) → IsLegal f (container_side instance i)
-  function_legal i l f (inl e) = subst (λ g. IsLegal g (container_side instance i)) (sym e) tt
+  function_legal : (i : ℕ) → i < dims instance → (f : ScaleFn) → IsIn f (functions_of instance i) → IsLegalScale f (container_side instance i)
+  function_legal i l f (inl e) = subst (λ g. IsLegalScale g (container_side instance i)) (sym e) tt
   function_legal i l f (inr h) = go (append_in f (map (λ k. Step k) (range_with_len 1 4)) _ h)
     where
-      step : (k : ℕ) × IsIn k (range_with_len 1 4) × (f ≡ Step k) → IsLegal f (container_side instance i)
+      step : (k : ℕ) × IsIn k (range_with_len 1 4) × (f ≡ Step k) → IsLegalScale f (container_side instance i)
       step (k, m, e) =
           let r = range_in 1 4 k m in
           let w = wide i l in
-          subst (λ g. IsLegal g (container_side instance i)) (sym e) (omega (arith, r), omega (arith, r), w)
+          subst (λ g. IsLegalScale g (container_side instance i)) (sym e) (omega (arith, r), omega (arith, r), w)
 
-      cut : (e : ℕ) × IsIn e (edges_above instance i 0) × (f ≡ Cut e) → IsLegal f (container_side instance i)
-      cut (x, m, e) = subst (λ g. IsLegal g (container_side instance i)) (sym e) (edge_legal i 0 x m)
+      cut : (e : ℕ) × IsIn e (edges_above instance i 0) × (f ≡ Cut e) → IsLegalScale f (container_side instance i)
+      cut (x, m, e) = subst (λ g. IsLegalScale g (container_side instance i)) (sym e) (edge_legal i 0 x m)
 
-      count : (e : ℕ) × IsIn e (edges_above instance i 0) × (f ≡ Count e) → IsLegal f (container_side instance i)
-      count (x, m, e) = subst (λ g. IsLegal g (container_side instance i)) (sym e) (edge_legal i 0 x m)
+      count : (e : ℕ) × IsIn e (edges_above instance i 0) × (f ≡ Count e) → IsLegalScale f (container_side instance i)
+      count (x, m, e) = subst (λ g. IsLegalScale g (container_side instance i)) (sym e) (edge_legal i 0 x m)
 
-      rest : IsIn f (map (λ e. Cut e) (edges_above instance i 0)) ⊎ IsIn f (map (λ e. Count e) (edges_above instance i 0)) → IsLegal f (container_side instance i)
+      rest : IsIn f (map (λ e. Cut e) (edges_above instance i 0)) ⊎ IsIn f (map (λ e. Count e) (edges_above instance i 0)) → IsLegalScale f (container_side instance i)
       rest (inl m) = cut (map_in (λ e. Cut e) f (edges_above instance i 0) m)
       rest (inr m) = count (map_in (λ e. Count e) f (edges_above instance i 0) m)
 
       go : IsIn f (map (λ k. Step k) (range_with_len 1 4)) ⊎ IsIn f (map (λ e. Cut e) (edges_above instance i 0) ++ map (λ e. Count e) (edges_above instance i 0))
-          → IsLegal f (container_side instance i)
+          → IsLegalScale f (container_side instance i)
       go (inl m) = step (map_in (λ k. Step k) f (range_with_len 1 4) m)
       go (inr m) = rest (append_in f (map (λ e. Cut e) (edges_above instance i 0)) (map (λ e. Count e) (edges_above instance i 0)) m)
 
   -- a choice for the first dimensions, before the given functions
   record IsChoice (d : ℕ) (rest fs : List ScaleFn) : Type 0 where
     count : length fs ≡ d + length rest
-    legal : (j : ℕ) → j < d → IsLegal (function_at fs j) (container_side instance j)
+    legal : (j : ℕ) → j < d → IsLegalScale (function_at fs j) (container_side instance j)
     later : (m : ℕ) → function_at fs (d + m) ≡ function_at rest m
 
   choice_legal : (d : ℕ) → d ≤ dims instance → (rest fs : List ScaleFn) → IsIn fs (choices instance d rest) → IsChoice d rest fs
@@ -66,13 +66,13 @@ module _ (instance : PlainInstance) (wide : (i : ℕ) → i < dims instance → 
         later = λ x. (let e : suc d + x ≡ d + suc x = omega arith in rw e ((more f n).later (suc x)));
       }
         where
-          at : (j : ℕ) → j < suc d → (j ≡ d) ⊎ (j ≡ d → ⊥) → IsLegal (function_at fs j) (container_side instance j)
+          at : (j : ℕ) → j < suc d → (j ≡ d) ⊎ (j ≡ d → ⊥) → IsLegalScale (function_at fs j) (container_side instance j)
           at j k (inr ne) = (more f n).legal j (omega (arith, k, ne))
           at j k (inl e) =
               let own : function_at fs d ≡ f = (let z : d ≡ d + 0 = omega arith in subst (λ (x : ℕ). function_at fs x ≡ f) (sym z) ((more f n).later 0)) in
-              let legal : IsLegal (function_at fs d) (container_side instance d) = subst (λ (g : ScaleFn). IsLegal g (container_side instance d)) (sym own)
+              let legal : IsLegalScale (function_at fs d) (container_side instance d) = subst (λ (g : ScaleFn). IsLegalScale g (container_side instance d)) (sym own)
               (function_legal d (omega (arith, l)) f m) in
-              subst (λ (x : ℕ). IsLegal (function_at fs x) (container_side instance x)) (sym e) legal
+              subst (λ (x : ℕ). IsLegalScale (function_at fs x) (container_side instance x)) (sym e) legal
 
   pub listed_legal : (fs : List ScaleFn) → IsIn fs (tuples instance) → IsTuple instance fs
   listed_legal fs h =

@@ -3,38 +3,38 @@ use Rattle.std.proofs.Common.{◌≡◌, ℕ, refl, [], ◌∷◌, Some, None}
 use Rattle.packing_terms.specs.declared.ScaleFn.TheVariants.{Id, Step, Cut, Count}
 use Rattle.packing_terms.specs.Packing.{PlainInstance, PlainBox}
 use Rattle.packing_terms.specs.Goals.{with_last_side, subset, in_bin, places_of, worth}
-use Rattle.packing_terms.specs.Scales.{image, whole}
+use Rattle.packing_terms.specs.Scales.{scale_image, scale_whole}
 use Rattle.packing_terms.specs.Tuples.{functions_of, first_excess}
 
-step_of_4 : image (Step 2) 9 4 ≡ 9
+step_of_4 : scale_image (Step 2) 9 4 ≡ 9
 step_of_4 = refl
 
-step_whole : whole (Step 2) 9 ≡ 18
+step_whole : scale_whole (Step 2) 9 ≡ 18
 step_whole = refl
 
 -- where W divides (k + 1) * x the image is k * x
-step_of_3 : image (Step 2) 9 3 ≡ 6
+step_of_3 : scale_image (Step 2) 9 3 ≡ 6
 step_of_3 = refl
 
-count_of_5 : image (Count 3) 10 5 ≡ 1
+count_of_5 : scale_image (Count 3) 10 5 ≡ 1
 count_of_5 = refl
 
-count_of_6 : image (Count 3) 10 6 ≡ 2
+count_of_6 : scale_image (Count 3) 10 6 ≡ 2
 count_of_6 = refl
 
-count_whole : whole (Count 3) 10 ≡ 3
+count_whole : scale_whole (Count 3) 10 ≡ 3
 count_whole = refl
 
-cut_of_3 : image (Cut 4) 10 3 ≡ 0
+cut_of_3 : scale_image (Cut 4) 10 3 ≡ 0
 cut_of_3 = refl
 
-cut_of_4 : image (Cut 4) 10 4 ≡ 4
+cut_of_4 : scale_image (Cut 4) 10 4 ≡ 4
 cut_of_4 = refl
 
-cut_of_6 : image (Cut 4) 10 6 ≡ 6
+cut_of_6 : scale_image (Cut 4) 10 6 ≡ 6
 cut_of_6 = refl
 
-cut_of_7 : image (Cut 4) 10 7 ≡ 10
+cut_of_7 : scale_image (Cut 4) 10 7 ≡ 10
 cut_of_7 = refl
 
 abbrev box : ℕ → ℕ → PlainBox

@@ -10,25 +10,25 @@ use Rattle.packing_terms.specs.declared.ScaleFn.TheVariants.{Id, Step, Cut, Coun
 use Rattle.packing_terms.specs.Packing.{PlainInstance, dims, box_count, container_side, side}
 
 -- the parameter is legal for a container side W
-abbrev pub IsLegal : ScaleFn → ℕ → Type 0
-IsLegal Id W = Unit {0}
-IsLegal (Step k) W = (1 ≤ k) × (k ≤ 16) × (1 ≤ W)
-IsLegal (Cut e) W = (1 ≤ e) × (2 * e ≤ W)
-IsLegal (Count e) W = (1 ≤ e) × (2 * e ≤ W)
+abbrev pub IsLegalScale : ScaleFn → ℕ → Type 0
+IsLegalScale Id W = Unit {0}
+IsLegalScale (Step k) W = (1 ≤ k) × (k ≤ 16) × (1 ≤ W)
+IsLegalScale (Cut e) W = (1 ≤ e) × (2 * e ≤ W)
+IsLegalScale (Count e) W = (1 ≤ e) × (2 * e ≤ W)
 
 -- the whole, for a container side W
-abbrev pub whole : ScaleFn → ℕ → ℕ
-whole Id W = W
-whole (Step k) W = k * W
-whole (Cut e) W = W
-whole (Count e) W = W / e
+abbrev pub scale_whole : ScaleFn → ℕ → ℕ
+scale_whole Id W = W
+scale_whole (Step k) W = k * W
+scale_whole (Cut e) W = W
+scale_whole (Count e) W = W / e
 
 -- the image of a side x, for a container side W
-abbrev pub image : ScaleFn → ℕ → ℕ → ℕ
-image Id W x = x
-image (Step k) W x = if (k + 1) * x % W == 0 then k * x else W * ((k + 1) * x / W)
-image (Cut e) W x = if nat_lt x e then 0 else (if nat_le x (W - e) then x else W)
-image (Count e) W x = if nat_lt x e then 0 else (if nat_le (2 * x) W then 1 else W / e - (W - x) / e)
+abbrev pub scale_image : ScaleFn → ℕ → ℕ → ℕ
+scale_image Id W x = x
+scale_image (Step k) W x = if (k + 1) * x % W == 0 then k * x else W * ((k + 1) * x / W)
+scale_image (Cut e) W x = if nat_lt x e then 0 else (if nat_le x (W - e) then x else W)
+scale_image (Count e) W x = if nat_lt x e then 0 else (if nat_le (2 * x) W then 1 else W / e - (W - x) / e)
 
 -- f with whole F is dual feasible for W: every list of numbers with sum at most W has images with sum at most F
 abbrev pub IsDualFeasible : ℕ → ℕ → (ℕ → ℕ) → Type 0
@@ -51,16 +51,16 @@ function_at fs i = slice_index_or fs i Id
 -- the product of the images of the sides of box v
 abbrev pub image_product : PlainInstance → List ScaleFn → ℕ → ℕ
 image_product instance fs v =
-    product_below (dims instance) (λ i. image (function_at fs i) (container_side instance i) (side instance v i))
+    product_below (dims instance) (λ i. scale_image (function_at fs i) (container_side instance i) (side instance v i))
 
 -- the product of the wholes
 abbrev pub whole_product : PlainInstance → List ScaleFn → ℕ
-whole_product instance fs = product_below (dims instance) (λ i. whole (function_at fs i) (container_side instance i))
+whole_product instance fs = product_below (dims instance) (λ i. scale_whole (function_at fs i) (container_side instance i))
 
 -- one legal function for each dimension
 pub record IsTuple (instance : PlainInstance) (fs : List ScaleFn) : Type 0 where
   pub count : length fs ≡ dims instance
-  pub legal : (i : ℕ) → i < dims instance → IsLegal (function_at fs i) (container_side instance i)
+  pub legal : (i : ℕ) → i < dims instance → IsLegalScale (function_at fs i) (container_side instance i)
 
 -- no box side exceeds its container side
 abbrev pub SidesFit : PlainInstance → Type 0

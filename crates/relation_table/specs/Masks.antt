@@ -1,8 +1,8 @@
 -- Sets of relations as masks: numbers below 8, with bit 1 for overlap, bit 2 for before and bit 4 for after.
-use Rattle.std.specs.Prelude.{ℕ, ◌/◌, ◌%◌, ◌==◌, ◌≤◌, Bool, IsTrue}
+use Rattle.std.specs.Prelude.{ℕ, ◌/◌, ◌%◌, ◌==◌, Bool, IsTrue}
 use Rattle.packing_terms.specs.declared.Rel.{Rel}
 use Rattle.packing_terms.specs.declared.Rel.TheVariants.{Overlap, Before, After}
-use Rattle.packing_terms.specs.Relations.{allows, AreRelated}
+use Rattle.packing_terms.specs.Relations.{allows}
 
 -- the bit of a relation
 abbrev pub bit_of : Rel → ℕ
@@ -17,18 +17,3 @@ mask_has m r = m / bit_of r % 2 == 1
 -- the relation is in the composition of the masks: some relation in a and some in b allow it
 abbrev pub IsComposed : ℕ → ℕ → Rel → Type 0
 IsComposed a b r = (q s : Rel) × IsTrue (mask_has a q) × IsTrue (mask_has b s) × IsTrue (allows q s r)
-
--- three intervals of length at least 1: the first has relation a to the second, the second b to the third, and the first r to the third
-pub record AreIntervals (a b r : Rel) : Type 0 where
-  pub first : ℕ
-  pub second : ℕ
-  pub third : ℕ
-  pub first_length : ℕ
-  pub second_length : ℕ
-  pub third_length : ℕ
-  pub first_some : 1 ≤ first_length
-  pub second_some : 1 ≤ second_length
-  pub third_some : 1 ≤ third_length
-  pub first_second : AreRelated first first_length second second_length a
-  pub second_third : AreRelated second second_length third third_length b
-  pub first_third : AreRelated first first_length third third_length r

@@ -2,15 +2,15 @@
 ghost use Rattle.std.specs.Prelude.{◌≡◌, ◌<◌, ℕ, List, [], IsTrue, ◌↔◌, slice_index, slice_index_or};
 ghost use Rattle.packing_terms.specs.declared.Rel.{Rel as PlainRel};
 ghost use Rattle.packing_terms.specs.Packing.{PlainInstance, HasSides, dims, box_count};
-ghost use Rattle.packing_terms.specs.Relations.{allows, Holds};
-ghost use Rattle.relation_table.specs.Masks.{mask_has, IsComposed, AreIntervals};
+ghost use Rattle.packing_terms.specs.Relations.{Holds};
+ghost use Rattle.relation_table.specs.Masks.{mask_has, IsComposed};
 
 use crate::mask::COMPOSE;
 
-/// The nine entries and the table made from them are exact: what they allow are the relations that three intervals can have.
-pub fn composition_is_exact()
-    ensures entries { (a b r : PlainRel) → IsTrue (allows a b r) ↔ AreIntervals a b r }
-    ensures table { (a b : ℕ) → a < 8 → b < 8 → (r : PlainRel)
+/// Each of the 64 entries of the table is exactly what the nine entries give for the members of its two masks; that those are
+/// exactly what three intervals can do is a law of `packing_terms`.
+pub fn table_is_exact()
+    ensures { (a b : ℕ) → a < 8 → b < 8 → (r : PlainRel)
         → IsTrue (mask_has (slice_index (slice_index_or COMPOSE a []) b) r) ↔ IsComposed a b r }
 {}
 

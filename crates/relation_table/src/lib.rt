@@ -4,7 +4,7 @@
 mod laws;
 mod mask;
 
-pub use laws::{composition_is_exact, composition_is_sound};
+pub use laws::{composition_is_sound, table_is_exact};
 pub use mask::{COMPOSE, Mask, compose, flip};
 pub use packing_terms::Rel;
 

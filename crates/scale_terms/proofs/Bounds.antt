@@ -7,18 +7,18 @@ use Rattle.packing_terms.specs.Packing.{PlainInstance, dims, container_side}
 use Rattle.packing_terms.specs.Limits.{IsInternalInstance}
 use Rattle.packing_terms.specs.declared.ScaleFn.{ScaleFn}
 use Rattle.packing_terms.specs.declared.ScaleFn.TheVariants.{Id, Step, Cut, Count}
-use Rattle.packing_terms.specs.Scales.{IsLegal, image, whole}
+use Rattle.packing_terms.specs.Scales.{IsLegalScale, scale_image, scale_whole}
 use Rattle.scale_terms.proofs.Superadditive.{rises}
 use Rattle.scale_terms.proofs.Families.{dominated}
 
-pub image_small : (f : ScaleFn) (W x : ℕ) → IsLegal f W → x ≤ W → image f W x ≤ whole f W
+pub image_small : (f : ScaleFn) (W x : ℕ) → IsLegalScale f W → x ≤ W → scale_image f W x ≤ scale_whole f W
 image_small f W x h l =
     let d = dominated f W h in
-    let i : image f W x ≤ d.above x = d.at_most x l in
-    let j : d.above x ≤ d.above W = rises W (whole f W) d.above d.adds x W l (omega arith) in
-    let k : d.above W ≤ whole f W = d.adds.top in omega arith
+    let i : scale_image f W x ≤ d.above x = d.at_most x l in
+    let j : d.above x ≤ d.above W = rises W (scale_whole f W) d.above d.adds x W l (omega arith) in
+    let k : d.above W ≤ scale_whole f W = d.adds.top in omega arith
 
-pub whole_small : (f : ScaleFn) (W : ℕ) → IsLegal f W → W ≤ 64000000 → whole f W ≤ 2 ^ 30
+pub whole_small : (f : ScaleFn) (W : ℕ) → IsLegalScale f W → W ≤ 64000000 → scale_whole f W ≤ 2 ^ 30
 whole_small Id W h l = omega arith
 whole_small (Step k) W h l = let m : k * W ≤ 16 * 64000000 = mul-le k W 16 64000000 h.1 l in omega arith
 whole_small (Cut e) W h l = omega arith

@@ -6,22 +6,22 @@ use Rattle.std.proofs.lemmas.Nat.{div-add-mod', mod_below}
 use Rattle.std.proofs.Math.Nat.{le-div_iff_mul-le, mul-le-mul_right}
 use Rattle.packing_terms.specs.declared.ScaleFn.{ScaleFn}
 use Rattle.packing_terms.specs.declared.ScaleFn.TheVariants.{Id, Step, Cut, Count}
-use Rattle.packing_terms.specs.Scales.{IsLegal, image, whole, IsDualFeasible}
+use Rattle.packing_terms.specs.Scales.{IsLegalScale, scale_image, scale_whole, IsDualFeasible}
 use Rattle.scale_terms.proofs.Superadditive.{IsSuperadditive, IsDominated, dominated_feasible}
 
 -- Cut: three cases
 abbrev CutCase : ℕ → ℕ → ℕ → ℕ → Type 0
 CutCase W e x y = ((x < e) × (y ≡ 0)) ⊎ (((e ≤ x) × (x ≤ W - e) × (y ≡ x)) ⊎ ((W - e < x) × (y ≡ W)))
 
-cut_case : (W e x : ℕ) → CutCase W e x (image (Cut e) W x)
+cut_case : (W e x : ℕ) → CutCase W e x (scale_image (Cut e) W x)
 cut_case W e x = grind (arith, nat_tests)
 
 cut_sum : (W e x y a b c : ℕ) → 1 ≤ e → 2 * e ≤ W → x + y ≤ W → CutCase W e x a → CutCase W e y b → CutCase W e (x + y) c → a + b ≤ c
 cut_sum W e x y a b c p q l i j k = omega arith
 
-cut_dominated : (W e : ℕ) → 1 ≤ e → 2 * e ≤ W → IsDominated W W (image (Cut e) W)
+cut_dominated : (W e : ℕ) → 1 ≤ e → 2 * e ≤ W → IsDominated W W (scale_image (Cut e) W)
 cut_dominated W e p q = record {
-  above = image (Cut e) W;
+  above = scale_image (Cut e) W;
   adds = record {
     adds = λ x y l. cut_sum W e x y _ _ _ p q l (cut_case W e x) (cut_case W e y) (cut_case W e (x + y));
     top = let k = cut_case W e W in omega (arith, k);
@@ -78,12 +78,12 @@ count_sum W e x y a b c p l (inr i) (inl j) k =
     let n : b + a ≤ c = one_large W e y x b a c p (omega arith) j i m in omega arith
 count_sum W e x y a b c p l (inr i) (inr j) k = omega arith
 
-count_below : (W e x : ℕ) → 1 ≤ e → x ≤ W → image (Count e) W x ≤ full_count W e x
+count_below : (W e x : ℕ) → 1 ≤ e → x ≤ W → scale_image (Count e) W x ≤ full_count W e x
 count_below W e x p l =
     let k : e ≤ x → 1 ≤ x / e = λ h. (le-div_iff_mul-le p).1 (omega arith) in
     grind (arith, nat_tests, k)
 
-count_dominated : (W e : ℕ) → 1 ≤ e → IsDominated W (W / e) (image (Count e) W)
+count_dominated : (W e : ℕ) → 1 ≤ e → IsDominated W (W / e) (scale_image (Count e) W)
 count_dominated W e p = record {
   above = full_count W e;
   adds = record {
@@ -101,7 +101,7 @@ record StepCase (W k x y : ℕ) : Type 0 where
   small : r < W
   value : ((r ≡ 0) × (y ≡ k * x)) ⊎ ((0 < r) × (y ≡ q * W))
 
-step_case : (W k x : ℕ) → 1 ≤ W → StepCase W k x (image (Step k) W x)
+step_case : (W k x : ℕ) → 1 ≤ W → StepCase W k x (scale_image (Step k) W x)
 step_case W k x p = record {
   q = (k + 1) * x / W;
   r = (k + 1) * x % W;
@@ -114,7 +114,7 @@ step_case W k x p = record {
     spread k x = grind arith
 
     go : ((k + 1) * x % W ≡ 0) ⊎ ((k + 1) * x % W ≡ 0 → ⊥)
-        → (((k + 1) * x % W ≡ 0) × (image (Step k) W x ≡ k * x)) ⊎ ((0 < (k + 1) * x % W) × (image (Step k) W x ≡ (k + 1) * x / W * W))
+        → (((k + 1) * x % W ≡ 0) × (scale_image (Step k) W x ≡ k * x)) ⊎ ((0 < (k + 1) * x % W) × (scale_image (Step k) W x ≡ (k + 1) * x / W * W))
     go (inl e) = inl (e, grind (arith, nat_tests, e))
     go (inr e) = inr (omega arith, grind (arith, nat_tests, e))
 
@@ -154,9 +154,9 @@ step_top W k c m = go (cases_lt k m.q)
     go (inl l) = let n = next_row k m.q W l in omega (arith, n)
     go (inr l) = let n : m.q * W ≤ k * W = mul-le-mul_right W l in omega (arith, n)
 
-step_dominated : (W k : ℕ) → 1 ≤ W → IsDominated W (k * W) (image (Step k) W)
+step_dominated : (W k : ℕ) → 1 ≤ W → IsDominated W (k * W) (scale_image (Step k) W)
 step_dominated W k p = record {
-  above = image (Step k) W;
+  above = scale_image (Step k) W;
   adds = record {
     adds = λ x y l. step_sum W k x y _ _ _ l (step_case W k x p) (step_case W k y p) (step_case W k (x + y) p);
     top = step_top W k _ (step_case W k W p);
@@ -164,11 +164,11 @@ step_dominated W k p = record {
   at_most = λ x l. omega arith;
 }
 
-pub dominated : (f : ScaleFn) (W : ℕ) → IsLegal f W → IsDominated W (whole f W) (image f W)
+pub dominated : (f : ScaleFn) (W : ℕ) → IsLegalScale f W → IsDominated W (scale_whole f W) (scale_image f W)
 dominated Id W h = record { above = λ x. x; adds = record { adds = λ x y l. omega arith; top = omega arith }; at_most = λ x l. omega arith }
 dominated (Step k) W h = step_dominated W k h.2
 dominated (Cut e) W h = cut_dominated W e h.0 h.1
 dominated (Count e) W h = count_dominated W e h.0
 
-pub dual_feasible : (f : ScaleFn) (W : ℕ) → IsLegal f W → IsDualFeasible W (whole f W) (image f W)
-dual_feasible f W h = dominated_feasible W (whole f W) (image f W) (dominated f W h)
+pub dual_feasible : (f : ScaleFn) (W : ℕ) → IsLegalScale f W → IsDualFeasible W (scale_whole f W) (scale_image f W)
+dual_feasible f W h = dominated_feasible W (scale_whole f W) (scale_image f W) (dominated f W h)

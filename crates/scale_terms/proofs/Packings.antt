@@ -3,7 +3,7 @@ use Rattle.std.proofs.Common.{◌≡◌, ℕ, zero, suc, ◌+◌, ◌-◌, ◌*�
 use Rattle.packing_terms.specs.Packing.{PlainInstance, dims, box_count, container_side, side, place, AreDisjoint, IsPacking, Fits}
 use Rattle.packing_terms.specs.declared.ScaleFn.{ScaleFn}
 use Rattle.packing_terms.specs.declared.ScaleFn.TheVariants.{Id, Step, Cut, Count}
-use Rattle.packing_terms.specs.Scales.{sum_below, product_below, image, whole, function_at, image_product, whole_product, IsTuple, HasExcess, Exceeds, IsDualFeasible}
+use Rattle.packing_terms.specs.Scales.{sum_below, product_below, scale_image, scale_whole, function_at, image_product, whole_product, IsTuple, HasExcess, Exceeds, IsDualFeasible}
 use Rattle.scale_terms.proofs.Envelope.{feasible_dominated}
 use Rattle.scale_terms.specs.Containers.{IsSharedPacking, FitsIn}
 use Rattle.scale_terms.specs.Intervals.{covers, AreWithin}
@@ -19,8 +19,8 @@ layout instance fs places = record {
   start = λ v i. place instance places v i;
   len = λ v i. side instance v i;
   side = λ i. container_side instance i;
-  top = λ i. whole (function_at fs i) (container_side instance i);
-  scale = λ i. image (function_at fs i) (container_side instance i);
+  top = λ i. scale_whole (function_at fs i) (container_side instance i);
+  scale = λ i. scale_image (function_at fs i) (container_side instance i);
 }
 
 abbrev AreInside : PlainInstance → List ℕ → Type 0
@@ -68,10 +68,10 @@ none_shared instance fs c x (bins, places, p) =
     let m : c * whole_product instance fs < sum_below (box_count instance) (λ v. image_product instance fs v) = x.more in
     omega (arith, h)
 
-pub weighted_images : (f : ScaleFn) (W n P : ℕ) (start len weight : ℕ → ℕ) → Rattle.packing_terms.specs.Scales.IsLegal f W → AreWithin n W P start len weight
-    → sum_below n (λ v. weight v * image f W (len v)) ≤ P * whole f W
+pub weighted_images : (f : ScaleFn) (W n P : ℕ) (start len weight : ℕ → ℕ) → Rattle.packing_terms.specs.Scales.IsLegalScale f W → AreWithin n W P start len weight
+    → sum_below n (λ v. weight v * scale_image f W (len v)) ≤ P * scale_whole f W
 weighted_images f W n P start len weight l h =
-    weighted n W (whole f W) P (image f W) start len weight (dominated f W l) h.inside h.within
+    weighted n W (scale_whole f W) P (scale_image f W) start len weight (dominated f W l) h.inside h.within
 
 pub weighted_any : (W F n P : ℕ) (f : ℕ → ℕ) (start len weight : ℕ → ℕ) → IsDualFeasible W F f → AreWithin n W P start len weight
     → sum_below n (λ v. weight v * f (len v)) ≤ P * F

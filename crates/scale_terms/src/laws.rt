@@ -3,7 +3,7 @@ ghost use Rattle.std.specs.Prelude.{◌≤◌, ◌*◌, ℕ, List, []};
 ghost use Rattle.packing_terms.specs.Packing.{PlainInstance, IsPacking, Fits, HasSides};
 ghost use Rattle.packing_terms.specs.Goals.{FitsInBins, ReachesValue};
 ghost use Rattle.packing_terms.specs.Exclusions.{Respects, excludes};
-ghost use Rattle.packing_terms.specs.Scales.{IsLegal, image, whole, IsDualFeasible, Exceeds, sum_below};
+ghost use Rattle.packing_terms.specs.Scales.{IsLegalScale, scale_image, scale_whole, IsDualFeasible, Exceeds, sum_below};
 ghost use Rattle.packing_terms.specs.ExcessLaw.{ExcessLaw};
 ghost use Rattle.packing_terms.specs.Tokens.{PlainToken};
 ghost use Rattle.packing_terms.specs.Refutation.{Refutes};
@@ -15,7 +15,7 @@ ghost use Rattle.scale_terms.specs.Intervals.{AreWithin};
 
 /// Widths that fit beside one another in a side have images that fit beside one another in the whole.
 pub fn scales_are_dual_feasible()
-    ensures { (f : PlainScale) (W : ℕ) → IsLegal f W → IsDualFeasible W (whole f W) (image f W) }
+    ensures { (f : PlainScale) (W : ℕ) → IsLegalScale f W → IsDualFeasible W (scale_whole f W) (scale_image f W) }
 {}
 
 /// Intervals within a side, whose weights over each unit step are together at most P, have lengths whose images, weighted, are
@@ -23,8 +23,8 @@ pub fn scales_are_dual_feasible()
 pub fn weighted_intervals()
     ensures any { (W F n P : ℕ) (f : ℕ → ℕ) (start len weight : ℕ → ℕ) → IsDualFeasible W F f → AreWithin n W P start len weight
         → sum_below n (λ v. weight v * f (len v)) ≤ P * F }
-    ensures scales { (f : PlainScale) (W n P : ℕ) (start len weight : ℕ → ℕ) → IsLegal f W → AreWithin n W P start len weight
-        → sum_below n (λ v. weight v * image f W (len v)) ≤ P * whole f W }
+    ensures scales { (f : PlainScale) (W n P : ℕ) (start len weight : ℕ → ℕ) → IsLegalScale f W → AreWithin n W P start len weight
+        → sum_below n (λ v. weight v * scale_image f W (len v)) ≤ P * scale_whole f W }
 {}
 
 /// Where a tuple exceeds for c copies, c containers don't hold the boxes, in whatever way the boxes are shared out.

@@ -6,8 +6,8 @@
 mod laws;
 
 pub use laws::{
-    class_tree_decides, class_tree_is_a_search, counts_are_bounded, first_levels_are_right,
-    joining_verdicts, outer_trees_are_searches, outer_trees_decide, rounds_are_the_closure,
+    class_tree_decides, class_tree_is_a_search, closures_are_stable, counts_are_bounded,
+    first_levels_are_right, joining_verdicts, outer_trees_are_searches, outer_trees_decide,
     run_of_levels, runs_find_the_optimum, runs_keep_both_certificates, searches_are_right,
     settled_places_are_a_packing, told_under_a_budget, trees_depend_on_the_closure,
 };
