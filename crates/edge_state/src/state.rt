@@ -15,7 +15,8 @@ use relation_table::{Mask, Rel, flip};
 use std::alloc::Global;
 use std::marker::Model;
 
-/// What excluding a relation came to: the mask is empty afterwards; else the relation was excluded already; else it is new.
+/// What excluding a relation came to: the mask is empty afterwards; else the relation was excluded
+/// already; else it is new.
 #[derive(Clone, Copy, Debug, PartialEq, Eq)]
 pub enum Excluded {
     New,
@@ -37,12 +38,15 @@ impl Model for Mark {
     ghost inverse = { λ n. record { 0 = n } };
 }
 
-/// The relations that are left of each two boxes in each dimension: the component graphs and their partial orientations.
+/// The relations that are left of each two boxes in each dimension: the component graphs and their
+/// partial orientations.
 ///
-/// It is seen as the list of the exclusions that changed a mask, newest first, whose set leaves the masks. So it is also
-/// seen as the list of mask tables: the full one, then one for each exclusion of the list.
+/// It is seen as the list of the exclusions that changed a mask, newest first, whose set leaves the
+/// masks. So it is also seen as the list of mask tables: the full one, then one for each exclusion
+/// of the list.
 ///
-/// Source: the search of Fekete, Schepers and van der Veen (2007) over packing classes, with an undo trail.
+/// Source: the search of Fekete, Schepers and van der Veen (2007) over packing classes, with an
+/// undo trail.
 #[derive(Drop)]
 pub struct EdgeState {
     dims: u32,
@@ -59,7 +63,8 @@ impl Model for EdgeState {
 
     ghost view = { λ s. plain_edges s.dims s.boxes s.trail };
 
-    ghost invariant = { λ s. AreKept (plain_edges s.dims s.boxes s.trail) s.masks.items (vec_capacity s.trail) };
+    ghost invariant = { λ s. AreKept (plain_edges s.dims s.boxes s.trail) s.masks.items
+        (vec_capacity s.trail) };
 }
 
 // Where the mask of a pair stands.
@@ -73,7 +78,8 @@ fn index_of(boxes: u32, dim: u32, u: u32, v: u32) -> usize
 
 // `whole`, without the relation where `mask` doesn't have it.
 fn without_missing(whole: Mask, mask: Mask, rel: Rel) -> Mask
-    ensures { (r : PlainRel) → mask_has result r ≡ mask_has whole r && (not (is_same_rel rel r) || mask_has mask rel) }
+    ensures { (r : PlainRel) → mask_has result r
+        ≡ mask_has whole r && (not (is_same_rel rel r) || mask_has mask rel) }
 {
     if mask.has(rel) {
         whole
@@ -107,7 +113,8 @@ fn told(left: Mask, usual: Excluded) -> Excluded
 }
 
 impl EdgeState {
-    /// A state with all masks full. It takes all memory that later calls need. `dims` is from 2 to 4, `boxes` from 1 to 64.
+    /// A state with all masks full. It takes all memory that later calls need. `dims` is from 2 to
+    /// 4, `boxes` from 1 to 64.
     pub fn new(alloc: Global, dims: u32, boxes: u32) -> Result<EdgeState, NoMemory>
         requires dimensions { IsDimCount dims }
         requires boxes { IsBoxCount boxes }
@@ -145,7 +152,8 @@ impl EdgeState {
         self.boxes
     }
 
-    /// The relations of two boxes that aren't excluded. The numbers count from 0 and are in range, and `u` isn't `v`.
+    /// The relations of two boxes that aren't excluded. The numbers count from 0 and are in range,
+    /// and `u` isn't `v`.
     pub fn mask(&self, dim: u32, u: u32, v: u32) -> Mask
         requires { IsPlaceAmong self.now.dims self.now.boxes dim u v }
         ensures { (r : PlainRel) → mask_has result r ≡ not (excludes self.now.trail dim u v r) }
@@ -171,11 +179,15 @@ impl EdgeState {
         !mask.has(Rel::Before) & !mask.has(Rel::After)
     }
 
-    /// Takes one relation of two boxes out, and with it the mirror out of the mask of `v`, `u`. All other masks stay. It
-    /// answers `Empty` exactly where the mask is empty afterwards, else `Already` exactly where the relation wasn't there.
+    /// Takes one relation of two boxes out, and with it the mirror out of the mask of `v`, `u`. All
+    /// other masks stay. It answers `Empty` exactly where the mask is empty afterwards, else
+    /// `Already` exactly where the relation wasn't there.
     pub fn exclude(&mut self, dim: u32, u: u32, v: u32, rel: Rel) -> Excluded
         requires { IsPlaceAmong self.old.dims self.old.boxes dim u v }
-        ensures state { self.new ≡ record self.old { trail = with_exclusion self.old.trail (at_pair dim u v rel) } }
+        ensures state { self.new ≡ record self.old {
+          trail = with_exclusion self.old.trail
+              (at_pair dim u v rel);
+        } }
         ensures answer { IsAnswer self.old.trail (at_pair dim u v rel) result }
     {
         let at = index_of(self.boxes, dim, u, v);
@@ -215,10 +227,14 @@ impl EdgeState {
         self.masks[back] = mirrored;
     }
 
-    /// Cuts the list of mask tables after a place of it, so the masks are those that stood there. It costs what it undoes.
+    /// Cuts the list of mask tables after a place of it, so the masks are those that stood there.
+    /// It costs what it undoes.
     pub fn undo(&mut self, to: Mark)
         requires { to ≤ length self.old.trail }
-        ensures { self.new ≡ record self.old { trail = drop (length self.old.trail - to) self.old.trail } }
+        ensures { self.new ≡ record self.old {
+          trail = drop
+              (length self.old.trail - to) self.old.trail;
+        } }
     {
         for _ in to.0..self.mark().0 {
             self.undo_one();

@@ -12,7 +12,7 @@ use Rattle.pack_words.specs.Items.{Text, Item, option, word, is_option_name, beg
 use Rattle.pack_words.specs.Job.{Texts, ◌>>=◌, values_of, job_words, at_most_once, texts_of, job_named, are_taken, ranged, number_or, scales_in, settings_of, job_of_texts, job_of_words}
 use Rattle.pack_words.proofs.ClapReading.{finish, rows_said, reads, expect}
 use Rattle.pack_words.proofs.Steps.{bytes_same}
-use Rattle.pack_words.proofs.Walking.{option_is_no_job}
+use Rattle.pack_words.proofs.Walked.{option_is_no_job}
 use Rattle.pack_words.proofs.Rows.{said_at, is_named, Ended, Fails, twice, no_job, once_none, finish_once, finish_fails}
 use Rattle.pack_words.proofs.Alike.{is_odd, AreAlike, AreNamed, alike, all_named}
 

@@ -1,9 +1,9 @@
 -- What one instance of a rule adds to a list of exclusions.
-use Rattle.std.specs.Prelude.{ℕ, ◌≡◌, ◌<◌, ◌≤◌, ◌⊎◌, ◌↔◌, List, ◌++◌, Bool, false, not, ◌&&◌, ◌||◌, if◌then◌else◌, IsTrue}
+use Rattle.std.specs.Prelude.{ℕ, ◌+◌, nat_lt, ◌≡◌, ◌<◌, ◌≤◌, ◌⊎◌, ◌↔◌, List, ◌++◌, Bool, false, not, ◌&&◌, ◌||◌, if◌then◌else◌, IsTrue}
 use Rattle.packing_terms.specs.declared.Rel.{Rel}
 use Rattle.packing_terms.specs.declared.Rel.TheVariants.{Overlap, Before, After}
 use Rattle.packing_terms.specs.declared.Exclusion.{Exclusion}
-use Rattle.packing_terms.specs.Packing.{PlainInstance, IsPacking, HasSides, dims, box_count}
+use Rattle.packing_terms.specs.Packing.{PlainInstance, IsPacking, HasSides, dims, box_count, container_side}
 use Rattle.packing_terms.specs.Relations.{mirror}
 use Rattle.packing_terms.specs.Exclusions.{Exclusions, excludes, Respects}
 use Rattle.packing_terms.specs.Rules.{Rule, IsRuleInstance, Premises, Concludes, dim_of, first_of, second_of}
@@ -69,3 +69,8 @@ is_narrowed es i u v keep =
     narrows es i u v keep Overlap
     || narrows (narrowed_by es i u v keep Overlap) i u v keep Before
     || narrows (narrowed_by (narrowed_by es i u v keep Overlap) i u v keep Before) i u v keep After
+
+-- the list with before excluded at u, v where these weights of chains together exceed the container's side; else the list as it was
+abbrev pub with_chain_exclusion : PlainInstance → List Exclusion → (i u v head tail : ℕ) → List Exclusion
+with_chain_exclusion instance es i u v head tail =
+    if nat_lt (container_side instance i) (head + tail) then with_exclusion es (at_pair i u v Before) else es

@@ -1,7 +1,7 @@
 -- Runs: lists of distinct boxes, each related to the next. Chains are runs, read forwards or backwards. The weight of a run is the sum of its sides.
 use Rattle.std.specs.Prelude.{ℕ, ◌+◌, ◌-◌, ◌<◌, ◌≤◌, ◌≡◌, ◌≢◌, List, [], ◌∷◌, ◌++◌, Bool, true, false, slice_index, IsTrue}
 use Rattle.std.specs.List.{sum_by}
-use Rattle.packing_terms.specs.Packing.{PlainInstance}
+use Rattle.packing_terms.specs.Packing.{PlainInstance, box_count}
 use Rattle.packing_terms.specs.Exclusions.{Exclusions, IsSurelyBefore}
 use Rattle.packing_terms.specs.Rules.{AreBoxesAmong, AreBoxes, IsChain, weight}
 
@@ -82,3 +82,17 @@ pub record IsHeaviestHead (instance : PlainInstance) (X : Exclusions) (i v k : �
 pub record IsHeaviestTail (instance : PlainInstance) (X : Exclusions) (i v k : ℕ) : Type 0 where
   pub some : HasTail instance X i v k
   pub most : (after : List ℕ) → AreBoxes instance (v ∷ after) → IsChain X i (v ∷ after) → weight instance i (v ∷ after) ≤ k
+
+-- each number is the weight of some chain that ends in the box, or starts in it
+abbrev pub AreHeads : PlainInstance → Exclusions → ℕ → List ℕ → Type 0
+AreHeads instance X i ks = (v : ℕ) → v < box_count instance → HasHead instance X i v (slice_index ks v)
+
+abbrev pub AreTails : PlainInstance → Exclusions → ℕ → List ℕ → Type 0
+AreTails instance X i ks = (v : ℕ) → v < box_count instance → HasTail instance X i v (slice_index ks v)
+
+-- each number is the weight of the heaviest chain that ends in the box, or starts in it
+abbrev pub AreHeaviestHeads : PlainInstance → Exclusions → ℕ → List ℕ → Type 0
+AreHeaviestHeads instance X i ks = (v : ℕ) → v < box_count instance → IsHeaviestHead instance X i v (slice_index ks v)
+
+abbrev pub AreHeaviestTails : PlainInstance → Exclusions → ℕ → List ℕ → Type 0
+AreHeaviestTails instance X i ks = (v : ℕ) → v < box_count instance → IsHeaviestTail instance X i v (slice_index ks v)

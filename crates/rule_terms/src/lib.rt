@@ -1,5 +1,5 @@
-//! Terms of rules at work: what one instance of a rule adds, the closure as a value, chains and their weights, and the places
-//! that a settled state gives.
+//! Terms of rules at work: what one instance of a rule adds, the closure as a value, chains and
+//! their weights, and the places that a settled state gives.
 #![tactic(auto)]
 
 ghost use Rattle.std.specs.Prelude.{◌≡◌, ◌↔◌, ℕ, Bool, List, IsTrue, ◌<◌, ◌*◌, length};
@@ -17,27 +17,35 @@ ghost use Rattle.rule_terms.specs.Places.{IsSettled, HasNoEmptyMask, IsGreatestE
 /// The closure by rounds is the set of all exclusions that have a derivation.
 pub fn rounds_give_the_closure()
     ensures { (instance : PlainInstance) (es : List PlainExclusion) (i u v : ℕ) (r : PlainRel)
-        → IsTrue (excludes (closure instance es) i u v r) ↔ IsDerived instance (excludes es) i u v r }
+        → IsTrue (excludes (closure instance es) i u v r)
+        ↔ IsDerived instance (excludes es) i u v r }
 {}
 
-/// What a rule concludes from a table of derived exclusions is derived too: where each exclusion of the table has a derivation
-/// from E, and the premises of a rule hold in the table, each exclusion of the rule's conclusion has a derivation from E.
+/// What a rule concludes from a table of derived exclusions is derived too: where each exclusion of
+/// the table has a derivation from E, and the premises of a rule hold in the table, each exclusion
+/// of the rule's conclusion has a derivation from E.
 pub fn rules_keep_derivations()
-    ensures { (instance : PlainInstance) (E : Exclusions) (es : List PlainExclusion) → AreDerived instance E (excludes es)
-        → (i u v : ℕ) (r : PlainRel) → Follows instance (excludes es) i u v r → IsDerived instance E i u v r }
+    ensures { (instance : PlainInstance) (E : Exclusions) (es : List PlainExclusion)
+        → AreDerived instance E (excludes es)
+        → (i u v : ℕ) (r : PlainRel) → Follows instance (excludes es) i u v r
+        → IsDerived instance E i u v r }
 {}
 
 /// Applying an instance of a rule loses no packing.
 pub fn applied_rules_are_sound()
-    ensures { (instance : PlainInstance) (rule : Rule) (old new : List PlainExclusion) (changed : Bool)
+    ensures { (instance : PlainInstance) (rule : Rule) (old new : List PlainExclusion)
+        (changed : Bool)
         → IsApplied instance rule old new changed → KeepsPackings instance old new }
 {}
 
-/// In a stable set without an empty mask, where each pair of boxes is settled and each box fits the container by itself, the
-/// greatest ends are a packing.
+/// In a stable set without an empty mask, where each pair of boxes is settled and each box fits the
+/// container by itself, the greatest ends are a packing.
 pub fn settled_sets_give_packings()
-    ensures { (instance : PlainInstance) (X : Exclusions) (places : List ℕ) → IsStable instance X → IsSymmetric X → HasNoEmptyMask instance X
-        → HasSides instance → SidesFit instance → ((u v : ℕ) → u < v → v < box_count instance → IsSettled instance X u v)
+    ensures { (instance : PlainInstance) (X : Exclusions) (places : List ℕ)
+        → IsStable instance X → IsSymmetric X → HasNoEmptyMask instance X
+        → HasSides instance → SidesFit instance → ((u v : ℕ) → u < v → v < box_count instance
+        → IsSettled instance X u v)
         → length places ≡ box_count instance * dims instance
-        → ((v i : ℕ) → v < box_count instance → i < dims instance → IsGreatestEnd instance X places i v) → IsPacking instance places }
+        → ((v i : ℕ) → v < box_count instance → i < dims instance
+        → IsGreatestEnd instance X places i v) → IsPacking instance places }
 {}

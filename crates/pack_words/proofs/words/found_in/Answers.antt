@@ -9,7 +9,7 @@ use Rattle.clap.specs.Faults.{fault_of}
 use Rattle.clap.proofs.WalkLemmas.{first_value-rows}
 use Rattle.pack_words.specs.Command.{pack_app}
 use Rattle.pack_words.specs.Job.{job_of_texts}
-use Rattle.pack_words.proofs.Walking.{ok_rows, none_said}
+use Rattle.pack_words.proofs.Walked.{ok_rows, none_said}
 use Rattle.pack_words.proofs.Judged.{texts_same, job_of_rows, no_job_of_rows}
 use Rattle.pack_words.proofs.words.found_in.Goals as goal
 

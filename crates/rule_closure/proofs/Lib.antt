@@ -1,0 +1,4 @@
+pub mod FourBoxes
+pub mod Steps
+pub mod ChainSteps
+pub mod Closings
