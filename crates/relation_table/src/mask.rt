@@ -8,7 +8,8 @@ ghost use Rattle.relation_table.specs.Masks.{bit_of, mask_has, IsComposed};
 use packing_terms::Rel;
 use std::marker::Model;
 
-/// A set of the relations of two boxes in one dimension. Bit 1 is overlap, bit 2 before, bit 4 after.
+/// A set of the relations of two boxes in one dimension. Bit 1 is overlap, bit 2 before, bit 4
+/// after.
 #[derive(Clone, Copy, Debug, PartialEq, Eq)]
 pub struct Mask(u8);
 
@@ -24,10 +25,11 @@ impl Model for Mask {
     ghost inverse = { λ n. record { 0 = n } };
 }
 
-/// The composition of each two masks, by their bits: row a, column b is what `compose` answers for a and b.
+/// The composition of each two masks, by their bits: row a, column b is what `compose` answers for
+/// a and b.
 ///
-/// Source: the relations of projections of Fekete, Schepers and van der Veen (2007), composed as intervals are in
-/// Allen's algebra (1983).
+/// Source: the relations of projections of Fekete, Schepers and van der Veen (2007), composed as
+/// intervals are in Allen's algebra (1983).
 pub const COMPOSE: [[u8; 8]; 8] = [
     [0, 0, 0, 0, 0, 0, 0, 0],
     [0, 7, 3, 7, 5, 7, 7, 7],
@@ -67,13 +69,15 @@ impl Mask {
 
     /// The mask with one relation taken out; the same mask where it wasn't there.
     pub fn without(self, rel: Rel) -> Mask
-        ensures others { (r : PlainRel) → mask_has result r ≡ mask_has self r && not (is_same_rel rel r) }
+        ensures others { (r : PlainRel) → mask_has result r
+            ≡ mask_has self r && not (is_same_rel rel r) }
         ensures limit { result < 8 }
     {
         Mask(self.0 & (7 - bit_of(rel)))
     }
 
-    /// The bits of the relations that are in the mask: a number below 8, and 0 where there are none.
+    /// The bits of the relations that are in the mask: a number below 8, and 0 where there are
+    /// none.
     pub fn bits(self) -> u8
         ensures value { result ≡ self }
         ensures limit { result < 8 }
@@ -82,7 +86,8 @@ impl Mask {
     }
 }
 
-/// Every relation of u and x that some relation in `a` of u and v, and some relation in `b` of v and x, allow.
+/// Every relation of u and x that some relation in `a` of u and v, and some relation in `b` of v
+/// and x, allow.
 pub fn compose(a: Mask, b: Mask) -> Mask
     ensures exact { (r : PlainRel) → IsTrue (mask_has result r) ↔ IsComposed a b r }
     ensures limit { result < 8 }
