@@ -1,8 +1,8 @@
 -- The next of the rising parameters.
-use Rattle.std.proofs.Common.{◌≡◌, ℕ, zero, suc, ◌+◌, ◌-◌, ◌*◌, ◌/◌, ◌<◌, ◌≤◌, ◌⊎◌, inl, inr, refl, sym, ap, subst, ◌∙◌, arith, Bool, true, false, cond, eqb, ◌||◌, List, [], ◌∷◌}
+use Rattle.std.proofs.Common.{◌≡◌, ℕ, zero, suc, ◌+◌, ◌-◌, ◌/◌, ◌<◌, ◌≤◌, ◌⊎◌, inl, inr, refl, sym, ap, ◌∙◌, arith, Bool, true, false, eqb, [], ◌∷◌}
 use Rattle.std.specs.List.{filter, range_with_len}
-use Rattle.std.proofs.lemmas.Bool.{cases_lt, cases_eq, cases_Bool, or_cases, or_left, or_right, true≢false, eqb-true, eq-eqb}
-use Rattle.packing_terms.specs.Packing.{PlainInstance, dims, box_count, container_side, side}
+use Rattle.std.proofs.lemmas.Bool.{cases_eq, or_cases, or_left, or_right, true≢false, eqb-true, eq-eqb}
+use Rattle.packing_terms.specs.Packing.{PlainInstance, box_count, container_side, side}
 use Rattle.packing_terms.specs.Tuples.{any_below, is_edge, edges_above, functions_after}
 use Rattle.packing_terms.specs.declared.ScaleFn.TheVariants.{Step}
 

@@ -1,7 +1,7 @@
 -- The boxes of a subset.
-use Rattle.std.proofs.Common.{◌≡◌, ℕ, zero, suc, ◌+◌, ◌-◌, ◌*◌, ◌<◌, ◌≤◌, refl, sym, ap, ◌∙◌, arith, List, [], ◌∷◌, length, get_or, map}
+use Rattle.std.proofs.Common.{◌≡◌, ℕ, zero, suc, ◌<◌, ◌≤◌, refl, sym, ap, arith, List, length, get_or, map}
 use Rattle.std.proofs.lemmas.List.{get_or-map, length-map}
-use Rattle.packing_terms.specs.Packing.{PlainInstance, PlainBox, no_box, dims, box_count, container_side, side}
+use Rattle.packing_terms.specs.Packing.{PlainInstance, PlainBox, no_box, dims, container_side, side}
 use Rattle.packing_terms.specs.declared.ScaleFn.{ScaleFn}
 use Rattle.packing_terms.specs.Scales.{product_below, image_product, scale_image, function_at, SidesFit}
 use Rattle.packing_terms.specs.Goals.{subset}

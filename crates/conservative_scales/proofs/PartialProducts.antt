@@ -1,9 +1,9 @@
 -- Products over the dimensions from some on, one dimension after another.
-use Rattle.std.proofs.Common.{◌≡◌, ℕ, zero, suc, ◌+◌, ◌*◌, ◌-◌, ◌^◌, ◌<◌, ◌≤◌, refl, sym, ap, subst, ◌∙◌, arith, List, [], ◌∷◌, length, get_or, add-one, ltb, replicate, ◌⊎◌, inl, inr, set, get_or-set_same, get_or-set_other}
+use Rattle.std.proofs.Common.{◌≡◌, ℕ, zero, suc, ◌+◌, ◌*◌, ◌^◌, ◌<◌, ◌≤◌, refl, sym, ap, ◌∙◌, arith, List, [], ◌∷◌, length, get_or, ltb, replicate, ◌⊎◌, inl, inr, set, get_or-set_same, get_or-set_other}
 use Rattle.std.proofs.lemmas.List.{get_or-replicate}
 use Rattle.std.proofs.lemmas.Bool.{cases_eq}
 use Rattle.std.proofs.lemmas.Nat.{mul-le}
-use Rattle.std.proofs.Math.Nat.{le_trans, mul_comm, mul_assoc, pow-le-pow_right}
+use Rattle.std.proofs.Math.Nat.{le_trans, pow-le-pow_right}
 use Rattle.packing_terms.specs.declared.ScaleFn.{ScaleFn}
 use Rattle.packing_terms.specs.Packing.{PlainInstance, dims, box_count, container_side, side}
 use Rattle.packing_terms.specs.Limits.{IsInternalInstance}

@@ -1,13 +1,13 @@
 -- The search through the list of tuples.
-use Rattle.std.proofs.Common.{◌≡◌, ℕ, zero, suc, ◌+◌, ◌-◌, ◌*◌, ◌<◌, ◌≤◌, ◌⊎◌, inl, inr, refl, sym, ap, subst, ◌∙◌, arith, Bool, true, false, cond, List, [], ◌∷◌, ◌++◌, length, drop, get_or, ltb, Option, Some, None, add-one}
+use Rattle.std.proofs.Common.{◌≡◌, ℕ, zero, suc, ◌+◌, ◌-◌, ◌*◌, ◌<◌, ◌≤◌, sym, ap, ◌∙◌, arith, Bool, true, false, cond, List, [], ◌∷◌, length, drop, get_or, ltb, Option, Some, None}
 use Rattle.std.specs.List.{flat_map, find}
-use Rattle.std.specs.Prelude.{IfSome, slice_set, IsTrue, ◌↔◌, MatchBool}
+use Rattle.std.specs.Prelude.{IfSome, slice_set, MatchBool}
 use Rattle.std.proofs.lemmas.List.{drop-set, length-drop}
 use Rattle.packing_terms.specs.Limits.{IsInternalInstance}
 use Rattle.packing_terms.specs.Packing.{PlainInstance, dims, box_count, side, container_side}
 use Rattle.packing_terms.specs.declared.ScaleFn.{ScaleFn}
 use Rattle.packing_terms.specs.declared.ScaleFn.TheVariants.{Id}
-use Rattle.packing_terms.specs.Scales.{IsLegalScale, IsTuple, SidesFit, function_at}
+use Rattle.packing_terms.specs.Scales.{IsLegalScale, SidesFit}
 use Rattle.packing_terms.specs.Tuples.{functions_after, has_excess}
 use Rattle.conservative_scales.specs.Within.{within, from_next, AreLegalFrom}
 use Rattle.packing_terms.specs.Scales.{scale_image, scale_whole, sum_below}

@@ -1,14 +1,14 @@
 -- The list of tuples, as the search goes through it.
-use Rattle.std.proofs.Common.{◌≡◌, ℕ, zero, suc, ◌+◌, ◌-◌, ◌*◌, ◌<◌, ◌≤◌, ◌⊎◌, inl, inr, refl, sym, ap, subst, ◌∙◌, arith, Bool, true, false, cond, leb, List, [], ◌∷◌, ◌++◌, map, length, drop, take, Option, Some, None, zero-add, append-nil}
-use Rattle.std.specs.List.{filter, flat_map, range_with_len, find, count_by, sum_by}
-use Rattle.std.proofs.lemmas.Bool.{cases_Bool, le-leb, lt-leb}
+use Rattle.std.proofs.Common.{◌≡◌, ℕ, zero, suc, ◌+◌, ◌<◌, ◌≤◌, refl, ap, ◌∙◌, arith, Bool, true, false, cond, leb, List, [], ◌∷◌, ◌++◌, map, drop, take, Some, None, zero-add, append-nil}
+use Rattle.std.specs.List.{filter, flat_map, range_with_len, find, count_by}
+use Rattle.std.proofs.lemmas.Bool.{le-leb, lt-leb}
 use Rattle.std.proofs.lemmas.List.Sums.{sum_by-cons}
 use Rattle.std.proofs.lemmas.List.Elements.{filter-append}
-use Rattle.packing_terms.specs.Packing.{PlainInstance, dims, container_side}
+use Rattle.packing_terms.specs.Packing.{PlainInstance, dims}
 use Rattle.packing_terms.specs.declared.ScaleFn.{ScaleFn}
 use Rattle.packing_terms.specs.declared.ScaleFn.TheVariants.{Id, Step, Cut, Count}
 use Rattle.packing_terms.specs.Tuples.{edges_above, functions_after, functions_of, choices, is_other, tuples, has_excess, first_excess}
-use Rattle.conservative_scales.specs.Within.{within, from_next}
+use Rattle.conservative_scales.specs.Within.{within}
 
 -- find in two lists
 pub found_first : {X : Type 0} (p : X → Bool) (t : X) (xs ys : List X) → find p xs ≡ Some t → find p (xs ++ ys) ≡ Some t

@@ -8,8 +8,7 @@ mod laws;
 pub use laws::{
     closure_laws, composition_is_exact, derivations_depend_on_the_closure, feeding_is_refuting,
     goals_are_monotone, limits_give_sides, listed_tuples_exceed, neighbours_are_best,
-    one_relation_holds, outer_feeding_is_refuting, outer_refutations_are_sound,
-    refutations_are_sound, rules_are_sound, too_large_fits_nowhere,
+    one_relation_holds, outer_feeding_is_refuting, rules_are_sound, too_large_fits_nowhere,
 };
 
 /// How the projections of two boxes on one dimension lie to one another.

@@ -1,8 +1,8 @@
 -- Images and wholes are small numbers.
-use Rattle.std.proofs.Common.{◌≡◌, ℕ, zero, suc, ◌+◌, ◌-◌, ◌*◌, ◌^◌, ◌/◌, ◌<◌, ◌≤◌, ◌⊎◌, inl, inr, refl, sym, ap, ◌∙◌, arith, length}
+use Rattle.std.proofs.Common.{◌≡◌, ℕ, ◌+◌, ◌-◌, ◌*◌, ◌^◌, ◌/◌, ◌<◌, ◌≤◌, ◌⊎◌, inl, inr, arith}
 use Rattle.std.proofs.lemmas.Bool.{cases_lt}
 use Rattle.std.proofs.lemmas.Nat.{mul-le, pow-add}
-use Rattle.std.proofs.Math.Nat.{div-le_self, mul-le-mul_left, pow-le-pow_right, le_trans}
+use Rattle.std.proofs.Math.Nat.{div-le_self, pow-le-pow_right, le_trans}
 use Rattle.packing_terms.specs.Packing.{PlainInstance, dims, container_side}
 use Rattle.packing_terms.specs.Limits.{IsInternalInstance}
 use Rattle.packing_terms.specs.declared.ScaleFn.{ScaleFn}

@@ -1,10 +1,10 @@
 -- Any dual feasible function is dominated: by the most that a list of numbers with a given sum can have as images.
-use Rattle.std.proofs.Common.{◌≡◌, ℕ, zero, suc, ◌+◌, ◌-◌, ◌*◌, ◌<◌, ◌≤◌, ◌⊎◌, inl, inr, refl, sym, ap, subst, ◌∙◌, arith, List, [], ◌∷◌, ◌++◌, map, max}
-use Rattle.std.specs.List.{sum, sum_by}
+use Rattle.std.proofs.Common.{◌≡◌, ℕ, zero, suc, ◌+◌, ◌-◌, ◌<◌, ◌≤◌, ◌⊎◌, inl, inr, refl, arith, List, [], ◌∷◌, map, max}
+use Rattle.std.specs.List.{sum}
 use Rattle.std.proofs.lemmas.Bool.{cases_lt}
 use Rattle.std.proofs.lemmas.List.Sums.{sum_by-cons}
 use Rattle.packing_terms.specs.Scales.{IsDualFeasible}
-use Rattle.scale_terms.proofs.Superadditive.{IsSuperadditive, IsDominated}
+use Rattle.scale_terms.proofs.Superadditive.{IsDominated}
 
 -- the greatest of g 0 .. g n
 greatest : ℕ → (ℕ → ℕ) → ℕ

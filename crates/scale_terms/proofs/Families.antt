@@ -1,5 +1,5 @@
 -- Each legal scale function is dominated by a superadditive one.
-use Rattle.std.proofs.Common.{◌≡◌, ℕ, zero, suc, ◌+◌, ◌-◌, ◌*◌, ◌/◌, ◌%◌, ◌<◌, ◌≤◌, ◌⊎◌, inl, inr, refl, sym, ap, subst, ◌∙◌, arith, Bool, true, false, cond, eqb, ltb, leb}
+use Rattle.std.proofs.Common.{◌≡◌, ℕ, ◌+◌, ◌-◌, ◌*◌, ◌/◌, ◌%◌, ◌<◌, ◌≤◌, ◌⊎◌, inl, inr, ap, subst, ◌∙◌, arith, cond, leb}
 use Rattle.std.proofs.lemmas.Bool.{cases_lt, cases_eq}
 use Rattle.std.proofs.lemmas.Bool.Decides.{nat_tests}
 use Rattle.std.proofs.lemmas.Nat.{div-add-mod', mod_below}
@@ -7,7 +7,7 @@ use Rattle.std.proofs.Math.Nat.{le-div_iff_mul-le, mul-le-mul_right}
 use Rattle.packing_terms.specs.declared.ScaleFn.{ScaleFn}
 use Rattle.packing_terms.specs.declared.ScaleFn.TheVariants.{Id, Step, Cut, Count}
 use Rattle.packing_terms.specs.Scales.{IsLegalScale, scale_image, scale_whole, IsDualFeasible}
-use Rattle.scale_terms.proofs.Superadditive.{IsSuperadditive, IsDominated, dominated_feasible}
+use Rattle.scale_terms.proofs.Superadditive.{IsDominated, dominated_feasible}
 
 -- Cut: three cases
 abbrev CutCase : ℕ → ℕ → ℕ → ℕ → Type 0

@@ -1,9 +1,9 @@
 -- Where the boxes of each bin are a packing, each box lies within its container, and the boxes of one container are disjoint.
 use Rattle.std.proofs.Common.{ℕ, arith}
 use Rattle.packing_terms.specs.Packing.{PlainInstance}
-use Rattle.packing_terms.specs.Goals.{IsBinPacking, FitsInBins}
+use Rattle.packing_terms.specs.Goals.{FitsInBins}
 use Rattle.packing_terms.proofs.InBins.{inside, disjoint}
-use Rattle.scale_terms.specs.Containers.{IsSharedPacking, FitsIn}
+use Rattle.scale_terms.specs.Containers.{FitsIn}
 
 pub bins_share : (instance : PlainInstance) (k : ℕ) → FitsInBins instance k → FitsIn instance k
 bins_share instance k (bins, places, p) = (

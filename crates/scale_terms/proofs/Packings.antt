@@ -1,8 +1,8 @@
 -- Where a tuple exceeds, no packing is.
-use Rattle.std.proofs.Common.{◌≡◌, ℕ, zero, suc, ◌+◌, ◌-◌, ◌*◌, ◌<◌, ◌≤◌, ◌⊎◌, inl, inr, refl, sym, ap, subst, ◌∙◌, arith, Bool, true, false, cond, List, [], ◌∷◌, get_or}
-use Rattle.packing_terms.specs.Packing.{PlainInstance, dims, box_count, container_side, side, place, AreDisjoint, IsPacking, Fits}
+use Rattle.std.proofs.Common.{◌≡◌, ℕ, ◌+◌, ◌*◌, ◌<◌, ◌≤◌, sym, ◌∙◌, arith, Bool, true, cond, List, get_or}
+use Rattle.packing_terms.specs.Packing.{PlainInstance, dims, box_count, container_side, side, place, AreDisjoint, Fits}
 use Rattle.packing_terms.specs.declared.ScaleFn.{ScaleFn}
-use Rattle.packing_terms.specs.declared.ScaleFn.TheVariants.{Id, Step, Cut, Count}
+use Rattle.packing_terms.specs.declared.ScaleFn.TheVariants.{Id}
 use Rattle.packing_terms.specs.Scales.{sum_below, product_below, scale_image, scale_whole, function_at, image_product, whole_product, IsTuple, HasExcess, Exceeds, IsDualFeasible}
 use Rattle.scale_terms.proofs.Envelope.{feasible_dominated}
 use Rattle.scale_terms.specs.Containers.{IsSharedPacking, FitsIn}
@@ -10,7 +10,7 @@ use Rattle.scale_terms.specs.Intervals.{covers, AreWithin}
 use Rattle.scale_terms.proofs.Sums.{sum-same}
 use Rattle.scale_terms.proofs.Families.{dominated}
 use Rattle.scale_terms.proofs.Weighted.{weighted}
-use Rattle.scale_terms.proofs.Slices.{Layout, LieApart, AreSpread, IsWellMade, bounded, covers_parts}
+use Rattle.scale_terms.proofs.Slices.{Layout, IsWellMade, bounded, covers_parts}
 
 -- the boxes of an instance at their places
 abbrev layout : PlainInstance → List ScaleFn → List ℕ → Layout

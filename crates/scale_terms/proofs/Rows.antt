@@ -1,7 +1,6 @@
 -- The first exceeding tuple of some small instances.
-use Rattle.std.proofs.Common.{◌≡◌, ℕ, refl, List, [], ◌∷◌, Option, Some, None}
+use Rattle.std.proofs.Common.{◌≡◌, ℕ, refl, [], ◌∷◌, Some, None}
 use Rattle.packing_terms.specs.Packing.{PlainInstance, PlainBox}
-use Rattle.packing_terms.specs.declared.ScaleFn.{ScaleFn}
 use Rattle.packing_terms.specs.declared.ScaleFn.TheVariants.{Id, Step, Cut, Count}
 use Rattle.packing_terms.specs.Tuples.{first_excess, functions_of}
 

@@ -1,6 +1,6 @@
 -- A function whose images of two numbers are at most that of their sum, and what that gives.
-use Rattle.std.proofs.Common.{◌≡◌, ℕ, zero, suc, ◌+◌, ◌-◌, ◌*◌, ◌<◌, ◌≤◌, refl, sym, ap, ◌∙◌, arith, List, [], ◌∷◌, map}
-use Rattle.std.specs.List.{sum, sum_by}
+use Rattle.std.proofs.Common.{◌≡◌, ℕ, ◌+◌, ◌-◌, ◌≤◌, arith, List, [], ◌∷◌, map}
+use Rattle.std.specs.List.{sum}
 use Rattle.std.proofs.lemmas.List.Sums.{sum_by-cons}
 use Rattle.packing_terms.specs.Scales.{IsDualFeasible}
 

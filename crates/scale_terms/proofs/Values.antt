@@ -1,7 +1,7 @@
 -- The images at some small numbers.
 use Rattle.std.proofs.Common.{◌≡◌, refl}
 use Rattle.packing_terms.specs.Scales.{scale_image, scale_whole}
-use Rattle.packing_terms.specs.declared.ScaleFn.TheVariants.{Id, Step, Cut, Count}
+use Rattle.packing_terms.specs.declared.ScaleFn.TheVariants.{Step, Cut, Count}
 
 step_of_4 : scale_image (Step 2) 9 4 ≡ 9
 step_of_4 = refl

@@ -1,5 +1,5 @@
 -- Boxes in several equal containers.
-use Rattle.std.specs.Prelude.{ℕ, ◌+◌, ◌<◌, ◌≤◌, ◌≡◌, List, length, slice_index}
+use Rattle.std.specs.Prelude.{ℕ, ◌+◌, ◌<◌, ◌≤◌, ◌≡◌, List, slice_index}
 use Rattle.packing_terms.specs.Packing.{PlainInstance, dims, box_count, container_side, side, place, AreDisjoint}
 
 -- a container below c for each box, and coordinates; boxes of one container are apart

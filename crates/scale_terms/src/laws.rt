@@ -42,7 +42,7 @@ pub fn excess_law_holds()
 /// What a refutation says is true. No packing respects exclusions under which the instance is refuted; an instance with an inner
 /// refutation doesn't fit; one with a refutation for k bins doesn't fit in k bins; one with a refutation for a value doesn't
 /// reach it.
-pub fn refutations_refute()
+pub fn refutations_are_sound()
     ensures under { (instance : PlainInstance) (places : List ℕ) (es : List PlainExclusion) (tokens : List PlainToken) → HasSides instance
         → IsPacking instance places → Refutes instance es tokens → ¬ Respects instance places (excludes es) }
     ensures fits { (instance : PlainInstance) (tokens : List PlainToken) → HasSides instance → Refutes instance [] tokens → ¬ Fits instance }

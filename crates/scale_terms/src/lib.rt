@@ -8,6 +8,6 @@
 mod laws;
 
 pub use laws::{
-    excess_law_holds, excess_refutes, refutations_refute, scales_are_dual_feasible,
+    excess_law_holds, excess_refutes, refutations_are_sound, scales_are_dual_feasible,
     weighted_intervals,
 };

@@ -1,6 +1,6 @@
 -- The first and the third of three boxes, as the tests name them.
-use Rattle.std.proofs.Common.{ℕ, zero, suc, ◌<◌, ◌≤◌, arith, List, [], ◌∷◌, get_or}
-use Rattle.packing_terms.specs.Packing.{PlainInstance, dims, box_count, container_side, side}
+use Rattle.std.proofs.Common.{ℕ, zero, suc, ◌<◌, ◌≤◌, arith, [], ◌∷◌, get_or}
+use Rattle.packing_terms.specs.Packing.{PlainInstance, box_count, container_side, side}
 use Rattle.packing_terms.specs.Goals.{subset}
 use Rattle.packing_terms.specs.Scales.{SidesFit}
 use Rattle.conservative_scales.specs.Among.{AreNamed}

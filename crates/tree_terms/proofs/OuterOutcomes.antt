@@ -3,7 +3,7 @@ use Rattle.std.proofs.Common.{◌≡◌, ℕ, suc, pred, ◌+◌, ◌<◌, sym, 
 use Rattle.packing_terms.specs.Packing.{PlainInstance}
 use Rattle.packing_terms.specs.Tokens.{PlainToken}
 use Rattle.packing_terms.specs.Tokens.PlainToken.{Assign, Choose}
-use Rattle.packing_terms.specs.OuterRefutation.{Bins, IsUnplaced, placements, RefutesBins, Choice, with_taken, with_left, RefutesValue, none_left, by_scales, by_value, by_set, by_box, IsUndecided}
+use Rattle.packing_terms.specs.OuterRefutation.{Bins, placements, RefutesBins, Choice, with_taken, with_left, RefutesValue, none_left, by_scales, by_value, by_set, by_box, IsUndecided}
 use Rattle.tree_terms.specs.Trees.{SearchTree, Settled, Refuted, Split, Verdict, Yes, No, nothing, join, join_from, outcome}
 use Rattle.tree_terms.specs.OuterSearch.{AreBinNumbers, IsBinSearch, IsBinRight, IsChoiceSearch, IsChoiceRight}
 use Rattle.tree_terms.proofs.Joins.{join_next}

@@ -1,4 +1,4 @@
-use Rattle.std.proofs.Common.{arith, ◌≡◌}
+use Rattle.std.proofs.Common.{arith}
 use Rattle.packing_terms.specs.Scales.{Exceeds}
 use Rattle.scale_terms.proofs.Excess.{excess_law}
 use Rattle.conservative_scales.proofs.Products.{excess_at_end, excess_is_told}

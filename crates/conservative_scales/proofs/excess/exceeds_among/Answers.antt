@@ -1,12 +1,12 @@
-use Rattle.std.proofs.Common.{arith, ◌∙◌, get_or, ◌≤◌, ◌<◌, length}
+use Rattle.std.proofs.Common.{arith, ◌∙◌, length}
 use Rattle.conservative_scales.proofs.Named.{named_fits, image_of_named, at_place}
-use Rattle.conservative_scales.proofs.Products.{IsTotal, total_next, excess_at_end, excess_is_told}
+use Rattle.conservative_scales.proofs.Products.{total_next, excess_at_end, excess_is_told}
 use Rattle.packing_terms.specs.Packing.{box_count}
 use Rattle.packing_terms.specs.Goals.{subset}
 use Rattle.scale_terms.proofs.Excess.{excess_law}
 use Rattle.packing_terms.specs.Scales.{Exceeds}
 use Rattle.std.proofs.lemmas.List.{length-map}
-use Rattle.std.proofs.Common.{sym, map, ◌≡◌}
+use Rattle.std.proofs.Common.{sym, ◌≡◌}
 use Rattle.conservative_scales.proofs.excess.exceeds_among.Goals as goal
 
 pub image_product-total-requires-clause-fits : goal.image_product-total-requires-clause-fits

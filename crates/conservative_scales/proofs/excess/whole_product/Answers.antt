@@ -1,5 +1,5 @@
 use Rattle.std.proofs.Common.{arith}
-use Rattle.conservative_scales.proofs.Products.{IsStep, whole_step, whole_of, product_limit}
+use Rattle.conservative_scales.proofs.Products.{whole_step}
 use Rattle.conservative_scales.proofs.excess.whole_product.Goals as goal
 
 pub overflow_mul-product : goal.overflow_mul-product

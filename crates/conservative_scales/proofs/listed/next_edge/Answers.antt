@@ -1,5 +1,5 @@
 use Rattle.std.proofs.Common.{arith, ap, ◌/◌}
-use Rattle.conservative_scales.proofs.Edges.{IsBest, half_best, best_takes, best_keeps, best_is}
+use Rattle.conservative_scales.proofs.Edges.{half_best, best_takes, best_keeps, best_is}
 use Rattle.conservative_scales.proofs.listed.next_edge.Goals as goal
 use Rattle.conservative_scales.proofs.listed.next_edge.Goals.{then-above-side+then-side-next, else-above-side, else-above-side-via-then-above-side+else-side-next, else-above-side-via-else-above-side}
 

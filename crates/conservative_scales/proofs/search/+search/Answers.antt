@@ -1,8 +1,6 @@
-use Rattle.std.proofs.Common.{◌≡◌, ℕ, ◌+◌, ◌-◌, ◌<◌, arith, refl, ap, ◌∙◌, drop, length, Some, length-set}
-use Rattle.std.specs.Prelude.{slice_set}
-use Rattle.packing_terms.specs.declared.ScaleFn.{ScaleFn}
+use Rattle.std.proofs.Common.{◌-◌, ◌<◌, arith, refl, ◌∙◌, length, length-set}
 use Rattle.packing_terms.specs.declared.ScaleFn.TheVariants.{Id}
-use Rattle.conservative_scales.proofs.Searching.{IsOpen, at_written, legal_written, partial_written, chosen_is, few_left, kept_written, open_found, open_next, id_found, id_last, id_none, whole_least}
+use Rattle.conservative_scales.proofs.Searching.{at_written, legal_written, partial_written, chosen_is, few_left, kept_written, open_found, open_next, id_found, id_none, whole_least}
 use Rattle.conservative_scales.proofs.PartialProducts.{few_small, few_whole}
 use Rattle.conservative_scales.proofs.search.+search.Goals as goal
 

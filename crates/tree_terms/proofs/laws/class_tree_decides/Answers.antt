@@ -1,5 +1,6 @@
 use Rattle.tree_terms.proofs.laws.class_tree_decides.Goals as goal
+use Rattle.scale_terms.proofs.Excess.{excess_law}
 use Rattle.tree_terms.proofs.Decisions.{decides}
 
 pub returns : goal.returns
-returns c law instance scales limits = decides instance limits law scales
+returns c instance scales limits = decides instance limits excess_law scales

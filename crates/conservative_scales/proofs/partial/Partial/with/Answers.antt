@@ -1,4 +1,4 @@
-use Rattle.std.proofs.Common.{◌≡◌, ◌≤◌, ◌*◌, ◌^◌, arith, ap, ◌∙◌, get_or, length-set}
+use Rattle.std.proofs.Common.{◌≡◌, ◌*◌, arith, ap, ◌∙◌, get_or, length-set}
 use Rattle.packing_terms.specs.Packing.{container_side, side}
 use Rattle.packing_terms.specs.Scales.{scale_image}
 use Rattle.conservative_scales.proofs.PartialProducts.{image_most, scaled_small, scaled_more}

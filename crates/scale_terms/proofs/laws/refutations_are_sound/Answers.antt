@@ -2,7 +2,7 @@ use Rattle.packing_terms.proofs.Refuted.{refutes_sound, none_fits}
 use Rattle.packing_terms.proofs.BinsRefuted.{none_fits_bins}
 use Rattle.packing_terms.proofs.ValueRefuted.{none_reaches}
 use Rattle.scale_terms.proofs.Excess.{excess_law}
-use Rattle.scale_terms.proofs.laws.refutations_refute.Goals as goal
+use Rattle.scale_terms.proofs.laws.refutations_are_sound.Goals as goal
 
 pub returns-clause-under : goal.returns-clause-under
 returns-clause-under c instance places es tokens sides packing h = refutes_sound excess_law instance sides places packing h
