@@ -5,130 +5,151 @@ use pack_streams::{MemorySink, WriteFault, WriteStep};
 use std::alloc::{AllocError, Global};
 use std::test::Fail;
 
-// How many boxes a text has, or why it is no instance.
-fn boxes_of(alloc: Global, text: &[u8]) -> Result<u32, ReadTextError> {
-    let instance = read_instance(alloc, text)?;
-    Ok(instance.len())
+// The line of the fault of a text and its code, or how many boxes it has and 0. Want of memory is code 255.
+fn told(alloc: Global, text: &[u8]) -> (u64, u8) {
+    match read_instance(alloc, text) {
+        Ok(instance) => (instance.len() as u64, 0),
+        Err(ReadTextError::Fault(fault)) => (fault.line, fault.code),
+        Err(ReadTextError::NoMemory) => (0, 255),
+    }
 }
 
-fn fault(line: u64, code: u8) -> Result<u32, ReadTextError> {
-    Err(ReadTextError::Fault(TextFault { line, code }))
-}
-
-// A text of a line `format 1`, a line `container 5 5`, and a last line.
-fn third_line(alloc: Global, line: &[u8]) -> Result<Vec<u8>, AllocError> {
-    let mut text = Vec::from_slice(alloc, b"format 1\ncontainer 5 5\n")?;
-    text.extend_from_slice(line)?;
-    Ok(text)
-}
+// Whole texts, each with the line of its fault and the code, or with the number of boxes and 0.
+const TEXTS: [(&[u8], u64, u8); 18] = [
+    (b"", 1, 7),
+    (b"format 1\ncontainer 5 5\n", 3, 10),
+    (b"format 1\ncontainer 5 1000001\n", 2, 4),
+    (b"format 1\ncontainer 5 5\ncontainer 5 5\n", 3, 6),
+    (b"format 1\nbox 1 1\n", 2, 5),
+    (b"format 1\ncontainer 5\n", 2, 2),
+    (b"\xff", 1, 8),
+    (b"crate \x7f", 1, 8),
+    (b"container", 1, 5),
+    (b"format 1\nformat x y", 2, 6),
+    (b"format 1 1\n", 1, 2),
+    (b"format one\n", 1, 3),
+    (b"format 3\n", 1, 4),
+    (b"format 1\ncontainer 5 5 5 5 5\n", 2, 2),
+    (b"format 2\nkerf 1 1\n", 2, 5),
+    (b"kerf 1 1\n", 1, 1),
+    (
+        b"format 2\ncontainer 900000 5\nkerf 100000 0\nbox 1 1",
+        1,
+        0,
+    ),
+    (
+        b"format 2\ncontainer 900001 5\nkerf 100000 0\nbox 1 1",
+        3,
+        4,
+    ),
+];
 
 #[test]
 fn the_first_faulty_line_is_told_with_its_code(rt: HostRuntime) -> Result<(), Fail> {
     let alloc = rt.alloc();
-    assert_eq!(rt; boxes_of(alloc, b""), fault(1, 7));
-    assert_eq!(rt; boxes_of(alloc, b"format 1\ncontainer 5 5\n"), fault(3, 10));
-    assert_eq!(rt;
-        boxes_of(alloc, b"format 1\ncontainer 5 5\nbox 0 1\n"),
-        fault(3, 4)
-    );
-    assert_eq!(rt;
-        boxes_of(alloc, b"format 1\ncontainer 5 1000001\n"),
-        fault(2, 4)
-    );
-    assert_eq!(rt;
-        boxes_of(alloc, b"format 1\ncontainer 5 5\ncontainer 5 5\n"),
-        fault(3, 6)
-    );
-    assert_eq!(rt; boxes_of(alloc, b"format 1\nbox 1 1\n"), fault(2, 5));
-    assert_eq!(rt; boxes_of(alloc, b"format 1\ncontainer 5\n"), fault(2, 2));
-    assert_eq!(rt;
-        boxes_of(alloc, b"format 1\ncontainer 5 5\nbox 1 x\n"),
-        fault(3, 3)
-    );
-    assert_eq!(rt;
-        boxes_of(alloc, b"format 1\ncontainer 5 5\ncrate 1 1\n"),
-        fault(3, 1)
-    );
-    assert_eq!(rt; boxes_of(alloc, &[255]), fault(1, 8));
-    let mut text = Vec::from_slice(alloc, b"format 1\ncontainer 5 5\n")?;
-    for _ in 0..64 {
-        text.extend_from_slice(b"box 1 1\n")?;
+    for (text, number, code) in TEXTS {
+        assert_eq!(rt; told(alloc, text), (number, code));
     }
-    assert_eq!(rt; boxes_of(alloc, &text), Ok(64));
-    text.extend_from_slice(b"box 1 1\n")?;
-    assert_eq!(rt; boxes_of(alloc, &text), fault(67, 9));
-    let spaces = vec![in alloc; 32u8; 1048576]?;
-    assert_eq!(rt; boxes_of(alloc, &spaces), fault(2, 7));
     Ok(())
 }
+
+#[test]
+fn there_are_at_most_128_boxes(rt: HostRuntime) -> Result<(), Fail> {
+    let alloc = rt.alloc();
+    let mut text = Vec::from_slice(alloc, b"format 1\ncontainer 5 5\n")?;
+    for _ in 0..128 {
+        text.extend_from_slice(b"box 1 1\n")?;
+    }
+    assert_eq!(rt; told(alloc, &text), (128, 0));
+    text.extend_from_slice(b"box 1 1\n")?;
+    assert_eq!(rt; told(alloc, &text), (131, 9));
+    Ok(())
+}
+
+#[test]
+fn a_text_of_spaces_is_one_blank_line(rt: HostRuntime) -> Result<(), Fail> {
+    let alloc = rt.alloc();
+    let spaces = vec![in alloc; 32u8; 1048576]?;
+    assert_eq!(rt; told(alloc, &spaces), (2, 7));
+    Ok(())
+}
+
+// Lines behind a line `format 1` and a line `container 5 5`, each with what the text is told as.
+const THIRD_LINES: [(&[u8], u64, u8); 20] = [
+    (b"box 0 1\n", 3, 4),
+    (b"box 1 x\n", 3, 3),
+    (b"crate 1 1\n", 3, 1),
+    (b"box 1 1 1 x", 3, 1),
+    (b"box 1 1 1", 3, 2),
+    (b"box x 0", 3, 3),
+    (b"box 0 x", 3, 4),
+    (b"box 1 1 worth x", 3, 1),
+    (b"box 1 1 value x", 3, 3),
+    (b"box 1 1 value 1000000000", 1, 0),
+    (b"box 1 1 value 1000000001", 3, 4),
+    (b"box 1 1 1 1 1 1 1 1 1 1 1 1", 3, 2),
+    (b"kerf 1 1", 3, 1),
+    (b"box 1 1 times 2", 3, 1),
+    (b"box 1 1 value 1 times 2", 3, 2),
+    (b"box 1 1000000", 1, 0),
+    (b"box 1 00000000000000000005", 1, 0),
+    (b"box 1 000000000000000000005", 3, 3),
+    (b"box 1 99999999999999999999", 3, 4),
+    (b"box 1 +5", 3, 3),
+];
 
 #[test]
 fn the_tests_of_a_line_have_their_order(rt: HostRuntime) -> Result<(), Fail> {
     let alloc = rt.alloc();
-    assert_eq!(rt; boxes_of(alloc, b"crate \x7f"), fault(1, 8));
-    assert_eq!(rt; boxes_of(alloc, b"container"), fault(1, 5));
-    assert_eq!(rt; boxes_of(alloc, b"format 1\nformat x y"), fault(2, 6));
-    assert_eq!(rt; boxes_of(alloc, b"format 1 1\n"), fault(1, 2));
-    assert_eq!(rt; boxes_of(alloc, b"format one\n"), fault(1, 3));
-    assert_eq!(rt; boxes_of(alloc, b"format 2\n"), fault(1, 4));
-    assert_eq!(rt;
-        boxes_of(alloc, b"format 1\ncontainer 5 5 5 5 5\n"),
-        fault(2, 2)
-    );
-    assert_eq!(rt;
-        boxes_of(alloc, &third_line(alloc, b"box 1 1 1 x")?),
-        fault(3, 1)
-    );
-    assert_eq!(rt;
-        boxes_of(alloc, &third_line(alloc, b"box 1 1 1")?),
-        fault(3, 2)
-    );
-    assert_eq!(rt;
-        boxes_of(alloc, &third_line(alloc, b"box x 0")?),
-        fault(3, 3)
-    );
-    assert_eq!(rt;
-        boxes_of(alloc, &third_line(alloc, b"box 0 x")?),
-        fault(3, 4)
-    );
-    assert_eq!(rt;
-        boxes_of(alloc, &third_line(alloc, b"box 1 1 worth x")?),
-        fault(3, 1)
-    );
-    assert_eq!(rt;
-        boxes_of(alloc, &third_line(alloc, b"box 1 1 value x")?),
-        fault(3, 3)
-    );
-    assert_eq!(rt;
-        boxes_of(alloc, &third_line(alloc, b"box 1 1 value 1000000001")?),
-        fault(3, 4)
-    );
-    assert_eq!(rt;
-        boxes_of(alloc, &third_line(alloc, b"box 1 1 1 1 1 1 1 1 1 1 1 1")?),
-        fault(3, 2)
-    );
+    for (line, number, code) in THIRD_LINES {
+        let mut text = Vec::from_slice(alloc, b"format 1\ncontainer 5 5\n")?;
+        text.extend_from_slice(line)?;
+        assert_eq!(rt; told(alloc, &text), (number, code));
+    }
     Ok(())
 }
 
+// Texts behind a line `format 2` and a line `container 5 7`, each with the line of its fault and the code, or with the
+// number of boxes and 0.
+const FORMAT_2: [(&[u8], u64, u8); 24] = [
+    (
+        b"kerf 2 0\nbox 1 2 value 3 times 2\nbox 3 4 times 1\n",
+        3,
+        0,
+    ),
+    (b"box 1 1 times 128\n", 128, 0),
+    (b"kerf 100000 1 # cut\n\nbox 900000 1\n", 1, 0),
+    (b"kerf 1\n", 3, 2),
+    (b"kerf 1 1 1\n", 3, 2),
+    (b"kerf 1 x\n", 3, 3),
+    (b"kerf 100001 0\n", 3, 4),
+    (b"kerf 0 0\nkerf 0 0\n", 4, 6),
+    (b"kerf 0 0\nkerf\n", 4, 6),
+    (b"box 1 1\nkerf 1 1\n", 4, 5),
+    (b"kerf 2 0\nbox 999999 1\n", 4, 4),
+    (b"kerf 2 0\nbox 999998 1\n", 1, 0),
+    (b"box 1 1 copies 2\n", 3, 1),
+    (b"box 1 1 times 2 value 3\n", 3, 1),
+    (b"box 1 1 value 3 value 3\n", 3, 1),
+    (b"box 1 1 value 3 times\n", 3, 2),
+    (b"box 1 1 value 3 times 2 times 2\n", 3, 2),
+    (b"box 1 1 times x\n", 3, 3),
+    (b"box 1 1 times 0\n", 3, 4),
+    (b"box 1 1 times 129\n", 3, 4),
+    (b"box 1 1 times 100\nbox 1 1 times 28\n", 128, 0),
+    (b"box 1 1 times 100\nbox 1 1 times 29\n", 4, 9),
+    (b"box 1 1 times 128\nbox\n", 4, 9),
+    (b"kerf 0 0\n", 4, 10),
+];
+
 #[test]
-fn a_number_has_up_to_20_digits(rt: HostRuntime) -> Result<(), Fail> {
+fn a_kerf_and_repeats_are_read_in_format_2(rt: HostRuntime) -> Result<(), Fail> {
     let alloc = rt.alloc();
-    assert_eq!(rt;
-        boxes_of(alloc, &third_line(alloc, b"box 1 00000000000000000005")?),
-        Ok(1)
-    );
-    assert_eq!(rt;
-        boxes_of(alloc, &third_line(alloc, b"box 1 000000000000000000005")?),
-        fault(3, 3)
-    );
-    assert_eq!(rt;
-        boxes_of(alloc, &third_line(alloc, b"box 1 99999999999999999999")?),
-        fault(3, 4)
-    );
-    assert_eq!(rt;
-        boxes_of(alloc, &third_line(alloc, b"box 1 +5")?),
-        fault(3, 3)
-    );
+    for (lines, number, code) in FORMAT_2 {
+        let mut text = Vec::from_slice(alloc, b"format 2\ncontainer 5 7\n")?;
+        text.extend_from_slice(lines)?;
+        assert_eq!(rt; told(alloc, &text), (number, code));
+    }
     Ok(())
 }
 
@@ -148,52 +169,47 @@ fn of_lines(alloc: Global, order: &[u8]) -> Result<Vec<u8>, AllocError> {
     Ok(text)
 }
 
-fn boxes_in(alloc: Global, order: &[u8]) -> Result<u32, ReadTextError> {
-    match of_lines(alloc, order) {
-        Ok(text) => boxes_of(alloc, &text),
-        Err(_) => Err(ReadTextError::NoMemory),
+// The lines of one text with some left out, doubled or swapped, each with what the text is told as.
+const ORDERS: [(&[u8], u64, u8); 30] = [
+    (b"123456", 3, 0),
+    (b"23456", 3, 0),
+    (b"13456", 2, 5),
+    (b"12456", 3, 5),
+    (b"12356", 2, 0),
+    (b"12346", 2, 0),
+    (b"12345", 2, 0),
+    (b"123", 4, 10),
+    (b"12", 3, 7),
+    (b"1123456", 3, 0),
+    (b"1223456", 3, 6),
+    (b"1233456", 4, 6),
+    (b"1234456", 4, 0),
+    (b"1234556", 4, 0),
+    (b"1234566", 4, 0),
+    (b"213456", 3, 0),
+    (b"321456", 1, 5),
+    (b"423156", 1, 5),
+    (b"523416", 1, 5),
+    (b"623451", 1, 5),
+    (b"132456", 2, 5),
+    (b"143256", 2, 5),
+    (b"153426", 2, 5),
+    (b"163452", 2, 5),
+    (b"124356", 3, 5),
+    (b"125436", 3, 5),
+    (b"126453", 3, 5),
+    (b"123546", 3, 0),
+    (b"123654", 3, 0),
+    (b"123465", 3, 0),
+];
+
+#[test]
+fn each_line_left_out_doubled_or_swapped_gives_its_code(rt: HostRuntime) -> Result<(), Fail> {
+    let alloc = rt.alloc();
+    for (order, number, code) in ORDERS {
+        let text = of_lines(alloc, order)?;
+        assert_eq!(rt; told(alloc, &text), (number, code));
     }
-}
-
-#[test]
-fn each_line_left_out_or_doubled_gives_its_code(rt: HostRuntime) -> Result<(), Fail> {
-    let alloc = rt.alloc();
-    assert_eq!(rt; boxes_in(alloc, b"123456"), Ok(3));
-    assert_eq!(rt; boxes_in(alloc, b"23456"), Ok(3));
-    assert_eq!(rt; boxes_in(alloc, b"13456"), fault(2, 5));
-    assert_eq!(rt; boxes_in(alloc, b"12456"), fault(3, 5));
-    assert_eq!(rt; boxes_in(alloc, b"12356"), Ok(2));
-    assert_eq!(rt; boxes_in(alloc, b"12346"), Ok(2));
-    assert_eq!(rt; boxes_in(alloc, b"12345"), Ok(2));
-    assert_eq!(rt; boxes_in(alloc, b"123"), fault(4, 10));
-    assert_eq!(rt; boxes_in(alloc, b"12"), fault(3, 7));
-    assert_eq!(rt; boxes_in(alloc, b"1123456"), Ok(3));
-    assert_eq!(rt; boxes_in(alloc, b"1223456"), fault(3, 6));
-    assert_eq!(rt; boxes_in(alloc, b"1233456"), fault(4, 6));
-    assert_eq!(rt; boxes_in(alloc, b"1234456"), Ok(4));
-    assert_eq!(rt; boxes_in(alloc, b"1234556"), Ok(4));
-    assert_eq!(rt; boxes_in(alloc, b"1234566"), Ok(4));
-    Ok(())
-}
-
-#[test]
-fn each_two_lines_swapped_give_their_code(rt: HostRuntime) -> Result<(), Fail> {
-    let alloc = rt.alloc();
-    assert_eq!(rt; boxes_in(alloc, b"213456"), Ok(3));
-    assert_eq!(rt; boxes_in(alloc, b"321456"), fault(1, 5));
-    assert_eq!(rt; boxes_in(alloc, b"423156"), fault(1, 5));
-    assert_eq!(rt; boxes_in(alloc, b"523416"), fault(1, 5));
-    assert_eq!(rt; boxes_in(alloc, b"623451"), fault(1, 5));
-    assert_eq!(rt; boxes_in(alloc, b"132456"), fault(2, 5));
-    assert_eq!(rt; boxes_in(alloc, b"143256"), fault(2, 5));
-    assert_eq!(rt; boxes_in(alloc, b"153426"), fault(2, 5));
-    assert_eq!(rt; boxes_in(alloc, b"163452"), fault(2, 5));
-    assert_eq!(rt; boxes_in(alloc, b"124356"), fault(3, 5));
-    assert_eq!(rt; boxes_in(alloc, b"125436"), fault(3, 5));
-    assert_eq!(rt; boxes_in(alloc, b"126453"), fault(3, 5));
-    assert_eq!(rt; boxes_in(alloc, b"123546"), Ok(3));
-    assert_eq!(rt; boxes_in(alloc, b"123654"), Ok(3));
-    assert_eq!(rt; boxes_in(alloc, b"123465"), Ok(3));
     Ok(())
 }
 
@@ -224,6 +240,26 @@ fn every_spelling_is_read_and_one_is_written(rt: HostRuntime) -> Result<(), Fail
             alloc,
             b"\r\n#\r\nformat 01\r\n\tcontainer 9 8 7 0006 # c\xff\r\nbox 1 2 3 4 value 0\n box 5 6\t7 6  value 1#",
             FOUR_DIMENSIONS,
+        )?
+    );
+    Ok(())
+}
+
+#[test]
+fn format_2_is_written_exactly_where_some_kerf_is_not_0(rt: HostRuntime) -> Result<(), Fail> {
+    let alloc = rt.alloc();
+    assert!(rt;
+        is_written_as(
+            alloc,
+            b"format 2\ncontainer 10 10\nkerf 0 01\nbox 5 5 times 2\nbox 1 1 value 3",
+            b"format 2\ncontainer 10 10\nkerf 0 1\nbox 5 5\nbox 5 5\nbox 1 1 value 3\n",
+        )?
+    );
+    assert!(rt;
+        is_written_as(
+            alloc,
+            b"format 2\ncontainer 5 5\nkerf 0 0\nbox 1 1 times 2\n",
+            b"format 1\ncontainer 5 5\nbox 1 1\nbox 1 1\n",
         )?
     );
     Ok(())

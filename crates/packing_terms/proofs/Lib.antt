@@ -1,3 +1,4 @@
+pub mod Working
 pub mod Intervals
 pub mod Sets
 pub mod Members
@@ -18,4 +19,5 @@ pub mod Found
 pub mod Listed
 pub mod Internal
 pub mod Rows
+pub mod RowsPackings
 pub mod Neighbours
