@@ -1,9 +1,10 @@
 // The first tuple of the list that exceeds.
-ghost use Rattle.std.specs.Prelude.{◌≡◌, ◌≤◌, [], length, drop, MatchOption, MatchBool, None, Some};
+ghost use Rattle.std.specs.Prelude.{◌≡◌, ◌≤◌, [], length, drop, MatchOption, MatchBool, IfSome, None, Some};
 ghost use Rattle.std.specs.List.{find};
 ghost use Rattle.packing_terms.specs.Packing.{dims};
 ghost use Rattle.packing_terms.specs.Limits.{IsInternalInstance};
-ghost use Rattle.packing_terms.specs.Scales.{IsTuple, SidesFit};
+ghost use Rattle.packing_terms.specs.Scales.{IsTuple, SidesFit, Exceeds};
+ghost use Rattle.packing_terms.specs.Goals.{FitsInBins};
 ghost use Rattle.packing_terms.specs.Tuples.{first_excess, has_excess};
 ghost use Rattle.conservative_scales.specs.Within.{within, AreLegalFrom};
 ghost use Rattle.conservative_scales.specs.Partials.{IsPartial};
@@ -76,12 +77,14 @@ fn copied(alloc: Global, functions: &[ScaleFn]) -> ScaleTuple
     tuple
 }
 
-/// The first tuple of the list that exceeds.
+/// The first tuple of the list that exceeds, and none exactly where none of the list does. Then the boxes don't fit in so many bins.
 pub fn first_exceeding(alloc: Global, instance: &Instance, copies: u32) -> Option<ScaleTuple>
     requires fit { SidesFit instance.now }
     requires few { copies ≤ 128 }
-    ensures { MatchOption result (first_excess instance.now copies ≡ None)
+    ensures first { MatchOption result (first_excess instance.now copies ≡ None)
         (λ t. first_excess instance.now copies ≡ Some t.items) }
+    ensures exceeds { IfSome result (λ t. Exceeds instance.now t.items copies) }
+    ensures refutes { IfSome result (λ t. ¬ FitsInBins instance.now copies) }
 {
     let mut tuple = [ScaleFn::Id; 4];
     let dims = instance.dims();

@@ -14,10 +14,15 @@ pub mod InBins
 pub mod BinsRefuted
 pub mod ValueRefuted
 pub mod OuterFed
+pub mod OuterViews
+pub mod OpenFew
 pub mod TooLarge
+pub mod FirstLarge
 pub mod Found
 pub mod Listed
 pub mod Internal
+pub mod Renumbered
+pub mod KeptRules
 pub mod Rows
 pub mod RowsPackings
 pub mod Neighbours

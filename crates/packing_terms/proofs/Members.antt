@@ -1,5 +1,5 @@
 -- What is in a list, and tests over its elements.
-use Rattle.std.proofs.Common.{◌≡◌, ℕ, zero, suc, ◌+◌, ◌<◌, ◌≤◌, ◌⊎◌, inl, inr, refl, sym, ap, subst, ◌∙◌, arith, Bool, true, false, cond, List, [], ◌∷◌, ◌++◌, map}
+use Rattle.std.proofs.Common.{◌≡◌, ℕ, zero, suc, ◌+◌, ◌<◌, ◌≤◌, ◌⊎◌, inl, inr, refl, sym, ap, subst, ◌∙◌, arith, Bool, true, false, cond, List, [], ◌∷◌, ◌++◌, map, length, get_or}
 use Rattle.std.specs.List.{list_any, list_all, filter, flat_map, range_with_len}
 use Rattle.std.proofs.lemmas.Bool.{true≢false, and_parts, or_cases, and_from, cases_eq}
 use Rattle.packing_terms.proofs.Sets.{or_true}
@@ -111,3 +111,14 @@ pub range_in : (a n x : ℕ) → IsIn x (range_with_len a n) → (a ≤ x) × (x
 range_in a zero x i = absurd i
 range_in a (suc n) x (inl e) = (omega arith, omega arith)
 range_in a (suc n) x (inr i) = let h = range_in (a + 1) n x i in (omega arith, omega arith)
+
+-- a member has an index, and what is at an index is a member
+pub at_index : {X : Type 0} (d x : X) (xs : List X) → IsIn x xs → (k : ℕ) × (k < length xs) × (get_or xs k d ≡ x)
+at_index d x [] i = absurd i
+at_index d x (y ∷ ys) (inl e) = (0, omega arith, sym e)
+at_index d x (y ∷ ys) (inr i) = let r = at_index d x ys i in let l = r.1 in (suc r.0, omega (arith, l), r.2)
+
+pub index_in : {X : Type 0} (d : X) (xs : List X) (k : ℕ) → k < length xs → IsIn (get_or xs k d) xs
+index_in d [] k l = absurd (omega (arith, l))
+index_in d (y ∷ ys) zero l = inl refl
+index_in d (y ∷ ys) (suc k) l = inr (index_in d ys k (omega (arith, l)))

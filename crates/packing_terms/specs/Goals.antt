@@ -5,7 +5,7 @@
 --       |__  ____|                        |__|___|  |___|  |              |__|___|   left out: ..
 --       |  ||    |                        |  |   |  |   |  |              |  |   |
 --       +--++----+                        +--+---+  +---+--+              +--+---+
-use Rattle.std.specs.Prelude.{ℕ, ◌+◌, ◌-◌, ◌<◌, ◌≤◌, ◌≡◌, ◌==◌, List, length, map, slice_index, slice_index_or, slice_set, sum_by}
+use Rattle.std.specs.Prelude.{ℕ, ◌+◌, ◌-◌, ◌*◌, ◌<◌, ◌≤◌, ◌≡◌, ◌==◌, List, length, map, slice_index, slice_index_or, slice_set, sum_by}
 use Rattle.std.specs.List.Sorted.{IsStrictlyIncreasing}
 use Rattle.std.specs.List.{filter, flat_map, range_with_len, All}
 use Rattle.packing_terms.specs.Packing.{PlainInstance, no_box, dims, box_count, container_side, side, place, IsPacking, Fits}
@@ -40,9 +40,10 @@ in_bin bins b = filter (λ v. slice_index bins v == b) (range_with_len 0 (length
 abbrev pub places_of : PlainInstance → List ℕ → List ℕ → List ℕ
 places_of instance places keep = flat_map (λ v. map (λ i. place instance places v i) (range_with_len 0 (dims instance))) keep
 
--- a bin below k for each box, and coordinates, such that the boxes of each bin with their coordinates are a packing
+-- a bin below k for each box, and one coordinate for each box and dimension, such that the boxes of each bin with their coordinates are a packing
 pub record IsBinPacking (instance : PlainInstance) (k : ℕ) (bins places : List ℕ) : Type 0 where
   pub count : length bins ≡ box_count instance
+  pub placed : length places ≡ box_count instance * dims instance
   pub numbers : All (λ b. b < k) bins
   pub packed : (b : ℕ) → b < k → IsPacking (subset instance (in_bin bins b)) (places_of instance places (in_bin bins b))
 

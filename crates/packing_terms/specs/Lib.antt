@@ -1,6 +1,7 @@
 pub mod Packing
 pub mod Limits
 pub mod Goals
+pub mod TooLarge
 pub mod Relations
 pub mod Exclusions
 pub mod Rules
@@ -12,4 +13,7 @@ pub mod Refutation
 pub mod Feeding
 pub mod OuterRefutation
 pub mod OuterFeeding
+pub mod OuterPaths
+pub mod Meanings
+pub mod Renumbering
 pub mod ExcessLaw

@@ -9,3 +9,5 @@ pub mod HeadPlaces
 pub mod AppliedSound
 pub mod TableLaws
 pub mod ChainsMore
+pub mod UniqueEnds
+pub mod SetChains

@@ -3,3 +3,4 @@ pub mod Steps
 pub mod Applied
 pub mod Runs
 pub mod Places
+pub mod SetChains

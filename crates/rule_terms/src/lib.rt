@@ -2,16 +2,20 @@
 //! their weights, and the places that a settled state gives.
 #![tactic(auto)]
 
-ghost use Rattle.std.specs.Prelude.{◌≡◌, ◌↔◌, ℕ, Bool, List, IsTrue, ◌<◌, ◌*◌, length};
+ghost use Rattle.std.specs.Prelude.{◌≡◌, ◌↔◌, ℕ, Bool, List, IsTrue, ◌<◌, ◌≤◌, ◌*◌, length};
 ghost use Rattle.packing_terms.specs.declared.Exclusion.{Exclusion as PlainExclusion};
 ghost use Rattle.packing_terms.specs.declared.Rel.{Rel as PlainRel};
 ghost use Rattle.packing_terms.specs.Packing.{PlainInstance, IsPacking, HasSides, dims, box_count};
 ghost use Rattle.packing_terms.specs.Exclusions.{Exclusions, excludes};
-ghost use Rattle.packing_terms.specs.Rules.{Rule, Follows};
+ghost use Rattle.packing_terms.specs.Rules.{Rule, AreBoxes, Follows};
+ghost use Rattle.packing_terms.specs.Goals.{subset};
+ghost use Rattle.packing_terms.specs.Renumbering.{restricted};
 ghost use Rattle.packing_terms.specs.Closure.{IsDerived, AreDerived, IsStable, IsSymmetric};
 ghost use Rattle.packing_terms.specs.Scales.{SidesFit};
 ghost use Rattle.rule_terms.specs.Rounds.{closure};
 ghost use Rattle.rule_terms.specs.Applied.{IsApplied, KeepsPackings};
+ghost use Rattle.rule_terms.specs.Runs.{IsHeaviestHead, IsHeaviestTail};
+ghost use Rattle.rule_terms.specs.SetChains.{IsHeaviestHeadAmong, IsHeaviestTailAmong};
 ghost use Rattle.rule_terms.specs.Places.{IsSettled, HasNoEmptyMask, IsGreatestEnd};
 
 /// The closure by rounds is the set of all exclusions that have a derivation.
@@ -48,4 +52,30 @@ pub fn settled_sets_give_packings()
         → length places ≡ box_count instance * dims instance
         → ((v i : ℕ) → v < box_count instance → i < dims instance
         → IsGreatestEnd instance X places i v) → IsPacking instance places }
+{}
+
+/// Places that are in each dimension the greatest ends of the boxes before are the only ones. Nothing
+/// is asked of the set: it may have conflicts and cycles.
+pub fn greatest_ends_are_unique()
+    ensures { (instance : PlainInstance) (X : Exclusions) (first second : List ℕ)
+        → HasSides instance → 1 ≤ dims instance
+        → length first ≡ box_count instance * dims instance
+        → length second ≡ box_count instance * dims instance
+        → ((v i : ℕ) → v < box_count instance → i < dims instance
+        → IsGreatestEnd instance X first i v)
+        → ((v i : ℕ) → v < box_count instance → i < dims instance
+        → IsGreatestEnd instance X second i v) → first ≡ second }
+{}
+
+/// The heaviest chains of the instance of a set of boxes are those of the whole instance among the
+/// boxes of the set, renumbered.
+pub fn sets_have_the_chains_of_their_boxes()
+    ensures heads { (instance : PlainInstance) (keep : List ℕ) (X : Exclusions) (i v k : ℕ)
+        → AreBoxes instance keep
+        → (IsHeaviestHead (subset instance keep) (restricted keep X) i v k
+        ↔ IsHeaviestHeadAmong instance keep X i v k) }
+    ensures tails { (instance : PlainInstance) (keep : List ℕ) (X : Exclusions) (i v k : ℕ)
+        → AreBoxes instance keep
+        → (IsHeaviestTail (subset instance keep) (restricted keep X) i v k
+        ↔ IsHeaviestTailAmong instance keep X i v k) }
 {}

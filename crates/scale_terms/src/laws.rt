@@ -1,13 +1,14 @@
 // The laws over scale functions, each the contract of a function with an empty body.
-ghost use Rattle.std.specs.Prelude.{◌≤◌, ◌*◌, ℕ, List, []};
+ghost use Rattle.std.specs.Prelude.{◌<◌, ◌≤◌, ◌*◌, ℕ, length, slice_index_or, List, []};
 ghost use Rattle.packing_terms.specs.Packing.{PlainInstance, IsPacking, Fits, HasSides};
-ghost use Rattle.packing_terms.specs.Goals.{FitsInBins, ReachesValue};
+ghost use Rattle.packing_terms.specs.Goals.{IsBinPacking, FitsInBins, subset, worth, IsBoxSet, ReachesValue};
 ghost use Rattle.packing_terms.specs.Exclusions.{Respects, excludes};
 ghost use Rattle.packing_terms.specs.Scales.{IsLegalScale, scale_image, scale_whole, IsDualFeasible, Exceeds, sum_below};
 ghost use Rattle.packing_terms.specs.ExcessLaw.{ExcessLaw};
 ghost use Rattle.packing_terms.specs.Tokens.{PlainToken};
 ghost use Rattle.packing_terms.specs.Refutation.{Refutes};
-ghost use Rattle.packing_terms.specs.OuterRefutation.{IsBinRefutation, IsValueRefutation};
+ghost use Rattle.packing_terms.specs.OuterRefutation.{Bins, RefutesBins, IsBinRefutation, Choice, no_choice, RefutesValue, IsValueRefutation};
+ghost use Rattle.packing_terms.specs.Meanings.{SharesBins, AgreesWith};
 ghost use Rattle.packing_terms.specs.declared.ScaleFn.{ScaleFn as PlainScale};
 ghost use Rattle.packing_terms.specs.declared.Exclusion.{Exclusion as PlainExclusion};
 ghost use Rattle.scale_terms.specs.Containers.{FitsIn};
@@ -41,7 +42,8 @@ pub fn excess_law_holds()
 
 /// What a refutation says is true. No packing respects exclusions under which the instance is refuted; an instance with an inner
 /// refutation doesn't fit; one with a refutation for k bins doesn't fit in k bins; one with a refutation for a value doesn't
-/// reach it.
+/// reach it. And so of each node: no packing in k bins shares bins as a refuted node does, and no set of boxes that fits and is
+/// worth the value agrees with one.
 pub fn refutations_are_sound()
     ensures under { (instance : PlainInstance) (places : List ℕ) (es : List PlainExclusion) (tokens : List PlainToken) → HasSides instance
         → IsPacking instance places → Refutes instance es tokens → ¬ Respects instance places (excludes es) }
@@ -50,4 +52,10 @@ pub fn refutations_are_sound()
         → ¬ FitsInBins instance k }
     ensures value { (instance : PlainInstance) (goal : ℕ) (tokens : List PlainToken) → HasSides instance → IsValueRefutation instance goal tokens
         → ¬ ReachesValue instance goal }
+    ensures bin_nodes { (instance : PlainInstance) (k : ℕ) (nodes : List Bins) (tokens : List PlainToken) (bin_of places : List ℕ) (b : ℕ)
+        → HasSides instance → RefutesBins instance k nodes tokens → b < length nodes → IsBinPacking instance k bin_of places
+        → ¬ SharesBins instance k bin_of (slice_index_or nodes b []) }
+    ensures value_nodes { (instance : PlainInstance) (goal : ℕ) (nodes : List Choice) (tokens : List PlainToken) (keep : List ℕ) (b : ℕ)
+        → HasSides instance → RefutesValue instance goal nodes tokens → b < length nodes → IsBoxSet instance keep
+        → goal ≤ worth instance keep → Fits (subset instance keep) → ¬ AgreesWith instance keep (slice_index_or nodes b no_choice) }
 {}

@@ -1,7 +1,6 @@
 // The first exceeding tuple against a plain scan of the list as it is written out, on generated instances.
 ghost use Rattle.std.specs.Prelude.{◌≤◌};
 
-use crate::tables::sides_fit;
 use box_instances::{BoxItem, Instance, Sides};
 use conservative_scales::{ScaleFn, first_exceeding};
 use std::alloc::Global;
@@ -171,7 +170,7 @@ fn the_search_finds_what_a_scan_of_the_written_list_finds(rt: HostRuntime) -> Re
     for turn in 0..300u32 {
         let instance = generated(alloc, &mut draws)?;
         let copies = 1 + turn % 2;
-        let fit = sides_fit(&instance);
+        let fit = instance.sides_fit();
         assert!(rt; fit);
         if fit {
             let found = first_exceeding(alloc, &instance, copies);

@@ -27,20 +27,6 @@ fn instance_of(
     Ok(Instance::new(Sides::from_slice(alloc, container)?, boxes)?)
 }
 
-/// Whether no side of a box is above the container's.
-pub fn sides_fit(instance: &Instance) -> bool
-    ensures { OnTrue result (SidesFit instance.now) }
-{
-    for box_no in 0..instance.len() {
-        for dim in 0..instance.dims() {
-            if instance.side(box_no, dim) > instance.container_side(dim) {
-                return false;
-            }
-        }
-    }
-    true
-}
-
 // The first tuple that exceeds, where the sides fit.
 fn first(
     alloc: Global,
@@ -52,7 +38,7 @@ fn first(
     requires { copies ≤ 128 }
 {
     let instance = instance_of(alloc, container, sides, count)?;
-    if sides_fit(&instance) {
+    if instance.sides_fit() {
         Ok(first_exceeding(alloc, &instance, copies))
     } else {
         Err(Fail::new("the sides fit"))
@@ -132,7 +118,7 @@ fn outer_exceed(instance: &Instance, tuple: &[ScaleFn], copies: u32) -> bool
 fn planks_exceed_by_their_number(rt: HostRuntime) -> Result<(), Fail> {
     let instance = instance_of(rt.alloc(), &[10, 10], &[3, 6], 4)?;
     let tuple = [ScaleFn::Id, ScaleFn::Step(1)];
-    let ready = is_tuple(&instance, &tuple) && sides_fit(&instance) && instance.len() >= 3;
+    let ready = is_tuple(&instance, &tuple) && instance.sides_fit() && instance.len() >= 3;
     assert!(rt; ready);
     if ready {
         assert!(rt; exceeds(&instance, &tuple, 1));

@@ -17,7 +17,7 @@ use Rattle.tree_terms.specs.Trees.{SearchTree}
 use Rattle.tree_terms.specs.InnerTree.{closed_node, node_tree}
 use Rattle.tree_terms.proofs.Nodes.{closed_there, closed_back}
 
-same_bool : (a b : Bool) → (a ≡ true → b ≡ true) → (b ≡ true → a ≡ true) → a ≡ b
+pub same_bool : (a b : Bool) → (a ≡ true → b ≡ true) → (b ≡ true → a ≡ true) → a ≡ b
 same_bool true true f g = refl
 same_bool false false f g = refl
 same_bool true false f g = absurd (true≢false (sym (f refl)))

@@ -1,5 +1,6 @@
 pub mod Joins
 pub mod RankLemmas
+pub mod RankSorted
 pub mod SettledPlaces
 pub mod Nodes
 pub mod Splits
@@ -20,7 +21,16 @@ pub mod Optima
 pub mod OuterCounts
 pub mod ChoiceCounts
 pub mod Runs
+pub mod LevelOrder
+pub mod FirstFound
+pub mod SpentRuns
+pub mod NodeSteps
+pub mod UniquePlaces
+pub mod PathNodes
+pub mod Reached
+pub mod OuterAnswers
 pub mod RowsInner
 pub mod RowsStrip
 pub mod RowsBins
 pub mod RowsChoice
+pub mod RowsKinds

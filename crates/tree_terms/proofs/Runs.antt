@@ -4,7 +4,7 @@ use Rattle.std.proofs.lemmas.Bool.{true≢false, cases_lt, lt-ltb}
 use Rattle.packing_terms.specs.Tokens.{PlainToken}
 use Rattle.tree_terms.specs.Levels.{PlainLevel, PlacedBy, RefutedBy, SpentAt, PlainReached, distance, halfway, moved, is_over, run_on, run_levels, IsBetween, IsRightLevel, Keeps}
 
-not_over : (r : PlainReached) → is_over r ≡ false → (r.spent ≡ false) × (2 ≤ distance r)
+pub not_over : (r : PlainReached) → is_over r ≡ false → (r.spent ≡ false) × (2 ≤ distance r)
 not_over r h = go r.spent refl h
   where
     go : (s : Bool) → r.spent ≡ s → (if s then true else nat_lt (distance r) 2) ≡ false → (r.spent ≡ false) × (2 ≤ distance r)
@@ -20,6 +20,32 @@ closer : (r : PlainReached) (a : PlainLevel) → 2 ≤ distance r → (distance 
 closer r (PlacedBy ns) l = inl (omega arith)
 closer r (RefutedBy ts) l = inl (omega arith)
 closer r SpentAt l = inr refl
+
+-- the level halfway lies between, and what lies between closer levels lies between the two
+pub halfway_between : (r : PlainReached) → 2 ≤ distance r → IsBetween r (halfway r)
+halfway_between r l = pick (cases_lt r.refuted r.placed)
+  where
+    pick : (r.refuted < r.placed) ⊎ (r.placed ≤ r.refuted) → IsBetween r (halfway r)
+    pick (inl x) = inl (omega (arith, x, l), omega (arith, x, l))
+    pick (inr x) = inr (omega (arith, x, l), omega (arith, x, l))
+
+pub wider_placed : (r : PlainReached) (ns : List ℕ) → 2 ≤ distance r → (m : ℕ) → IsBetween (moved r (halfway r) (PlacedBy ns)) m → IsBetween r m
+wider_placed r ns l m b = from b (halfway_between r l)
+  where
+    from : IsBetween (moved r (halfway r) (PlacedBy ns)) m → IsBetween r (halfway r) → IsBetween r m
+    from (inl (x, y)) (inl (u, v)) = inl (x, omega (arith, y, v))
+    from (inl (x, y)) (inr (u, v)) = absurd (omega (arith, x, y, v))
+    from (inr (x, y)) (inl (u, v)) = absurd (omega (arith, x, y, u))
+    from (inr (x, y)) (inr (u, v)) = inr (omega (arith, x, u), y)
+
+pub wider_refuted : (r : PlainReached) (ts : List PlainToken) → 2 ≤ distance r → (m : ℕ) → IsBetween (moved r (halfway r) (RefutedBy ts)) m → IsBetween r m
+wider_refuted r ts l m b = from b (halfway_between r l)
+  where
+    from : IsBetween (moved r (halfway r) (RefutedBy ts)) m → IsBetween r (halfway r) → IsBetween r m
+    from (inl (x, y)) (inl (u, v)) = inl (omega (arith, x, u), y)
+    from (inl (x, y)) (inr (u, v)) = absurd (omega (arith, x, y, u))
+    from (inr (x, y)) (inl (u, v)) = absurd (omega (arith, x, y, v))
+    from (inr (x, y)) (inr (u, v)) = inr (x, omega (arith, y, v))
 
 module _ (answer : ℕ → PlainLevel) where
   over_stays : (k : ℕ) (r : PlainReached) → is_over r ≡ true → run_on answer k r ≡ r
@@ -84,38 +110,13 @@ module _ (Shows : ℕ → List ℕ → Type 0) (Denies : ℕ → List PlainToken
   run_on_right zero r right no_low yes_high = (no_low, yes_high)
   run_on_right (suc k) r right no_low yes_high = go (is_over r) refl (λ s. run_on_right k s)
     where
-      between : (m : ℕ) → 2 ≤ distance r → IsBetween r (halfway r)
-      between m l = pick (cases_lt r.refuted r.placed)
-        where
-          pick : (r.refuted < r.placed) ⊎ (r.placed ≤ r.refuted) → IsBetween r (halfway r)
-          pick (inl x) = inl (omega (arith, x, l), omega (arith, x, l))
-          pick (inr x) = inr (omega (arith, x, l), omega (arith, x, l))
-
       next : (a : PlainLevel) → 2 ≤ distance r → IsRightLevel Shows Denies (halfway r) a
           → ((s : PlainReached) → ((m : ℕ) → IsBetween s m → IsRightLevel Shows Denies m (answer m)) → Denies s.refuted s.tokens → Shows s.placed s.numbers
           → Denies (run_on answer k s).refuted (run_on answer k s).tokens × Shows (run_on answer k s).placed (run_on answer k s).numbers)
           → Denies (run_on answer k (moved r (halfway r) a)).refuted (run_on answer k (moved r (halfway r) a)).tokens
           × Shows (run_on answer k (moved r (halfway r) a)).placed (run_on answer k (moved r (halfway r) a)).numbers
-      next (PlacedBy ns) l h rest = rest (moved r (halfway r) (PlacedBy ns)) (λ m b. right m (wider m b)) no_low h
-        where
-          wider : (m : ℕ) → IsBetween (moved r (halfway r) (PlacedBy ns)) m → IsBetween r m
-          wider m b = from b (between m l)
-            where
-              from : IsBetween (moved r (halfway r) (PlacedBy ns)) m → IsBetween r (halfway r) → IsBetween r m
-              from (inl (x, y)) (inl (u, v)) = inl (x, omega (arith, y, v))
-              from (inl (x, y)) (inr (u, v)) = absurd (omega (arith, x, y, v))
-              from (inr (x, y)) (inl (u, v)) = absurd (omega (arith, x, y, u))
-              from (inr (x, y)) (inr (u, v)) = inr (omega (arith, x, u), y)
-      next (RefutedBy ts) l h rest = rest (moved r (halfway r) (RefutedBy ts)) (λ m b. right m (wider m b)) h yes_high
-        where
-          wider : (m : ℕ) → IsBetween (moved r (halfway r) (RefutedBy ts)) m → IsBetween r m
-          wider m b = from b (between m l)
-            where
-              from : IsBetween (moved r (halfway r) (RefutedBy ts)) m → IsBetween r (halfway r) → IsBetween r m
-              from (inl (x, y)) (inl (u, v)) = inl (omega (arith, x, u), y)
-              from (inl (x, y)) (inr (u, v)) = absurd (omega (arith, x, y, u))
-              from (inr (x, y)) (inl (u, v)) = absurd (omega (arith, x, y, v))
-              from (inr (x, y)) (inr (u, v)) = inr (x, omega (arith, y, v))
+      next (PlacedBy ns) l h rest = rest (moved r (halfway r) (PlacedBy ns)) (λ m b. right m (wider_placed r ns l m b)) no_low h
+      next (RefutedBy ts) l h rest = rest (moved r (halfway r) (RefutedBy ts)) (λ m b. right m (wider_refuted r ts l m b)) h yes_high
       next SpentAt l h rest = rest (moved r (halfway r) SpentAt) right no_low yes_high
 
       go : (b : Bool) → is_over r ≡ b
@@ -123,7 +124,7 @@ module _ (Shows : ℕ → List ℕ → Type 0) (Denies : ℕ → List PlainToken
           → Denies (run_on answer k s).refuted (run_on answer k s).tokens × Shows (run_on answer k s).placed (run_on answer k s).numbers)
           → Keeps Shows Denies (elim b [ true ↦ r | false ↦ run_on answer k (moved r (halfway r) (answer (halfway r))) ])
       go true e rest = (no_low, yes_high)
-      go false e rest = let l = (not_over r e).1 in next (answer (halfway r)) l (right (halfway r) (between (halfway r) l)) rest
+      go false e rest = let l = (not_over r e).1 in next (answer (halfway r)) l (right (halfway r) (halfway_between r l)) rest
 
   pub run_right : (r : PlainReached) → ((m : ℕ) → IsBetween r m → IsRightLevel Shows Denies m (answer m))
       → Denies r.refuted r.tokens → Shows r.placed r.numbers

@@ -1,6 +1,5 @@
 -- A search depends on the closure of its exclusions alone, and the outcome of a search is right.
-use Rattle.std.proofs.Common.{◌≡◌, ℕ, zero, suc, ◌<◌, ◌⊎◌, inl, inr, refl, sym, ap, subst, ◌∙◌, arith, List, [], ◌∷◌, ◌++◌, length, get_or, append-nil, Bool, true, false, ltb, if◌then◌else◌, Some, None}
-use Rattle.std.proofs.lemmas.Bool.{ltb-true}
+use Rattle.std.proofs.Common.{◌≡◌, ℕ, zero, suc, ◌<◌, ◌⊎◌, inl, inr, refl, sym, ap, subst, ◌∙◌, arith, List, [], ◌∷◌, ◌++◌, length, get_or, append-nil}
 use Rattle.packing_terms.specs.declared.Rel.TheVariants.{Overlap, Before, After}
 use Rattle.packing_terms.specs.declared.Exclusion.{Exclusion}
 use Rattle.packing_terms.specs.Packing.{PlainInstance}
@@ -12,7 +11,7 @@ use Rattle.packing_terms.specs.Refutation.{at, Refutes, by_rules, by_side, by_sc
 use Rattle.packing_terms.specs.Feeding.{Accepts, children}
 use Rattle.packing_terms.proofs.Closures.{derives_more, conflict_from}
 use Rattle.packing_terms.proofs.Refuted.{refutes_same}
-use Rattle.tree_terms.specs.Trees.{SearchTree, Settled, Refuted, Split, Verdict, Yes, No, nothing, join, join_from, outcome, node_at}
+use Rattle.tree_terms.specs.Trees.{SearchTree, Settled, Refuted, Split, Verdict, Yes, No, nothing, join, join_from, outcome}
 use Rattle.tree_terms.specs.Search.{IsSearch, IsRightUnder}
 
 module _ (instance : PlainInstance) where
@@ -135,17 +134,3 @@ module _ (instance : PlainInstance) where
   outcome_right (Refuted tokens own) es h = h
   outcome_right (Split token own n child) es h =
       split_right es token own n (λ k. outcome (child k)) h.0 h.1 (λ k l. outcome_right (child k) (child_of es token k) (h.2 k l))
-
-  -- each node of a search is a search of its own exclusions
-  pub node_of_search : (path : List ℕ) (tree : SearchTree) (es : List Exclusion) → IsSearch instance es tree → (node : SearchTree)
-      → node_at (Some tree) path ≡ Some node → (fs : List Exclusion) × IsSearch instance fs node
-  node_of_search [] tree es h node e = let same : tree ≡ node = cc in (es, subst (λ (t : SearchTree). IsSearch instance es t) same h)
-  node_of_search (k ∷ path) (Settled places own) es h node e = absurd (cc)
-  node_of_search (k ∷ path) (Refuted tokens own) es h node e = absurd (cc)
-  node_of_search (k ∷ path) (Split token own n child) es h node e =
-      go (ltb k n) refl e (λ l f. node_of_search path (child k) (child_of es token k) (h.2 k l) node f)
-    where
-      go : (b : Bool) → ltb k n ≡ b → node_at (if b then Some (child k) else None) path ≡ Some node
-          → (k < n → node_at (Some (child k)) path ≡ Some node → (fs : List Exclusion) × IsSearch instance fs node) → (fs : List Exclusion) × IsSearch instance fs node
-      go true t f rest = rest (ltb-true k n t) f
-      go false t f rest = absurd (cc)

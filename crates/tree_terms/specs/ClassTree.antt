@@ -1,6 +1,6 @@
 -- The class tree: the inner search tree with its root's own tests. At the root these are tried in order: a box that is longer than the
 -- container, a conflict of the closure, a tuple of scale functions that exceeds. At every other node only the closure is looked at.
-use Rattle.std.specs.Prelude.{ℕ, suc, List, [], ◌∷◌, map, Option, Some, None, Bool, true, false, nat_lt}
+use Rattle.std.specs.Prelude.{ℕ, suc, ◌-◌, List, [], ◌∷◌, map, Option, Some, None, Bool, true, false, nat_lt}
 use Rattle.std.specs.List.{flat_map, find}
 use Rattle.packing_terms.specs.declared.Exclusion.{Exclusion}
 use Rattle.packing_terms.specs.declared.ScaleFn.{ScaleFn}
@@ -19,6 +19,12 @@ box_sides instance = flat_map (λ v. map (λ i. (v, i)) (below (dims instance)))
 -- the first box that is longer than the container, and its first such dimension
 abbrev pub first_large : PlainInstance → Option (ℕ × ℕ)
 first_large instance = find (λ p. nat_lt (container_side instance p.1) (side instance p.0 p.1)) (box_sides instance)
+
+-- the first box that is longer than the container in a dimension other than the last, and its first such dimension
+abbrev pub first_too_wide : PlainInstance → Option (ℕ × ℕ)
+first_too_wide instance =
+    find (λ p. nat_lt (container_side instance p.1) (side instance p.0 p.1))
+    (flat_map (λ v. map (λ i. (v, i)) (below (dims instance - 1))) (below (box_count instance)))
 
 -- the first tuple of the list that exceeds for so many copies, where scales are wanted and no box is longer than the container
 abbrev pub excess_where : PlainInstance → ℕ → Bool → Option (ℕ × ℕ) → Option (List ScaleFn)

@@ -5,5 +5,7 @@ pub mod InnerTree
 pub mod ClassTree
 pub mod OuterTrees
 pub mod Levels
+pub mod RunEnds
 pub mod Search
 pub mod OuterSearch
+pub mod Paths

@@ -107,3 +107,16 @@ choice_node instance scales goal (v ∷ vs) taken numbers own =
 -- the choice tree for a value
 abbrev pub choice_tree : PlainInstance → ℕ → Bool → SearchTree
 choice_tree instance goal scales = choice_node instance scales goal (ranked instance) [] [] 0
+
+-- the answer of a yes
+abbrev pub numbers_of : Verdict → List ℕ
+numbers_of (Yes numbers count) = numbers
+numbers_of (No tokens count) = []
+
+-- The answer for bins, read off the bins: the coordinates of a box are those in the answer of the inner tree of its bin's set.
+abbrev pub bin_answer_of : PlainInstance → Bool → Bins → List ℕ
+bin_answer_of instance scales bins = bin_numbers instance bins (map (λ set. numbers_of (set_verdict instance scales set)) bins)
+
+-- the answer for a value, read off the boxes that are in: their coordinates are those in the answer of their set's inner tree
+abbrev pub choice_answer_of : PlainInstance → Bool → List ℕ → List ℕ
+choice_answer_of instance scales taken = choice_numbers instance taken (numbers_of (set_verdict instance scales taken))

@@ -1,0 +1,53 @@
+-- Where a run of levels ends: which levels it decides, and what its two levels are then.
+use Rattle.std.specs.Prelude.{ℕ, suc, ◌<◌, ◌≤◌, ◌≡◌, ◌⊎◌, Bool, false, []}
+use Rattle.packing_terms.specs.Packing.{PlainInstance}
+use Rattle.packing_terms.specs.Goals.{with_last_side}
+use Rattle.tree_terms.specs.Trees.{outcome, told}
+use Rattle.tree_terms.specs.ClassTree.{class_tree}
+use Rattle.tree_terms.specs.OuterTrees.{bin_tree, choice_tree}
+use Rattle.tree_terms.specs.Levels.{PlainLevel, PlacedBy, RefutedBy, SpentAt, PlainReached, halfway, moved, is_over, level_by}
+
+-- the level is decided on the run from these two levels
+pub data IsAsked (answer : ℕ → PlainLevel) : PlainReached → ℕ → Type 0 where
+  here : {r : PlainReached} → is_over r ≡ false → IsAsked answer r (halfway r)
+  later : {r : PlainReached} {level : ℕ} → is_over r ≡ false → IsAsked answer (moved r (halfway r) (answer (halfway r))) level → IsAsked answer r level
+
+-- a decision on the run was spent
+abbrev pub HasSpentDecision : (ℕ → PlainLevel) → PlainReached → Type 0
+HasSpentDecision answer r = (level : ℕ) × IsAsked answer r level × (answer level ≡ SpentAt)
+
+-- each of the two levels is the first one, or was decided on the run and has what its decision gave
+pub record IsFromRun (answer : ℕ → PlainLevel) (first r : PlainReached) : Type 0 where
+  pub refuted : ((r.refuted ≡ first.refuted) × (r.tokens ≡ first.tokens)) ⊎ (IsAsked answer first r.refuted × (answer r.refuted ≡ RefutedBy r.tokens))
+  pub placed : ((r.placed ≡ first.placed) × (r.numbers ≡ first.numbers)) ⊎ (IsAsked answer first r.placed × (answer r.placed ≡ PlacedBy r.numbers))
+
+-- The end of a run whose refuted level is below the placed one. The order stays, both stay within the first two, and where no decision was spent
+-- they are neighbours.
+pub record IsRisingEnd (first r : PlainReached) : Type 0 where
+  pub order : r.refuted < r.placed
+  pub low : first.refuted ≤ r.refuted
+  pub high : r.placed ≤ first.placed
+  pub beside : r.spent ≡ false → suc r.refuted ≡ r.placed
+
+-- the like where the placed level is below
+pub record IsFallingEnd (first r : PlainReached) : Type 0 where
+  pub order : r.placed < r.refuted
+  pub low : first.placed ≤ r.placed
+  pub high : r.refuted ≤ first.refuted
+  pub beside : r.spent ≡ false → suc r.placed ≡ r.refuted
+
+-- the answer at a height, under a budget
+abbrev pub height_answer : PlainInstance → ℕ → Bool → ℕ → PlainLevel
+height_answer instance budget scales h = level_by (told budget (outcome (class_tree (with_last_side instance h) [] scales)))
+
+-- the answer for a number of bins, under a budget
+abbrev pub bin_answer : PlainInstance → ℕ → Bool → ℕ → PlainLevel
+bin_answer instance budget scales k = level_by (told budget (outcome (bin_tree instance k scales)))
+
+-- the answer for a value, under a budget
+abbrev pub value_answer : PlainInstance → ℕ → Bool → ℕ → PlainLevel
+value_answer instance budget scales t = level_by (told budget (outcome (choice_tree instance t scales)))
+
+-- some level that the run decides has a tree whose count is past the budget
+abbrev pub HasLargeTree : (ℕ → PlainLevel) → PlainReached → ℕ → (ℕ → ℕ) → Type 0
+HasLargeTree answer first budget count = (level : ℕ) × IsAsked answer first level × (budget < count level)
