@@ -1,8 +1,13 @@
-//! Tests of the closure and of the places that it leads to: worked rows, and the closure by its definition on generated states.
+//! Tests of the closure and of the places that it leads to: worked rows, the closure by its
+//! definition on generated states, and closing only what changed.
 #![tactic(auto)]
 
 #[cfg(test)]
+mod descents;
+#[cfg(test)]
 mod plain_closure;
+#[cfg(test)]
+mod random;
 #[cfg(test)]
 mod rows;
 #[cfg(test)]

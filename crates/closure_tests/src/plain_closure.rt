@@ -1,19 +1,21 @@
-//! The closure by its definition: all instances of all rules on a plain table, over and over. Relations are numbers here: 0 is
-//! overlap, 1 before and 2 after. There are up to 3 dimensions and 6 boxes, and each container side is 10.
+//! The closure by its definition: all instances of all rules on a plain table, over and over.
+//! Relations are numbers here: 0 is overlap, 1 before and 2 after. There are up to 4 dimensions and
+//! 20 boxes, and each container side is the same.
 
 use std::alloc::{AllocError, Global};
 
-/// A table of what is excluded, and the sides of the boxes.
+/// A table of what is excluded, and the sides of the boxes, 4 each.
 #[derive(Drop)]
 pub struct PlainState {
     pub dims: u8,
     pub boxes: u8,
+    pub container: u32,
     pub sides: Vec<u32>,
     pub excluded: Vec<bool>,
 }
 
 fn spot(i: u8, u: u8, v: u8, r: u8) -> usize {
-    usize::from(i) * 108 + usize::from(u) * 18 + usize::from(v) * 3 + usize::from(r)
+    ((usize::from(i) * 20 + usize::from(u)) * 20 + usize::from(v)) * 3 + usize::from(r)
 }
 
 impl PlainState {
@@ -22,18 +24,20 @@ impl PlainState {
         alloc: Global,
         dims: u8,
         boxes: u8,
+        container: u32,
         sides: Vec<u32>,
     ) -> Result<PlainState, AllocError> {
         Ok(PlainState {
             dims,
             boxes,
+            container,
             sides,
-            excluded: vec![in alloc; false; 324]?,
+            excluded: vec![in alloc; false; 4800]?,
         })
     }
 
     fn side(&self, u: u8, i: u8) -> u32 {
-        let at = usize::from(u) * 3 + usize::from(i);
+        let at = usize::from(u) * 4 + usize::from(i);
         self.sides.get(at).copied().unwrap_or(0)
     }
 
@@ -75,7 +79,7 @@ impl PlainState {
     }
 
     fn by_pair(&mut self, i: u8, u: u8, v: u8) -> bool {
-        let wide = self.side(u, i).saturating_add(self.side(v, i)) > 10;
+        let wide = self.side(u, i).saturating_add(self.side(v, i)) > self.container;
         wide && (self.exclude(i, u, v, 1) | self.exclude(i, u, v, 2))
     }
 
@@ -93,7 +97,7 @@ impl PlainState {
             .side(u, i)
             .saturating_add(self.side(v, i))
             .saturating_add(self.side(x, i));
-        let fires = sum > 10 && self.is_out(i, u, x, 0) && self.is_out(i, v, x, 0);
+        let fires = sum > self.container && self.is_out(i, u, x, 0) && self.is_out(i, v, x, 0);
         fires && (self.exclude(i, u, v, 1) | self.exclude(i, u, v, 2))
     }
 
@@ -133,56 +137,6 @@ impl PlainState {
         fires && (self.exclude(i, c, b, 0) | self.exclude(i, c, b, 2))
     }
 
-    // The heaviest chain that ends in v, or starts there, over all sets of boxes.
-    fn heaviest(&self, alloc: Global, i: u8, v: u8, starts: bool) -> Result<u32, AllocError> {
-        let mut best: Vec<u32> = vec![in alloc; 0; 384]?;
-        let mut most = 0;
-        for set in 1..64u32 {
-            for u in 0..self.boxes {
-                if u < 6 && set >> u & 1 == 1 {
-                    let weight = self.heaviest_of(&best, i, set, u, starts);
-                    let at = set as usize * 6 + usize::from(u);
-                    if at < best.len() {
-                        best[at] = weight;
-                    }
-                    if u == v && weight > most {
-                        most = weight;
-                    }
-                }
-            }
-        }
-        Ok(most)
-    }
-
-    // The heaviest chain over exactly this set whose end is u, from those over the set without u; 0 where there is none.
-    fn heaviest_of(&self, best: &[u32], i: u8, set: u32, u: u8, starts: bool) -> u32 {
-        let alone = if u < 6 { 1u32 << u } else { 0 };
-        let rest = set & !alone;
-        if rest == 0 {
-            return self.side(u, i);
-        }
-        let mut most = 0;
-        for x in 0..self.boxes {
-            let leads = if starts {
-                self.is_before(i, u, x)
-            } else {
-                self.is_before(i, x, u)
-            };
-            let at = (rest % 64) as usize * 6 + usize::from(x);
-            let weight = best.get(at).copied().unwrap_or(0);
-            if x < 6 && leads && weight > 0 {
-                most = most.max(weight.saturating_add(self.side(u, i)));
-            }
-        }
-        most
-    }
-
-    fn by_chain(&mut self, alloc: Global, i: u8, u: u8, v: u8) -> Result<bool, AllocError> {
-        let head = self.heaviest(alloc, i, u, false)?;
-        let tail = self.heaviest(alloc, i, v, true)?;
-        Ok(head.saturating_add(tail) > 10 && self.exclude(i, u, v, 1))
-    }
-
     fn by_four(&mut self, i: u8, a: u8, b: u8, c: u8) -> bool {
         let mut changed = false;
         for d in 0..self.boxes {
@@ -208,43 +162,116 @@ impl PlainState {
         changed
     }
 
-    fn by_two(&mut self, alloc: Global, i: u8, a: u8) -> Result<bool, AllocError> {
+    fn by_two(&mut self, i: u8, a: u8) -> bool {
         let mut changed = false;
         for b in 0..self.boxes {
             if b != a {
                 let pair = self.by_pair(i, a, b);
                 let apart = self.by_apart(i, a, b);
                 let three = self.by_three(i, a, b);
-                let chain = self.by_chain(alloc, i, a, b)?;
-                changed = changed | pair | apart | three | chain;
+                changed = changed | pair | apart | three;
             }
         }
-        Ok(changed)
+        changed
     }
 
-    fn round(&mut self, alloc: Global) -> Result<bool, AllocError> {
+    // All rules but CHAIN, each at all boxes.
+    fn round(&mut self) -> bool {
         let mut changed = false;
         for i in 0..self.dims {
             for a in 0..self.boxes {
-                let here = self.by_two(alloc, i, a)?;
+                let here = self.by_two(i, a);
                 changed = changed | here;
+            }
+        }
+        changed
+    }
+
+    // Raises the weights of the chains that end in each box, or start there, by one box more.
+    fn raise(&self, weights: &mut [u32], i: u8, starts: bool) {
+        for v in 0..self.boxes {
+            for x in 0..self.boxes {
+                let leads = if starts {
+                    self.is_before(i, v, x)
+                } else {
+                    self.is_before(i, x, v)
+                };
+                let at = usize::from(x);
+                let to = usize::from(v);
+                if leads && v != x && at < weights.len() && to < weights.len() {
+                    let weight = weights[at].saturating_add(self.side(v, i));
+                    weights[to] = weights[to].max(weight);
+                }
+            }
+        }
+    }
+
+    // The weights of the heaviest chains. Where no mask is empty and COMPOSE adds nothing, surely
+    // before goes in no circle, so a chain has no more boxes than there are.
+    fn weigh(&self, alloc: Global, i: u8, starts: bool) -> Result<Vec<u32>, AllocError> {
+        let mut weights = Vec::new(alloc);
+        for v in 0..self.boxes {
+            weights.push(self.side(v, i))?;
+        }
+        for _ in 0..self.boxes {
+            self.raise(weights.as_mut_slice(), i, starts);
+        }
+        Ok(weights)
+    }
+
+    // CHAIN in one dimension, at all boxes.
+    fn by_chain(&mut self, alloc: Global, i: u8) -> Result<bool, AllocError> {
+        let heads = self.weigh(alloc, i, false)?;
+        let tails = self.weigh(alloc, i, true)?;
+        let mut changed = false;
+        for u in 0..self.boxes {
+            for v in 0..self.boxes {
+                let head = heads.get(usize::from(u)).copied().unwrap_or(0);
+                let tail = tails.get(usize::from(v)).copied().unwrap_or(0);
+                if u != v && head.saturating_add(tail) > self.container {
+                    let here = self.exclude(i, u, v, 1);
+                    changed = changed | here;
+                }
             }
         }
         Ok(changed)
     }
 
-    /// Excludes all that follows: rounds until one changes nothing.
-    pub fn close(&mut self, alloc: Global) -> Result<(), AllocError> {
-        for _ in 0..400 {
-            if !self.round(alloc)? {
-                return Ok(());
-            }
+    fn by_chains(&mut self, alloc: Global) -> Result<bool, AllocError> {
+        let mut changed = false;
+        for i in 0..self.dims {
+            let here = self.by_chain(alloc, i)?;
+            changed = changed | here;
         }
-        Ok(())
+        Ok(changed)
     }
 
-    /// Whether all three relations of some pair are excluded.
-    pub fn has_empty(&self) -> bool {
+    // All rules but CHAIN, until they change nothing.
+    fn settle(&mut self) {
+        for _ in 0..4000 {
+            if !self.round() {
+                return;
+            }
+        }
+    }
+
+    /// Excludes all that follows, until nothing more does or a mask is empty. Answers whether one
+    /// is.
+    pub fn close(&mut self, alloc: Global) -> Result<bool, AllocError> {
+        for _ in 0..4000 {
+            self.settle();
+            if self.has_empty() {
+                return Ok(true);
+            }
+            if !self.by_chains(alloc)? {
+                return Ok(false);
+            }
+        }
+        Ok(false)
+    }
+
+    // Whether all three relations of some pair are excluded.
+    fn has_empty(&self) -> bool {
         for i in 0..self.dims {
             for u in 0..self.boxes {
                 for v in 0..self.boxes {

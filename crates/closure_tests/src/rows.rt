@@ -86,3 +86,33 @@ fn a_settled_state_gives_places(rt: HostRuntime) -> Result<(), Fail> {
     assert_eq!(rt; places_of(&mut closer, &instance, &mut state), [0, 0, 0, 4]);
     Ok(())
 }
+
+// An instance of so many flat boxes, of which the last two don't fit beside each other.
+fn many_boxes(alloc: Global, boxes: u32) -> Result<Instance, Fail> {
+    let mut items = Vec::new(alloc);
+    for v in 0..boxes {
+        let width = if v.saturating_add(2) < boxes { 1 } else { 6 };
+        items.push(BoxItem {
+            sides: Sides::from_slice(alloc, &[width, 1])?,
+            value: 0,
+        })?;
+    }
+    Ok(Instance::new(Sides::from_slice(alloc, &[10, 200])?, items)?)
+}
+
+#[test]
+fn the_last_two_of_many_boxes_are_closed(rt: HostRuntime) -> Result<(), Fail> {
+    let instance = many_boxes(rt.alloc(), 128)?;
+    assert!(rt; instance.dims() == 2 && instance.len() == 128);
+    let mut state = EdgeState::new(rt.alloc(), 2, 128)?;
+    let mut closer = Closer::new(rt.alloc(), 2, 128)?;
+    let closed = closer.close(&instance, &mut state);
+    assert_eq!(rt; closed, Closed::Stable);
+    assert!(rt; state.dims() == 2 && state.boxes() == 128);
+    assert_eq!(rt; state.mask(0, 126, 127).bits(), 1);
+    assert_eq!(rt; state.mask(1, 127, 126).bits(), 6);
+    assert_eq!(rt; state.mask(0, 0, 127).bits(), 7);
+    assert_eq!(rt; state.row(0, 126, Rel::Before).count(), 126);
+    assert_eq!(rt; state.row(1, 127, Rel::Overlap).first(), Some(0));
+    Ok(())
+}

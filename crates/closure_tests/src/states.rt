@@ -1,65 +1,25 @@
 //! The closure of generated states is that of the definition.
-ghost use Rattle.std.specs.Prelude.{◌≡◌, ◌≤◌};
+ghost use Rattle.std.specs.Prelude.{◌≡◌};
 ghost use Rattle.packing_terms.specs.Limits.{IsDimCount, IsBoxCount};
 
 use crate::plain_closure::PlainState;
-use box_instances::{BoxItem, Instance, Sides};
-use edge_state::{EdgeState, Rel};
+use crate::random::{instance_of, next, rel_of, sides_of};
+use box_instances::Instance;
+use edge_state::EdgeState;
 use rule_closure::{Closed, Closer};
 use std::alloc::Global;
 use std::process::Abort;
 use std::test::Fail;
 
-// The next number of a linear congruence, below `limit` unless that is 0.
-fn next(random: &mut u32, limit: u32) -> u32
-    ensures { result ≤ limit }
-{
-    *random = random.wrapping_mul(1_664_525).wrapping_add(1_013_904_223);
-    if limit == 0 {
-        return 0;
-    }
-    (*random >> 16) % limit
-}
-
-fn rel_of(r: u8) -> Rel {
-    match r {
-        1 => Rel::Before,
-        2 => Rel::After,
-        _ => Rel::Overlap,
-    }
-}
-
-// Boxes with sides from 1 to 7, each in 3 dimensions, of which the first count.
-fn sides_of(alloc: Global, random: &mut u32, boxes: u8) -> Result<Vec<u32>, Fail> {
-    let mut sides = Vec::new(alloc);
-    for _ in 0..boxes {
-        for _ in 0..3 {
-            sides.push(1 + next(random, 7))?;
-        }
-    }
-    Ok(sides)
-}
-
-fn instance_of(alloc: Global, plain: &PlainState) -> Result<Instance, Fail> {
-    let mut items = Vec::new(alloc);
-    for u in 0..plain.boxes {
-        let mut sides = Sides::new(alloc);
-        for i in 0..plain.dims {
-            let at = usize::from(u) * 3 + usize::from(i);
-            sides.push(plain.sides.get(at).copied().unwrap_or(1))?;
-        }
-        items.push(BoxItem { sides, value: 0 })?;
-    }
-    let mut container = Sides::new(alloc);
-    for _ in 0..plain.dims {
-        container.push(10)?;
-    }
-    Ok(Instance::new(container, items)?)
-}
-
-// Excludes up to eight relations in both states.
-fn exclude_some(rt: &impl Abort, random: &mut u32, plain: &mut PlainState, state: &mut EdgeState) {
-    for _ in 0..next(random, 9) {
+// Excludes some relations, fewer than `tries`, in both states.
+fn exclude_some(
+    rt: &impl Abort,
+    random: &mut u32,
+    tries: u32,
+    plain: &mut PlainState,
+    state: &mut EdgeState,
+) {
+    for _ in 0..next(random, tries) {
         let dim = next(random, u32::from(plain.dims));
         let u = next(random, u32::from(plain.boxes));
         let v = next(random, u32::from(plain.boxes));
@@ -72,8 +32,8 @@ fn exclude_some(rt: &impl Abort, random: &mut u32, plain: &mut PlainState, state
     }
 }
 
-// Checks that what the first state excludes the second does too, and where they are to be the same, the reverse.
-fn check_within(rt: &impl Abort, state: &EdgeState, plain: &PlainState, same: bool) {
+// Checks that both states exclude the same.
+fn check_same(rt: &impl Abort, state: &EdgeState, plain: &PlainState) {
     for i in 0..plain.dims {
         for u in 0..plain.boxes {
             for v in 0..plain.boxes {
@@ -83,47 +43,13 @@ fn check_within(rt: &impl Abort, state: &EdgeState, plain: &PlainState, same: bo
                         assert!(rt;
                             dim < state.dims() && first < state.boxes() && second < state.boxes()
                         );
-                        let open = state.mask(dim, first, second).has(rel_of(r));
-                        let out = plain.is_out(i, u, v, r);
-                        assert!(rt; open || out);
-                        assert!(rt; !same || open != out);
+                        let left = state.mask(dim, first, second).has(rel_of(r));
+                        assert!(rt; left != plain.is_out(i, u, v, r));
                     }
                 }
             }
         }
     }
-}
-
-// Closes a generated state in both ways, and says whether it is stable.
-fn closes_as_defined(
-    rt: &impl Abort,
-    alloc: Global,
-    random: &mut u32,
-    dims: u8,
-    boxes: u8,
-) -> Result<bool, Fail>
-    requires dims { IsDimCount dims }
-    requires boxes { IsBoxCount boxes }
-{
-    let sides = sides_of(alloc, random, boxes)?;
-    let mut plain = PlainState::new(alloc, dims, boxes, sides)?;
-    let instance = instance_of(alloc, &plain)?;
-    let mut state = EdgeState::new(alloc, u32::from(dims), u32::from(boxes))?;
-    let mut closer = Closer::new(alloc, u32::from(dims), u32::from(boxes))?;
-    exclude_some(rt, random, &mut plain, &mut state);
-    plain.close(alloc)?;
-    let closed = close_state(
-        rt,
-        &mut closer,
-        &instance,
-        &mut state,
-        u32::from(dims),
-        u32::from(boxes),
-    );
-    let stable = closed == Closed::Stable;
-    assert!(rt; stable != plain.has_empty());
-    check_within(rt, &state, &plain, stable);
-    Ok(stable)
 }
 
 fn close_state(
@@ -143,23 +69,71 @@ fn close_state(
     closer.close(instance, state)
 }
 
+// Closes a generated state in both ways, and says whether it is stable.
+fn closes_as_defined(
+    rt: &impl Abort,
+    alloc: Global,
+    random: &mut u32,
+    dims: u8,
+    boxes: u8,
+    most: u32,
+    tries: u32,
+) -> Result<bool, Fail>
+    requires dims { IsDimCount dims }
+    requires boxes { IsBoxCount boxes }
+{
+    let sides = sides_of(alloc, random, boxes, most)?;
+    let instance = instance_of(alloc, dims, boxes, 20, sides.as_slice())?;
+    let mut plain = PlainState::new(alloc, dims, boxes, 20, sides)?;
+    let mut state = EdgeState::new(alloc, u32::from(dims), u32::from(boxes))?;
+    let mut closer = Closer::new(alloc, u32::from(dims), u32::from(boxes))?;
+    exclude_some(rt, random, tries, &mut plain, &mut state);
+    let conflict = plain.close(alloc)?;
+    let closed = close_state(
+        rt,
+        &mut closer,
+        &instance,
+        &mut state,
+        u32::from(dims),
+        u32::from(boxes),
+    );
+    let stable = closed == Closed::Stable;
+    assert!(rt; stable != conflict);
+    if stable {
+        check_same(rt, &state, &plain);
+    }
+    Ok(stable)
+}
+
+fn one_if(is: bool) -> u32 {
+    if is { 1 } else { 0 }
+}
+
 #[test]
 fn closures_are_those_of_the_definition(rt: HostRuntime) -> Result<(), Fail> {
     let mut random = 12;
     let mut stable = 0u32;
-    let mut conflicts = 0u32;
-    for number in 0..240u32 {
-        let dims = 2 + (number % 2) as u8;
-        let boxes = 2 + (number % 5) as u8;
-        if closes_as_defined(&rt, rt.alloc(), &mut random, dims, boxes)? {
-            stable = stable.saturating_add(1);
-        } else {
-            conflicts = conflicts.saturating_add(1);
-        }
+    for number in 0..480u32 {
+        let dims = 2 + (number % 3) as u8;
+        let boxes = 2 + (number % 7) as u8;
+        let here = closes_as_defined(&rt, rt.alloc(), &mut random, dims, boxes, 14, 9)?;
+        stable = stable.saturating_add(one_if(here));
     }
-    assert!(rt;
-        stable >= 50 && conflicts >= 50,
-        "{stable} stable, {conflicts} in conflict"
-    );
+    assert!(rt; stable >= 100 && stable <= 380, "{stable} stable");
+    Ok(())
+}
+
+#[test]
+fn closures_of_many_boxes_are_those_of_the_definition(rt: HostRuntime) -> Result<(), Fail> {
+    let mut random = 5;
+    let mut stable = 0u32;
+    for number in 0..60u32 {
+        let dims = 2 + (number % 3) as u8;
+        let boxes = 11 + (number % 10) as u8;
+        let most = 8 + number % 6;
+        let here = closes_as_defined(&rt, rt.alloc(), &mut random, dims, boxes, most, 60)?;
+        stable = stable.saturating_add(one_if(here));
+    }
+    assert!(rt; stable >= 10 && stable <= 50, "{stable} stable");
     Ok(())
 }

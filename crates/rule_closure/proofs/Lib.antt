@@ -1,4 +1,5 @@
-pub mod FourBoxes
-pub mod Steps
-pub mod ChainSteps
 pub mod Closings
+pub mod Members
+pub mod Filters
+pub mod Beyond
+pub mod Looked

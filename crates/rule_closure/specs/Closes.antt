@@ -1,12 +1,14 @@
 -- What closing a state comes to.
-use Rattle.std.specs.Prelude.{ℕ, ◌≡◌, ◌↔◌, List, length, IsTrue}
-use Rattle.packing_terms.specs.declared.Rel.{Rel}
+use Rattle.std.specs.Prelude.{ℕ, nat_lt, ◌≡◌, ◌<◌, List, length, true, false}
 use Rattle.packing_terms.specs.declared.Exclusion.{Exclusion}
-use Rattle.packing_terms.specs.Packing.{PlainInstance}
+use Rattle.packing_terms.specs.Packing.{PlainInstance, dims}
 use Rattle.packing_terms.specs.Exclusions.{excludes}
-use Rattle.packing_terms.specs.Closure.{IsDerived, IsStable, HasConflict}
+use Rattle.packing_terms.specs.Closure.{IsStable}
 use Rattle.rule_terms.specs.Places.{HasNoEmptyMask}
-use Rattle.rule_closure.specs.Passes.{HasEmptyMask}
+use Rattle.edge_state.specs.BitRows.{row_has}
+use Rattle.closure_terms.specs.States.{HasEmptyMask}
+use Rattle.closure_terms.specs.Work.{IsSettled, IsChained}
+use Rattle.closure_terms.specs.Ends.{IsClosureOf, IsConflictOf}
 use Rattle.rule_closure.specs.declared.closer.Closed.{Closed}
 use Rattle.rule_closure.specs.declared.closer.Closed.TheVariants.{Stable, Conflict}
 
@@ -15,23 +17,30 @@ pub record PlainCloser : Type 0 where
   pub dims : ℕ
   pub boxes : ℕ
 
--- a weight for each box, for the chains that end in it and for those that start there
-pub record HasRoom (n : ℕ) (head tail : List ℕ) : Type 0 where
+-- a weight for each box, for the chains that end in it and for those that start there; and the row of all boxes
+pub record HasRoom (n : ℕ) (head tail all : List ℕ) : Type 0 where
   pub heads : length head ≡ n
   pub tails : length tail ≡ n
+  pub every : (x : ℕ) → row_has all x ≡ nat_lt x n
 
--- Exactly the closure of the old exclusions is excluded, no rule adds to it, and no mask is empty: the closure has no conflict.
-pub record IsClosure (instance : PlainInstance) (old new : List Exclusion) : Type 0 where
-  pub exact : (i u v : ℕ) (r : Rel) → IsTrue (excludes new i u v r) ↔ IsDerived instance (excludes old) i u v r
-  pub stable : IsStable instance (excludes new)
-  pub full : HasNoEmptyMask instance (excludes new)
-  pub none : ¬ HasConflict instance (excludes old)
+-- What was looked through of a list: no rule adds anything by it but CHAIN in the dimensions of a row.
+pub record IsLookedThrough (instance : PlainInstance) (seen es : List Exclusion) (dirty : List ℕ) : Type 0 where
+  pub settled : IsSettled instance seen es
+  pub chained : (i : ℕ) → i < dims instance → row_has dirty i ≡ false → IsChained instance i seen es
+  pub within : (i : ℕ) → row_has dirty i ≡ true → i < dims instance
 
--- The closure has a conflict: only exclusions of the closure are excluded, and some mask is empty.
-pub record IsInConflict (instance : PlainInstance) (old new : List Exclusion) : Type 0 where
-  pub only : (i u v : ℕ) (r : Rel) → IsTrue (excludes new i u v r) → IsDerived instance (excludes old) i u v r
-  pub empty : HasEmptyMask instance (excludes new)
-  pub conflict : HasConflict instance (excludes old)
+-- exactly the closure of the old exclusions is excluded, no rule adds to it, and no mask is empty: the closure has no conflict
+abbrev pub IsClosure : PlainInstance → List Exclusion → List Exclusion → Type 0
+IsClosure instance old new = IsClosureOf instance (excludes old) new
+
+-- the closure has a conflict: only exclusions of the closure are excluded, and some mask is empty
+abbrev pub IsInConflict : PlainInstance → List Exclusion → List Exclusion → Type 0
+IsInConflict instance old new = IsConflictOf instance (excludes old) new
+
+-- no rule adds to the exclusions, and no mask is empty; or one is
+abbrev pub IsEnded : PlainInstance → List Exclusion → Closed → Type 0
+IsEnded instance es Stable = IsStable instance (excludes es) × HasNoEmptyMask instance (excludes es)
+IsEnded instance es Conflict = HasEmptyMask instance (excludes es)
 
 -- what the answer says
 abbrev pub IsClosed : PlainInstance → List Exclusion → List Exclusion → Closed → Type 0

@@ -4,7 +4,10 @@
 mod chains;
 mod closer;
 mod empties;
-mod fours;
-mod passes;
+mod orders;
+mod pairs;
+mod rows;
+mod settle;
+mod work;
 
 pub use closer::{Closed, Closer};

@@ -1,20 +1,19 @@
-use Rattle.std.proofs.Common.{◌≡◌, ◌+◌, false, if◌then◌else◌}
-use Rattle.packing_terms.specs.Packing.{dims, box_count}
-use Rattle.packing_terms.specs.Exclusions.{excludes}
-use Rattle.rule_terms.specs.Places.{HasNoEmptyMask}
+use Rattle.std.proofs.Common.{◌≡◌, ◌+◌, ◌-◌, ◌*◌, ◌/◌, length}
 use Rattle.rule_terms.specs.Applied.{Extends}
-use Rattle.rule_terms.specs.Steps.{open_count}
-use Rattle.rule_closure.specs.Passes.{IsAllDone}
+use Rattle.edge_state.specs.BitRows.{row_has, members_below}
+use Rattle.packing_terms.specs.Packing.{box_count}
+use Rattle.rule_closure.specs.Closes.{IsLookedThrough}
 use Rattle.rule_closure.proofs.closer.close_with.Given as goal
 
-abbrev pub invariant-loop-changed : goal.invariant-loop-changed
-invariant-loop-changed l = record {
+abbrev pub invariant-loop-dim : goal.invariant-loop-dim
+invariant-loop-dim l = record {
   same_dims : l.state.dims ≡ l.fn.state.dims;
   same_boxes : l.state.boxes ≡ l.fn.state.boxes;
   extends : Extends l.instance l.fn.state.trail l.state.trail;
-  done : l.changed ≡ false → IsAllDone l.instance l.state.trail;
-  full : l.changed ≡ false → HasNoEmptyMask l.instance (excludes l.state.trail);
+  head_count : length l.head ≡ box_count l.instance;
+  tail_count : length l.tail ≡ box_count l.instance;
+  looked : IsLookedThrough l.instance l.state.trail l.state.trail l.dirty;
 }
 
-abbrev pub decreases-loop-changed : goal.decreases-loop-changed
-decreases-loop-changed l = open_count (dims l.instance) (box_count l.instance) l.state.trail + (if l.changed then 1 else 0)
+abbrev pub decreases-loop-dim : goal.decreases-loop-dim
+decreases-loop-dim l = 65 * (3 * l.fn.state.dims * l.fn.state.boxes * (l.fn.state.boxes - 1) / 2 - length l.state.trail) + members_below (row_has l.dirty) 64

@@ -1,0 +1,9 @@
+pub mod Touched
+pub mod Reached
+pub mod Chained
+pub mod Worked
+pub mod Instances
+pub mod Settled
+pub mod Passes
+pub mod Ends
+pub mod Undone

@@ -1,0 +1,310 @@
+-- The worklist's invariant from one exclusion to the next, from the first to the last.
+use Rattle.std.proofs.Common.{◌≡◌, ℕ, zero, suc, ◌+◌, ◌-◌, ◌*◌, ◌/◌, ◌<◌, ◌≤◌, ◌⊎◌, inl, inr, refl, sym, subst, ◌∙◌, arith, Bool, true, false, ◌||◌, List, [], ◌∷◌, ◌++◌, length, drop}
+use Rattle.std.proofs.lemmas.Bool.{true≢false, cases_lt}
+use Rattle.std.proofs.lemmas.List.{length-append}
+use Rattle.packing_terms.specs.declared.Rel.{Rel}
+use Rattle.packing_terms.specs.declared.Rel.TheVariants.{Overlap, Before, After}
+use Rattle.packing_terms.specs.declared.Exclusion.{Exclusion}
+use Rattle.packing_terms.specs.Packing.{PlainInstance, dims, box_count}
+use Rattle.packing_terms.specs.Relations.{allows}
+use Rattle.packing_terms.specs.Exclusions.{Exclusions, excludes, is_of, IsPlace, IsPlaceAmong, IsSurelyBefore}
+use Rattle.packing_terms.specs.Rules.{Rule, Pair, Apart, Triple, Chain, Compose, Cycle, Order, IsRuleInstance, Premises, Concludes, by_rule, mirrored}
+use Rattle.packing_terms.specs.Closure.{IsSubset, IsStable}
+use Rattle.rule_terms.specs.Applied.{Adds, added, mirror_added, Extends}
+use Rattle.rule_terms.specs.Places.{HasNoEmptyMask}
+use Rattle.rule_terms.specs.Runs.{IsTransitive}
+use Rattle.rule_terms.specs.Steps.{IsTrail}
+use Rattle.rule_terms.proofs.Steps.{trail_room, few_open}
+use Rattle.edge_state.specs.Edges.{PlainEdges}
+use Rattle.edge_state.specs.Answers.{IsChangeAfter}
+use Rattle.closure_terms.specs.States.{IsLeft}
+use Rattle.closure_terms.specs.Work.{IsLocal, IsReached, IsCovered, IsExhausted, IsWorked, IsSettled, IsChained, IsUnordered, IsBehind, behind_one, behind_two}
+use Rattle.closure_terms.proofs.Touched.{adds_more}
+use Rattle.closure_terms.proofs.Worked.{covered_not}
+use Rattle.closure_terms.proofs.Reached.{settled_next, pair_turned}
+use Rattle.closure_terms.proofs.Chained.{chained_next, chained_grown, chained_first}
+
+-- what is dropped from a longer list
+drop_past : (more old : List Exclusion) (k m : ℕ) → m ≡ length more + k → drop m (more ++ old) ≡ drop k old
+drop_past [] old k m e = let same : m ≡ k = omega (arith, e) in rw same refl
+drop_past (x ∷ more) old k zero e = absurd (omega (arith, e))
+drop_past (x ∷ more) old k (suc m) e = drop_past more old k m (omega (arith, e))
+
+pub drop_grown : (more old new : List Exclusion) (next : ℕ) → new ≡ more ++ old → next ≤ length old → drop (length new - next) new ≡ drop (length old - next) old
+drop_grown more old new next e h =
+    rw e (drop_past more old (length old - next) (length (more ++ old) - next) (omega (arith, length-append more old, h)))
+
+pub drop_none : (es : List Exclusion) (k : ℕ) → k ≡ length es → drop (length es - k) es ≡ es
+drop_none es k e = let z : length es - k ≡ 0 = omega (arith, e) in rw z refl
+
+right : (a b : Bool) → b ≡ true → (a || b) ≡ true
+right true b h = refl
+right false b h = h
+
+-- what is left of a list excludes no more
+drop_within : (k : ℕ) (es : List Exclusion) → IsSubset (excludes (drop k es)) (excludes es)
+drop_within zero es i u v r h = h
+drop_within (suc k) [] i u v r h = h
+drop_within (suc k) (e ∷ es) i u v r h = right (is_of e i u v r) (excludes es i u v r) (drop_within k es i u v r h)
+
+trail_drop : (d n k : ℕ) (es : List Exclusion) → IsTrail d n es → IsTrail d n (drop k es)
+trail_drop d n zero es h = h
+trail_drop d n (suc k) [] h = h
+trail_drop d n (suc k) (e ∷ es) h = trail_drop d n k es h.2
+
+-- what comes next is at a place
+pub change_place : (d n : ℕ) (es : List Exclusion) (mark next : ℕ) (e : Exclusion) → IsTrail d n es → IsChangeAfter es mark e next → IsPlaceAmong d n e.dim e.u e.v
+change_place d n es mark next e trail change =
+    (subst (λ (l : List Exclusion). IsTrail d n l) change.newest (trail_drop d n (length es - next) es trail)).0
+
+-- there are not more exclusions than relations
+pub trail_short : (d n : ℕ) (es : List Exclusion) → IsTrail d n es → length es ≤ 3 * d * n * (n - 1) / 2
+trail_short d n es trail = let a = trail_room d n es trail in let b = few_open d n [] in omega arith
+
+-- what was settled stays so when exclusions come on top
+pub settled_grown : (instance : PlainInstance) (seen old new : List Exclusion) → IsSubset (excludes old) (excludes new) → IsSettled instance seen old
+    → IsSettled instance seen new
+settled_grown instance seen old new more h = record {
+  covered = λ rule local. record { holds = λ i u v r add. more i u v r ((h.covered rule local).holds i u v r add) };
+  full = h.full;
+}
+
+module _ (instance : PlainInstance) (s t : PlainEdges) (e : Exclusion) (place : IsPlace instance e.dim e.u e.v) (left : IsLeft instance (excludes s.trail) e.dim e.u e.v)
+    (work : IsWorked instance s t false (λ rule. IsReached e.dim e.u e.v rule ⊎ IsReached e.dim e.v e.u rule)) where
+  -- what was looked through after one change more
+  seen_next : (mark next : ℕ) (f : Exclusion) → IsChangeAfter s.trail mark f next → drop (length t.trail - next) t.trail ≡ f ∷ drop (length s.trail - mark) s.trail
+  seen_next mark next f change =
+      drop_grown work.extends.more s.trail t.trail next work.extends.grown (let h = change.before_last in omega (arith, change.counted)) ∙ change.newest
+
+  seen_within : (mark next : ℕ) (f : Exclusion) → IsChangeAfter s.trail mark f next → IsSubset (excludes (f ∷ drop (length s.trail - mark) s.trail)) (excludes s.trail)
+  seen_within mark next f change = subst (λ (l : List Exclusion). IsSubset (excludes l) (excludes s.trail)) change.newest (drop_within (length s.trail - next) s.trail)
+
+  seen_before : (mark : ℕ) → mark ≤ length s.trail → drop (length t.trail - mark) t.trail ≡ drop (length s.trail - mark) s.trail
+  seen_before mark h = drop_grown work.extends.more s.trail t.trail mark work.extends.grown h
+
+  -- one change more at the place
+  settled_one : (mark next : ℕ) (f : Exclusion) → IsChangeAfter s.trail mark f next → f.dim ≡ e.dim → f.u ≡ e.u → f.v ≡ e.v
+      → IsSettled instance (drop (length s.trail - mark) s.trail) t.trail → IsSettled instance (drop (length t.trail - next) t.trail) t.trail
+  settled_one mark next f change d u v settled =
+      subst (λ (l : List Exclusion). IsSettled instance l t.trail) (sym (seen_next mark next f change))
+      (settled_next instance f (drop (length s.trail - mark) s.trail) s.trail t.trail (seen_within mark next f change) settled
+      (rw (d, u, v) (left.some place)) (rw (d, u, v) (work.done refl)))
+
+  chained_one : (i mark next : ℕ) (f : Exclusion) → IsChangeAfter s.trail mark f next → f.dim ≡ e.dim → f.u ≡ e.u → f.v ≡ e.v
+      → (e.dim ≡ i → IsUnordered (excludes s.trail) e)
+      → IsChained instance i (drop (length s.trail - mark) s.trail) t.trail → IsChained instance i (drop (length t.trail - next) t.trail) t.trail
+  chained_one i mark next f change d u v free chained =
+      subst (λ (l : List Exclusion). IsChained instance i l t.trail) (sym (seen_next mark next f change))
+      (chained_next instance f (drop (length s.trail - mark) s.trail) s.trail t.trail i (seen_within mark next f change)
+      (λ is. let h = free (sym d ∙ is) in record { forth = rw (d, u, v) h.forth; back = rw (d, u, v) h.back }) chained)
+
+  -- all changes at the place that stand together
+  pub settled_step : (mark next : ℕ) → IsSettled instance (drop (length s.trail - mark) s.trail) s.trail → IsChangeAfter s.trail mark e (mark + 1)
+      → IsBehind s.trail mark e next → IsSettled instance (drop (length t.trail - next) t.trail) t.trail
+  settled_step mark next settled change behind = go behind
+    where
+      one : IsSettled instance (drop (length t.trail - (mark + 1)) t.trail) t.trail
+      one = settled_one mark (mark + 1) e change refl refl refl
+          (settled_grown instance (drop (length s.trail - mark) s.trail) s.trail t.trail work.extends.kept settled)
+
+      go : IsBehind s.trail mark e next → IsSettled instance (drop (length t.trail - next) t.trail) t.trail
+      go (behind_one is) = rw is one
+      go (behind_two f more d u v) =
+          settled_one (mark + 1) next f more d u v
+          (subst (λ (l : List Exclusion). IsSettled instance l t.trail) (seen_before (mark + 1) (let h = change.before_last in omega arith)) one)
+
+  pub chained_step : (i mark next : ℕ) → (e.dim ≡ i → IsUnordered (excludes s.trail) e) → IsChained instance i (drop (length s.trail - mark) s.trail) s.trail
+      → IsChangeAfter s.trail mark e (mark + 1) → IsBehind s.trail mark e next → IsChained instance i (drop (length t.trail - next) t.trail) t.trail
+  chained_step i mark next free chained change behind = go behind
+    where
+      one : IsChained instance i (drop (length t.trail - (mark + 1)) t.trail) t.trail
+      one = chained_one i mark (mark + 1) e change refl refl refl free
+          (chained_grown instance i (drop (length s.trail - mark) s.trail) s.trail t.trail work.extends.kept chained)
+
+      go : IsBehind s.trail mark e next → IsChained instance i (drop (length t.trail - next) t.trail) t.trail
+      go (behind_one is) = rw is one
+      go (behind_two f more d u v) =
+          chained_one i (mark + 1) next f more d u v free
+          (subst (λ (l : List Exclusion). IsChained instance i l t.trail) (seen_before (mark + 1) (let h = change.before_last in omega arith)) one)
+
+-- a stable list was settled
+pub settled_stable : (instance : PlainInstance) (seen es : List Exclusion) → IsStable instance (excludes seen) → HasNoEmptyMask instance (excludes seen)
+    → IsSubset (excludes seen) (excludes es) → IsSettled instance seen es
+settled_stable instance seen es stable full within = record {
+  covered = λ rule local. record { holds = λ i u v r add. go rule i u v r add };
+  full = full;
+}
+  where
+    go : (rule : Rule) (i u v : ℕ) (r : Rel) → Adds instance (excludes seen) rule i u v r → excludes es i u v r ≡ true
+    go rule _ _ _ _ (added r is p c) = within _ _ _ _ (stable _ _ _ _ (by_rule rule r is p c))
+    go rule _ _ _ _ (mirror_added r is p c) = within _ _ _ _ (stable _ _ _ _ (mirrored rule r is p c))
+
+pub chained_stable : (instance : PlainInstance) (i : ℕ) (seen es : List Exclusion) → IsStable instance (excludes seen) → IsSubset (excludes seen) (excludes es)
+    → IsChained instance i seen es
+chained_stable instance i seen es stable within = record { covered = λ rule is. record { holds = λ j u v r add. go rule j u v r add } }
+  where
+    go : (rule : Rule) (j u v : ℕ) (r : Rel) → Adds instance (excludes seen) rule j u v r → excludes es j u v r ≡ true
+    go rule _ _ _ _ (added r is p c) = within _ _ _ _ (stable _ _ _ _ (by_rule rule r is p c))
+    go rule _ _ _ _ (mirror_added r is p c) = within _ _ _ _ (stable _ _ _ _ (mirrored rule r is p c))
+
+pub chained_since : (instance : PlainInstance) (i : ℕ) (es : List Exclusion) (k : ℕ) → IsStable instance (excludes (drop k es)) → IsChained instance i (drop k es) es
+chained_since instance i es k stable = chained_stable instance i (drop k es) es stable (drop_within k es)
+
+pub settled_since : (instance : PlainInstance) (es : List Exclusion) (k : ℕ) → IsStable instance (excludes (drop k es)) → HasNoEmptyMask instance (excludes (drop k es))
+    → IsSettled instance (drop k es) es
+settled_since instance es k stable full = settled_stable instance (drop k es) es stable full (drop_within k es)
+
+-- At the start only PAIR can add anything.
+pub settled_first : (instance : PlainInstance) (es : List Exclusion) → 2 ≤ dims instance
+    → ((i u v : ℕ) → IsRuleInstance instance (Pair i u v) → IsCovered instance (excludes []) es (Pair i u v)) → IsSettled instance [] es
+settled_first instance es two pairs = record { covered = λ rule local. at rule local; full = λ i u v place. (Overlap, refl) }
+  where
+    nothing : {A : Type 0} → false ≡ true → A
+    nothing e = absurd (true≢false (sym e))
+
+    apart : (i u v : ℕ) → Premises instance (excludes []) (Apart i u v) → ⊥
+    apart zero u v p = nothing (p 1 (omega arith) (λ e. absurd (omega (arith, e)))).0
+    apart (suc i) u v p = nothing (p 0 (omega arith) (λ e. absurd (omega (arith, e)))).0
+
+    composed : (i u v x : ℕ) (r : Rel) → Concludes (excludes []) (Compose i u v x) r → ⊥
+    composed i u v x r c = true≢false (c Overlap Overlap refl refl)
+
+    none : (i u v x j a b : ℕ) (r : Rel) → Adds instance (excludes []) (Compose i u v x) j a b r → excludes es j a b r ≡ true
+    none i u v x _ _ _ _ (added r is p c) = absurd (composed i u v x r c)
+    none i u v x _ _ _ _ (mirror_added r is p c) = absurd (composed i u v x r c)
+
+    paired : (i u v j a b : ℕ) (r : Rel) → Adds instance (excludes []) (Pair i u v) j a b r → excludes es j a b r ≡ true
+    paired i u v _ _ _ _ (added r is p c) = (pairs i u v is).holds _ _ _ _ (added r is p c)
+    paired i u v _ _ _ _ (mirror_added r is p c) = (pairs i u v is).holds _ _ _ _ (mirror_added r is p c)
+
+    at : (rule : Rule) → IsLocal rule → IsCovered instance (excludes []) es rule
+    at (Chain i before u v after) l = absurd l
+    at (Pair i u v) l = record { holds = paired i u v }
+    at (Apart i u v) l = covered_not instance (excludes []) es (Apart i u v) (apart i u v)
+    at (Triple i u v x) l = covered_not instance (excludes []) es (Triple i u v x) (λ p. nothing p.0)
+    at (Compose i u v x) l = record { holds = none i u v x }
+    at (Cycle i a b c d) l = covered_not instance (excludes []) es (Cycle i a b c d) (λ p. nothing p.0.0)
+    at (Order i a b c d) l = covered_not instance (excludes []) es (Order i a b c d) (λ p. nothing p.0.0)
+
+-- COMPOSE makes surely before transitive
+pub settled_transitive : (instance : PlainInstance) (es : List Exclusion) (i : ℕ) → i < dims instance → IsSettled instance es es
+    → IsTransitive (box_count instance) (IsSurelyBefore (excludes es) i)
+settled_transitive instance es i hi settled u v x b uv vx = (
+  at.holds _ _ _ _ (added Overlap (hi, b) tt (λ q s e f. only q s Overlap e f refl)),
+  at.holds _ _ _ _ (added After (hi, b) tt (λ q s e f. only q s After e f refl)),
+)
+  where
+    at : IsCovered instance (excludes es) es (Compose i u v x)
+    at = settled.covered (Compose i u v x) tt
+
+    only : (q s r : Rel) → excludes es i u v q ≡ false → excludes es i v x s ≡ false → allows Before Before r ≡ false → allows q s r ≡ false
+    only Before Before r e f g = g
+    only Overlap s r e f g = absurd (true≢false (sym uv.0 ∙ e))
+    only After s r e f g = absurd (true≢false (sym uv.1 ∙ e))
+    only Before Overlap r e f g = absurd (true≢false (sym vx.0 ∙ f))
+    only Before After r e f g = absurd (true≢false (sym vx.1 ∙ f))
+
+all_covered : (instance : PlainInstance) (es : List Exclusion) → IsSettled instance es es → ((i : ℕ) → i < dims instance → IsChained instance i es es)
+    → (rule : Rule) → IsRuleInstance instance rule → IsExhausted instance es rule
+all_covered instance es settled chains (Chain i before u v after) is = (chains i is.0).covered (Chain i before u v after) refl
+all_covered instance es settled chains (Pair i u v) is = settled.covered (Pair i u v) tt
+all_covered instance es settled chains (Apart i u v) is = settled.covered (Apart i u v) tt
+all_covered instance es settled chains (Triple i u v x) is = settled.covered (Triple i u v x) tt
+all_covered instance es settled chains (Compose i u v x) is = settled.covered (Compose i u v x) tt
+all_covered instance es settled chains (Cycle i a b c d) is = settled.covered (Cycle i a b c d) tt
+all_covered instance es settled chains (Order i a b c d) is = settled.covered (Order i a b c d) tt
+
+-- All is looked through and CHAIN adds nothing: no rule adds anything.
+pub stable_settled : (instance : PlainInstance) (es : List Exclusion) → IsSettled instance es es
+    → ((i : ℕ) → i < dims instance → IsChained instance i es es) → IsStable instance (excludes es)
+stable_settled instance es settled chains _ _ _ _ (by_rule rule r is p c) = (all_covered instance es settled chains rule is).holds _ _ _ _ (added r is p c)
+stable_settled instance es settled chains _ _ _ _ (mirrored rule r is p c) = (all_covered instance es settled chains rule is).holds _ _ _ _ (mirror_added r is p c)
+
+-- after a pass over CHAIN, which came on top of what was looked through
+pub grown_within : (instance : PlainInstance) (old new : List Exclusion) (k : ℕ) → Extends instance old new → k ≡ length old → k ≤ length new
+grown_within instance old new k extends e =
+    let grown : length new ≡ length extends.more + length old = rw extends.grown (length-append extends.more old) in
+    omega (arith, e, grown)
+
+pub settled_after : (instance : PlainInstance) (old new : List Exclusion) (k : ℕ) → Extends instance old new → k ≡ length old → IsSettled instance old old
+    → IsSettled instance (drop (length new - k) new) new
+settled_after instance old new k extends e h =
+    subst (λ (l : List Exclusion). IsSettled instance l new) (sym same) (settled_grown instance old old new extends.kept h)
+  where
+    same : drop (length new - k) new ≡ old
+    same = drop_grown extends.more old new k extends.grown (omega (arith, e)) ∙ drop_none old k e
+
+pub chained_after : (instance : PlainInstance) (i : ℕ) (old new : List Exclusion) (k : ℕ) → Extends instance old new → k ≡ length old → IsChained instance i old new
+    → IsChained instance i (drop (length new - k) new) new
+chained_after instance i old new k extends e h = subst (λ (l : List Exclusion). IsChained instance i l new) (sym same) h
+  where
+    same : drop (length new - k) new ≡ old
+    same = drop_grown extends.more old new k extends.grown (omega (arith, e)) ∙ drop_none old k e
+
+-- nothing was looked through, and PAIR was applied at all pairs
+drop_whole : (es : List Exclusion) (k : ℕ) → k ≡ 0 → drop (length es - k) es ≡ []
+drop_whole es k e = all es (length es - k) (omega (arith, e))
+  where
+    all : (fs : List Exclusion) (m : ℕ) → m ≡ length fs → drop m fs ≡ []
+    all [] zero f = refl
+    all [] (suc m) f = refl
+    all (x ∷ fs) zero f = absurd (omega (arith, f))
+    all (x ∷ fs) (suc m) f = all fs m (omega (arith, f))
+
+pairs_first : (instance : PlainInstance) (old new : List Exclusion) → ((i u v : ℕ) → IsRuleInstance instance (Pair i u v) → IsCovered instance (excludes old) new (Pair i u v))
+    → (i u v : ℕ) → IsRuleInstance instance (Pair i u v) → IsCovered instance (excludes []) new (Pair i u v)
+pairs_first instance old new pairs i u v is = record {
+  holds = λ j a b r add. (pairs i u v is).holds j a b r
+      (adds_more instance (excludes []) (excludes old) (λ x y z t h. absurd (true≢false (sym h))) (Pair i u v) j a b r add);
+}
+
+-- PAIR adds the same with its two boxes swapped, so that one order of them is enough
+pub pairs_both : (instance : PlainInstance) (X : Exclusions) (es : List Exclusion)
+    → ((i u v : ℕ) → u < v → IsRuleInstance instance (Pair i u v) → IsCovered instance X es (Pair i u v))
+    → (i u v : ℕ) → IsRuleInstance instance (Pair i u v) → IsCovered instance X es (Pair i u v)
+pairs_both instance X es half i u v is = go (cases_lt u v)
+  where
+    turned : v < u → IsCovered instance X es (Pair i v u)
+    turned h = half i v u h (is.0, (is.1.2.0, ((λ e. is.1.1.0 (sym e)), tt), (is.1.0, tt, tt)))
+
+    go : (u < v) ⊎ (v ≤ u) → IsCovered instance X es (Pair i u v)
+    go (inl h) = half i u v h is
+    go (inr h) =
+        let less : v < u = omega (arith, h, is.1.1.0) in
+        record { holds = λ j a b r add. (turned less).holds j a b r (pair_turned instance X i u v j a b r add) }
+
+pub settled_pairs : (instance : PlainInstance) (old new : List Exclusion) (k : ℕ) → k ≡ 0 → 2 ≤ dims instance
+    → ((i u v : ℕ) → IsRuleInstance instance (Pair i u v) → IsCovered instance (excludes old) new (Pair i u v))
+    → IsSettled instance (drop (length new - k) new) new
+settled_pairs instance old new k e two pairs =
+    subst (λ (l : List Exclusion). IsSettled instance l new) (sym (drop_whole new k e)) (settled_first instance new two (pairs_first instance old new pairs))
+
+pub chained_pairs : (instance : PlainInstance) (i : ℕ) (old new : List Exclusion) (k : ℕ) → k ≡ 0
+    → ((j u v : ℕ) → IsRuleInstance instance (Pair j u v) → IsCovered instance (excludes old) new (Pair j u v))
+    → IsChained instance i (drop (length new - k) new) new
+chained_pairs instance i old new k e pairs =
+    subst (λ (l : List Exclusion). IsChained instance i l new) (sym (drop_whole new k e)) (chained_first instance i new (pairs_first instance old new pairs))
+
+-- the place behind is in the list, and later
+pub behind_within : (es : List Exclusion) (mark next : ℕ) (e : Exclusion) → mark < length es → IsBehind es mark e next → (mark < next) × (next ≤ length es)
+behind_within es mark next e h (behind_one is) = (omega (arith, is), omega (arith, h, is))
+behind_within es mark next e h (behind_two f change d u v) =
+    let before_last : mark + 1 < length es = change.before_last in
+    let counted : next ≡ mark + 1 + 1 = change.counted in
+    (omega (arith, counted), omega (arith, before_last, counted))
+
+pub grown_past : (instance : PlainInstance) (old new : List Exclusion) (mark next : ℕ) (e : Exclusion) → Extends instance old new → mark < length old
+    → IsBehind old mark e next → next ≤ length new
+grown_past instance old new mark next e extends h behind =
+    let grown : length new ≡ length extends.more + length old = rw extends.grown (length-append extends.more old) in
+    let within = behind_within old mark next e h behind in
+    omega (arith, grown, within.1)
+
+-- the last place is reached: all was looked through
+pub settled_all : (instance : PlainInstance) (es : List Exclusion) (k : ℕ) → k ≡ length es → IsSettled instance (drop (length es - k) es) es
+    → IsSettled instance es es
+settled_all instance es k e h = subst (λ (l : List Exclusion). IsSettled instance l es) (drop_none es k e) h
+
+pub chained_all : (instance : PlainInstance) (i : ℕ) (es : List Exclusion) (k : ℕ) → k ≡ length es → IsChained instance i (drop (length es - k) es) es
+    → IsChained instance i es es
+chained_all instance i es k e h = subst (λ (l : List Exclusion). IsChained instance i l es) (drop_none es k e) h

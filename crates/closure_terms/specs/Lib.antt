@@ -1,0 +1,4 @@
+pub mod States
+pub mod Work
+pub mod Passes
+pub mod Ends

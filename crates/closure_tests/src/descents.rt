@@ -1,0 +1,201 @@
+//! Closing only what changed comes to the same as closing everything.
+ghost use Rattle.std.specs.Prelude.{◌≡◌};
+ghost use Rattle.packing_terms.specs.Packing.{dims, box_count};
+ghost use Rattle.packing_terms.specs.Exclusions.{excludes, IsPlaceAmong};
+ghost use Rattle.packing_terms.specs.Closure.{IsStable};
+ghost use Rattle.packing_terms.specs.Limits.{IsDimCount, IsBoxCount};
+ghost use Rattle.rule_terms.specs.Places.{HasNoEmptyMask};
+
+use crate::random::{instance_of, next, rel_of, sides_of};
+use box_instances::Instance;
+use edge_state::{EdgeState, Rel};
+use rule_closure::{Closed, Closer};
+use std::alloc::Global;
+use std::process::Abort;
+use std::test::Fail;
+
+// Excludes one relation and closes what changed. A conflict is taken back.
+fn try_since(
+    instance: &Instance,
+    state: &mut EdgeState,
+    closer: &mut Closer,
+    dim: u32,
+    u: u32,
+    v: u32,
+    rel: Rel,
+) -> bool
+    requires dims { state.old.dims ≡ dims instance.now }
+    requires boxes { state.old.boxes ≡ box_count instance.now }
+    requires room { closer.old ≡ record { dims = state.old.dims; boxes = state.old.boxes } }
+    requires place { IsPlaceAmong state.old.dims state.old.boxes dim u v }
+    requires stable { IsStable instance.now (excludes state.old.trail) }
+    requires full { HasNoEmptyMask instance.now (excludes state.old.trail) }
+    ensures closer { closer.new ≡ closer.old }
+    ensures sizes { state.new ≡ record state.old { trail = state.new.trail } }
+    ensures stable { IsStable instance.now (excludes state.new.trail) }
+    ensures full { HasNoEmptyMask instance.now (excludes state.new.trail) }
+{
+    let mark = state.mark();
+    let _ = state.exclude(dim, u, v, rel);
+    match closer.close_since(instance, state, mark) {
+        Closed::Stable => true,
+        Closed::Conflict => {
+            state.undo(mark);
+            false
+        }
+    }
+}
+
+// The same, where everything is closed.
+fn try_whole(
+    instance: &Instance,
+    state: &mut EdgeState,
+    closer: &mut Closer,
+    dim: u32,
+    u: u32,
+    v: u32,
+    rel: Rel,
+) -> bool
+    requires dims { state.old.dims ≡ dims instance.now }
+    requires boxes { state.old.boxes ≡ box_count instance.now }
+    requires room { closer.old ≡ record { dims = state.old.dims; boxes = state.old.boxes } }
+    requires place { IsPlaceAmong state.old.dims state.old.boxes dim u v }
+    ensures closer { closer.new ≡ closer.old }
+    ensures sizes { state.new ≡ record state.old { trail = state.new.trail } }
+{
+    let mark = state.mark();
+    let _ = state.exclude(dim, u, v, rel);
+    match closer.close(instance, state) {
+        Closed::Stable => true,
+        Closed::Conflict => {
+            state.undo(mark);
+            false
+        }
+    }
+}
+
+// Whether two states have the same masks.
+fn are_same(first: &EdgeState, second: &EdgeState) -> bool
+    requires dims { first.now.dims ≡ second.now.dims }
+    requires boxes { first.now.boxes ≡ second.now.boxes }
+{
+    for dim in 0..first.dims() {
+        for u in 0..first.boxes() {
+            for v in 0..first.boxes() {
+                if u != v && first.mask(dim, u, v) != second.mask(dim, u, v) {
+                    return false;
+                }
+            }
+        }
+    }
+    true
+}
+
+// Excludes one relation in both ways, where there is such a place. `None` comes where they differ.
+fn try_both(
+    instance: &Instance,
+    state: &mut EdgeState,
+    whole: &mut EdgeState,
+    closer: &mut Closer,
+    dim: u32,
+    u: u32,
+    v: u32,
+    rel: Rel,
+) -> Option<bool>
+    requires dims { state.old.dims ≡ dims instance.now }
+    requires boxes { state.old.boxes ≡ box_count instance.now }
+    requires whole_dims { whole.old.dims ≡ dims instance.now }
+    requires whole_boxes { whole.old.boxes ≡ box_count instance.now }
+    requires room { closer.old ≡ record { dims = state.old.dims; boxes = state.old.boxes } }
+    requires stable { IsStable instance.now (excludes state.old.trail) }
+    requires full { HasNoEmptyMask instance.now (excludes state.old.trail) }
+    ensures closer { closer.new ≡ closer.old }
+    ensures sizes { state.new ≡ record state.old { trail = state.new.trail } }
+    ensures whole_sizes { whole.new ≡ record whole.old { trail = whole.new.trail } }
+    ensures stable { IsStable instance.now (excludes state.new.trail) }
+    ensures full { HasNoEmptyMask instance.now (excludes state.new.trail) }
+{
+    if dim >= state.dims() || u >= state.boxes() || v >= state.boxes() || u == v {
+        return Some(false);
+    }
+    let since = try_since(instance, state, closer, dim, u, v, rel);
+    let all = try_whole(instance, whole, closer, dim, u, v, rel);
+    if since == all && are_same(state, whole) {
+        return Some(since);
+    }
+    None
+}
+
+// Draws so many exclusions one after another and closes each in both ways; counts those that stay.
+// `None` comes where the two ways differ.
+fn descend(
+    instance: &Instance,
+    state: &mut EdgeState,
+    whole: &mut EdgeState,
+    closer: &mut Closer,
+    steps: u32,
+    random: &mut u32,
+) -> Option<u32>
+    requires dims { state.old.dims ≡ dims instance.now }
+    requires boxes { state.old.boxes ≡ box_count instance.now }
+    requires whole_dims { whole.old.dims ≡ dims instance.now }
+    requires whole_boxes { whole.old.boxes ≡ box_count instance.now }
+    requires room { closer.old ≡ record { dims = state.old.dims; boxes = state.old.boxes } }
+    requires stable { IsStable instance.now (excludes state.old.trail) }
+    requires full { HasNoEmptyMask instance.now (excludes state.old.trail) }
+{
+    let mut stay = 0u32;
+    for _ in 0..steps {
+        let dim = next(random, instance.dims());
+        let u = next(random, instance.len());
+        let v = next(random, instance.len());
+        let rel = rel_of(next(random, 3) as u8);
+        let here = try_both(instance, state, whole, closer, dim, u, v, rel)?;
+        stay = stay.saturating_add(if here { 1 } else { 0 });
+    }
+    Some(stay)
+}
+
+// One descent from the closed root.
+fn from_root(
+    rt: &impl Abort,
+    alloc: Global,
+    random: &mut u32,
+    dims: u8,
+    boxes: u8,
+    most: u32,
+) -> Result<u32, Fail>
+    requires dims { IsDimCount dims }
+    requires boxes { IsBoxCount boxes }
+{
+    let sides = sides_of(alloc, random, boxes, most)?;
+    let instance = instance_of(alloc, dims, boxes, 20, sides.as_slice())?;
+    let mut state = EdgeState::new(alloc, u32::from(dims), u32::from(boxes))?;
+    let mut whole = EdgeState::new(alloc, u32::from(dims), u32::from(boxes))?;
+    let mut closer = Closer::new(alloc, u32::from(dims), u32::from(boxes))?;
+    assert!(rt; instance.dims() == u32::from(dims));
+    assert!(rt; instance.len() == u32::from(boxes));
+    match closer.close(&instance, &mut state) {
+        Closed::Stable => {
+            let stay = descend(&instance, &mut state, &mut whole, &mut closer, 30, random);
+            assert!(rt; stay.is_some());
+            Ok(stay.unwrap_or(0))
+        }
+        Closed::Conflict => Ok(0),
+    }
+}
+
+#[test]
+fn closing_what_changed_is_closing(rt: HostRuntime) -> Result<(), Fail> {
+    let mut random = 3;
+    let mut stay = 0u32;
+    for number in 0..200u32 {
+        let dims = 2 + (number % 3) as u8;
+        let boxes = 4 + (number % 17) as u8;
+        let most = 7 + number % 3;
+        let here = from_root(&rt, rt.alloc(), &mut random, dims, boxes, most)?;
+        stay = stay.saturating_add(here);
+    }
+    assert!(rt; stay >= 2000, "{stay} stay");
+    Ok(())
+}

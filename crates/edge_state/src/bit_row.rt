@@ -1,0 +1,148 @@
+//! A set of numbers below 64 * K, in K words.
+ghost use Rattle.std.specs.Prelude.{◌≡◌, ◌==◌, ◌<◌, ◌*◌, ◌&&◌, ◌||◌, not, true, false, ℕ, MatchOption};
+ghost use Rattle.edge_state.specs.BitRows.{IsRowWidth, row_has, members_below, IsLeast};
+
+use std::marker::Model;
+
+/// A set of numbers below 64 * K. Its calls go over the words by fixed indices, so that a set of few words stays in
+/// registers.
+///
+/// It is seen as its words: number x is in it where bit x % 64 of word x / 64 is set.
+#[derive(Clone, Copy, Debug, PartialEq, Eq)]
+pub struct BitRow<const K: usize> {
+    words: [u64; K],
+}
+
+impl<const K: usize> Model for BitRow<K> {
+    ghost use Rattle.std.specs.Prelude.{ℕ, List};
+
+    ghost Value = { List ℕ };
+
+    ghost view = { λ r. r.words };
+
+    ghost inverse = { λ ws. record { words = ws } };
+}
+
+impl<const K: usize> BitRow<K> {
+    /// The set with no member.
+    #[inline]
+    pub fn empty() -> Self
+        requires { IsRowWidth K }
+        ensures { (x : ℕ) → row_has result x ≡ false }
+    {
+        BitRow { words: [0; K] }
+    }
+
+    /// Whether the number is in the set.
+    #[inline]
+    pub fn has(&self, number: u32) -> bool
+        requires width { IsRowWidth K }
+        requires number { number < 64 * K }
+        ensures { result ≡ row_has self.now number }
+    {
+        self.words[(number / 64) as usize] >> (number % 64) & 1 == 1
+    }
+
+    /// The set with the number in it.
+    #[inline]
+    pub fn with(self, number: u32) -> Self
+        requires width { IsRowWidth K }
+        requires number { number < 64 * K }
+        ensures { (x : ℕ) → row_has result x ≡ row_has self.entry x || x == number }
+    {
+        let at = (number / 64) as usize;
+        let mut words = self.words;
+        for i in 0..K {
+            if i == at {
+                words[i] = words[i] | 1 << (number % 64);
+            }
+        }
+        BitRow { words }
+    }
+
+    /// The set without the number.
+    #[inline]
+    pub fn without(self, number: u32) -> Self
+        requires width { IsRowWidth K }
+        requires number { number < 64 * K }
+        ensures { (x : ℕ) → row_has result x ≡ row_has self.entry x && not (x == number) }
+    {
+        let at = (number / 64) as usize;
+        let mut words = self.words;
+        for i in 0..K {
+            if i == at {
+                words[i] = words[i] & !(1 << (number % 64));
+            }
+        }
+        BitRow { words }
+    }
+
+    /// What is in both sets.
+    #[inline]
+    pub fn and(self, other: Self) -> Self
+        requires { IsRowWidth K }
+        ensures { (x : ℕ) → row_has result x ≡ row_has self.entry x && row_has other.entry x }
+    {
+        let mut words = self.words;
+        for i in 0..K {
+            words[i] = words[i] & other.words[i];
+        }
+        BitRow { words }
+    }
+
+    /// What is in one of the sets or in both.
+    #[inline]
+    pub fn or(self, other: Self) -> Self
+        requires { IsRowWidth K }
+        ensures { (x : ℕ) → row_has result x ≡ row_has self.entry x || row_has other.entry x }
+    {
+        let mut words = self.words;
+        for i in 0..K {
+            words[i] = words[i] | other.words[i];
+        }
+        BitRow { words }
+    }
+
+    /// What is in the first set and not in the other.
+    #[inline]
+    pub fn minus(self, other: Self) -> Self
+        requires { IsRowWidth K }
+        ensures { (x : ℕ) → row_has result x ≡ row_has self.entry x && not (row_has other.entry x) }
+    {
+        let mut words = self.words;
+        for i in 0..K {
+            words[i] = words[i] ^ words[i] & other.words[i];
+        }
+        BitRow { words }
+    }
+
+    /// How many numbers are in the set.
+    #[inline]
+    pub fn count(&self) -> u32
+        requires { IsRowWidth K }
+        ensures { result ≡ members_below (row_has self.now) (64 * K) }
+    {
+        let mut count = 0;
+        for i in 0..K {
+            let word = self.words[i];
+            count += word.count_ones();
+        }
+        count
+    }
+
+    /// The least number of the set, and `None` exactly where there is none.
+    #[inline]
+    pub fn first(&self) -> Option<u32>
+        requires { IsRowWidth K }
+        ensures least { MatchOption result ((x : ℕ) → row_has self.now x ≡ false) (IsLeast self.now) }
+        ensures limit { MatchOption result (Unit {0}) (λ x. x < 64 * K) }
+    {
+        for i in 0..K {
+            let word = self.words[i];
+            if word != 0 {
+                return Some(64 * i as u32 + word.trailing_zeros());
+            }
+        }
+        None
+    }
+}

@@ -1,0 +1,71 @@
+-- Rows as filters: the members of a row are looked at one after another, and what isn't one is covered.
+use Rattle.std.proofs.Common.{◌≡◌, ℕ, ◌<◌, ◌⊎◌, inl, inr, refl, sym, subst, ◌∙◌, Bool, true, false, not, ◌&&◌, eqb, List}
+use Rattle.std.proofs.lemmas.Bool.{cases_Bool, eqb-true}
+use Rattle.packing_terms.specs.declared.Exclusion.{Exclusion}
+use Rattle.packing_terms.specs.Packing.{PlainInstance}
+use Rattle.packing_terms.specs.Exclusions.{excludes}
+use Rattle.packing_terms.specs.Rules.{Rule}
+use Rattle.edge_state.specs.Edges.{PlainEdges}
+use Rattle.closure_terms.specs.Work.{IsCovered, IsWorked}
+use Rattle.closure_terms.specs.Passes.{IsPass}
+use Rattle.closure_terms.proofs.Passes.{IsKept, pass_then, pass_as}
+use Rattle.closure_terms.proofs.Worked.{worked_none, worked_then, worked_as}
+
+both_on : (a b : Bool) → b ≡ true → (a && b) ≡ false → a ≡ false
+both_on true b e h = sym e ∙ h
+both_on false b e h = refl
+
+-- one box less of a row
+pub worked_row : (instance : PlainInstance) (a b c : PlainEdges) (lost : Bool) (n y : ℕ) (before after : ℕ → Bool) (P : ℕ → Rule → Type 0)
+    → ((x : ℕ) → after x ≡ before x && not (eqb x y))
+    → IsWorked instance a b false (λ rule. (x : ℕ) × (x < n) × (before x ≡ false) × P x rule) → IsWorked instance b c lost (P y)
+    → IsWorked instance a c lost (λ rule. (x : ℕ) × (x < n) × (after x ≡ false) × P x rule)
+worked_row instance a b c lost n y before after P less h here =
+    worked_as instance a c lost (λ rule. ((x : ℕ) × (x < n) × (before x ≡ false) × P x rule) ⊎ P y rule) (λ rule. (x : ℕ) × (x < n) × (after x ≡ false) × P x rule)
+    (λ rule s. go rule s.0 s.1 (sym (less s.0) ∙ s.2) s.3 (cases_Bool (eqb s.0 y)))
+    (worked_then instance a b c lost (λ rule. (x : ℕ) × (x < n) × (before x ≡ false) × P x rule) (P y) h here)
+  where
+    go : (rule : Rule) (x : ℕ) → x < n → (before x && not (eqb x y)) ≡ false → P x rule → (eqb x y ≡ true) ⊎ (eqb x y ≡ false)
+        → ((z : ℕ) × (z < n) × (before z ≡ false) × P z rule) ⊎ P y rule
+    go rule x l f p (inl k) = let same : x ≡ y = eqb-true x y k in inr (subst (λ (z : ℕ). P z rule) same p)
+    go rule x l f p (inr k) = inl (x, l, both_on (before x) (not (eqb x y)) (rw k refl) f, p)
+
+-- before the first member
+pub worked_rest : (instance : PlainInstance) (s : PlainEdges) (n : ℕ) (row : ℕ → Bool) (P : ℕ → Rule → Type 0)
+    → ((x : ℕ) → x < n → row x ≡ false → (rule : Rule) → P x rule → IsCovered instance (excludes s.trail) s.trail rule)
+    → IsWorked instance s s false (λ rule. (x : ℕ) × (x < n) × (row x ≡ false) × P x rule)
+worked_rest instance s n row P others =
+    worked_none instance s (λ rule. (x : ℕ) × (x < n) × (row x ≡ false) × P x rule) (λ rule h. others h.0 h.1 h.2 rule h.3)
+
+-- what is covered, by its name
+pub covered_named : (instance : PlainInstance) (es : List Exclusion) (rule named : Rule) → rule ≡ named → IsCovered instance (excludes es) es named
+    → IsCovered instance (excludes es) es rule
+covered_named instance es rule named e h = subst (λ (t : Rule). IsCovered instance (excludes es) es t) (sym e) h
+
+-- behind the last member
+pub worked_all : (instance : PlainInstance) (a b : PlainEdges) (n : ℕ) (row : ℕ → Bool) (P : ℕ → Rule → Type 0) → ((x : ℕ) → row x ≡ false)
+    → IsWorked instance a b false (λ rule. (x : ℕ) × (x < n) × (row x ≡ false) × P x rule) → IsWorked instance a b false (λ rule. (x : ℕ) × (x < n) × P x rule)
+worked_all instance a b n row P none h =
+    worked_as instance a b false (λ rule. (x : ℕ) × (x < n) × (row x ≡ false) × P x rule) (λ rule. (x : ℕ) × (x < n) × P x rule)
+    (λ rule s. (s.0, s.1, none s.0, s.2)) h
+
+-- the same of passes: one box less of a row
+pub pass_row : (instance : PlainInstance) (a b c : PlainEdges) (n y : ℕ) (before after : ℕ → Bool) (P : ℕ → List Exclusion → Type 0)
+    → ((x : ℕ) → after x ≡ before x && not (eqb x y)) → ((x : ℕ) → IsKept (P x))
+    → IsPass instance a b (λ es. (x : ℕ) → x < n → before x ≡ false → P x es) → IsPass instance b c (P y)
+    → IsPass instance a c (λ es. (x : ℕ) → x < n → after x ≡ false → P x es)
+pass_row instance a b c n y before after P less kept h here =
+    pass_as instance a c (λ es. ((x : ℕ) → x < n → before x ≡ false → P x es) × P y es) (λ es. (x : ℕ) → x < n → after x ≡ false → P x es)
+    (λ es p x l f. go es p x l (sym (less x) ∙ f) (cases_Bool (eqb x y)))
+    (pass_then instance a b c (λ es. (x : ℕ) → x < n → before x ≡ false → P x es) (P y) (λ es fs more f x l off. kept x es fs more (f x l off)) h here)
+  where
+    go : (es : List Exclusion) → ((x : ℕ) → x < n → before x ≡ false → P x es) × P y es → (x : ℕ) → x < n → (before x && not (eqb x y)) ≡ false
+        → (eqb x y ≡ true) ⊎ (eqb x y ≡ false) → P x es
+    go es p x l f (inl k) = let same : x ≡ y = eqb-true x y k in subst (λ (z : ℕ). P z es) (sym same) p.1
+    go es p x l f (inr k) = p.0 x l (both_on (before x) (not (eqb x y)) (rw k refl) f)
+
+-- behind the last member
+pub pass_all : (instance : PlainInstance) (a b : PlainEdges) (n : ℕ) (row : ℕ → Bool) (P : ℕ → List Exclusion → Type 0) → ((x : ℕ) → row x ≡ false)
+    → IsPass instance a b (λ es. (x : ℕ) → x < n → row x ≡ false → P x es) → IsPass instance a b (λ es. (x : ℕ) → x < n → P x es)
+pass_all instance a b n row P none h =
+    pass_as instance a b (λ es. (x : ℕ) → x < n → row x ≡ false → P x es) (λ es. (x : ℕ) → x < n → P x es) (λ es p x l. p x l (none x)) h

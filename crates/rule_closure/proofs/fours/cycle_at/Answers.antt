@@ -1,6 +1,0 @@
-use Rattle.packing_terms.specs.Rules.{Cycle}
-use Rattle.rule_closure.proofs.Steps.{pass_done}
-use Rattle.rule_closure.proofs.fours.cycle_at.Goals as goal
-
-pub returns : goal.returns
-returns c = pass_done c.args.instance.now _ _ _ _ (Cycle c.args.dim c.args.a c.args.b c.args.c c.args.d) c.requires.sizes c.apply_cycle.ensures.state c.apply_cycle.ensures.applied

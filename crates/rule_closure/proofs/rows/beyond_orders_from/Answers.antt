@@ -1,0 +1,12 @@
+use Rattle.std.proofs.Common.{sym, ◌∙◌}
+use Rattle.std.proofs.lemmas.Bool.{and_parts}
+use Rattle.rule_closure.proofs.Filters.{covered_order_from}
+use Rattle.rule_closure.proofs.rows.beyond_orders_from.Goals as goal
+
+pub returns-clause-within : goal.returns-clause-within
+returns-clause-within c x on = c.either-free.ensures.within x (and_parts _ _ (sym (c.minus.ensures x) ∙ on)).0
+
+pub returns-clause-others : goal.returns-clause-others
+returns-clause-others c x small off =
+    covered_order_from c.args.instance.now c.args.state.now.trail c.args.dim c.args.a c.args.b x c.args.d _ _ (sym (c.minus.ensures x) ∙ off)
+    (λ ne f. c.either-free.ensures.shut x small ne f) (λ on. c.either-last.ensures.some x on)

@@ -1,0 +1,264 @@
+//! Whole rows: the boxes at which a rule may have something to exclude.
+ghost use Rattle.std.specs.Prelude.{◌≡◌, ◌<◌, ◌&&◌, ◌||◌, ℕ, true, false, nat_lt, IsTrue};
+ghost use Rattle.packing_terms.specs.declared.Rel.TheVariants.{Overlap, Before, After};
+ghost use Rattle.packing_terms.specs.Packing.{box_count};
+ghost use Rattle.packing_terms.specs.Exclusions.{excludes, IsApart, IsJoined};
+ghost use Rattle.packing_terms.specs.Limits.{IsBoxCount};
+ghost use Rattle.packing_terms.specs.Rules.{Triple, Compose, Cycle, Order};
+ghost use Rattle.edge_state.specs.BitRows.{row_has};
+ghost use Rattle.closure_terms.specs.States.{IsSized};
+ghost use Rattle.closure_terms.specs.Work.{IsCovered};
+
+use box_instances::Instance;
+use edge_state::{BitRow, EdgeState, Rel};
+
+// The row where it is wanted, and else the empty one.
+#[inline]
+fn pick(row: BitRow<2>, wanted: bool) -> BitRow<2>
+    ensures { (x : ℕ) → row_has result x ≡ row_has row x && wanted }
+{
+    if wanted { row } else { BitRow::empty() }
+}
+
+// What is in one of three rows.
+#[inline]
+fn one_of(first: BitRow<2>, second: BitRow<2>, third: BitRow<2>) -> BitRow<2>
+    ensures { (x : ℕ) → row_has result x ≡ (row_has first x || row_has second x) || row_has third x }
+{
+    first.or(second).or(third)
+}
+
+/// The boxes x at which COMPOSE at `u`, `v`, x may exclude something: at all others it adds
+/// nothing.
+pub fn beyond_compositions(
+    instance: &Instance,
+    state: &EdgeState,
+    dim: u32,
+    u: u32,
+    v: u32,
+) -> BitRow<2>
+    requires sizes { IsSized instance.now state.now dim }
+    requires u { u < box_count instance.now }
+    requires v { v < box_count instance.now }
+    requires distinct { u ≡ v → ⊥ }
+    ensures within { (x : ℕ) → row_has result x ≡ true → x < box_count instance.now }
+    ensures others { (x : ℕ) → x < box_count instance.now → row_has result x ≡ false
+        → IsCovered instance.now (excludes state.now.trail) state.now.trail (Compose dim u v x) }
+{
+    let _boxes = state.boxes();
+    let mask = state.mask(dim, u, v);
+    let is_overlap = mask.has(Rel::Overlap);
+    let is_before = mask.has(Rel::Before);
+    let is_after = mask.has(Rel::After);
+    let overlap = state.row(dim, v, Rel::Overlap);
+    let before = state.row(dim, v, Rel::Before);
+    let after = state.row(dim, v, Rel::After);
+    let not_after = overlap.or(before);
+    let not_before = overlap.or(after);
+    let any = not_after.or(after);
+    let may_overlap = one_of(
+        pick(any, is_overlap),
+        pick(not_before, is_before),
+        pick(not_after, is_after),
+    );
+    let may_precede = one_of(
+        pick(not_after, is_overlap),
+        pick(any, is_before),
+        pick(before, is_after),
+    );
+    let may_follow = one_of(
+        pick(not_before, is_overlap),
+        pick(after, is_before),
+        pick(any, is_after),
+    );
+    let here_overlap = state.row(dim, u, Rel::Overlap);
+    let here_before = state.row(dim, u, Rel::Before);
+    let here_after = state.row(dim, u, Rel::After);
+    let beyond = one_of(
+        here_overlap.minus(may_overlap),
+        here_before.minus(may_precede),
+        here_after.minus(may_follow),
+    );
+    beyond.without(v)
+}
+
+/// The row of all boxes.
+pub fn all_boxes(boxes: u32) -> BitRow<2>
+    requires { IsBoxCount boxes }
+    ensures { (x : ℕ) → row_has result x ≡ nat_lt x boxes }
+{
+    let mut all = BitRow::empty();
+    for v in 0..boxes {
+        all = all.with(v);
+    }
+    all
+}
+
+// The boxes for which one of two relations to `u` isn't excluded.
+#[inline]
+fn either(
+    instance: &Instance,
+    state: &EdgeState,
+    dim: u32,
+    u: u32,
+    first: Rel,
+    second: Rel,
+) -> BitRow<2>
+    requires sizes { IsSized instance.now state.now dim }
+    requires u { u < box_count instance.now }
+    ensures within { (v : ℕ) → row_has result v ≡ true → v < box_count instance.now }
+    ensures shut { (v : ℕ) → v < box_count instance.now → (u ≡ v → ⊥) → row_has result v ≡ false
+        → IsTrue (excludes state.now.trail dim u v first)
+        × IsTrue (excludes state.now.trail dim u v second) }
+    ensures some { (v : ℕ) → row_has result v ≡ true
+        → IsTrue (excludes state.now.trail dim u v first)
+        → IsTrue (excludes state.now.trail dim u v second) → ⊥ }
+{
+    let one = state.row(dim, u, first);
+    let other = state.row(dim, u, second);
+    one.or(other)
+}
+
+/// The boxes for which both relations to `u` are excluded, and perhaps `u` itself.
+#[inline]
+pub fn gone(
+    instance: &Instance,
+    state: &EdgeState,
+    all: BitRow<2>,
+    dim: u32,
+    u: u32,
+    first: Rel,
+    second: Rel,
+) -> BitRow<2>
+    requires sizes { IsSized instance.now state.now dim }
+    requires u { u < box_count instance.now }
+    requires all { (x : ℕ) → row_has all x ≡ nat_lt x (box_count instance.now) }
+    ensures within { (v : ℕ) → row_has result v ≡ true → v < box_count instance.now }
+    ensures others { (v : ℕ) → v < box_count instance.now → row_has result v ≡ false
+        → IsTrue (excludes state.now.trail dim u v first)
+        → IsTrue (excludes state.now.trail dim u v second) → ⊥ }
+{
+    all.minus(either(instance, state, dim, u, first, second))
+}
+
+/// The boxes v at which TRIPLE may exclude something at `u`, v with `x`.
+pub fn beyond_triples(instance: &Instance, state: &EdgeState, dim: u32, u: u32, x: u32) -> BitRow<2>
+    requires sizes { IsSized instance.now state.now dim }
+    requires u { u < box_count instance.now }
+    requires x { x < box_count instance.now }
+    ensures within { (v : ℕ) → row_has result v ≡ true → v < box_count instance.now }
+    ensures others { (v : ℕ) → v < box_count instance.now → row_has result v ≡ false
+        → IsCovered instance.now (excludes state.now.trail) state.now.trail (Triple dim u v x) }
+{
+    let free = either(instance, state, dim, u, Rel::Before, Rel::After);
+    free.minus(state.row(dim, x, Rel::Overlap))
+}
+
+/// The boxes d at which CYCLE may exclude something at `b`, d.
+pub fn beyond_cycles(
+    instance: &Instance,
+    state: &EdgeState,
+    dim: u32,
+    a: u32,
+    b: u32,
+    c: u32,
+) -> BitRow<2>
+    requires sizes { IsSized instance.now state.now dim }
+    requires a { a < box_count instance.now }
+    requires b { b < box_count instance.now }
+    requires c { c < box_count instance.now }
+    ensures within { (d : ℕ) → row_has result d ≡ true → d < box_count instance.now }
+    ensures others { (d : ℕ) → d < box_count instance.now → row_has result d ≡ false
+        → IsCovered instance.now (excludes state.now.trail) state.now.trail (Cycle dim a b c d) }
+{
+    let free = either(instance, state, dim, b, Rel::Before, Rel::After);
+    let third = either(instance, state, dim, c, Rel::Before, Rel::After);
+    let first = either(instance, state, dim, a, Rel::Before, Rel::After);
+    free.minus(third).minus(first)
+}
+
+/// The boxes c at which ORDER may exclude something at c, `b`, with the last box given.
+pub fn beyond_orders_from(
+    instance: &Instance,
+    state: &EdgeState,
+    dim: u32,
+    a: u32,
+    b: u32,
+    d: u32,
+) -> BitRow<2>
+    requires sizes { IsSized instance.now state.now dim }
+    requires b { b < box_count instance.now }
+    requires d { d < box_count instance.now }
+    ensures within { (c : ℕ) → row_has result c ≡ true → c < box_count instance.now }
+    ensures others { (c : ℕ) → c < box_count instance.now → row_has result c ≡ false
+        → IsCovered instance.now (excludes state.now.trail) state.now.trail (Order dim a b c d) }
+{
+    let free = either(instance, state, dim, b, Rel::Overlap, Rel::Before);
+    let last = either(instance, state, dim, d, Rel::Overlap, Rel::Before);
+    free.minus(last)
+}
+
+/// The boxes b at which ORDER may exclude something at `c`, b, with the first box given.
+pub fn beyond_orders_to(
+    instance: &Instance,
+    state: &EdgeState,
+    dim: u32,
+    a: u32,
+    c: u32,
+    d: u32,
+) -> BitRow<2>
+    requires sizes { IsSized instance.now state.now dim }
+    requires a { a < box_count instance.now }
+    requires c { c < box_count instance.now }
+    ensures within { (b : ℕ) → row_has result b ≡ true → b < box_count instance.now }
+    ensures others { (b : ℕ) → b < box_count instance.now → row_has result b ≡ false
+        → IsCovered instance.now (excludes state.now.trail) state.now.trail (Order dim a b c d) }
+{
+    let free = either(instance, state, dim, c, Rel::Overlap, Rel::After);
+    let first = either(instance, state, dim, a, Rel::Overlap, Rel::After);
+    free.minus(first)
+}
+
+/// The boxes that are joined with `b` and apart from `a`.
+pub fn cycle_thirds(
+    instance: &Instance,
+    state: &EdgeState,
+    all: BitRow<2>,
+    dim: u32,
+    a: u32,
+    b: u32,
+) -> BitRow<2>
+    requires sizes { IsSized instance.now state.now dim }
+    requires a { a < box_count instance.now }
+    requires b { b < box_count instance.now }
+    requires all { (x : ℕ) → row_has all x ≡ nat_lt x (box_count instance.now) }
+    ensures within { (c : ℕ) → row_has result c ≡ true → c < box_count instance.now }
+    ensures others { (c : ℕ) → c < box_count instance.now → row_has result c ≡ false
+        → IsJoined (excludes state.now.trail) dim b c → IsApart (excludes state.now.trail) dim a c
+        → ⊥ }
+{
+    let joined = gone(instance, state, all, dim, b, Rel::Before, Rel::After);
+    joined.minus(state.row(dim, a, Rel::Overlap))
+}
+
+/// The boxes that are joined with `a` and with `c`.
+pub fn cycle_seconds(
+    instance: &Instance,
+    state: &EdgeState,
+    all: BitRow<2>,
+    dim: u32,
+    a: u32,
+    c: u32,
+) -> BitRow<2>
+    requires sizes { IsSized instance.now state.now dim }
+    requires a { a < box_count instance.now }
+    requires c { c < box_count instance.now }
+    requires all { (x : ℕ) → row_has all x ≡ nat_lt x (box_count instance.now) }
+    ensures within { (b : ℕ) → row_has result b ≡ true → b < box_count instance.now }
+    ensures others { (b : ℕ) → b < box_count instance.now → row_has result b ≡ false
+        → IsJoined (excludes state.now.trail) dim a b
+        → IsJoined (excludes state.now.trail) dim b c → ⊥ }
+{
+    let first = gone(instance, state, all, dim, a, Rel::Before, Rel::After);
+    first.and(gone(instance, state, all, dim, c, Rel::Before, Rel::After))
+}
