@@ -41,9 +41,9 @@ pub const MOST_VALUE: u32 = 1_000_000_000;
 /// kerf. Contracts see an instance as the plain instance of the written numbers.
 #[derive(Drop)]
 pub struct Instance {
-    container: Sides,
-    kerf: Sides,
-    boxes: Vec<BoxItem>,
+    pub(crate) container: Sides,
+    pub(crate) kerf: Sides,
+    pub(crate) boxes: Vec<BoxItem>,
 }
 
 impl Model for Instance {

@@ -1,8 +1,11 @@
 //! Instances of orthogonal packing, within their limits.
 #![tactic(auto)]
 
+mod copies;
 mod fault;
 mod instance;
+mod rank;
+mod sides;
 
 pub use fault::{InstanceFault, NoMemory};
 pub use instance::{BoxItem, Instance, MOST_BOXES, MOST_KERF, MOST_SIDE, MOST_VALUE, Sides};

@@ -1,9 +1,22 @@
-//! Whether an instance fits, and where its boxes stand.
+//! The class tree, which decides whether an instance fits, and its exploration with a stack of its own.
+//!
+//! Source: the search over packing classes of Fekete, Schepers and van der Veen (2007).
 #![tactic(auto)]
 
-mod small;
+mod decision;
+mod pairs;
+mod places;
+mod rank;
+mod root;
+mod same;
+mod splits;
+mod tree;
+mod visit;
+mod walk;
 
-pub use small::fit_small;
+pub use decision::{decide, decide_alone};
+pub use edge_state::Exclusion;
+pub use tree::ClassTree;
 
 #[cfg(test)]
 mod tests;

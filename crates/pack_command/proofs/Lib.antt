@@ -1,2 +1,4 @@
 pub mod Joined
 pub mod Decided
+pub mod Answering
+mod Blocks

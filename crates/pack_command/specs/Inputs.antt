@@ -1,11 +1,10 @@
 -- What reading an instance from a source does.
-use Rattle.std.specs.Prelude.{ℕ, ◌≡◌, ◌<◌, ◌≤◌, ◌⊎◌, List, length, Result, Ok, Err}
+use Rattle.std.specs.Prelude.{ℕ, ◌≡◌, ◌<◌, ◌≤◌, List, length, Result, Ok, Err}
 use Rattle.std.specs.declared.option.Option.{Option}
 use Rattle.std.specs.Io.KnownBytes.{IsAtEnd}
-use Rattle.packing_terms.specs.Packing.{PlainInstance, dims, box_count}
+use Rattle.packing_terms.specs.Packing.{PlainInstance}
 use Rattle.text_terms.specs.Texts.{text_instance}
 use Rattle.pack_streams.specs.Moves.{Gives}
-use Rattle.pack_command.specs.Answers.{IsSmall}
 use Rattle.pack_command.specs.declared.stop.Stop.{Stop}
 use Rattle.pack_command.specs.declared.stop.Stop.TheVariants.{Words, Unbuilt, TooLong, Text, ReadFault, WriteFault, NoMemory}
 
@@ -15,17 +14,12 @@ pub record IsWholeInput (old new : Option (List ℕ)) (bytes : List ℕ) : Type 
   pub ended : IsAtEnd new
   pub within : length bytes ≤ 1048576
 
--- the instance isn't built yet: it has more than two dimensions or more than three boxes
-abbrev pub IsLarge : PlainInstance → Type 0
-IsLarge instance = (2 < dims instance) ⊎ (3 < box_count instance)
-
 -- the instance of the whole input, or why there is none
 abbrev pub IsRead : Option (List ℕ) → Option (List ℕ) → Result PlainInstance Stop → Type 0
 IsRead old new (Ok instance) =
-    (bytes : List ℕ) × IsWholeInput old new bytes × (text_instance bytes ≡ Ok instance) × IsSmall instance
+    (bytes : List ℕ) × IsWholeInput old new bytes × (text_instance bytes ≡ Ok instance)
 IsRead old new (Err (Text fault)) = (bytes : List ℕ) × IsWholeInput old new bytes × (text_instance bytes ≡ Err fault)
-IsRead old new (Err Unbuilt) =
-    (bytes : List ℕ) × (instance : PlainInstance) × IsWholeInput old new bytes × (text_instance bytes ≡ Ok instance) × IsLarge instance
+IsRead old new (Err Unbuilt) = ⊥
 IsRead old new (Err TooLong) = (bytes : List ℕ) × Gives old new bytes × (1048576 < length bytes)
 IsRead old new (Err ReadFault) = (bytes : List ℕ) × Gives old new bytes × (length bytes ≤ 1048576)
 IsRead old new (Err NoMemory) = (bytes : List ℕ) × Gives old new bytes

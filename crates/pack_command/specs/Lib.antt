@@ -1,7 +1,7 @@
-pub mod Pages
-pub mod Documents
+pub mod Fronts
+pub mod Placed
 pub mod Stops
-pub mod Answers
+pub mod Answered
 pub mod Asked
 pub mod Inputs
 pub mod Run

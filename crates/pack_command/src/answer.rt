@@ -1,46 +1,43 @@
-// The answer of `fit`: its status and its document.
-ghost use Rattle.std.specs.Prelude.{◌≡◌, ◌≤◌, ◌*◌, length, IfOk, OnOk};
-ghost use Rattle.packing_terms.specs.Packing.{dims, box_count, container_side, IsPacking};
+// The answer of `fit`.
+ghost use Rattle.std.specs.Prelude.{◌≡◌, IfOk};
 ghost use Rattle.packing_terms.specs.Limits.{IsInstance};
-ghost use Rattle.pack_streams.specs.Writing.{Writes};
-ghost use Rattle.pack_command.specs.Documents.{yes_document, no_document};
-ghost use Rattle.pack_command.specs.Answers.{IsAnswer, IsSmall};
+ghost use Rattle.proof_tree.specs.Plain.{plain_outcome};
+ghost use Rattle.answer_terms.specs.Answers.{status_of};
+ghost use Rattle.answer_terms.specs.Solved.{fit_answer};
+ghost use Rattle.pack_command.specs.Answered.{IsFitOutcome};
 
-use crate::documents::{write_no, write_yes};
-use crate::page::Page;
 use box_instances::{Instance, NoMemory};
-use class_search::fit_small;
+use class_search::decide;
+use proof_tree::Outcome;
 use std::alloc::Global;
+use work_share::Settings;
 
-/// A status, and the whole document that is written with it.
-#[derive(Drop)]
-pub struct Answer {
-    pub status: u8,
-    pub document: Vec<u8>,
+/// What the search gives for an instance under these settings.
+pub fn decide_fit<R>(
+    rt: &R,
+    alloc: Global,
+    instance: &Instance,
+    settings: Settings,
+) -> Result<Outcome, NoMemory>
+    requires { settings.workers ≡ 1 }
+    ensures { IfOk result (λ r. IsFitOutcome instance.now settings (plain_outcome r)) }
+{
+    decide(rt, alloc, instance, &settings)
 }
 
-/// The answer of `fit` for an instance that is small enough to be built.
-pub fn fit_answer(alloc: Global, instance: &Instance) -> Result<Answer, NoMemory>
-    requires written { IsInstance instance.now }
-    requires small { IsSmall instance.now }
-    ensures { IfOk result (λ a. IsAnswer instance.now a.status a.document.items) }
+/// The status of an answer: 0 for yes, 1 for no, 3 for undecided.
+pub fn status_of(outcome: &Outcome) -> u8
+    ensures { result ≡ status_of (fit_answer (plain_outcome outcome.now)) }
 {
-    let _boxes = instance.len();
-    let mut page = Page::new(alloc);
-    match fit_small(alloc, instance)? {
-        Some(places) => match write_yes(&mut page, instance, &places) {
-            Ok(()) => Ok(Answer {
-                status: 0,
-                document: page.into_text(),
-            }),
-            Err(_) => Err(NoMemory),
-        },
-        None => match write_no(&mut page, instance) {
-            Ok(()) => Ok(Answer {
-                status: 1,
-                document: page.into_text(),
-            }),
-            Err(_) => Err(NoMemory),
-        },
+    match outcome {
+        Outcome::Yes {
+            numbers: _,
+            count: _,
+        } => 0,
+        Outcome::No {
+            tokens: _,
+            count: _,
+        } => 1,
+        Outcome::Past => 3,
     }
 }

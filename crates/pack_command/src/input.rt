@@ -13,7 +13,7 @@ use std::alloc::Global;
 // The most bytes that the text of an instance may have.
 const LIMIT: usize = 1_048_576;
 
-/// Reads the whole source as the text of an instance that is built.
+/// Reads the whole source as the text of an instance.
 pub fn read_input<S: Source>(alloc: Global, input: &mut S) -> Result<Instance, Stop>
     ensures moves { IsRead (S.left input.old) (S.left input.new) result }
     ensures limits { IfOk result IsInstance }
@@ -26,13 +26,9 @@ pub fn read_input<S: Source>(alloc: Global, input: &mut S) -> Result<Instance, S
         Err(ReadStop::ReadFault) => return Err(Stop::ReadFault),
         Err(ReadStop::NoMemory) => return Err(Stop::NoMemory),
     };
-    let instance = match read_instance(alloc, &text) {
-        Ok(instance) => instance,
-        Err(ReadTextError::Fault(fault)) => return Err(Stop::Text(fault)),
-        Err(ReadTextError::NoMemory) => return Err(Stop::NoMemory),
-    };
-    if instance.dims() > 2 || instance.len() > 3 {
-        return Err(Stop::Unbuilt);
+    match read_instance(alloc, &text) {
+        Ok(instance) => Ok(instance),
+        Err(ReadTextError::Fault(fault)) => Err(Stop::Text(fault)),
+        Err(ReadTextError::NoMemory) => Err(Stop::NoMemory),
     }
-    Ok(instance)
 }

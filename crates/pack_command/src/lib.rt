@@ -3,10 +3,10 @@
 
 mod answer;
 mod documents;
+mod front;
 mod input;
-mod page;
-mod pieces;
 mod stop;
+mod stream;
 mod top;
 mod words;
 

@@ -2,5 +2,7 @@
 #![tactic(auto)]
 
 mod settings;
+mod tree;
 
 pub use settings::Settings;
+pub use tree::{Node, Tree};

@@ -12,6 +12,33 @@ pub struct Told {
     pub err: Vec<u8>,
 }
 
+impl Told {
+    /// Whether what was written is the document of `fit` with these lines of the instance, and behind them these.
+    pub fn is_document(&self, instance: &[u8], rest: &[u8]) -> bool {
+        let head = b"answer fit\n".len();
+        let body = head.saturating_add(instance.len());
+        if self.out.len() != body.saturating_add(rest.len()) || !self.err.is_empty() {
+            return false;
+        }
+        self.out.starts_with(b"answer fit\n")
+            && &self.out[head..body] == instance
+            && &self.out[body..] == rest
+    }
+
+    /// How many lines begin with this byte.
+    pub fn lines_from(&self, first: u8) -> u32 {
+        let mut count = 0u32;
+        let mut before = b'\n';
+        for byte in &self.out {
+            if before == b'\n' && *byte == first {
+                count = count.saturating_add(1);
+            }
+            before = *byte;
+        }
+        count
+    }
+}
+
 /// Runs the words on the input, where the source and the sink follow these plans.
 pub fn told_with(
     rt: &HostRuntime,

@@ -1,19 +1,6 @@
-use Rattle.std.proofs.Common.{◌≡◌, refl, arith}
-use Rattle.packing_terms.specs.Packing.{dims}
+use Rattle.std.proofs.Common.{sym, append-nil}
 use Rattle.pack_streams.proofs.Writers.{more, same}
-use Rattle.pack_command.proofs.Joined.{coordinate_more, joined_all}
-use Rattle.pack_command.specs.Documents.{coordinate_text}
 use Rattle.pack_command.proofs.documents.write_place.Goals as goal
 
-pub loop-dim-preserved : goal.loop-dim-preserved
-loop-dim-preserved g c = same _ _ _ _ _ _ _ _
-    (coordinate_more c.args.instance.now c.args.places.now c.args.box_no c.loop-dim.dim _ refl)
-    (more _ _ _ _ _ _ _ _ _ _ _ c.loop-dim.invariant
-    (more _ _ _ _ _ _ _ _ _ _ _ c.write_on-named.ensures (rw c.dims-dims.ensures.value at c.write_number-now.ensures)))
-
 pub returns : goal.returns
-returns g c =
-    let whole : c.loop-dim.dim ≡ dims c.args.instance.now = omega (arith, c.dims-dims.ensures.value) in
-    more _ _ _ _ _ _ _ _ _ _ _ (more _ _ _ _ _ _ _ _ _ _ _ c.write_on-now.ensures
-    (same _ _ _ _ _ _ _ _ (joined_all _ _ (coordinate_text c.args.instance.now c.args.places.now c.args.box_no) whole) c.loop-dim.invariant))
-    c.write_on.ensures
+returns g c = same _ _ _ _ _ _ _ _ (sym (append-nil _)) (more _ _ _ _ _ _ _ _ _ _ _ (more _ _ _ _ _ _ _ _ _ _ _ c.write_on-named.ensures.goes_on c.write_coordinates-placed.ensures) c.write_on.ensures.goes_on)

@@ -1,0 +1,173 @@
+-- The answers of the jobs are shown.
+use Rattle.std.proofs.Common.{◌≡◌, ℕ, zero, suc, pred, ◌+◌, ◌-◌, ◌*◌, ◌<◌, ◌≤◌, Bool, true, false, refl, sym, subst, arith, List, [], ◌∷◌, Option, Some, None, if◌then◌else◌, get_or, ltb}
+use Rattle.std.specs.List.{range_with_len}
+use Rattle.std.proofs.lemmas.List.Sums.{sum_by-cons}
+use Rattle.packing_terms.specs.Packing.{PlainInstance, dims, box_count, no_box}
+use Rattle.packing_terms.specs.Goals.{HasTooWideBox, HasTooLargeBox, worth}
+use Rattle.packing_terms.specs.Limits.{most_height, IsInstance, IsInternalInstance}
+use Rattle.packing_terms.specs.TooLarge.{IsFirstLarge}
+use Rattle.packing_terms.specs.Tokens.PlainToken.{TooLarge}
+use Rattle.packing_terms.proofs.Internal.{written_internal}
+use Rattle.tree_terms.specs.Trees.{Verdict, Yes, No, PlainOutcome, Decided, Past, outcome, told, count_of}
+use Rattle.tree_terms.specs.ClassTree.{class_tree, first_large, first_too_wide}
+use Rattle.tree_terms.specs.Search.{IsRightUnder}
+use Rattle.tree_terms.specs.Levels.{PlainReached, first_heights, height_run, bin_run, first_values, value_run}
+use Rattle.tree_terms.proofs.Decisions.{class_tree_right}
+use Rattle.tree_terms.proofs.FirstFound.{first_large_is, first_too_wide_is, none_large_is, none_too_wide_is}
+use Rattle.tree_terms.proofs.Optima.{heights_keep, stack_small, bins_keep, values_keep}
+use Rattle.tree_terms.proofs.SpentRuns.{height_end, bins_end, value_end}
+use Rattle.document_terms.specs.Claims.{SolvingJob, Claim, job_of, most_worth}
+use Rattle.document_terms.specs.Claims.SolvingJob.{Fit, Strip, Bins, Knapsack}
+use Rattle.document_terms.specs.Claims.Claim.{Fitting, NotFitting, LeastHeight, HeightBetween, NoHeight, LeastBins, BinsBetween, NoBins, GreatestValue, ValueBetween}
+use Rattle.answer_terms.specs.Answers.{Answer}
+use Rattle.answer_terms.specs.Answers.Answer.{Undecided, Claimed}
+use Rattle.answer_terms.specs.Solved.{solved, fit_answer, reached_claim, strip_answer, bins_answer, knapsack_answer}
+use Rattle.answer_terms.specs.Shown.{ShowsHeight, ShowsBins, ShowsValue, ShowsNone, IsShown, AnswersAreShown}
+
+-- an answer of a job: undecided, or a claim of the job that is shown
+abbrev IsAnswer : SolvingJob → PlainInstance → Answer → Type 0
+IsAnswer job instance Undecided = Unit {0}
+IsAnswer job instance (Claimed claim numbers tokens) = IsShown job instance claim numbers tokens
+
+-- ---- fit
+
+fit_is : (instance : PlainInstance) (budget : ℕ) (v : Verdict) → IsRightUnder instance [] v → IsAnswer Fit instance (fit_answer (told budget v))
+fit_is instance budget v h = go (ltb budget (count_of v)) v h
+  where
+    go : (b : Bool) (w : Verdict) → IsRightUnder instance [] w → IsAnswer Fit instance (fit_answer (if b then Past else Decided w))
+    go true w k = tt
+    go false (Yes ns c) k = record { of_job = refl; shown = k }
+    go false (No ts c) k = record { of_job = refl; shown = k }
+
+-- ---- a box that is too large
+
+large_named : (instance : PlainInstance) (m : ℕ) (p : ℕ × ℕ) → m ≤ dims instance → IsFirstLarge instance m p.0 p.1
+    → ShowsNone instance m (TooLarge (suc p.0) (suc p.1) ∷ [])
+large_named instance m p few f =
+    let a = f.there in
+    let b = f.in_range in
+    record {
+      box_no = suc p.0;
+      dim = suc p.1;
+      are = refl;
+      large = record { box_from = omega arith; box_to = omega (arith, a); dim_from = omega arith; dim_to = omega (arith, b, few); large = f.large };
+      among = omega (arith, b);
+    }
+
+module _ (instance : PlainInstance) (limits : IsInstance instance) (budget : ℕ) (scales : Bool) where
+  internal : IsInternalInstance instance
+  internal = written_internal instance limits
+
+  -- ---- strip
+
+  heights_shown : ¬ HasTooWideBox instance → IsAnswer Strip instance (strip_answer None (height_run instance budget scales))
+  heights_shown narrow = go (height_run instance budget scales).spent refl
+    where
+      r : PlainReached
+      r = height_run instance budget scales
+
+      shown : ShowsHeight instance (height_run instance budget scales).refuted (height_run instance budget scales).placed (height_run instance budget scales).numbers (height_run instance budget scales).tokens
+      shown =
+          let keeps = heights_keep instance internal narrow budget scales in
+          let ends = height_end instance internal budget scales in
+          let high = ends.high in
+          let most = stack_small instance internal in
+          record { rising = ends.order; most = omega (arith, high, most); packing = keeps.1; refutation = keeps.0 }
+
+      go : (spent : Bool) → (height_run instance budget scales).spent ≡ spent
+          → IsAnswer Strip instance (Claimed (reached_claim spent (LeastHeight (height_run instance budget scales).placed)
+          (HeightBetween (height_run instance budget scales).refuted (height_run instance budget scales).placed))
+          (height_run instance budget scales).numbers (height_run instance budget scales).tokens)
+      go true s = record { of_job = refl; shown = shown }
+      go false s =
+          let c = (height_end instance internal budget scales).beside s in
+          let same : (height_run instance budget scales).refuted ≡ pred (height_run instance budget scales).placed = omega (arith, c) in
+          record {
+            of_job = refl;
+            shown = subst (λ a. ShowsHeight instance a (height_run instance budget scales).placed (height_run instance budget scales).numbers
+                (height_run instance budget scales).tokens) same shown;
+          }
+
+  strip_is : (p : Option (ℕ × ℕ)) → first_too_wide instance ≡ p → IsAnswer Strip instance (strip_answer p (height_run instance budget scales))
+  strip_is (Some p) e = record { of_job = refl; shown = large_named instance (dims instance - 1) p (omega arith) ((first_too_wide_is instance p.0 p.1).0 e) }
+  strip_is None e = heights_shown ((none_too_wide_is instance).0 e)
+
+  -- ---- bins
+
+  bins_shown : ¬ HasTooLargeBox instance → IsAnswer Bins instance (bins_answer None (bin_run instance budget scales))
+  bins_shown small = go (bin_run instance budget scales).spent refl
+    where
+      shown : ShowsBins instance (bin_run instance budget scales).refuted (bin_run instance budget scales).placed (bin_run instance budget scales).numbers (bin_run instance budget scales).tokens
+      shown =
+          let keeps = bins_keep instance internal small budget scales in
+          let ends = bins_end instance internal budget scales in
+          record { rising = ends.order; most = ends.high; packing = keeps.1; refutation = keeps.0 }
+
+      go : (spent : Bool) → (bin_run instance budget scales).spent ≡ spent
+          → IsAnswer Bins instance (Claimed (reached_claim spent (LeastBins (bin_run instance budget scales).placed)
+          (BinsBetween (bin_run instance budget scales).refuted (bin_run instance budget scales).placed))
+          (bin_run instance budget scales).numbers (bin_run instance budget scales).tokens)
+      go true s = record { of_job = refl; shown = shown }
+      go false s =
+          let c = (bins_end instance internal budget scales).beside s in
+          let same : (bin_run instance budget scales).refuted ≡ pred (bin_run instance budget scales).placed = omega (arith, c) in
+          record {
+            of_job = refl;
+            shown = subst (λ a. ShowsBins instance a (bin_run instance budget scales).placed (bin_run instance budget scales).numbers
+                (bin_run instance budget scales).tokens) same shown;
+          }
+
+  bins_is : (p : Option (ℕ × ℕ)) → first_large instance ≡ p → IsAnswer Bins instance (bins_answer p (bin_run instance budget scales))
+  bins_is (Some p) e = record { of_job = refl; shown = large_named instance (dims instance) p (omega arith) ((first_large_is instance p.0 p.1).0 e) }
+  bins_is None e = bins_shown ((none_large_is instance).0 e)
+
+  -- ---- knapsack
+
+  worth_small : (a n : ℕ) → a + n ≤ box_count instance → worth instance (range_with_len a n) ≤ n * 1000000000
+  worth_small a zero h = omega arith
+  worth_small a (suc n) h =
+      let rest = worth_small (a + 1) n (omega (arith, h)) in
+      let one : (get_or instance.boxes a no_box).value ≤ 1000000000 = (limits.boxes.each a (omega (arith, h))).value in
+      let sum = sum_by-cons (λ v. (get_or instance.boxes v no_box).value) a (range_with_len (a + 1) n) in
+      omega (arith, rest, one, sum)
+
+  values_shown : IsAnswer Knapsack instance (knapsack_answer (value_run instance budget scales))
+  values_shown = go (value_run instance budget scales).spent refl
+    where
+      most : (value_run instance budget scales).refuted ≤ most_worth
+      most =
+          let high = (value_end instance budget scales).high in
+          let all = worth_small 0 (box_count instance) (omega arith) in
+          let n = limits.boxes.count.1 in
+          omega (arith, high, all, n)
+
+      shown : ShowsValue instance (value_run instance budget scales).placed (value_run instance budget scales).refuted (value_run instance budget scales).numbers (value_run instance budget scales).tokens
+      shown =
+          let keeps = values_keep instance internal budget scales in
+          record { rising = (value_end instance budget scales).order; most = most; packing = keeps.1; refutation = keeps.0 }
+
+      go : (spent : Bool) → (value_run instance budget scales).spent ≡ spent
+          → IsAnswer Knapsack instance (Claimed (reached_claim spent (GreatestValue (value_run instance budget scales).placed)
+          (ValueBetween (value_run instance budget scales).placed (value_run instance budget scales).refuted))
+          (value_run instance budget scales).numbers (value_run instance budget scales).tokens)
+      go true s = record { of_job = refl; shown = shown }
+      go false s =
+          let c = (value_end instance budget scales).beside s in
+          let same : (value_run instance budget scales).refuted ≡ suc (value_run instance budget scales).placed = omega (arith, c) in
+          record {
+            of_job = refl;
+            shown = subst (λ b. ShowsValue instance (value_run instance budget scales).placed b (value_run instance budget scales).numbers
+                (value_run instance budget scales).tokens) same shown;
+          }
+
+  -- ---- all jobs
+
+  solved_is : (job : SolvingJob) → IsAnswer job instance (solved job budget scales instance)
+  unfolding solved
+  solved_is Fit = fit_is instance budget (outcome (class_tree instance [] scales)) (class_tree_right instance internal [] tt scales)
+  solved_is Strip = strip_is (first_too_wide instance) refl
+  solved_is Bins = bins_is (first_large instance) refl
+  solved_is Knapsack = values_shown
+
+pub answers_shown : AnswersAreShown
+answers_shown job budget scales instance claim numbers tokens limits e = subst (IsAnswer job instance) e (solved_is instance limits budget scales job)

@@ -1,0 +1,18 @@
+use Rattle.std.proofs.Common.{[]}
+use Rattle.std.proofs.lemmas.Result.{IfOk-weaker}
+use Rattle.proof_tree.specs.Plain.{plain_outcome}
+use Rattle.class_search.proofs.Rights.{class_decides, class_told}
+use Rattle.class_search.proofs.decision.decide_alone.Goals as goal
+
+pub returns-clause-outcome : goal.returns-clause-outcome
+returns-clause-outcome c = rw c.in_ok-tree.ensures at c.explore.ensures.outcome
+
+pub returns-clause-decides : goal.returns-clause-decides
+returns-clause-decides c =
+    IfOk-weaker c.explore.result _ _ (λ r h. class_decides c.args.instance.now c.len-limits.ensures.limits c.args.scales c.args.budget (plain_outcome r) h)
+    (rw c.in_ok-tree.ensures at c.explore.ensures.outcome)
+
+pub returns-clause-enough : goal.returns-clause-enough
+returns-clause-enough c l =
+    IfOk-weaker c.explore.result _ _ (λ r h. class_told c.args.instance.now c.len-limits.ensures.limits [] c.args.scales c.args.budget (plain_outcome r) h l)
+    (rw c.in_ok-tree.ensures at c.explore.ensures.outcome)

@@ -1,0 +1,13 @@
+use Rattle.std.proofs.Common.{◌≡◌, Some, drop}
+use Rattle.tree_terms.specs.Trees.{node_at}
+use Rattle.class_search.specs.Visits.{kind_tree, IsKind}
+use Rattle.class_search.proofs.walk.descend.Given as goal
+
+abbrev pub invariant-loop-child : goal.invariant-loop-child
+invariant-loop-child l = record {
+  node : node_at (Some (kind_tree l.instance l.fn.state.trail l.fn.node)) l.path ≡ node_at (Some (kind_tree l.instance l.state.trail l.node)) (drop l.child-index l.path);
+  known : IsKind l.instance l.state.trail l.node;
+  same_dims : l.state.dims ≡ l.fn.state.dims;
+  same_boxes : l.state.boxes ≡ l.fn.state.boxes;
+  same_closer : l.closer ≡ l.fn.closer;
+}

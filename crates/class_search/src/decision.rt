@@ -1,0 +1,53 @@
+// The decision of one instance.
+ghost use Rattle.std.specs.Prelude.{◌≡◌, ◌≤◌, ◌+◌, ◌-◌, ◌*◌, ◌/◌, ◌^◌, IfOk, []};
+ghost use Rattle.packing_terms.specs.Packing.{dims, box_count};
+ghost use Rattle.tree_terms.specs.Trees.{outcome, told};
+ghost use Rattle.tree_terms.specs.ClassTree.{class_tree};
+ghost use Rattle.proof_tree.specs.Plain.{plain_outcome};
+ghost use Rattle.class_search.specs.Right.{IsRight, Decides, IsDecided};
+
+use crate::ClassTree;
+use box_instances::{Instance, NoMemory};
+use proof_tree::Outcome;
+use std::alloc::Global;
+use work_share::{Settings, Tree};
+
+/// Whether an instance fits, decided by its class tree under a budget of branchings.
+///
+/// A yes has places that are a packing, and a no has a refutation. `Past` comes exactly where the tree has more branchings than
+/// the budget, and never where the budget is at least 3 to the number of pairs in all dimensions, less 1.
+pub fn decide_alone(
+    alloc: Global,
+    instance: &Instance,
+    budget: u64,
+    scales: bool,
+) -> Result<Outcome, NoMemory>
+    ensures outcome { IfOk result (λ r. plain_outcome r ≡ told budget (outcome (class_tree instance.now [] scales))) }
+    ensures right { IfOk result (λ r. IsRight instance.now [] (plain_outcome r)) }
+    ensures decides { IfOk result (λ r. Decides instance.now (plain_outcome r)) }
+    ensures enough { 3 ^ (dims instance.now * box_count instance.now * (box_count instance.now - 1) / 2) ≤ budget + 1
+        → IfOk result (λ r. IsDecided (plain_outcome r)) }
+{
+    let _limits = instance.len();
+    let tree = ClassTree::new(alloc, instance, scales)?;
+    tree.explore(alloc, &[], budget)
+}
+
+/// Whether an instance fits, decided by its class tree under the budget of the settings. The workers are 1.
+///
+/// It answers what `decide_alone` answers.
+pub fn decide<R>(
+    rt: &R,
+    alloc: Global,
+    instance: &Instance,
+    settings: &Settings,
+) -> Result<Outcome, NoMemory>
+    requires alone { settings.now.workers ≡ 1 }
+    ensures outcome { IfOk result (λ r. plain_outcome r ≡ told settings.now.budget (outcome (class_tree instance.now [] settings.now.scales))) }
+    ensures right { IfOk result (λ r. IsRight instance.now [] (plain_outcome r)) }
+    ensures decides { IfOk result (λ r. Decides instance.now (plain_outcome r)) }
+    ensures enough { 3 ^ (dims instance.now * box_count instance.now * (box_count instance.now - 1) / 2) ≤ settings.now.budget + 1
+        → IfOk result (λ r. IsDecided (plain_outcome r)) }
+{
+    decide_alone(alloc, instance, settings.budget, settings.scales)
+}

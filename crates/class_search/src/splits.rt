@@ -1,0 +1,97 @@
+// The splits of unsettled pairs, and their children.
+ghost use Rattle.std.specs.Prelude.{◌≡◌, ◌≢◌, ◌<◌, None, true, false};
+ghost use Rattle.std.specs.List.{find};
+ghost use Rattle.packing_terms.specs.Exclusions.{excludes};
+ghost use Rattle.rule_terms.specs.Rounds.{below};
+ghost use Rattle.tree_terms.specs.InnerTree.{is_apart_somewhere, may_order, may_apart, chosen_split};
+ghost use Rattle.proof_tree.specs.Plain.{plain_token};
+ghost use Rattle.class_search.specs.Splits.{plain_split, added, with_all, IsSplitAmong, MaySplit};
+
+use crate::pairs::{apart_dim, is_apart, order_dim};
+use edge_state::EdgeState;
+use proof_tree::Token;
+use relation_table::Rel;
+
+/// How a pair is split: into apart and joined, or (once it is apart) into one order and the other.
+#[derive(Clone, Copy, Debug, PartialEq, Eq)]
+pub enum Choice {
+    Apart,
+    Order,
+}
+
+/// A split of a pair in a dimension. `u` is the lower number.
+#[derive(Clone, Copy, Debug, PartialEq, Eq)]
+pub struct Split {
+    pub choice: Choice,
+    pub dim: u32,
+    pub u: u32,
+    pub v: u32,
+}
+
+impl Split {
+    // The split of an unsettled pair.
+    pub fn of_pair(state: &EdgeState, u: u32, v: u32) -> Split
+        requires rising { u < v }
+        requires there { v < state.now.boxes }
+        requires divided { MaySplit (excludes state.now.trail) state.now.dims (u, v) }
+        ensures place { IsSplitAmong state.now.dims state.now.boxes result }
+        ensures value { plain_split result ≡ chosen_split (u, v) (is_apart_somewhere (excludes state.now.trail) state.now.dims (u, v))
+            (find (may_order (excludes state.now.trail) (u, v)) (below state.now.dims))
+            (find (may_apart (excludes state.now.trail) (u, v)) (below state.now.dims)) }
+    {
+        if is_apart(state, u, v) {
+            let Some(dim) = order_dim(state, u, v) else {
+                unreachable!();
+            };
+            return Split {
+                choice: Choice::Order,
+                dim,
+                u,
+                v,
+            };
+        }
+        let Some(dim) = apart_dim(state, u, v) else {
+            unreachable!();
+        };
+        Split {
+            choice: Choice::Apart,
+            dim,
+            u,
+            v,
+        }
+    }
+
+    // Its token.
+    pub fn token(&self) -> Token
+        requires { IsSplitAmong 4 128 self.now }
+        ensures { plain_token result ≡ (plain_split self.now).token }
+    {
+        let (dim, u, v) = (self.dim + 1, self.u + 1, self.v + 1);
+        match self.choice {
+            Choice::Apart => Token::Apart { dim, u, v },
+            Choice::Order => Token::Order { dim, u, v },
+        }
+    }
+
+    // Adds what its first child excludes, or its second.
+    pub fn enter(&self, state: &mut EdgeState, second: bool)
+        requires { IsSplitAmong state.old.dims state.old.boxes self.now }
+        ensures { state.new ≡ record state.old { trail = with_all (added self.now second) state.old.trail } }
+    {
+        match (self.choice, second) {
+            (Choice::Apart, false) => {
+                state.exclude(self.dim, self.u, self.v, Rel::Overlap);
+            }
+            (Choice::Apart, true) => {
+                state.exclude(self.dim, self.u, self.v, Rel::After);
+                state.exclude(self.dim, self.u, self.v, Rel::Before);
+            }
+            (Choice::Order, false) => {
+                state.exclude(self.dim, self.u, self.v, Rel::After);
+            }
+            (Choice::Order, true) => {
+                state.exclude(self.dim, self.u, self.v, Rel::Before);
+            }
+        }
+    }
+}

@@ -1,0 +1,99 @@
+// Visits of nodes: a state is closed, and what kind of node it is is told.
+ghost use Rattle.std.specs.Prelude.{◌≡◌, ◌<◌, ℕ, false};
+ghost use Rattle.packing_terms.specs.Packing.{dims, box_count};
+ghost use Rattle.packing_terms.specs.Limits.{IsInternalInstance};
+ghost use Rattle.packing_terms.specs.Exclusions.{excludes};
+ghost use Rattle.tree_terms.specs.Rank.{ranked_pairs};
+ghost use Rattle.tree_terms.specs.InnerTree.{is_settled};
+ghost use Rattle.class_search.specs.Settling.{AreSettledBefore};
+ghost use Rattle.class_search.specs.Splits.{MaySplit, added, with_all};
+ghost use Rattle.class_search.specs.Visits.{IsNext, IsMet, IsDivided};
+
+use crate::pairs::first_unsettled;
+use crate::splits::Split;
+use box_instances::Instance;
+use edge_state::EdgeState;
+use rule_closure::{Closed, Closer};
+
+// What a node is: one with a conflict, one whose pairs are all settled, or one that is split at the first unsettled pair, whose
+// place by rank is told.
+#[derive(Clone, Copy, Debug, PartialEq, Eq)]
+pub enum NodeKind {
+    Conflict,
+    Settled,
+    Divided { split: Split, place: usize },
+}
+
+// The kind of a closed state, where the pairs before `from` are settled.
+pub fn next_kind(
+    instance: &Instance,
+    pairs: &[(u32, u32)],
+    state: &EdgeState,
+    from: usize,
+) -> NodeKind
+    requires dims { state.now.dims ≡ dims instance.now }
+    requires boxes { state.now.boxes ≡ box_count instance.now }
+    requires pairs { pairs.now ≡ ranked_pairs instance.now }
+    requires settled { AreSettledBefore (excludes state.now.trail) (dims instance.now) (ranked_pairs instance.now) from }
+    requires divided { (p : ℕ × ℕ) → p.0 < p.1 → p.1 < box_count instance.now → is_settled (excludes state.now.trail) (dims instance.now) p ≡ false
+        → MaySplit (excludes state.now.trail) (dims instance.now) p }
+    ensures { IsNext instance.now state.now.trail result }
+{
+    let Some(place) = first_unsettled(state, pairs, from) else {
+        return NodeKind::Settled;
+    };
+    let (u, v) = pairs[place];
+    let split = Split::of_pair(state, u, v);
+    NodeKind::Divided { split, place }
+}
+
+// Closes the state of the root of an inner tree, and tells its kind.
+pub fn visit_root(
+    instance: &Instance,
+    pairs: &[(u32, u32)],
+    state: &mut EdgeState,
+    closer: &mut Closer,
+) -> NodeKind
+    requires limits { IsInternalInstance instance.now }
+    requires dims { state.old.dims ≡ dims instance.now }
+    requires boxes { state.old.boxes ≡ box_count instance.now }
+    requires room { closer.old ≡ record { dims = state.old.dims; boxes = state.old.boxes } }
+    requires pairs { pairs.now ≡ ranked_pairs instance.now }
+    ensures sizes { state.new ≡ record state.old { trail = state.new.trail } }
+    ensures closer { closer.new ≡ closer.old }
+    ensures met { IsMet instance.now state.old.trail state.new.trail result }
+{
+    match closer.close(instance, state) {
+        Closed::Conflict => NodeKind::Conflict,
+        Closed::Stable => next_kind(instance, pairs, state, 0),
+    }
+}
+
+// Goes from a node that is split, whose closed state this is, to its first child or its second. It closes what follows from
+// the child's own exclusions, and tells the child's kind.
+pub fn visit_child(
+    instance: &Instance,
+    pairs: &[(u32, u32)],
+    state: &mut EdgeState,
+    closer: &mut Closer,
+    split: Split,
+    place: usize,
+    second: bool,
+) -> NodeKind
+    requires limits { IsInternalInstance instance.now }
+    requires dims { state.old.dims ≡ dims instance.now }
+    requires boxes { state.old.boxes ≡ box_count instance.now }
+    requires room { closer.old ≡ record { dims = state.old.dims; boxes = state.old.boxes } }
+    requires pairs { pairs.now ≡ ranked_pairs instance.now }
+    requires divided { IsDivided instance.now state.old.trail split place }
+    ensures sizes { state.new ≡ record state.old { trail = state.new.trail } }
+    ensures closer { closer.new ≡ closer.old }
+    ensures met { IsMet instance.now (with_all (added split second) state.old.trail) state.new.trail result }
+{
+    let closed = state.mark();
+    split.enter(state, second);
+    match closer.close_since(instance, state, closed) {
+        Closed::Conflict => NodeKind::Conflict,
+        Closed::Stable => next_kind(instance, pairs, state, place),
+    }
+}

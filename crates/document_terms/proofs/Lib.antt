@@ -1,0 +1,2 @@
+pub mod TokensBack
+pub mod Cuts

@@ -1,0 +1,90 @@
+-- What a document says of its instance, and when that is true.
+use Rattle.std.specs.Prelude.{ℕ, ◌+◌, ◌*◌, ◌<◌, List, [], ◌∷◌, codes}
+use Rattle.std.specs.Fmt.{decimal}
+use Rattle.packing_terms.specs.Packing.{PlainInstance, Fits}
+use Rattle.packing_terms.specs.Limits.{most_boxes}
+use Rattle.packing_terms.specs.Goals.{with_last_side, FitsInBins, ReachesValue, IsLeastHeight, IsLeastBins, IsGreatestValue}
+
+-- the most that a value of a result line is: one more than all boxes may be worth
+abbrev pub most_worth : ℕ
+most_worth = 1000000000 * most_boxes + 1
+
+-- the job that a document answers
+pub data SolvingJob : Type 0 where
+  Fit : SolvingJob
+  Strip : SolvingJob
+  Bins : SolvingJob
+  Knapsack : SolvingJob
+
+-- The claim of a result line. Of `between`, the first number of strips and bins is refuted and the second placed; of knapsacks the first is
+-- placed and the second refuted.
+pub data Claim : Type 0 where
+  Fitting : Claim
+  NotFitting : Claim
+  LeastHeight : (height : ℕ) → Claim
+  HeightBetween : (refuted placed : ℕ) → Claim
+  NoHeight : Claim
+  LeastBins : (bins : ℕ) → Claim
+  BinsBetween : (refuted placed : ℕ) → Claim
+  NoBins : Claim
+  GreatestValue : (value : ℕ) → Claim
+  ValueBetween : (placed refuted : ℕ) → Claim
+
+abbrev pub job_of : Claim → SolvingJob
+job_of Fitting = Fit
+job_of NotFitting = Fit
+job_of (LeastHeight h) = Strip
+job_of (HeightBetween a b) = Strip
+job_of NoHeight = Strip
+job_of (LeastBins k) = Bins
+job_of (BinsBetween a b) = Bins
+job_of NoBins = Bins
+job_of (GreatestValue v) = Knapsack
+job_of (ValueBetween a b) = Knapsack
+
+abbrev pub job_word : SolvingJob → List ℕ
+job_word Fit = codes "fit"
+job_word Strip = codes "strip"
+job_word Bins = codes "bins"
+job_word Knapsack = codes "knapsack"
+
+-- the words of the result line behind `result`, without leading zeros
+abbrev pub result_words : Claim → List (List ℕ)
+result_words Fitting = codes "yes" ∷ []
+result_words NotFitting = codes "no" ∷ []
+result_words (LeastHeight h) = codes "least" ∷ decimal h ∷ []
+result_words (HeightBetween a b) = codes "between" ∷ decimal a ∷ decimal b ∷ []
+result_words NoHeight = codes "none" ∷ []
+result_words (LeastBins k) = codes "least" ∷ decimal k ∷ []
+result_words (BinsBetween a b) = codes "between" ∷ decimal a ∷ decimal b ∷ []
+result_words NoBins = codes "none" ∷ []
+result_words (GreatestValue v) = codes "greatest" ∷ decimal v ∷ []
+result_words (ValueBetween a b) = codes "between" ∷ decimal a ∷ decimal b ∷ []
+
+-- the least height lies above the one number and is at most the other: the instance fits at the other, and only at heights above the one
+pub record IsHeightBetween (instance : PlainInstance) (a b : ℕ) : Type 0 where
+  pub above : (h : ℕ) → Fits (with_last_side instance h) → a < h
+  pub fits : Fits (with_last_side instance b)
+
+-- the least number of bins lies above the one number and is at most the other
+pub record IsBinsBetween (instance : PlainInstance) (a b : ℕ) : Type 0 where
+  pub above : (k : ℕ) → FitsInBins instance k → a < k
+  pub fits : FitsInBins instance b
+
+-- the greatest value is at least the one number and below the other
+pub record IsValueBetween (instance : PlainInstance) (a b : ℕ) : Type 0 where
+  pub reached : ReachesValue instance a
+  pub below : (t : ℕ) → ReachesValue instance t → t < b
+
+-- the claim is true of the instance
+abbrev pub IsTrueOf : PlainInstance → Claim → Type 0
+IsTrueOf instance Fitting = Fits instance
+IsTrueOf instance NotFitting = ¬ Fits instance
+IsTrueOf instance (LeastHeight h) = IsLeastHeight instance h
+IsTrueOf instance (HeightBetween a b) = IsHeightBetween instance a b
+IsTrueOf instance NoHeight = (h : ℕ) → ¬ Fits (with_last_side instance h)
+IsTrueOf instance (LeastBins k) = IsLeastBins instance k
+IsTrueOf instance (BinsBetween a b) = IsBinsBetween instance a b
+IsTrueOf instance NoBins = (k : ℕ) → ¬ FitsInBins instance k
+IsTrueOf instance (GreatestValue v) = IsGreatestValue instance v
+IsTrueOf instance (ValueBetween a b) = IsValueBetween instance a b

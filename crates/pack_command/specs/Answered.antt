@@ -1,0 +1,66 @@
+-- The answer of `fit` for an instance, under the settings of the words.
+use Rattle.std.specs.Prelude.{ℕ, ◌+◌, ◌-◌, ◌*◌, ◌/◌, ◌^◌, ◌<◌, ◌≤◌, ◌≡◌, ◌⊎◌, List, []}
+use Rattle.std.specs.declared.option.Option.{Option}
+use Rattle.packing_terms.specs.Packing.{PlainInstance, dims, box_count, IsPacking, Fits}
+use Rattle.packing_terms.specs.Tokens.{PlainToken}
+use Rattle.packing_terms.specs.Refutation.{Refutes}
+use Rattle.tree_terms.specs.Trees.{PlainOutcome, outcome, told, count_of}
+use Rattle.tree_terms.specs.ClassTree.{class_tree}
+use Rattle.document_terms.specs.Claims.SolvingJob.{Fit}
+use Rattle.document_terms.specs.Claims.Claim.{Fitting, NotFitting}
+use Rattle.answer_terms.specs.Answers.{answer_text}
+use Rattle.answer_terms.specs.Answers.Answer.{Undecided, Claimed}
+use Rattle.answer_terms.specs.Solved.{JobAnswer, answer_of}
+use Rattle.pack_streams.specs.Moves.{Gains}
+use Rattle.work_share.specs.declared.settings.Settings.{Settings}
+use Rattle.pack_command.specs.Placed.{IsPlaced}
+
+-- the answer that `fit` has for the instance, its status and its document; the number of workers has no part
+abbrev pub fit_of : Settings → PlainInstance → JobAnswer
+fit_of settings instance = answer_of Fit settings.budget settings.scales instance
+
+-- the count of branchings of the instance's class tree
+abbrev pub branchings : Settings → PlainInstance → ℕ
+branchings settings instance = count_of (outcome (class_tree instance [] settings.scales))
+
+-- what is told of the class tree under the budget
+pub record IsFitOutcome (instance : PlainInstance) (settings : Settings) (told_of : PlainOutcome) : Type 0 where
+  pub outcome : told_of ≡ told settings.budget (outcome (class_tree instance [] settings.scales))
+  pub placed : IsPlaced instance told_of
+
+-- a status of an answer: yes, no, or undecided
+abbrev pub IsAnswerStatus : ℕ → Type 0
+IsAnswerStatus status = (status ≡ 0) ⊎ ((status ≡ 1) ⊎ (status ≡ 3))
+
+-- yes, with the places of a packing, and a count of branchings within the budget
+pub record IsYes (instance : PlainInstance) (settings : Settings) (sunk_old sunk_new : Option (List ℕ)) (status : ℕ) : Type 0 where
+  pub status_is : status ≡ 0
+  pub places : List ℕ
+  pub packing : IsPacking instance places
+  pub within : branchings settings instance ≤ settings.budget
+  pub written : Gains sunk_old sunk_new (answer_text instance (Claimed Fitting places []))
+
+-- no, with the tokens of a refutation, where the instance doesn't fit, and a count of branchings within the budget
+pub record IsNo (instance : PlainInstance) (settings : Settings) (sunk_old sunk_new : Option (List ℕ)) (status : ℕ) : Type 0 where
+  pub status_is : status ≡ 1
+  pub none : ¬ Fits instance
+  pub tokens : List PlainToken
+  pub refutation : Refutes instance [] tokens
+  pub within : branchings settings instance ≤ settings.budget
+  pub written : Gains sunk_old sunk_new (answer_text instance (Claimed NotFitting [] tokens))
+
+-- undecided, where the count of branchings is greater than the budget
+pub record IsUndecided (instance : PlainInstance) (settings : Settings) (sunk_old sunk_new : Option (List ℕ)) (status : ℕ) : Type 0 where
+  pub status_is : status ≡ 3
+  pub past : settings.budget < branchings settings instance
+  pub written : Gains sunk_old sunk_new (answer_text instance Undecided)
+
+-- one of the three
+abbrev pub IsDecided : PlainInstance → Settings → (sunk_old sunk_new : Option (List ℕ)) → ℕ → Type 0
+IsDecided instance settings sunk_old sunk_new status =
+    IsYes instance settings sunk_old sunk_new status
+    ⊎ (IsNo instance settings sunk_old sunk_new status ⊎ IsUndecided instance settings sunk_old sunk_new status)
+
+-- a budget that is enough for every tree of the instance
+abbrev pub IsEnough : PlainInstance → ℕ → Type 0
+IsEnough instance budget = 3 ^ (dims instance * box_count instance * (box_count instance - 1) / 2) ≤ budget + 1

@@ -1,0 +1,158 @@
+-- Words that are read as parameters and as functions.
+use Rattle.std.proofs.Common.{◌≡◌, ◌≢◌, ℕ, zero, suc, ◌+◌, ◌*◌, ◌-◌, ◌<◌, ◌≤◌, ◌⊎◌, inl, inr, refl, sym, ap, ◌∙◌, arith, Bool, true, false, cond, ◌==◌, List, [], ◌∷◌, ◌++◌, length, drop, get_or, Option, Some, None, append_assoc, append-nil, length-append}
+use Rattle.std.proofs.lemmas.Bool.{ne_eqb, eq-eqb}
+use Rattle.std.proofs.lemmas.List.{length-drop}
+use Rattle.packing_terms.specs.declared.ScaleFn.{ScaleFn}
+use Rattle.packing_terms.specs.Tokens.{PlainToken}
+use Rattle.text_terms.specs.Lines.{Line, same_bytes}
+use Rattle.document_terms.specs.TokenLines.{parameters, in_front, functions, of_none, set_token, token_of, line_token}
+use Rattle.document_terms.proofs.Cuts.{parameters_many, functions_many}
+use Rattle.proof_tree.specs.declared.reading.Kind.{Kind}
+use Rattle.proof_tree.specs.declared.reading.Kind.TheVariants.{Apart, Order, Rules, TooLarge, Scales, Assign, Choose, SetRefuted, ValueShort, GlobalScales}
+use Rattle.proof_tree.specs.Kinds.{kind_of, of_kind, only, two_only, three_only, tuple_only}
+
+-- another number of parameters
+pub only_else : (words : List (List ℕ)) → length words ≢ 1 → None ≡ only (parameters words)
+only_else words other = go (parameters words) refl
+  where
+    go : (o : Option (List ℕ)) → parameters words ≡ o → None ≡ only o
+    go None e = refl
+    go (Some []) e = refl
+    go (Some (x ∷ [])) e = absurd (other (sym (parameters_many words (x ∷ []) e)))
+    go (Some (x ∷ y ∷ xs)) e = refl
+
+pub two_else : (words : List (List ℕ)) → length words ≢ 2 → None ≡ two_only (parameters words)
+two_else words other = go (parameters words) refl
+  where
+    go : (o : Option (List ℕ)) → parameters words ≡ o → None ≡ two_only o
+    go None e = refl
+    go (Some []) e = refl
+    go (Some (x ∷ [])) e = refl
+    go (Some (x ∷ y ∷ [])) e = absurd (other (sym (parameters_many words (x ∷ y ∷ []) e)))
+    go (Some (x ∷ y ∷ z ∷ xs)) e = refl
+
+pub three_else : (words : List (List ℕ)) → length words ≢ 3 → None ≡ three_only (parameters words)
+three_else words other = go (parameters words) refl
+  where
+    go : (o : Option (List ℕ)) → parameters words ≡ o → None ≡ three_only o
+    go None e = refl
+    go (Some []) e = refl
+    go (Some (x ∷ [])) e = refl
+    go (Some (x ∷ y ∷ [])) e = refl
+    go (Some (x ∷ y ∷ z ∷ [])) e = absurd (other (sym (parameters_many words (x ∷ y ∷ z ∷ []) e)))
+    go (Some (x ∷ y ∷ z ∷ w ∷ xs)) e = refl
+
+pub none_else : (token : PlainToken) (words : List (List ℕ)) → length words ≢ 0 → None ≡ of_none token (parameters words)
+none_else token words other = go (parameters words) refl
+  where
+    go : (o : Option (List ℕ)) → parameters words ≡ o → None ≡ of_none token o
+    go None e = refl
+    go (Some []) e = absurd (other (sym (parameters_many words [] e)))
+    go (Some (x ∷ xs)) e = refl
+
+pub set_else : (words : List (List ℕ)) → length words ≢ 0 → None ≡ only (parameters words) → None ≡ set_token (parameters words)
+set_else words other alone = go (parameters words) refl alone
+  where
+    go : (o : Option (List ℕ)) → parameters words ≡ o → None ≡ only o → None ≡ set_token o
+    go None e f = refl
+    go (Some []) e f = absurd (other (sym (parameters_many words [] e)))
+    go (Some (x ∷ [])) e f = absurd (cc (f))
+    go (Some (x ∷ y ∷ xs)) e f = refl
+
+-- the functions before, and those of the words that are left
+abbrev pub before : List ScaleFn → Option (List ScaleFn) → Option (List ScaleFn)
+before fs None = None
+before fs (Some gs) = Some (fs ++ gs)
+
+-- the functions so far, from the words before word k
+pub record AreRead (words : List (List ℕ)) (k : ℕ) (fs : List ScaleFn) : Type 0 where
+  pub all : functions (drop 1 words) ≡ before fs (functions (drop k words))
+  pub within : k ≤ length words
+  pub few : k ≤ 1 + 2 * length fs
+
+none_before : (o : Option (List ScaleFn)) → o ≡ before [] o
+none_before None = refl
+none_before (Some gs) = refl
+
+pub read_none : (words : List (List ℕ)) → 1 ≤ length words → AreRead words 1 []
+read_none words some = record { all = none_before (functions (drop 1 words)); within = some; few = omega arith }
+
+one_more : (fs : List ScaleFn) (f : ScaleFn) (o : Option (List ScaleFn)) → before fs (in_front (Some f) o) ≡ before (fs ++ f ∷ []) o
+one_more fs f None = refl
+one_more fs f (Some gs) = ap Some (sym (append_assoc fs (f ∷ []) gs))
+
+pub read_more : (words : List (List ℕ)) (k next : ℕ) (fs : List ScaleFn) (f : ScaleFn) → functions (drop k words) ≡ in_front (Some f) (functions (drop next words))
+    → next ≤ length words → next ≤ k + 2 → AreRead words k fs → AreRead words next (fs ++ f ∷ [])
+read_more words k next fs f e l m h = record {
+  all = h.all ∙ (ap (before fs) e ∙ one_more fs f (functions (drop next words)));
+  within = l;
+  few = let n = h.few in let a = length-append fs (f ∷ []) in omega (arith, n, a, m);
+}
+
+drop_end : {A : Type 0} (xs : List A) (k : ℕ) → length xs ≤ k → drop k xs ≡ []
+drop_end [] zero l = refl
+drop_end [] (suc k) l = refl
+drop_end (x ∷ xs) zero l = absurd (omega (arith, l))
+drop_end (x ∷ xs) (suc k) l = drop_end xs k (omega (arith, l))
+
+module _ (d k : ℕ) (words : List (List ℕ)) (fs : List ScaleFn) (h : AreRead words k fs) where
+  all_read : length words ≤ k → functions (drop 1 words) ≡ Some fs
+  all_read l = h.all ∙ (ap (λ ws. before fs (functions ws)) (drop_end words k l) ∙ ap Some (append-nil fs))
+
+  -- no word is left
+  pub read_whole : length words ≤ k → length fs ≡ d → Some fs ≡ tuple_only d (functions (drop 1 words))
+  read_whole l e = sym (ap (tuple_only d) (all_read l) ∙ ap (λ b. cond b (Some fs) None) (eq-eqb (length fs) d e))
+
+  pub read_short : length words ≤ k → length fs < d → None ≡ tuple_only d (functions (drop 1 words))
+  read_short l few = sym (ap (tuple_only d) (all_read l) ∙ ap (λ b. cond b (Some fs) None) (ne_eqb (length fs) d (λ e. omega (arith, few, e))))
+
+  -- word k begins no function
+  pub read_other : functions (drop k words) ≡ None → None ≡ tuple_only d (functions (drop 1 words))
+  read_other e = sym (ap (tuple_only d) (h.all ∙ ap (before fs) e))
+
+  -- more words are left than functions are wanted
+  pub read_long : k < length words → length fs ≡ d → None ≡ tuple_only d (functions (drop 1 words))
+  read_long l e = go (functions (drop k words)) refl
+    where
+      go : (o : Option (List ScaleFn)) → functions (drop k words) ≡ o → None ≡ tuple_only d (functions (drop 1 words))
+      go None f = read_other f
+      go (Some gs) f =
+          let n = functions_many (drop k words) gs f in
+          let m = length-drop k words in
+          let a = length-append fs gs in
+          sym (ap (tuple_only d) (h.all ∙ ap (before fs) f) ∙ ap (λ b. cond b (Some (fs ++ gs)) None) (ne_eqb (length (fs ++ gs)) d (λ g. omega (arith, a, g, e, n, m, l))))
+
+-- the token of a line, by what its first word says
+abbrev pub by_kind : ℕ → List (List ℕ) → Option Kind → Option PlainToken
+by_kind d words None = None
+by_kind d words (Some kind) = of_kind d kind words
+
+one_kind : (d : ℕ) (words : List (List ℕ)) (b : Bool) (kind : Kind) (rest : Option Kind) (r : Option PlainToken) → r ≡ by_kind d words rest
+    → cond b (of_kind d kind words) r ≡ by_kind d words (cond b (Some kind) rest)
+one_kind d words true kind rest r e = refl
+one_kind d words false kind rest r e = e
+
+pub token_by_kind : (d : ℕ) (key : List ℕ) (words : List (List ℕ)) → token_of d (key ∷ words) ≡ by_kind d words (kind_of key)
+unfolding token_of
+token_by_kind d key words =
+    one_kind d words _ Apart _ _ (one_kind d words _ Order _ _ (one_kind d words _ Rules _ _ (one_kind d words _ TooLarge _ _ (one_kind d words _ Scales _ _
+    (one_kind d words _ Assign _ _ (one_kind d words _ Choose _ _ (one_kind d words _ SetRefuted _ _ (one_kind d words _ ValueShort _ _
+    (one_kind d words _ GlobalScales _ _ refl)))))))))
+
+-- a line without a word, one whose first word says nothing, and one whose first word says a kind
+pub empty_line : (d : ℕ) (line : Line) → line.bad ≡ false → length line.words ≡ 0 → None ≡ line_token d line
+unfolding token_of
+empty_line d line calm none = go line.words none (ap (λ b. cond b None (token_of d line.words)) calm)
+  where
+    go : (words : List (List ℕ)) → length words ≡ 0 → line_token d line ≡ token_of d words → None ≡ line_token d line
+    go [] e f = sym f
+    go (word ∷ words) e f = absurd (omega (arith, e))
+
+first_word : (d : ℕ) (words : List (List ℕ)) → 1 ≤ length words → token_of d words ≡ by_kind d (drop 1 words) (kind_of (get_or words 0 []))
+first_word d [] some = absurd (omega (arith, some))
+first_word d (word ∷ words) some = token_by_kind d word words
+
+pub line_by_kind : (d : ℕ) (line : Line) (kind : Option Kind) → line.bad ≡ false → 1 ≤ length line.words → kind ≡ kind_of (get_or line.words 0 [])
+    → by_kind d (drop 1 line.words) kind ≡ line_token d line
+line_by_kind d line kind calm some e =
+    ap (by_kind d (drop 1 line.words)) e ∙ sym (ap (λ b. cond b None (token_of d line.words)) calm ∙ first_word d line.words some)

@@ -1,0 +1,16 @@
+//! Tokens of refutations, and what a search tree gives under a budget.
+#![tactic(auto)]
+
+mod outcome;
+mod reading;
+mod token;
+mod writing;
+
+pub use conservative_scales::ScaleTuple;
+pub use outcome::Outcome;
+pub use reading::read_token;
+pub use token::Token;
+pub use writing::{write_token, write_token_on, write_tokens_on};
+
+#[cfg(test)]
+mod tests;
