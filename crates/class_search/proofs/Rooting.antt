@@ -9,10 +9,10 @@ use Rattle.packing_terms.specs.Exclusions.{Exclusions, excludes}
 use Rattle.packing_terms.specs.Closure.{HasConflict, Derives}
 use Rattle.packing_terms.specs.Scales.{SidesFit}
 use Rattle.packing_terms.specs.Tokens.PlainToken.{Rules, TooLarge, Scales}
-use Rattle.rule_terms.specs.Rounds.{below, closure}
+use Rattle.rule_terms.specs.Rounds.{below, closure, has_conflict}
 use Rattle.rule_closure.specs.Closes.{IsClosure}
 use Rattle.tree_terms.specs.Trees.{SearchTree, Refuted, node_at}
-use Rattle.tree_terms.specs.InnerTree.{has_conflict, inner_tree}
+use Rattle.tree_terms.specs.InnerTree.{inner_tree}
 use Rattle.tree_terms.specs.ClassTree.{box_sides, first_large, excess_where, scales_after, root_of, closes_in_conflict, class_tree}
 use Rattle.tree_terms.proofs.Closed.{same_closure}
 use Rattle.tree_terms.proofs.ClassSearch.{none_large}

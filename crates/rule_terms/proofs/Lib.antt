@@ -1,5 +1,6 @@
 pub mod Tests
 pub mod RoundsLemmas
+pub mod Conflicts
 pub mod PlacesLemmas
 pub mod Steps
 pub mod Applied

@@ -98,3 +98,8 @@ rounds instance (suc k) es = elim (additions instance es) [ [] ↦ es | e ∷ mo
 -- the closure of the exclusions of a list
 abbrev pub closure : PlainInstance → List Exclusion → List Exclusion
 closure instance es = rounds instance (3 * dims instance * box_count instance * (box_count instance - 1) / 2) es
+
+-- whether all three relations are excluded in one dimension, at one pair
+abbrev pub has_conflict : Exclusions → ℕ → ℕ → Bool
+has_conflict X d n =
+    list_any (λ i. list_any (λ v. list_any (λ u. X i u v Overlap && X i u v Before && X i u v After) (below v)) (below n)) (below d)

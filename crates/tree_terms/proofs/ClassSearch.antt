@@ -18,16 +18,17 @@ use Rattle.packing_terms.proofs.Members.{IsIn, in_range, range_in, in_flat_map, 
 use Rattle.packing_terms.proofs.Found.{find_some, find_none}
 use Rattle.packing_terms.proofs.Listed.{first_exceeds, container_wide}
 use Rattle.packing_terms.proofs.Closures.{derives_more}
-use Rattle.rule_terms.specs.Rounds.{below, closure}
+use Rattle.rule_terms.specs.Rounds.{below, closure, has_conflict}
 use Rattle.rule_terms.proofs.RoundsLemmas.{closure_is, closure_stable, few_passing}
 use Rattle.tree_terms.specs.Trees.{SearchTree, Settled}
 use Rattle.tree_terms.specs.Rank.{ranked_pairs}
-use Rattle.tree_terms.specs.InnerTree.{is_settled, is_unsettled, has_conflict, is_apart_somewhere, settled_places, exclusion_at, node_tree, node_of, may_order, may_apart, chosen_split, split_tree, inner_tree}
+use Rattle.tree_terms.specs.InnerTree.{is_settled, is_unsettled, is_apart_somewhere, settled_places, exclusion_at, node_tree, node_of, may_order, may_apart, chosen_split, split_tree, inner_tree}
 use Rattle.tree_terms.specs.ClassTree.{box_sides, first_large, excess_where, scales_after, root_of, closes_in_conflict, class_tree}
 use Rattle.tree_terms.specs.Search.{IsSearch, AreAtPlaces}
 use Rattle.tree_terms.proofs.RankLemmas.{ranked_rise, pair_ranked}
 use Rattle.tree_terms.proofs.SettledPlaces.{settled_pack}
-use Rattle.tree_terms.proofs.Nodes.{closed_back, closed_there, stays_open, excluded_place, closure_places, opens, below_child, settled_pair, calm, stormy, full_masks}
+use Rattle.tree_terms.proofs.Nodes.{excluded_place, closure_places, opens, below_child, settled_pair}
+use Rattle.rule_terms.proofs.Conflicts.{closed_back, closed_there, stays_open, calm, stormy, full_masks}
 use Rattle.tree_terms.proofs.Splits.{order_there, apart_there}
 use Rattle.tree_terms.proofs.Searches.{search_same}
 

@@ -15,7 +15,7 @@ use Rattle.rule_terms.specs.Rounds.{closure}
 use Rattle.rule_terms.proofs.RoundsLemmas.{closure_is, closure_stable}
 use Rattle.tree_terms.specs.Trees.{SearchTree}
 use Rattle.tree_terms.specs.InnerTree.{closed_node, node_tree}
-use Rattle.tree_terms.proofs.Nodes.{closed_there, closed_back}
+use Rattle.rule_terms.proofs.Conflicts.{closed_there, closed_back}
 
 pub same_bool : (a b : Bool) → (a ≡ true → b ≡ true) → (b ≡ true → a ≡ true) → a ≡ b
 same_bool true true f g = refl

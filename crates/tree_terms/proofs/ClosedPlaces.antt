@@ -8,12 +8,13 @@ use Rattle.packing_terms.specs.Scales.{SidesFit}
 use Rattle.packing_terms.specs.Exclusions.{excludes}
 use Rattle.packing_terms.specs.Closure.{HasConflict}
 use Rattle.packing_terms.proofs.Sets.{excludes_symmetric}
-use Rattle.rule_terms.specs.Rounds.{closure}
+use Rattle.rule_terms.specs.Rounds.{closure, has_conflict}
 use Rattle.rule_terms.specs.Places.{IsSettled, IsGreatestEnd}
 use Rattle.rule_terms.proofs.RoundsLemmas.{closure_stable}
-use Rattle.tree_terms.specs.InnerTree.{has_conflict, settled_places}
+use Rattle.tree_terms.specs.InnerTree.{settled_places}
 use Rattle.tree_terms.specs.Search.{AreAtPlaces}
-use Rattle.tree_terms.proofs.Nodes.{excluded_place, closure_places, stormy, full_masks}
+use Rattle.tree_terms.proofs.Nodes.{excluded_place, closure_places}
+use Rattle.rule_terms.proofs.Conflicts.{stormy, full_masks}
 use Rattle.tree_terms.proofs.SettledPlaces.{settled_ends, settled_pack}
 
 module _ (instance : PlainInstance) (es : List Exclusion) (sides : HasSides instance) (fit : SidesFit instance) (placed : AreAtPlaces instance es)

@@ -19,11 +19,11 @@ use Rattle.packing_terms.specs.Tokens.{PlainToken}
 use Rattle.packing_terms.proofs.Sets.{or_true}
 use Rattle.packing_terms.proofs.Members.{IsIn, in_flat_map, in_map, in_range, range_in}
 use Rattle.packing_terms.proofs.Found.{find_some}
-use Rattle.rule_terms.specs.Rounds.{below, closure}
+use Rattle.rule_terms.specs.Rounds.{below, closure, has_conflict}
 use Rattle.rule_terms.proofs.RoundsLemmas.{closure_keeps, excludes_own}
 use Rattle.tree_terms.specs.Trees.{SearchTree, Verdict, Yes, No, nothing, join, outcome, count_of}
 use Rattle.tree_terms.specs.Rank.{ranked_pairs}
-use Rattle.tree_terms.specs.InnerTree.{has_conflict, is_settled, is_unsettled, is_apart_somewhere, exclusion_at, may_order, may_apart, chosen_split, split_tree, node_of, node_tree, inner_tree}
+use Rattle.tree_terms.specs.InnerTree.{is_settled, is_unsettled, is_apart_somewhere, exclusion_at, may_order, may_apart, chosen_split, split_tree, node_of, node_tree, inner_tree}
 use Rattle.tree_terms.specs.ClassTree.{first_large, closes_in_conflict, scales_after, root_of, class_tree}
 use Rattle.tree_terms.proofs.RankLemmas.{ranked_rise}
 use Rattle.tree_terms.proofs.Splits.{order_there, apart_there}

@@ -14,13 +14,14 @@ use Rattle.packing_terms.specs.Tokens.PlainToken.{Rules}
 use Rattle.packing_terms.proofs.Sets.{or_true}
 use Rattle.packing_terms.proofs.Members.{range_in}
 use Rattle.packing_terms.proofs.Found.{find_some}
-use Rattle.rule_terms.specs.Rounds.{below, closure}
+use Rattle.rule_terms.specs.Rounds.{below, closure, has_conflict}
 use Rattle.rule_terms.proofs.RoundsLemmas.{few_passing}
 use Rattle.tree_terms.specs.Trees.{SearchTree, Settled, Refuted, Split}
 use Rattle.tree_terms.specs.Rank.{ranked_pairs}
-use Rattle.tree_terms.specs.InnerTree.{SplitNode, is_settled, is_unsettled, has_conflict, is_apart_somewhere, settled_places, exclusion_at, node_tree, node_of, closed_node, may_order, may_apart, chosen_split, split_at, split_tree, full_depth, inner_tree}
+use Rattle.tree_terms.specs.InnerTree.{SplitNode, is_settled, is_unsettled, is_apart_somewhere, settled_places, exclusion_at, node_tree, node_of, closed_node, may_order, may_apart, chosen_split, split_at, split_tree, full_depth, inner_tree}
 use Rattle.tree_terms.proofs.RankLemmas.{ranked_rise}
-use Rattle.tree_terms.proofs.Nodes.{opens, below_child, closed_there, closed_back, calm, stormy}
+use Rattle.tree_terms.proofs.Nodes.{opens, below_child}
+use Rattle.rule_terms.proofs.Conflicts.{closed_there, closed_back, calm, stormy}
 use Rattle.tree_terms.proofs.Splits.{order_there, apart_there}
 use Rattle.tree_terms.proofs.Closed.{same_bool, same_tree}
 

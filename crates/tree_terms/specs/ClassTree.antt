@@ -8,9 +8,9 @@ use Rattle.packing_terms.specs.Packing.{PlainInstance, dims, box_count, containe
 use Rattle.packing_terms.specs.Exclusions.{excludes}
 use Rattle.packing_terms.specs.Tuples.{first_excess}
 use Rattle.packing_terms.specs.Tokens.PlainToken.{Rules, TooLarge, Scales}
-use Rattle.rule_terms.specs.Rounds.{below, closure}
+use Rattle.rule_terms.specs.Rounds.{below, closure, has_conflict}
 use Rattle.tree_terms.specs.Trees.{SearchTree, Refuted}
-use Rattle.tree_terms.specs.InnerTree.{inner_tree, has_conflict}
+use Rattle.tree_terms.specs.InnerTree.{inner_tree}
 
 -- each box with each dimension, the dimensions of box 0 first
 abbrev pub box_sides : PlainInstance → List (ℕ × ℕ)

@@ -14,7 +14,7 @@ use Rattle.packing_terms.specs.Packing.{PlainInstance, dims, box_count, side}
 use Rattle.packing_terms.specs.Exclusions.{Exclusions, excludes}
 use Rattle.packing_terms.specs.Tokens.{PlainToken}
 use Rattle.packing_terms.specs.Tokens.PlainToken.{Apart, Order, Rules}
-use Rattle.rule_terms.specs.Rounds.{below, closure, is_surely_before}
+use Rattle.rule_terms.specs.Rounds.{below, closure, has_conflict, is_surely_before}
 use Rattle.tree_terms.specs.Rank.{ranked_pairs}
 use Rattle.tree_terms.specs.Trees.{SearchTree, Settled, Refuted, Split}
 
@@ -27,11 +27,6 @@ is_settled X d p =
 -- whether the pair isn't settled
 abbrev pub is_unsettled : PlainInstance → Exclusions → ℕ × ℕ → Bool
 is_unsettled instance X p = not (is_settled X (dims instance) p)
-
--- whether all three relations are excluded in one dimension, at one pair
-abbrev pub has_conflict : Exclusions → ℕ → ℕ → Bool
-has_conflict X d n =
-    list_any (λ i. list_any (λ v. list_any (λ u. X i u v Overlap && X i u v Before && X i u v After) (below v)) (below n)) (below d)
 
 -- whether the pair is apart in some dimension
 abbrev pub is_apart_somewhere : Exclusions → ℕ → ℕ × ℕ → Bool
