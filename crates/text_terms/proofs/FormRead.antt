@@ -400,7 +400,7 @@ container_read format instance is_format (line ∷ lines) n first kerf boxes cle
         (ap (by_words (formatted format)) h.0 ∙ container_line_is format first instance.container is_format is)
         ∙ kerf_read format instance is_format (some_sides instance.container is.count.0) lines (n + 1) kerf boxes c.1 h.1 behind
 
-format_read : (instance : PlainInstance) (lines : List (List ℕ)) (n format : ℕ) (first second : List (List ℕ)) (kerf boxes : List (List (List ℕ)))
+pub format_read : (instance : PlainInstance) (lines : List (List ℕ)) (n format : ℕ) (first second : List (List ℕ)) (kerf boxes : List (List (List ℕ)))
     → AreClean lines → filled_lines lines ≡ first ∷ second ∷ (kerf ++ boxes) → IsFormatLine first format → IsContainerLine second instance.container
     → IsBehind format instance kerf boxes → read_lines no_parts n lines ≡ Ok instance
 format_read instance [] n format first second kerf boxes clean are form is behind = absurd (cc (are))

@@ -9,10 +9,10 @@ use Rattle.packing_terms.specs.Limits.{most_boxes, most_side, IsBoxCount}
 use Rattle.text_terms.specs.declared.fault.TextFault.{TextFault}
 use Rattle.text_terms.specs.Lines.{line_of, text_lines, content, is_bad, words_of, same_bytes}
 use Rattle.text_terms.specs.Texts.{Parts, no_parts, add_line, by_words, format_line, container_line, kerf_line, box_line, is_box_length, first_word, numbers_of, container_limits, kerf_limits, side_limits, ending_of, boxes_of, ranged, refuse, is_none, at_line, read_lines, text_instance, ◌>>=◌}
-use Rattle.text_terms.specs.Form.{AreClean, filled_lines, AreNumbers, IsFormatLine, IsContainerLine, IsKerfLine, IsKerfPart, IsBoxLine, AreBoxLines, HasForm, IsInstanceText, TextsHaveForm}
+use Rattle.text_terms.specs.Form.{LinesHaveForm, AreClean, filled_lines, AreNumbers, IsFormatLine, IsContainerLine, IsKerfLine, IsKerfPart, IsBoxLine, AreBoxLines, HasForm, IsInstanceText, TextsHaveForm}
 use Rattle.text_terms.proofs.Cut.{at_most_four, box_length}
-use Rattle.text_terms.proofs.Good.{refuse_ok, bind_ok, texts_are_instances}
-use Rattle.text_terms.proofs.FormRead.{word_is, range_is, numbers_are, numbers_count, limits_count, HasLength, ending_is, times_some, with_boxes, formatted, filled_with, some_sides, form_read}
+use Rattle.text_terms.proofs.Good.{refuse_ok, bind_ok, good_start, lines_limits, texts_are_instances}
+use Rattle.text_terms.proofs.FormRead.{word_is, range_is, numbers_are, numbers_count, limits_count, HasLength, ending_is, times_some, with_boxes, formatted, filled_with, some_sides, format_read, form_read}
 
 -- ---- what a line without a fault adds
 
@@ -409,6 +409,13 @@ form_told text instance e =
     let limits = texts_are_instances text instance e in
     let t = format_lines (text_lines text) 0 instance limits.boxes.count e in
     record { clean = t.0; form = t.1 }
+
+pub lines_have_form : LinesHaveForm
+lines_have_form lines n instance = (
+  λ e. format_lines lines n instance (lines_limits lines no_parts instance n good_start e).boxes.count e,
+  λ h. format_read instance lines n h.1.number h.1.format h.1.container h.1.kerf h.1.boxes h.0 h.1.are h.1.is_format h.1.is_container
+      (h.1.is_kerf, h.1.are_boxes, h.1.count),
+)
 
 pub texts_have_form : TextsHaveForm
 texts_have_form text instance = (form_told text instance, form_read text instance)

@@ -8,8 +8,8 @@ mod number;
 
 pub use fault::TextFault;
 pub use laws::{
-    lines_are_told, texts_are_fed, texts_are_instances, texts_are_lines, texts_are_read_back,
-    texts_have_form,
+    lines_are_told, lines_have_form, texts_are_fed, texts_are_instances, texts_are_lines,
+    texts_are_read_back, texts_have_form,
 };
 pub use number::read_number;
 

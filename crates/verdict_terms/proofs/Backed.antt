@@ -1,0 +1,232 @@
+-- What stands behind the result line, up to `end`, backs its claim.
+use Rattle.std.proofs.Common.{◌≡◌, ℕ, suc, pred, ◌+◌, ◌*◌, ◌<◌, ◌≤◌, refl, sym, ap, ap₂, subst, ◌∙◌, arith, Bool, true, false, cond, ◌&&◌, ◌-◌, inl, List, [], ◌∷◌, ◌++◌, length, map, append_assoc, Option, Some, None, Ok, codes}
+use Rattle.std.specs.Prelude.{nat_le, nat_lt}
+use Rattle.std.specs.List.{range_with_len}
+use Rattle.std.proofs.lemmas.Bool.{and_parts, leb-true, ltb-true}
+use Rattle.std.proofs.lemmas.List.{length-append, length-map}
+use Rattle.std.proofs.lemmas.List.FromFn.{length-map-range_with_len}
+use Rattle.packing_terms.specs.Packing.{PlainInstance, dims, box_count, container_side, side, place, IsPacking}
+use Rattle.packing_terms.specs.Goals.{with_last_side, subset, in_bin, places_of, worth}
+use Rattle.packing_terms.specs.Tokens.{PlainToken}
+use Rattle.packing_terms.specs.Tokens.PlainToken.{Apart, Order, Rules, TooLarge, Scales, Assign, Choose, SetRefuted, ValueShort, GlobalScales}
+use Rattle.packing_terms.proofs.Members.{in_map, in_range}
+use Rattle.packing_terms.proofs.InBins.{length_joined}
+use Rattle.check_terms.specs.declared.answers.PlaceVerdict.TheVariants.{Good}
+use Rattle.check_terms.specs.Placing.{place_verdict}
+use Rattle.check_terms.specs.Judging.{names_box}
+use Rattle.check_terms.proofs.Places.{places_tested}
+use Rattle.document_terms.specs.Claims.{Claim}
+use Rattle.document_terms.specs.Claims.Claim.{Fitting, NotFitting, LeastHeight, HeightBetween, NoHeight, LeastBins, BinsBetween, NoBins, GreatestValue, ValueBetween}
+use Rattle.verdict_terms.specs.Reasons.{Reason, form, range}
+use Rattle.verdict_terms.specs.Reasons.Reason.{TooLittle}
+use Rattle.document_terms.specs.TokenLines.{token_of}
+use Rattle.verdict_terms.specs.Trees.{Refuted, ToFit, ToFitIn, ToReach, begun}
+use Rattle.verdict_terms.specs.Stages.{Stage, groups_reason, first_reason, claimed, placed, to_refute, is_word, tree_token, exceeding_token, exceeding_line, words_line}
+use Rattle.verdict_terms.specs.Stages.Stage.{Placing, Sharing, Taking, Proving, Refuting, Exceeding, Ending}
+use Rattle.verdict_terms.specs.Form.{AreNumberedLines, ArePlaced, AreShared, AreTaken, AreRefuting, IsExceedingLine, AreProved, Backs}
+use Rattle.verdict_terms.proofs.Passed.{bind_ok, require_ok, is_word_ok, ok_is}
+use Rattle.verdict_terms.proofs.Walk.{read_words}
+use Rattle.verdict_terms.proofs.TreesTold.{end_told, token_ok, refuting_told}
+use Rattle.verdict_terms.proofs.PlacesTold.{group_good, places_good, places_told, shares_told, takes_told, numbered_count}
+
+-- lines up to `end` that back the claim
+pub record BackedTold (instance : PlainInstance) (claim told : Claim) (lines : List (List (List ℕ))) : Type 0 where
+  pub backing : List (List (List ℕ))
+  pub are : lines ≡ backing ++ (codes "end" ∷ []) ∷ []
+  pub backs : Backs instance claim backing
+  pub same : claim ≡ told
+
+-- `proof`, and a refutation behind it
+pub record ProofTold (claim told : Claim) (refuted : Refuted) (lines : List (List (List ℕ))) : Type 0 where
+  pub body : List (List (List ℕ))
+  pub are : lines ≡ (codes "proof" ∷ []) ∷ (body ++ (codes "end" ∷ []) ∷ [])
+  pub refuting : AreRefuting refuted body
+  pub same : claim ≡ told
+
+proof_told : (claim told : Claim) (refuted : Refuted) (lines : List (List (List ℕ))) → read_words (Proving claim refuted) lines ≡ Ok told → ProofTold claim told refuted lines
+proof_told claim told refuted [] e = absurd (cc (e))
+proof_told claim told refuted (words ∷ lines) e =
+    let b = bind_ok (words_line (Proving claim refuted) words) (λ next. read_words next lines) told e in
+    let r = require_ok (is_word (codes "proof") words) form (Ok (Refuting claim (begun refuted))) b.0 b.1 in
+    let t = refuting_told claim told refuted lines (subst (λ s. read_words s lines ≡ Ok told) (sym (ok_is (Refuting claim (begun refuted)) b.0 r.1)) b.2) in
+    record { body = t.body; are = ap₂ (λ w ls. w ∷ ls) (is_word_ok (codes "proof") words r.0) t.are; refuting = t.refuting; same = t.same }
+
+-- lines of one kind, and a proof behind them
+proved : (First : List (List (List ℕ)) → Type 0) (claim told : Claim) (refuted : Refuted) (lines front back : List (List (List ℕ))) → lines ≡ front ++ back → First front
+    → ProofTold claim told refuted back
+    → (backing : List (List (List ℕ))) × (lines ≡ backing ++ (codes "end" ∷ []) ∷ []) × AreProved First (AreRefuting refuted) backing × (claim ≡ told)
+proved First claim told refuted lines front back e first p = (
+  front ++ (codes "proof" ∷ []) ∷ p.body,
+  e ∙ ap (λ ls. front ++ ls) p.are ∙ sym (append_assoc front ((codes "proof" ∷ []) ∷ p.body) ((codes "end" ∷ []) ∷ [])),
+  record { front = front; back = p.body; are = refl; is_front = first; is_back = p.refuting },
+  p.same,
+)
+
+-- ---- places
+
+places_backed : (instance : PlainInstance) (claim told : Claim) (refuted : Refuted) (lines : List (List (List ℕ))) → read_words (Placing instance claim refuted []) lines ≡ Ok told
+    → (front : List (List (List ℕ))) × (back : List (List (List ℕ))) × (lines ≡ front ++ back) × ArePlaced instance front × (read_words (placed claim refuted) back ≡ Ok told)
+places_backed instance claim told refuted lines e =
+    let t = places_told instance claim told refuted [] lines e in
+    (t.front, t.back, t.are, record { places = t.more; are_lines = t.are_lines; packing = places_good instance t.more t.count t.good }, t.rest)
+
+-- as many coordinates as lines have
+numbered_length : (key : List ℕ) (most d : ℕ) (lines : List (List (List ℕ))) (ns places : List ℕ) → AreNumberedLines key most d lines ns places → length places ≡ length ns * d
+numbered_length key most d [] [] places are = ap length are ∙ (let z : 0 ≡ 0 * d = omega arith in z)
+numbered_length key most d [] (n ∷ ns) places are = absurd are
+numbered_length key most d (words ∷ lines) [] places are = absurd are
+numbered_length key most d (words ∷ lines) (n ∷ ns) places (xs, more, e, line, rest) =
+    let a = numbered_count key most d n words xs line in
+    let b = numbered_length key most d lines ns more rest in
+    let c = length-append xs more in
+    let r : suc (length ns) * d ≡ d + length ns * d = grind arith in
+    ap length e ∙ omega (arith, a, b, c, r)
+
+set_places : (instance : PlainInstance) (places keep : List ℕ) → length (places_of instance places keep) ≡ box_count (subset instance keep) * dims (subset instance keep)
+set_places instance places keep =
+    length_joined (λ v. map (λ i. place instance places v i) (range_with_len 0 (dims instance))) (dims instance)
+    (λ v. length-map-range_with_len (λ i. place instance places v i) 0 (dims instance)) keep
+    ∙ ap (λ n. n * dims instance) (sym (length-map keep _))
+
+shares_backed : (instance : PlainInstance) (claim told : Claim) (k : ℕ) (lines : List (List (List ℕ))) → read_words (Sharing instance claim k [] []) lines ≡ Ok told
+    → (front : List (List (List ℕ))) × (back : List (List (List ℕ))) × (lines ≡ front ++ back) × AreShared instance k front × (read_words (placed claim (to_refute instance claim)) back ≡ Ok told)
+shares_backed instance claim told k lines e =
+    let t = shares_told instance claim told k [] [] lines e in
+    let packed : (b : ℕ) → b < k → IsPacking (subset instance (in_bin t.more_bins b)) (places_of instance t.more (in_bin t.more_bins b)) =
+    λ b h. (places_tested (subset instance (in_bin t.more_bins b)) (places_of instance t.more (in_bin t.more_bins b)) Good (set_places instance t.more (in_bin t.more_bins b))).0
+    (group_good (map (λ b. (in_bin t.more_bins b, place_verdict (subset instance (in_bin t.more_bins b)) (places_of instance t.more (in_bin t.more_bins b)))) (range_with_len 0 k)) t.good
+    (in_bin t.more_bins b, place_verdict (subset instance (in_bin t.more_bins b)) (places_of instance t.more (in_bin t.more_bins b)))
+    (in_map (λ b. (in_bin t.more_bins b, place_verdict (subset instance (in_bin t.more_bins b)) (places_of instance t.more (in_bin t.more_bins b)))) b (range_with_len 0 k)
+    (in_range 0 k b (omega arith) (omega (arith, h))))) in (
+      t.front,
+      t.back,
+      t.are,
+      record { bins = t.more_bins; places = t.more; are_lines = t.are_lines; packing = record { count = t.count; placed = numbered_length (codes "place") k (dims instance) t.front t.more_bins t.more t.are_lines ∙ ap (λ n. n * dims instance) t.count; numbers = t.below; packed = packed } },
+      t.rest,
+    )
+
+worth_enough : (b : Bool) → cond b None (Some TooLittle) ≡ None → b ≡ true
+worth_enough true e = refl
+worth_enough false e = absurd (cc (e))
+
+no_reason : (a b : Option Reason) → first_reason a b ≡ None → (a ≡ None) × (b ≡ None)
+no_reason None b e = (refl, e)
+no_reason (Some r) b e = absurd (cc (e))
+
+takes_backed : (instance : PlainInstance) (claim told : Claim) (value : ℕ) (lines : List (List (List ℕ))) → read_words (Taking instance claim value [] []) lines ≡ Ok told
+    → (front : List (List (List ℕ))) × (back : List (List (List ℕ))) × (lines ≡ front ++ (codes "proof" ∷ []) ∷ back) × AreTaken instance value front
+    × (read_words (Refuting claim (begun (to_refute instance claim))) back ≡ Ok told)
+takes_backed instance claim told value lines e =
+    let t = takes_told instance claim told value [] [] lines (record { there = λ k d h. absurd (omega arith); rising = λ k h. absurd (omega arith) }) e in
+    let r = no_reason (groups_reason ((t.more_taken, place_verdict (subset instance t.more_taken) t.more) ∷ [])) (cond (nat_le value (worth instance t.more_taken)) None (Some TooLittle)) t.good in
+    let count : length t.more ≡ box_count (subset instance t.more_taken) * dims (subset instance t.more_taken) =
+    numbered_length (codes "take") (box_count instance) (dims instance) t.front t.more_taken t.more t.are_lines
+    ∙ ap (λ n. n * dims instance) (sym (length-map t.more_taken _)) in (
+      t.front,
+      t.back,
+      t.are,
+      record {
+        taken = t.more_taken;
+        places = t.more;
+        are_lines = t.are_lines;
+        set = t.set;
+        packing = (places_tested (subset instance t.more_taken) t.more Good count).0
+            (group_good ((t.more_taken, place_verdict (subset instance t.more_taken) t.more) ∷ []) r.0 (t.more_taken, place_verdict (subset instance t.more_taken) t.more) (inl refl));
+        enough = leb-true value (worth instance t.more_taken) (worth_enough _ r.1);
+      },
+      t.rest,
+    )
+
+-- ---- the `t` line of `none`
+
+exceeding_told : (instance : PlainInstance) (claim told : Claim) (m : ℕ) (lines : List (List (List ℕ))) → m ≤ dims instance → read_words (Exceeding instance claim m) lines ≡ Ok told
+    → (words : List (List ℕ)) × (lines ≡ words ∷ (codes "end" ∷ []) ∷ []) × IsExceedingLine instance m (words ∷ []) × (claim ≡ told)
+exceeding_told instance claim told m [] few e = absurd (cc (e))
+exceeding_told instance claim told m (words ∷ lines) few e =
+    let b = bind_ok (exceeding_line instance claim m words) (λ next. read_words next lines) told e in
+    let t = bind_ok (tree_token (is_word (codes "end") words) (token_of (dims instance) words)) (λ t. exceeding_token instance claim m t) b.0 b.1 in
+    by_token t.0 (token_ok _ _ t.0 t.1) b.0 t.2 b.2
+  where
+    by_token : (t : PlainToken) → token_of (dims instance) words ≡ Some t → (next : Stage) → exceeding_token instance claim m t ≡ Ok next → read_words next lines ≡ Ok told
+        → (words' : List (List ℕ)) × (words ∷ lines ≡ words' ∷ (codes "end" ∷ []) ∷ []) × IsExceedingLine instance m (words' ∷ []) × (claim ≡ told)
+    by_token (TooLarge v i) is next f r =
+        let q = require_ok (names_box instance v && (nat_le 1 i && nat_le i m)) range _ next f in
+        let w = require_ok (nat_lt (container_side instance (pred i)) (side instance (pred v) (pred i))) _ (Ok (Ending claim (Some (dims instance)))) next q.1 in
+        let p = and_parts _ _ q.0 in
+        let box = and_parts _ _ p.0 in
+        let dim = and_parts _ _ p.1 in
+        let last = leb-true i m dim.1 in
+        let d = end_told claim told (Some (dims instance)) lines (subst (λ s. read_words s lines ≡ Ok told) (sym (ok_is (Ending claim (Some (dims instance))) next w.1)) r) in (
+          words,
+          ap (λ ls. words ∷ ls) d.are,
+          record {
+            words = words;
+            box_no = v;
+            dim = i;
+            are = refl;
+            is_token = is;
+            large = record {
+              box_from = leb-true 1 v box.0;
+              box_to = leb-true v (box_count instance) box.1;
+              dim_from = leb-true 1 i dim.0;
+              dim_to = omega (arith, last, few);
+              large = ltb-true (container_side instance (pred i)) (side instance (pred v) (pred i)) w.0;
+            };
+            among = last;
+          },
+          d.same,
+        )
+    by_token (Apart i u v) is next f r = absurd (cc (f))
+    by_token (Order i u v) is next f r = absurd (cc (f))
+    by_token Rules is next f r = absurd (cc (f))
+    by_token (Scales fs) is next f r = absurd (cc (f))
+    by_token (Assign v) is next f r = absurd (cc (f))
+    by_token (Choose v) is next f r = absurd (cc (f))
+    by_token (SetRefuted b) is next f r = absurd (cc (f))
+    by_token ValueShort is next f r = absurd (cc (f))
+    by_token (GlobalScales fs) is next f r = absurd (cc (f))
+
+-- ---- each claim
+
+pub backed_told : (instance : PlainInstance) (claim told : Claim) (lines : List (List (List ℕ))) → read_words (claimed instance claim) lines ≡ Ok told → BackedTold instance claim told lines
+backed_told instance Fitting told lines e =
+    let p = places_backed instance Fitting told (to_refute instance Fitting) lines e in
+    let d = end_told Fitting told None p.1 p.4 in
+    record { backing = p.0; are = p.2 ∙ ap (λ ls. p.0 ++ ls) d.are; backs = p.3; same = d.same }
+backed_told instance NotFitting told lines e =
+    let t = refuting_told NotFitting told (ToFit instance) lines e in
+    record { backing = t.body; are = t.are; backs = t.refuting; same = t.same }
+backed_told instance (LeastHeight h) told lines e =
+    let p = places_backed (with_last_side instance h) (LeastHeight h) told (to_refute instance (LeastHeight h)) lines e in
+    let q = proved (ArePlaced (with_last_side instance h)) (LeastHeight h) told (ToFit (with_last_side instance (pred h))) lines p.0 p.1 p.2 p.3 (proof_told (LeastHeight h) told (ToFit (with_last_side instance (pred h))) p.1 p.4) in
+    record { backing = q.0; are = q.1; backs = q.2; same = q.3 }
+backed_told instance (HeightBetween a b) told lines e =
+    let p = places_backed (with_last_side instance b) (HeightBetween a b) told (to_refute instance (HeightBetween a b)) lines e in
+    let q = proved (ArePlaced (with_last_side instance b)) (HeightBetween a b) told (ToFit (with_last_side instance a)) lines p.0 p.1 p.2 p.3 (proof_told (HeightBetween a b) told (ToFit (with_last_side instance a)) p.1 p.4) in
+    record { backing = q.0; are = q.1; backs = q.2; same = q.3 }
+backed_told instance NoHeight told lines e =
+    let t = exceeding_told instance NoHeight told (dims instance - 1) lines (omega arith) e in
+    record { backing = t.0 ∷ []; are = t.1; backs = t.2; same = t.3 }
+backed_told instance (LeastBins k) told lines e =
+    let p = shares_backed instance (LeastBins k) told k lines e in
+    let q = proved (AreShared instance k) (LeastBins k) told (ToFitIn instance (pred k)) lines p.0 p.1 p.2 p.3 (proof_told (LeastBins k) told (ToFitIn instance (pred k)) p.1 p.4) in
+    record { backing = q.0; are = q.1; backs = q.2; same = q.3 }
+backed_told instance (BinsBetween a b) told lines e =
+    let p = shares_backed instance (BinsBetween a b) told b lines e in
+    let q = proved (AreShared instance b) (BinsBetween a b) told (ToFitIn instance a) lines p.0 p.1 p.2 p.3 (proof_told (BinsBetween a b) told (ToFitIn instance a) p.1 p.4) in
+    record { backing = q.0; are = q.1; backs = q.2; same = q.3 }
+backed_told instance NoBins told lines e =
+    let t = exceeding_told instance NoBins told (dims instance) lines (omega arith) e in
+    record { backing = t.0 ∷ []; are = t.1; backs = t.2; same = t.3 }
+backed_told instance (GreatestValue v) told lines e =
+    let p = takes_backed instance (GreatestValue v) told v lines e in
+    let t = refuting_told (GreatestValue v) told (ToReach instance (suc v)) p.1 p.4 in
+    let q = proved (AreTaken instance v) (GreatestValue v) told (ToReach instance (suc v)) lines p.0 ((codes "proof" ∷ []) ∷ p.1) p.2 p.3
+    (record { body = t.body; are = ap (λ ls. (codes "proof" ∷ []) ∷ ls) t.are; refuting = t.refuting; same = t.same }) in
+    record { backing = q.0; are = q.1; backs = q.2; same = q.3 }
+backed_told instance (ValueBetween a b) told lines e =
+    let p = takes_backed instance (ValueBetween a b) told a lines e in
+    let t = refuting_told (ValueBetween a b) told (ToReach instance b) p.1 p.4 in
+    let q = proved (AreTaken instance a) (ValueBetween a b) told (ToReach instance b) lines p.0 ((codes "proof" ∷ []) ∷ p.1) p.2 p.3
+    (record { body = t.body; are = ap (λ ls. (codes "proof" ∷ []) ∷ ls) t.are; refuting = t.refuting; same = t.same }) in
+    record { backing = q.0; are = q.1; backs = q.2; same = q.3 }

@@ -1,0 +1,38 @@
+-- Documents fed byte by byte: a lexer tells each line as it ends, and the line is taken at once. Nothing of a line is kept.
+use Rattle.std.specs.Prelude.{ℕ, ◌≡◌, cond, List, [], ◌∷◌, ◌++◌, length, Result, Err}
+use Rattle.text_terms.specs.Lines.{text_lines, is_line_feed}
+use Rattle.text_terms.specs.Texts.{◌>>=◌}
+use Rattle.text_terms.specs.Feeding.{Lexer, new_lexer, told, feed, finish}
+use Rattle.document_terms.specs.Claims.{Claim}
+use Rattle.verdict_terms.specs.Stages.{Stage, stage_after}
+use Rattle.verdict_terms.specs.Stages.Stage.{Beginning}
+use Rattle.verdict_terms.specs.Documents.{Refusal, at_line, at_end, document_verdict}
+
+-- what the line that ended last makes of the stage
+abbrev pub taken_line : Stage → Lexer → Result Stage Refusal
+taken_line stage s = at_line s.number (stage_after stage (told s.held))
+
+-- the verdict of these bytes, behind what is held of a line begun and the stage of the lines before
+abbrev pub fed_verdict : Lexer → Stage → List ℕ → Result Claim Refusal
+fed_verdict s stage [] = cond s.begun (taken_line stage (finish s) >>= λ next. at_end next (finish s).number) (at_end stage s.number)
+fed_verdict s stage (b ∷ bytes) =
+    cond (is_line_feed b) (taken_line stage (feed b s) >>= λ next. fed_verdict (feed b s) next bytes) (fed_verdict (feed b s) stage bytes)
+
+-- the bytes of a document, fed from its start with each line taken as it ends, give its verdict
+abbrev pub DocumentsAreFed : Type 0
+DocumentsAreFed = (text : List ℕ) → fed_verdict new_lexer Beginning text ≡ document_verdict text
+
+-- The refused line is the last of the bytes, and a line feed ends it: nothing behind it is there.
+pub record EndsRefused (bytes : List ℕ) (refusal : Refusal) : Type 0 where
+  pub front : List ℕ
+  pub are : bytes ≡ front ++ 10 ∷ []
+  pub is_last : refusal.line ≡ length (text_lines bytes)
+
+-- no line of the bytes that a line feed ends is refused: no front of them ends in the line feed of a refused line
+abbrev pub NoneRefused : List ℕ → Type 0
+NoneRefused bytes = (front rest : List ℕ) (refusal : Refusal) → bytes ≡ front ++ rest → EndsRefused front refusal → document_verdict front ≡ Err refusal → ⊥
+
+-- a refusal of bytes that its line ends is the refusal of every text that begins with them
+abbrev pub RefusalsStay : Type 0
+RefusalsStay = (bytes more : List ℕ) (refusal : Refusal) → document_verdict bytes ≡ Err refusal → EndsRefused bytes refusal
+    → document_verdict (bytes ++ more) ≡ Err refusal

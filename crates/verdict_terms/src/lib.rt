@@ -1,0 +1,6 @@
+//! Documents: which texts are verified, with which claim, and at which line and for which reason the others are refused.
+#![tactic(auto)]
+
+mod laws;
+
+pub use laws::{documents_are_fed, documents_are_true, documents_have_form, refusals_stay};
