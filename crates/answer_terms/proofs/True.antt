@@ -16,9 +16,11 @@ use Rattle.std.proofs.Math.ListN.{length-set}
 use Rattle.tree_terms.specs.Trees.{Verdict, Yes, No, Decided, Past, outcome, told, count_of}
 use Rattle.tree_terms.specs.ClassTree.{class_tree}
 use Rattle.tree_terms.specs.OuterSearch.{AreTakenNumbers, bins_in, places_in}
-use Rattle.document_terms.specs.Claims.{SolvingJob, Claim, IsTrueOf, IsHeightBetween, IsBinsBetween, IsValueBetween}
-use Rattle.document_terms.specs.Claims.SolvingJob.{Fit}
-use Rattle.document_terms.specs.Claims.Claim.{Fitting, NotFitting, LeastHeight, HeightBetween, NoHeight, LeastBins, BinsBetween, NoBins, GreatestValue, ValueBetween}
+use Rattle.document_terms.specs.declared.claim.SolvingJob.{SolvingJob}
+use Rattle.document_terms.specs.declared.claim.Claim.{Claim}
+use Rattle.document_terms.specs.Claims.{IsTrueOf, IsHeightBetween, IsBinsBetween, IsValueBetween}
+use Rattle.document_terms.specs.declared.claim.SolvingJob.TheVariants.{Fit}
+use Rattle.document_terms.specs.declared.claim.Claim.TheVariants.{Fitting, NotFitting, LeastHeight, HeightBetween, NoHeight, LeastBins, BinsBetween, NoBins, GreatestValue, ValueBetween}
 use Rattle.answer_terms.specs.Answers.Answer.{Undecided, Claimed}
 use Rattle.answer_terms.specs.Answers.{Answer}
 use Rattle.answer_terms.specs.Solved.{solved, fit_answer}

@@ -7,9 +7,11 @@ use Rattle.packing_terms.specs.Packing.{PlainInstance, dims, box_count, place}
 use Rattle.packing_terms.specs.Tokens.{PlainToken}
 use Rattle.rule_terms.specs.Rounds.{below}
 use Rattle.text_terms.specs.Spelling.{instance_words, lines_text}
-use Rattle.document_terms.specs.Claims.{SolvingJob, Claim, job_of, job_word, result_words}
-use Rattle.document_terms.specs.Claims.SolvingJob.{Fit}
-use Rattle.document_terms.specs.Claims.Claim.{Fitting, NotFitting, LeastHeight, HeightBetween, NoHeight, LeastBins, BinsBetween, NoBins, GreatestValue, ValueBetween}
+use Rattle.document_terms.specs.declared.claim.SolvingJob.{SolvingJob}
+use Rattle.document_terms.specs.declared.claim.Claim.{Claim}
+use Rattle.document_terms.specs.Claims.{job_of, job_word, result_words}
+use Rattle.document_terms.specs.declared.claim.SolvingJob.TheVariants.{Fit}
+use Rattle.document_terms.specs.declared.claim.Claim.TheVariants.{Fitting, NotFitting, LeastHeight, HeightBetween, NoHeight, LeastBins, BinsBetween, NoBins, GreatestValue, ValueBetween}
 use Rattle.document_terms.specs.TokenLines.{token_words}
 
 -- Undecided, or a claim with the flat numbers of an answer, which show what the claim places, and the tokens of a refutation of what it refutes.

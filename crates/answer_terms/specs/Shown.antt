@@ -10,9 +10,11 @@ use Rattle.packing_terms.specs.OuterRefutation.{IsBinRefutation, IsValueRefutati
 use Rattle.tree_terms.specs.Trees.{outcome, count_of}
 use Rattle.tree_terms.specs.ClassTree.{class_tree}
 use Rattle.tree_terms.specs.OuterSearch.{AreBinNumbers, AreTakenNumbers}
-use Rattle.document_terms.specs.Claims.{SolvingJob, Claim, job_of, most_worth, IsTrueOf}
-use Rattle.document_terms.specs.Claims.SolvingJob.{Fit}
-use Rattle.document_terms.specs.Claims.Claim.{Fitting, NotFitting, LeastHeight, HeightBetween, NoHeight, LeastBins, BinsBetween, NoBins, GreatestValue, ValueBetween}
+use Rattle.document_terms.specs.declared.claim.SolvingJob.{SolvingJob}
+use Rattle.document_terms.specs.declared.claim.Claim.{Claim}
+use Rattle.document_terms.specs.Claims.{job_of, most_worth, IsTrueOf}
+use Rattle.document_terms.specs.declared.claim.SolvingJob.TheVariants.{Fit}
+use Rattle.document_terms.specs.declared.claim.Claim.TheVariants.{Fitting, NotFitting, LeastHeight, HeightBetween, NoHeight, LeastBins, BinsBetween, NoBins, GreatestValue, ValueBetween}
 use Rattle.answer_terms.specs.Answers.Answer.{Undecided, Claimed}
 use Rattle.answer_terms.specs.Solved.{solved}
 

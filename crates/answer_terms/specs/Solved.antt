@@ -5,9 +5,10 @@ use Rattle.packing_terms.specs.Tokens.PlainToken.{TooLarge}
 use Rattle.tree_terms.specs.Trees.{PlainOutcome, Decided, Past, Yes, No, outcome, told}
 use Rattle.tree_terms.specs.ClassTree.{class_tree, first_large, first_too_wide}
 use Rattle.tree_terms.specs.Levels.{PlainReached, height_run, bin_run, value_run}
-use Rattle.document_terms.specs.Claims.{SolvingJob, Claim}
-use Rattle.document_terms.specs.Claims.SolvingJob.{Fit, Strip, Bins, Knapsack}
-use Rattle.document_terms.specs.Claims.Claim.{Fitting, NotFitting, LeastHeight, HeightBetween, NoHeight, LeastBins, BinsBetween, NoBins, GreatestValue, ValueBetween}
+use Rattle.document_terms.specs.declared.claim.SolvingJob.{SolvingJob}
+use Rattle.document_terms.specs.declared.claim.Claim.{Claim}
+use Rattle.document_terms.specs.declared.claim.SolvingJob.TheVariants.{Fit, Strip, Bins, Knapsack}
+use Rattle.document_terms.specs.declared.claim.Claim.TheVariants.{Fitting, NotFitting, LeastHeight, HeightBetween, NoHeight, LeastBins, BinsBetween, NoBins, GreatestValue, ValueBetween}
 use Rattle.answer_terms.specs.Answers.{Answer, status_of, answer_text}
 use Rattle.answer_terms.specs.Answers.Answer.{Undecided, Claimed}
 

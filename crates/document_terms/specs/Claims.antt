@@ -4,32 +4,16 @@ use Rattle.std.specs.Fmt.{decimal}
 use Rattle.packing_terms.specs.Packing.{PlainInstance, Fits}
 use Rattle.packing_terms.specs.Limits.{most_boxes}
 use Rattle.packing_terms.specs.Goals.{with_last_side, FitsInBins, ReachesValue, IsLeastHeight, IsLeastBins, IsGreatestValue}
+use Rattle.document_terms.specs.declared.claim.SolvingJob.{SolvingJob}
+use Rattle.document_terms.specs.declared.claim.SolvingJob.TheVariants.{Fit, Strip, Bins, Knapsack}
+use Rattle.document_terms.specs.declared.claim.Claim.{Claim}
+use Rattle.document_terms.specs.declared.claim.Claim.TheVariants.{Fitting, NotFitting, LeastHeight, HeightBetween, NoHeight, LeastBins, BinsBetween, NoBins, GreatestValue, ValueBetween}
 
 -- the most that a value of a result line is: one more than all boxes may be worth
 abbrev pub most_worth : ℕ
 most_worth = 1000000000 * most_boxes + 1
 
--- the job that a document answers
-pub data SolvingJob : Type 0 where
-  Fit : SolvingJob
-  Strip : SolvingJob
-  Bins : SolvingJob
-  Knapsack : SolvingJob
-
--- The claim of a result line. Of `between`, the first number of strips and bins is refuted and the second placed; of knapsacks the first is
--- placed and the second refuted.
-pub data Claim : Type 0 where
-  Fitting : Claim
-  NotFitting : Claim
-  LeastHeight : (height : ℕ) → Claim
-  HeightBetween : (refuted placed : ℕ) → Claim
-  NoHeight : Claim
-  LeastBins : (bins : ℕ) → Claim
-  BinsBetween : (refuted placed : ℕ) → Claim
-  NoBins : Claim
-  GreatestValue : (value : ℕ) → Claim
-  ValueBetween : (placed refuted : ℕ) → Claim
-
+-- the job of a claim
 abbrev pub job_of : Claim → SolvingJob
 job_of Fitting = Fit
 job_of NotFitting = Fit

@@ -6,8 +6,8 @@ use Rattle.packing_terms.specs.Tokens.{PlainToken}
 use Rattle.packing_terms.specs.Refutation.{Refutes}
 use Rattle.tree_terms.specs.Trees.{PlainOutcome, outcome, told, count_of}
 use Rattle.tree_terms.specs.ClassTree.{class_tree}
-use Rattle.document_terms.specs.Claims.SolvingJob.{Fit}
-use Rattle.document_terms.specs.Claims.Claim.{Fitting, NotFitting}
+use Rattle.document_terms.specs.declared.claim.SolvingJob.TheVariants.{Fit}
+use Rattle.document_terms.specs.declared.claim.Claim.TheVariants.{Fitting, NotFitting}
 use Rattle.answer_terms.specs.Answers.{answer_text}
 use Rattle.answer_terms.specs.Answers.Answer.{Undecided, Claimed}
 use Rattle.answer_terms.specs.Solved.{JobAnswer, answer_of}

@@ -6,7 +6,7 @@ ghost use Rattle.packing_terms.specs.Limits.{IsInstance};
 ghost use Rattle.pack_streams.specs.Writing.{Continues, Writes};
 ghost use Rattle.text_terms.specs.Spelling.{instance_text, lines_text};
 ghost use Rattle.rule_terms.specs.Rounds.{below};
-ghost use Rattle.document_terms.specs.Claims.Claim.{Fitting, NotFitting};
+ghost use Rattle.document_terms.specs.declared.claim.Claim.TheVariants.{Fitting, NotFitting};
 ghost use Rattle.instance_text.specs.Writing.{after_spaces};
 ghost use Rattle.proof_tree.specs.Plain.{plain_tokens, plain_outcome};
 ghost use Rattle.answer_terms.specs.Answers.{place_words, place_lines, answer_text};

@@ -10,8 +10,9 @@ use Rattle.text_terms.specs.Lines.{number_of, same_bytes}
 use Rattle.text_terms.specs.Texts.{◌>>=◌}
 use Rattle.text_terms.specs.Form.{IsNumber}
 use Rattle.check_terms.specs.Judging.{names_box}
-use Rattle.document_terms.specs.Claims.{Claim, job_of}
-use Rattle.document_terms.specs.Claims.Claim.{Fitting, NotFitting, LeastHeight, HeightBetween, NoHeight, LeastBins, BinsBetween, NoBins, GreatestValue, ValueBetween}
+use Rattle.document_terms.specs.declared.claim.Claim.{Claim}
+use Rattle.document_terms.specs.Claims.{job_of}
+use Rattle.document_terms.specs.declared.claim.Claim.TheVariants.{Fitting, NotFitting, LeastHeight, HeightBetween, NoHeight, LeastBins, BinsBetween, NoBins, GreatestValue, ValueBetween}
 use Rattle.verdict_terms.specs.Reasons.{form, range}
 use Rattle.packing_terms.specs.Limits.{most_height}
 use Rattle.document_terms.specs.Claims.{most_worth}

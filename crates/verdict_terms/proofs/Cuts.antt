@@ -10,9 +10,10 @@ use Rattle.packing_terms.specs.Tokens.PlainToken.{Apart, Order, Rules, TooLarge,
 use Rattle.text_terms.specs.Lines.{same_bytes}
 use Rattle.text_terms.specs.Texts.{◌>>=◌}
 use Rattle.text_terms.proofs.Cut.{same_front, number_front, count_cases}
-use Rattle.document_terms.specs.Claims.{SolvingJob, Claim}
-use Rattle.document_terms.specs.Claims.SolvingJob.{Fit, Strip, Bins, Knapsack}
-use Rattle.document_terms.specs.Claims.Claim.{NoHeight, NoBins, LeastHeight, HeightBetween, LeastBins, BinsBetween, GreatestValue, ValueBetween}
+use Rattle.document_terms.specs.declared.claim.SolvingJob.{SolvingJob}
+use Rattle.document_terms.specs.declared.claim.Claim.{Claim}
+use Rattle.document_terms.specs.declared.claim.SolvingJob.TheVariants.{Fit, Strip, Bins, Knapsack}
+use Rattle.document_terms.specs.declared.claim.Claim.TheVariants.{NoHeight, NoBins, LeastHeight, HeightBetween, LeastBins, BinsBetween, GreatestValue, ValueBetween}
 use Rattle.verdict_terms.specs.Reasons.{form}
 use Rattle.packing_terms.specs.Limits.{most_height}
 use Rattle.document_terms.specs.Claims.{most_worth}

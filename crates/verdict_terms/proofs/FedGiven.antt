@@ -15,9 +15,11 @@ use Rattle.text_terms.proofs.Cut.{same_front, words_cut}
 use Rattle.text_terms.proofs.Good.{good_start, line_good, parts_limits}
 use Rattle.text_terms.proofs.LinesFed.{texts_are_lines}
 use Rattle.check_terms.specs.Judging.{names_box}
-use Rattle.document_terms.specs.Claims.{SolvingJob, Claim}
-use Rattle.document_terms.specs.Claims.Claim.{Fitting, NotFitting, LeastHeight, HeightBetween, NoHeight, LeastBins, BinsBetween, NoBins, GreatestValue, ValueBetween}
-use Rattle.verdict_terms.specs.Reasons.{Reason, form, range}
+use Rattle.document_terms.specs.declared.claim.SolvingJob.{SolvingJob}
+use Rattle.document_terms.specs.declared.claim.Claim.{Claim}
+use Rattle.document_terms.specs.declared.claim.Claim.TheVariants.{Fitting, NotFitting, LeastHeight, HeightBetween, NoHeight, LeastBins, BinsBetween, NoBins, GreatestValue, ValueBetween}
+use Rattle.verdict_terms.specs.declared.reason.Reason.{Reason}
+use Rattle.verdict_terms.specs.Reasons.{form, range}
 use Rattle.verdict_terms.specs.Numbers.{require, numbers_line, coordinates}
 use Rattle.document_terms.specs.TokenLines.{token_of}
 use Rattle.verdict_terms.specs.Trees.{Refuted, Tree, begun, is_whole, tree_dims, tree_after, refuted_by}

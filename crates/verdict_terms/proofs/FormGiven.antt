@@ -13,8 +13,10 @@ use Rattle.text_terms.specs.Form.{AreClean, filled_lines, HasForm}
 use Rattle.text_terms.proofs.FormRead.{word_is, filled_with}
 use Rattle.text_terms.proofs.FormTold.{lines_have_form}
 use Rattle.text_terms.proofs.Good.{good_start, lines_limits}
-use Rattle.document_terms.specs.Claims.{SolvingJob, Claim, job_of, job_word}
-use Rattle.document_terms.specs.Claims.SolvingJob.{Fit, Strip, Bins, Knapsack}
+use Rattle.document_terms.specs.declared.claim.SolvingJob.{SolvingJob}
+use Rattle.document_terms.specs.declared.claim.Claim.{Claim}
+use Rattle.document_terms.specs.Claims.{job_of, job_word}
+use Rattle.document_terms.specs.declared.claim.SolvingJob.TheVariants.{Fit, Strip, Bins, Knapsack}
 use Rattle.verdict_terms.specs.Results.{claim_of}
 use Rattle.verdict_terms.specs.Stages.{Stage, claimed, answer_line, text_fault, end_of_parts, reading_line, stage_after}
 use Rattle.verdict_terms.specs.Stages.Stage.{Beginning, Reading}

@@ -14,10 +14,13 @@ use Rattle.text_terms.specs.Texts.{Parts, no_parts, add_line, at_end as end_of, 
 use Rattle.text_terms.specs.Form.{AreClean, filled_lines}
 use Rattle.text_terms.proofs.FormRead.{word_is, filled_with}
 use Rattle.text_terms.proofs.FormTold.{lines_have_form}
-use Rattle.document_terms.specs.Claims.{SolvingJob, Claim, job_word}
-use Rattle.document_terms.specs.Claims.SolvingJob.{Fit, Strip, Bins, Knapsack}
-use Rattle.document_terms.specs.Claims.Claim.{Fitting, NotFitting, LeastHeight, HeightBetween, NoHeight, LeastBins, BinsBetween, NoBins, GreatestValue, ValueBetween}
-use Rattle.verdict_terms.specs.Reasons.{Reason, form}
+use Rattle.document_terms.specs.declared.claim.SolvingJob.{SolvingJob}
+use Rattle.document_terms.specs.declared.claim.Claim.{Claim}
+use Rattle.document_terms.specs.Claims.{job_word}
+use Rattle.document_terms.specs.declared.claim.SolvingJob.TheVariants.{Fit, Strip, Bins, Knapsack}
+use Rattle.document_terms.specs.declared.claim.Claim.TheVariants.{Fitting, NotFitting, LeastHeight, HeightBetween, NoHeight, LeastBins, BinsBetween, NoBins, GreatestValue, ValueBetween}
+use Rattle.verdict_terms.specs.declared.reason.Reason.{Reason}
+use Rattle.verdict_terms.specs.Reasons.{form}
 use Rattle.verdict_terms.specs.Results.{claim_of}
 use Rattle.verdict_terms.specs.Stages.{Stage, claimed, job_named, answer_line, text_fault, end_of_parts, result_line, reading_line, stage_after}
 use Rattle.verdict_terms.specs.Stages.Stage.{Beginning, Reading}

@@ -4,7 +4,8 @@ use Rattle.std.proofs.lemmas.Bool.{and_parts, leb-true, eqb-true}
 use Rattle.text_terms.specs.Lines.{number_of}
 use Rattle.text_terms.specs.Texts.{◌>>=◌}
 use Rattle.text_terms.proofs.FormRead.{word_is}
-use Rattle.verdict_terms.specs.Reasons.{Reason, form}
+use Rattle.verdict_terms.specs.declared.reason.Reason.{Reason}
+use Rattle.verdict_terms.specs.Reasons.{form}
 use Rattle.verdict_terms.specs.Form.{AreCoordinates}
 use Rattle.verdict_terms.specs.Numbers.{most_coordinate, require, wanted_by, wanted, all_wanted, numbers_line, are_coordinates, coordinates}
 use Rattle.verdict_terms.specs.Stages.{refused_by, is_word}

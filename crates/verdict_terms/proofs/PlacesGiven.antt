@@ -14,9 +14,10 @@ use Rattle.check_terms.specs.declared.answers.PlaceVerdict.TheVariants.{Good, Ou
 use Rattle.check_terms.specs.Placing.{place_verdict}
 use Rattle.check_terms.specs.Judging.{names_box}
 use Rattle.check_terms.proofs.Places.{places_tested}
-use Rattle.document_terms.specs.Claims.{Claim}
-use Rattle.verdict_terms.specs.Reasons.{Reason, range}
-use Rattle.verdict_terms.specs.Reasons.Reason.{TooLittle}
+use Rattle.document_terms.specs.declared.claim.Claim.{Claim}
+use Rattle.verdict_terms.specs.declared.reason.Reason.{Reason}
+use Rattle.verdict_terms.specs.Reasons.{range}
+use Rattle.verdict_terms.specs.declared.reason.Reason.TheVariants.{TooLittle}
 use Rattle.verdict_terms.specs.Numbers.{wanted, all_wanted, numbers_line, coordinates}
 use Rattle.verdict_terms.specs.Trees.{Refuted, begun}
 use Rattle.verdict_terms.specs.Stages.{Stage, first_outside, first_overlap, first_reason, groups_reason, places_reason, bins_reason, taken_reason, refused_by, to_refute, placed, place_line, share_line, take_line, words_line, is_word}

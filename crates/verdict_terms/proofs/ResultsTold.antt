@@ -6,11 +6,14 @@ use Rattle.packing_terms.specs.Packing.{PlainInstance, box_count}
 use Rattle.text_terms.specs.Lines.{same_bytes}
 use Rattle.text_terms.specs.Texts.{◌>>=◌}
 use Rattle.text_terms.proofs.FormRead.{word_is}
-use Rattle.document_terms.specs.Claims.{SolvingJob, Claim, job_of}
-use Rattle.document_terms.specs.Claims.SolvingJob.{Fit, Strip, Bins, Knapsack}
-use Rattle.document_terms.specs.Claims.Claim.{Fitting, NotFitting, LeastHeight, HeightBetween, NoHeight, LeastBins, BinsBetween, NoBins, GreatestValue, ValueBetween}
-use Rattle.verdict_terms.specs.Reasons.{Reason, form, range}
-use Rattle.verdict_terms.specs.Reasons.Reason.{NoClaim}
+use Rattle.document_terms.specs.declared.claim.SolvingJob.{SolvingJob}
+use Rattle.document_terms.specs.declared.claim.Claim.{Claim}
+use Rattle.document_terms.specs.Claims.{job_of}
+use Rattle.document_terms.specs.declared.claim.SolvingJob.TheVariants.{Fit, Strip, Bins, Knapsack}
+use Rattle.document_terms.specs.declared.claim.Claim.TheVariants.{Fitting, NotFitting, LeastHeight, HeightBetween, NoHeight, LeastBins, BinsBetween, NoBins, GreatestValue, ValueBetween}
+use Rattle.verdict_terms.specs.declared.reason.Reason.{Reason}
+use Rattle.verdict_terms.specs.Reasons.{form, range}
+use Rattle.verdict_terms.specs.declared.reason.Reason.TheVariants.{NoClaim}
 use Rattle.packing_terms.specs.Limits.{most_height}
 use Rattle.document_terms.specs.Claims.{most_worth}
 use Rattle.verdict_terms.specs.Numbers.{require, wanted}

@@ -2,9 +2,9 @@
 use Rattle.std.proofs.Common.{◌≡◌, refl, codes, [], Ok, Err}
 use Rattle.text_terms.specs.Lines.{number_of, same_bytes}
 use Rattle.check_terms.specs.declared.answers.RefuseCode.TheVariants.{Choice, Conflict, Side, Value, «Set»}
-use Rattle.document_terms.specs.Claims.Claim.{Fitting, NotFitting, LeastHeight, HeightBetween, NoHeight, LeastBins, GreatestValue, ValueBetween}
+use Rattle.document_terms.specs.declared.claim.Claim.TheVariants.{Fitting, NotFitting, LeastHeight, HeightBetween, NoHeight, LeastBins, GreatestValue, ValueBetween}
 use Rattle.verdict_terms.specs.Reasons.{form, range, after}
-use Rattle.verdict_terms.specs.Reasons.Reason.{Text, Token, NoClaim, OutsideAt, OverlapAt, TooLittle, TooShort}
+use Rattle.verdict_terms.specs.declared.reason.Reason.TheVariants.{Text, Token, NoClaim, OutsideAt, OverlapAt, TooLittle, TooShort}
 use Rattle.document_terms.specs.TokenLines.{token_of}
 use Rattle.verdict_terms.specs.Results.{claim_of}
 use Rattle.verdict_terms.specs.Documents.{document_verdict}

@@ -4,9 +4,9 @@ use Rattle.std.specs.List.{slice_split, onto_first}
 use Rattle.std.proofs.lemmas.List.Splits.{length-slice_split}
 use Rattle.text_terms.specs.Lines.{text_lines, line_of, is_line_feed, drop_empty_end}
 use Rattle.text_terms.specs.Texts.{◌>>=◌}
-use Rattle.document_terms.specs.Claims.{Claim}
-use Rattle.verdict_terms.specs.Reasons.{Reason}
-use Rattle.verdict_terms.specs.Reasons.Reason.{TooShort}
+use Rattle.document_terms.specs.declared.claim.Claim.{Claim}
+use Rattle.verdict_terms.specs.declared.reason.Reason.{Reason}
+use Rattle.verdict_terms.specs.declared.reason.Reason.TheVariants.{TooShort}
 use Rattle.verdict_terms.specs.Stages.{Stage, stage_after}
 use Rattle.verdict_terms.specs.Stages.Stage.{Beginning, Reading, Placing, Sharing, Taking, Proving, Refuting, Exceeding, Ending, Ended}
 use Rattle.verdict_terms.specs.Documents.{Refusal, at_line, at_end, read_lines, document_verdict}

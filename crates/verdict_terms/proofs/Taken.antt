@@ -7,8 +7,9 @@ use Rattle.text_terms.specs.Texts.{◌>>=◌}
 use Rattle.text_terms.specs.Form.{AreClean, filled_lines}
 use Rattle.text_terms.proofs.Keys.{same_bytes_Decides}
 use Rattle.text_terms.proofs.FormRead.{filled_with}
-use Rattle.document_terms.specs.Claims.{Claim}
-use Rattle.verdict_terms.specs.Reasons.{Reason, form, range}
+use Rattle.document_terms.specs.declared.claim.Claim.{Claim}
+use Rattle.verdict_terms.specs.declared.reason.Reason.{Reason}
+use Rattle.verdict_terms.specs.Reasons.{form, range}
 use Rattle.verdict_terms.specs.Form.{AreCoordinates}
 use Rattle.verdict_terms.specs.Numbers.{most_coordinate, require, wanted_by, wanted, all_wanted, numbers_line, are_coordinates, coordinates}
 use Rattle.verdict_terms.specs.Stages.{Stage, words_line, filled_line, stage_after}

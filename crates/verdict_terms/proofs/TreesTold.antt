@@ -9,7 +9,7 @@ use Rattle.text_terms.specs.Texts.{◌>>=◌}
 use Rattle.check_terms.specs.declared.answers.RefuseCode.{RefuseCode}
 use Rattle.check_terms.specs.Checking.{inner_after, bins_after, value_after, nodes_after_all, if_ok}
 use Rattle.check_terms.proofs.Refuting.{inner_refutes, bins_refute, value_refutes}
-use Rattle.document_terms.specs.Claims.{Claim}
+use Rattle.document_terms.specs.declared.claim.Claim.{Claim}
 use Rattle.document_terms.specs.TokenLines.{token_of}
 use Rattle.verdict_terms.specs.Trees.{Refuted, ToFit, ToFitIn, ToReach, tree_dims, AreRefutation, Tree, InnerTree, BinTree, ValueTree, begun, refuted_by, map_ok, tree_after, is_whole}
 use Rattle.verdict_terms.specs.Stages.{Stage, is_word, tree_token, coded, grown, tree_line}

@@ -12,8 +12,9 @@ use Rattle.packing_terms.proofs.Refuted.{none_fits}
 use Rattle.packing_terms.proofs.BinsRefuted.{none_fits_bins}
 use Rattle.packing_terms.proofs.ValueRefuted.{none_reaches}
 use Rattle.scale_terms.proofs.Excess.{excess_law}
-use Rattle.document_terms.specs.Claims.{Claim, IsTrueOf}
-use Rattle.document_terms.specs.Claims.Claim.{Fitting, NotFitting, LeastHeight, HeightBetween, NoHeight, LeastBins, BinsBetween, NoBins, GreatestValue, ValueBetween}
+use Rattle.document_terms.specs.declared.claim.Claim.{Claim}
+use Rattle.document_terms.specs.Claims.{IsTrueOf}
+use Rattle.document_terms.specs.declared.claim.Claim.TheVariants.{Fitting, NotFitting, LeastHeight, HeightBetween, NoHeight, LeastBins, BinsBetween, NoBins, GreatestValue, ValueBetween}
 use Rattle.verdict_terms.proofs.FormGiven.{document_limits}
 use Rattle.verdict_terms.specs.Form.{IsResult, AreTaken, Backs, DocumentsAreTrue}
 

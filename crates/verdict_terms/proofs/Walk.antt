@@ -11,13 +11,14 @@ use Rattle.packing_terms.specs.Packing.{PlainInstance, dims, box_count, containe
 use Rattle.packing_terms.specs.Tokens.{PlainToken}
 use Rattle.packing_terms.specs.Tokens.PlainToken.{Apart, Order, Rules, TooLarge, Scales, Assign, Choose, SetRefuted, ValueShort, GlobalScales}
 use Rattle.verdict_terms.specs.Trees.{Refuted, Tree, begun, is_whole, tree_dims, tree_after, refuted_by}
-use Rattle.document_terms.specs.Claims.{Claim}
-use Rattle.document_terms.specs.Claims.Claim.{Fitting, NotFitting, LeastHeight, HeightBetween, NoHeight, LeastBins, BinsBetween, NoBins, GreatestValue, ValueBetween}
+use Rattle.document_terms.specs.declared.claim.Claim.{Claim}
+use Rattle.document_terms.specs.declared.claim.Claim.TheVariants.{Fitting, NotFitting, LeastHeight, HeightBetween, NoHeight, LeastBins, BinsBetween, NoBins, GreatestValue, ValueBetween}
 use Rattle.check_terms.specs.Judging.{names_box}
 use Rattle.verdict_terms.specs.Numbers.{require, numbers_line, coordinates}
 use Rattle.document_terms.specs.TokenLines.{token_of}
-use Rattle.verdict_terms.specs.Reasons.{Reason, form, range, after}
-use Rattle.verdict_terms.specs.Reasons.Reason.{TooShort}
+use Rattle.verdict_terms.specs.declared.reason.Reason.{Reason}
+use Rattle.verdict_terms.specs.Reasons.{form, range, after}
+use Rattle.verdict_terms.specs.declared.reason.Reason.TheVariants.{TooShort}
 use Rattle.verdict_terms.specs.Stages.{Stage, words_line, share_line, take_line, exceeding_token, refused_by, places_reason, bins_reason, taken_reason, to_refute, is_word, tree_token, coded, late_line, grown, filled_line, stage_after, placed}
 use Rattle.verdict_terms.specs.Stages.Stage.{Beginning, Reading, Placing, Sharing, Taking, Proving, Refuting, Exceeding, Ending, Ended}
 use Rattle.verdict_terms.specs.Documents.{at_line, at_end, read_lines}

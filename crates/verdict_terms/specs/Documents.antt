@@ -4,9 +4,11 @@ use Rattle.std.specs.Fmt.{decimal}
 use Rattle.text_terms.specs.Lines.{text_lines, line_of}
 use Rattle.text_terms.specs.Texts.{◌>>=◌}
 use Rattle.text_terms.specs.Spelling.{spaced}
-use Rattle.document_terms.specs.Claims.{Claim, job_of, job_word, result_words}
-use Rattle.verdict_terms.specs.Reasons.{Reason, reason_words}
-use Rattle.verdict_terms.specs.Reasons.Reason.{TooShort}
+use Rattle.document_terms.specs.declared.claim.Claim.{Claim}
+use Rattle.document_terms.specs.Claims.{job_of, job_word, result_words}
+use Rattle.verdict_terms.specs.declared.reason.Reason.{Reason}
+use Rattle.verdict_terms.specs.Reasons.{reason_words}
+use Rattle.verdict_terms.specs.declared.reason.Reason.TheVariants.{TooShort}
 use Rattle.verdict_terms.specs.Stages.{Stage, stage_after}
 use Rattle.verdict_terms.specs.Stages.Stage.{Beginning, Ended}
 

@@ -3,7 +3,7 @@ use Rattle.std.specs.Prelude.{ℕ, ◌≡◌, cond, List, [], ◌∷◌, ◌++�
 use Rattle.text_terms.specs.Lines.{text_lines, is_line_feed}
 use Rattle.text_terms.specs.Texts.{◌>>=◌}
 use Rattle.text_terms.specs.Feeding.{Lexer, new_lexer, told, feed, finish}
-use Rattle.document_terms.specs.Claims.{Claim}
+use Rattle.document_terms.specs.declared.claim.Claim.{Claim}
 use Rattle.verdict_terms.specs.Stages.{Stage, stage_after}
 use Rattle.verdict_terms.specs.Stages.Stage.{Beginning}
 use Rattle.verdict_terms.specs.Documents.{Refusal, at_line, at_end, document_verdict}

@@ -10,8 +10,9 @@ use Rattle.packing_terms.specs.Tokens.PlainToken.{TooLarge}
 use Rattle.packing_terms.specs.Refutation.{IsTooLarge}
 use Rattle.text_terms.specs.Lines.{text_lines, number_of}
 use Rattle.text_terms.specs.Form.{AreClean, filled_lines, IsNumber, HasForm}
-use Rattle.document_terms.specs.Claims.{Claim, job_of, job_word, IsTrueOf}
-use Rattle.document_terms.specs.Claims.Claim.{Fitting, NotFitting, LeastHeight, HeightBetween, NoHeight, LeastBins, BinsBetween, NoBins, GreatestValue, ValueBetween}
+use Rattle.document_terms.specs.declared.claim.Claim.{Claim}
+use Rattle.document_terms.specs.Claims.{job_of, job_word, IsTrueOf}
+use Rattle.document_terms.specs.declared.claim.Claim.TheVariants.{Fitting, NotFitting, LeastHeight, HeightBetween, NoHeight, LeastBins, BinsBetween, NoBins, GreatestValue, ValueBetween}
 use Rattle.packing_terms.specs.Limits.{most_height}
 use Rattle.document_terms.specs.Claims.{most_worth}
 use Rattle.verdict_terms.specs.Numbers.{most_coordinate}

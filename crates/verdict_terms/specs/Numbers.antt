@@ -3,7 +3,8 @@ use Rattle.std.specs.Prelude.{ℕ, ◌&&◌, ◌==◌, cond, Bool, List, [], ◌
 use Rattle.std.specs.List.{list_all}
 use Rattle.text_terms.specs.Lines.{number_of, same_bytes}
 use Rattle.text_terms.specs.Texts.{◌>>=◌}
-use Rattle.verdict_terms.specs.Reasons.{Reason, form, range}
+use Rattle.verdict_terms.specs.declared.reason.Reason.{Reason}
+use Rattle.verdict_terms.specs.Reasons.{form, range}
 
 -- the most that a coordinate is
 abbrev pub most_coordinate : ℕ

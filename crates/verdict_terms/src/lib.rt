@@ -2,5 +2,7 @@
 #![tactic(auto)]
 
 mod laws;
+mod reason;
 
 pub use laws::{documents_are_fed, documents_are_true, documents_have_form, refusals_stay};
+pub use reason::Reason;
