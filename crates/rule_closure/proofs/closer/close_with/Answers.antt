@@ -4,7 +4,7 @@ use Rattle.edge_state.specs.Edges.{PlainEdges}
 use Rattle.edge_state.specs.BitRows.{row_has}
 use Rattle.edge_state.proofs.RowBits.{members_few}
 use Rattle.closure_terms.proofs.Settled.{trail_short, settled_transitive, stable_settled}
-use Rattle.rule_closure.proofs.Looked.{looked_after, less_to_do}
+use Rattle.closure_terms.proofs.Looked.{looked_after, less_to_do}
 use Rattle.rule_closure.proofs.closer.close_with.Goals as goal
 
 pub cover_chains-requires-clause-transitive : goal.cover_chains-requires-clause-transitive

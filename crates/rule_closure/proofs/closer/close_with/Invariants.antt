@@ -2,7 +2,7 @@ use Rattle.std.proofs.Common.{◌≡◌, ◌+◌, ◌-◌, ◌*◌, ◌/◌, len
 use Rattle.rule_terms.specs.Applied.{Extends}
 use Rattle.edge_state.specs.BitRows.{row_has, members_below}
 use Rattle.packing_terms.specs.Packing.{box_count}
-use Rattle.rule_closure.specs.Closes.{IsLookedThrough}
+use Rattle.closure_terms.specs.Work.{IsLookedThrough}
 use Rattle.rule_closure.proofs.closer.close_with.Given as goal
 
 abbrev pub invariant-loop-dim : goal.invariant-loop-dim

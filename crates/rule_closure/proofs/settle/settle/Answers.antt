@@ -3,7 +3,7 @@ use Rattle.packing_terms.specs.Exclusions.{IsPlace}
 use Rattle.rule_terms.proofs.Applied.{extends_refl, extends_trans}
 use Rattle.closure_terms.proofs.Worked.{worked_kept}
 use Rattle.closure_terms.proofs.Settled.{change_place, trail_short, behind_within, grown_past, settled_all, chained_all}
-use Rattle.rule_closure.proofs.Looked.{looked_step}
+use Rattle.closure_terms.proofs.Looked.{looked_step}
 use Rattle.rule_closure.proofs.settle.settle.Goals as goal
 
 pub loop-change-init : goal.loop-change-init

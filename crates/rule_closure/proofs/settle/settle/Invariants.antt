@@ -1,6 +1,6 @@
 use Rattle.std.proofs.Common.{◌≡◌, ◌≤◌, ◌-◌, ◌*◌, ◌/◌, length, drop}
 use Rattle.rule_terms.specs.Applied.{Extends}
-use Rattle.rule_closure.specs.Closes.{IsLookedThrough}
+use Rattle.closure_terms.specs.Work.{IsLookedThrough}
 use Rattle.rule_closure.proofs.settle.settle.Given as goal
 
 abbrev pub invariant-loop-change : goal.invariant-loop-change

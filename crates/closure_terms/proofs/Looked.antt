@@ -18,7 +18,7 @@ use Rattle.closure_terms.specs.States.{IsLeft}
 use Rattle.closure_terms.specs.Work.{IsChainIn, IsReached, IsWorked, IsChained, IsUnordered, IsBehind}
 use Rattle.closure_terms.proofs.Chained.{chained_grown}
 use Rattle.closure_terms.proofs.Settled.{settled_step, chained_step, settled_after, chained_after}
-use Rattle.rule_closure.specs.Closes.{IsLookedThrough}
+use Rattle.closure_terms.specs.Work.{IsLookedThrough}
 
 -- a mask that overlaps, or has before and after, orders nothing
 pub unordered : (es : List Exclusion) (e : Exclusion) (m : ℕ) (o b a : Bool) → ((r : Rel) → mask_has m r ≡ not (excludes es e.dim e.u e.v r))
