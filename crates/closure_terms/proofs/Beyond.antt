@@ -14,12 +14,7 @@ use Rattle.edge_state.specs.Edges.{is_other}
 use Rattle.edge_state.proofs.RowBits.{eqb_false}
 use Rattle.edge_state.proofs.Tables.{other_from}
 use Rattle.closure_terms.specs.Work.{IsCovered}
-
--- whether some relation of the first mask and some of the second compose to this one, written out over three rows
-abbrev pub may : Rel → (Rel → Bool) → (Rel → Bool) → Bool
-may Overlap q s = (((s Overlap || s Before) || s After) && q Overlap || (s Overlap || s After) && q Before) || (s Overlap || s Before) && q After
-may Before q s = ((s Overlap || s Before) && q Overlap || ((s Overlap || s Before) || s After) && q Before) || s Before && q After
-may After q s = ((s Overlap || s After) && q Overlap || s After && q Before) || ((s Overlap || s Before) || s After) && q After
+use Rattle.closure_terms.specs.Rows.{may}
 
 module _ (X : Exclusions) (i u v x : ℕ) (q s : Rel → Bool) (open_q : (r : Rel) → q r ≡ true → X i u v r ≡ false) (open_s : (r : Rel) → s r ≡ true → X i v x r ≡ false) where
   clash : (r a b : Rel) → Concludes X (Compose i u v x) r → allows a b r ≡ true → q a ≡ true → s b ≡ true → ⊥
@@ -156,12 +151,6 @@ covered_beyond instance es i u v x here q s t ne hq hs ht e off = record { holds
     go : (j a b : ℕ) (r : Rel) → Adds instance (excludes es) (Compose i u v x) j a b r → excludes es j a b r ≡ true
     go _ _ _ _ (added r is p c) = true_of (excludes es i u x r) (shut r is c)
     go _ _ _ _ (mirror_added r is p c) = excludes_symmetric es i u x r (true_of (excludes es i u x r) (shut r is c))
-
--- three tests, one for each relation
-abbrev pub of_three : Bool → Bool → Bool → Rel → Bool
-of_three o b a Overlap = o
-of_three o b a Before = b
-of_three o b a After = a
 
 -- what the row has is a box
 pub within_beyond : (n u v x : ℕ) (es : List Exclusion) (i : ℕ) (here : Bool) (q s t : Rel → Bool)
