@@ -25,6 +25,7 @@ pub worked_reached : (instance : PlainInstance) (a b : PlainEdges) (lost : Bool)
 worked_reached instance a b lost j p q h = record {
   same_dims = h.same_dims;
   same_boxes = h.same_boxes;
+  same_room = h.same_room;
   extends = h.extends;
   empty = h.empty;
   done = λ e rule r. covered_if instance (excludes a.trail) b.trail rule (λ is. h.done e rule (in_applied instance j p q rule r is));

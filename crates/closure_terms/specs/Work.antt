@@ -60,6 +60,7 @@ IsExhausted instance es rule = IsCovered instance (excludes es) es rule
 pub record IsWorked (instance : PlainInstance) (old new : PlainEdges) (lost : Bool) (Rules : Rule → Type 0) : Type 0 where
   pub same_dims : new.dims ≡ old.dims
   pub same_boxes : new.boxes ≡ old.boxes
+  pub same_room : new.room ≡ old.room
   pub extends : Extends instance old.trail new.trail
   pub empty : IsTrue lost → HasEmptyMask instance (excludes new.trail)
   pub done : lost ≡ false → (rule : Rule) → Rules rule → IsCovered instance (excludes old.trail) new.trail rule

@@ -9,6 +9,7 @@ abbrev pub invariant-loop-dim : goal.invariant-loop-dim
 invariant-loop-dim l = record {
   same_dims : l.state.dims ≡ l.fn.state.dims;
   same_boxes : l.state.boxes ≡ l.fn.state.boxes;
+  same_room : l.state.room ≡ l.fn.state.room;
   extends : Extends l.instance l.fn.state.trail l.state.trail;
   head_count : length l.head ≡ box_count l.instance;
   tail_count : length l.tail ≡ box_count l.instance;
