@@ -17,7 +17,7 @@ at_least vs h (suc k) l =
     omega (arith, a, c)
 
 module _ (instance : PlainInstance) (keep : List ℕ) (set : IsBoxSet instance keep) (some : 1 ≤ length keep) where
-  few : length keep ≤ box_count instance
+  pub few : length keep ≤ box_count instance
   few =
       let last : length keep - 1 < length keep = omega (arith, some) in
       let a = at_least keep set.rising (length keep - 1) last in

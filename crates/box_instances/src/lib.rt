@@ -5,10 +5,12 @@ mod copies;
 mod fault;
 mod instance;
 mod rank;
+mod sets;
 mod sides;
 
 pub use fault::{InstanceFault, NoMemory};
 pub use instance::{BoxItem, Instance, MOST_BOXES, MOST_KERF, MOST_SIDE, MOST_VALUE, Sides};
+pub use sets::BoxSet;
 
 #[cfg(test)]
 mod tests;

@@ -85,6 +85,7 @@ impl<'a> ClassTree<'a> {
         ensures { IfOk result (λ state. state ≡ record {
           dims = dims self.now.instance;
           boxes = box_count self.now.instance;
+          room = box_count self.now.instance;
           trail = with_all self.now.start [];
         }) }
     {
@@ -108,6 +109,7 @@ impl<'a> ClassTree<'a> {
         requires state { state.old ≡ record {
           dims = dims self.now.instance;
           boxes = box_count self.now.instance;
+          room = box_count self.now.instance;
           trail = with_all self.now.start [];
         } }
         requires room { closer.old ≡ record { dims = state.old.dims; boxes = state.old.boxes } }

@@ -7,3 +7,7 @@ pub mod Settled
 pub mod Passes
 pub mod Ends
 pub mod Undone
+pub mod Members
+pub mod Filters
+pub mod Beyond
+pub mod Looked

@@ -22,7 +22,7 @@ abbrev pub IsKept : (List Exclusion → Type 0) → Type 0
 IsKept P = (es fs : List Exclusion) → IsSubset (excludes es) (excludes fs) → P es → P fs
 
 pub pass_none : (instance : PlainInstance) (s : PlainEdges) (P : List Exclusion → Type 0) → P s.trail → IsPass instance s s P
-pass_none instance s P p = record { same_dims = refl; same_boxes = refl; extends = extends_refl instance s.trail; done = p }
+pass_none instance s P p = record { same_dims = refl; same_boxes = refl; same_room = refl; extends = extends_refl instance s.trail; done = p }
 
 -- one after another, both are done
 pub pass_then : (instance : PlainInstance) (a b c : PlainEdges) (P Q : List Exclusion → Type 0) → IsKept P → IsPass instance a b P → IsPass instance b c Q
@@ -30,13 +30,14 @@ pub pass_then : (instance : PlainInstance) (a b c : PlainEdges) (P Q : List Excl
 pass_then instance a b c P Q kept h k = record {
   same_dims = k.same_dims ∙ h.same_dims;
   same_boxes = k.same_boxes ∙ h.same_boxes;
+  same_room = k.same_room ∙ h.same_room;
   extends = extends_trans instance a.trail b.trail c.trail h.extends k.extends;
   done = (kept b.trail c.trail k.extends.kept h.done, k.done);
 }
 
 pub pass_as : (instance : PlainInstance) (a b : PlainEdges) (P Q : List Exclusion → Type 0) → ((es : List Exclusion) → P es → Q es)
     → IsPass instance a b P → IsPass instance a b Q
-pass_as instance a b P Q f h = record { same_dims = h.same_dims; same_boxes = h.same_boxes; extends = h.extends; done = f b.trail h.done }
+pass_as instance a b P Q f h = record { same_dims = h.same_dims; same_boxes = h.same_boxes; same_room = h.same_room; extends = h.extends; done = f b.trail h.done }
 
 -- one more of a range
 pub pass_next : (instance : PlainInstance) (a b c : PlainEdges) (k : ℕ) (P : ℕ → List Exclusion → Type 0) → ((j : ℕ) → IsKept (P j))
@@ -85,6 +86,7 @@ module _ (instance : PlainInstance) (i : ℕ) where
   pass_chain a b x head tail u v e step = record {
     same_dims = ap (λ (s : PlainEdges). s.dims) e;
     same_boxes = ap (λ (s : PlainEdges). s.boxes) e;
+    same_room = ap (λ (s : PlainEdges). s.room) e;
     extends = step.extends;
     done = record { shut = λ ne wide. now wide };
   }
@@ -105,6 +107,7 @@ module _ (instance : PlainInstance) (i : ℕ) where
   worked_heaviest a b head tail heads tails h = record {
     same_dims = h.same_dims;
     same_boxes = h.same_boxes;
+    same_room = h.same_room;
     extends = h.extends;
     empty = λ e. absurd (true≢false (sym e));
     done = λ e. (chained_heaviest instance i a.trail b.trail head tail heads tails h.done).covered;

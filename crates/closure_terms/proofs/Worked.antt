@@ -19,6 +19,7 @@ pub worked_none : (instance : PlainInstance) (s : PlainEdges) (R : Rule → Type
 worked_none instance s R h = record {
   same_dims = refl;
   same_boxes = refl;
+  same_room = refl;
   extends = extends_refl instance s.trail;
   empty = λ e. absurd (true≢false (sym e));
   done = λ e. h;
@@ -56,6 +57,7 @@ pub worked_applied : (instance : PlainInstance) (a b : PlainEdges) (x : Bool) (r
 worked_applied instance a b x rule e h = record {
   same_dims = ap (λ (s : PlainEdges). s.dims) e;
   same_boxes = ap (λ (s : PlainEdges). s.boxes) e;
+  same_room = ap (λ (s : PlainEdges). s.room) e;
   extends = h.step.extends;
   empty = λ f. absurd (true≢false (sym f));
   done = λ f s is. subst (λ (t : Rule). IsCovered instance (excludes a.trail) b.trail t) (sym is) (record { holds = λ i u v r add. (h.exact i u v r).1 (inr add) });
@@ -67,6 +69,7 @@ pub worked_tested : (instance : PlainInstance) (a b : PlainEdges) (lost : Bool) 
 worked_tested instance a b lost R Q h test = record {
   same_dims = h.same_dims;
   same_boxes = h.same_boxes;
+  same_room = h.same_room;
   extends = h.extends;
   empty = λ e. go lost test e;
   done = λ e. h.done refl;
@@ -86,6 +89,7 @@ pub worked_as : (instance : PlainInstance) (a b : PlainEdges) (lost : Bool) (R S
 worked_as instance a b lost R S f h = record {
   same_dims = h.same_dims;
   same_boxes = h.same_boxes;
+  same_room = h.same_room;
   extends = h.extends;
   empty = h.empty;
   done = λ e rule s. h.done e rule (f rule s);
@@ -97,6 +101,7 @@ pub worked_then : (instance : PlainInstance) (a b c : PlainEdges) (lost : Bool) 
 worked_then instance a b c lost R S h k = record {
   same_dims = k.same_dims ∙ h.same_dims;
   same_boxes = k.same_boxes ∙ h.same_boxes;
+  same_room = k.same_room ∙ h.same_room;
   extends = extends_trans instance a.trail b.trail c.trail h.extends k.extends;
   empty = k.empty;
   done = λ e rule is. go e rule is;
@@ -130,6 +135,7 @@ pub worked_lost : (instance : PlainInstance) (a b c : PlainEdges) (lost : Bool) 
 worked_lost instance a b c lost R S T e h k = record {
   same_dims = k.same_dims ∙ h.same_dims;
   same_boxes = k.same_boxes ∙ h.same_boxes;
+  same_room = k.same_room ∙ h.same_room;
   extends = extends_trans instance a.trail b.trail c.trail h.extends k.extends;
   empty = λ f. k.empty e;
   done = λ f. absurd (true≢false f);
@@ -141,6 +147,7 @@ pub worked_lost_first : (instance : PlainInstance) (a b : PlainEdges) (lost : Bo
 worked_lost_first instance a b lost S T e k = record {
   same_dims = k.same_dims;
   same_boxes = k.same_boxes;
+  same_room = k.same_room;
   extends = k.extends;
   empty = λ f. k.empty e;
   done = λ f. absurd (true≢false f);

@@ -2,3 +2,5 @@ pub mod States
 pub mod Work
 pub mod Passes
 pub mod Ends
+pub mod Instances
+pub mod Rows

@@ -11,6 +11,7 @@ use Rattle.edge_state.specs.Edges.{PlainEdges}
 pub record IsPass (instance : PlainInstance) (old new : PlainEdges) (Done : List Exclusion → Type 0) : Type 0 where
   pub same_dims : new.dims ≡ old.dims
   pub same_boxes : new.boxes ≡ old.boxes
+  pub same_room : new.room ≡ old.room
   pub extends : Extends instance old.trail new.trail
   pub done : Done new.trail
 

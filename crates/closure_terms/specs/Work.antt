@@ -3,17 +3,18 @@
 -- The worklist is the newer part of the state's own list of exclusions; `seen` is the older part, that was looked through. Each instance of a rule other
 -- than CHAIN that could add something by all exclusions has a premise at a place of the newer part; so once that is empty, no such instance adds anything.
 -- CHAIN can add something in a dimension only where a pair of it became ordered.
-use Rattle.std.specs.Prelude.{ℕ, ◌≡◌, ◌≢◌, ◌⊎◌, ◌+◌, List, Bool, false, IsTrue}
+use Rattle.std.specs.Prelude.{ℕ, ◌≡◌, ◌≢◌, ◌⊎◌, ◌+◌, ◌<◌, List, Bool, true, false, IsTrue}
 use Rattle.packing_terms.specs.declared.Rel.{Rel}
 use Rattle.packing_terms.specs.declared.Rel.TheVariants.{Overlap, After}
 use Rattle.packing_terms.specs.declared.Exclusion.{Exclusion}
-use Rattle.packing_terms.specs.Packing.{PlainInstance}
+use Rattle.packing_terms.specs.Packing.{PlainInstance, dims}
 use Rattle.packing_terms.specs.Exclusions.{Exclusions, excludes}
 use Rattle.packing_terms.specs.Rules.{Rule, Pair, Apart, Triple, Chain, Compose, Cycle, Order}
 use Rattle.rule_terms.specs.Applied.{Adds, Extends}
 use Rattle.rule_terms.specs.Places.{HasNoEmptyMask}
 use Rattle.edge_state.specs.Edges.{PlainEdges}
 use Rattle.edge_state.specs.Answers.{IsChangeAfter}
+use Rattle.edge_state.specs.BitRows.{row_has}
 use Rattle.closure_terms.specs.States.{HasEmptyMask}
 
 -- a rule other than CHAIN
@@ -59,6 +60,7 @@ IsExhausted instance es rule = IsCovered instance (excludes es) es rule
 pub record IsWorked (instance : PlainInstance) (old new : PlainEdges) (lost : Bool) (Rules : Rule → Type 0) : Type 0 where
   pub same_dims : new.dims ≡ old.dims
   pub same_boxes : new.boxes ≡ old.boxes
+  pub same_room : new.room ≡ old.room
   pub extends : Extends instance old.trail new.trail
   pub empty : IsTrue lost → HasEmptyMask instance (excludes new.trail)
   pub done : lost ≡ false → (rule : Rule) → Rules rule → IsCovered instance (excludes old.trail) new.trail rule
@@ -81,3 +83,9 @@ pub record IsUnordered (X : Exclusions) (e : Exclusion) : Type 0 where
 pub data IsBehind (es : List Exclusion) (mark : ℕ) (e : Exclusion) (next : ℕ) : Type 0 where
   behind_one : next ≡ mark + 1 → IsBehind es mark e next
   behind_two : (f : Exclusion) → IsChangeAfter es (mark + 1) f next → f.dim ≡ e.dim → f.u ≡ e.u → f.v ≡ e.v → IsBehind es mark e next
+
+-- What was looked through of a list: no rule adds anything by it but CHAIN in the dimensions of a row.
+pub record IsLookedThrough (instance : PlainInstance) (seen es : List Exclusion) (dirty : List ℕ) : Type 0 where
+  pub settled : IsSettled instance seen es
+  pub chained : (i : ℕ) → i < dims instance → row_has dirty i ≡ false → IsChained instance i seen es
+  pub within : (i : ℕ) → row_has dirty i ≡ true → i < dims instance

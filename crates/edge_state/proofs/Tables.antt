@@ -150,15 +150,15 @@ pub shows_set : (d n : ℕ) (rows : List (List ℕ)) (X Y : Exclusions) (i u v :
     → ((j a b : ℕ) (r : Rel) → a < n → row_index n j a r ≢ row_index n i u rel → row_index n j a r ≢ row_index n i v (mirror rel) → Y j a b r ≡ X j a b r)
     → ShowsRows d n (set (set rows (row_index n i u rel) w) (row_index n i v (mirror rel)) y) Y
 shows_set d n rows X Y i u v rel w y shows place here there others = record {
-  count = length-set _ _ _ ∙ (length-set _ _ _ ∙ shows.count);
+  count = rw (length-set (set rows (row_index n i u rel) w) (row_index n i v (mirror rel)) y, length-set rows (row_index n i u rel) w) shows.count;
   has = λ j a b r hj ha. go j a b r hj ha (cases_eq (row_index n j a r) (row_index n i v (mirror rel))) (cases_eq (row_index n j a r) (row_index n i u rel));
 }
   where
     first : row_index n i u rel < length rows
-    first = rw shows.count (row_within d n i u rel place.dim place.first)
+    first = omega (arith, shows.count, row_within d n i u rel place.dim place.first)
 
     second : row_index n i v (mirror rel) < length (set rows (row_index n i u rel) w)
-    second = rw (length-set rows (row_index n i u rel) w, shows.count) (row_within d n i v (mirror rel) place.dim place.second)
+    second = rw (length-set rows (row_index n i u rel) w) (omega (arith, shows.count, row_within d n i v (mirror rel) place.dim place.second))
 
     go : (j a b : ℕ) (r : Rel) → j < d → a < n
         → (row_index n j a r ≡ row_index n i v (mirror rel)) ⊎ (row_index n j a r ≡ row_index n i v (mirror rel) → ⊥)

@@ -1,5 +1,1 @@
 pub mod Closings
-pub mod Members
-pub mod Filters
-pub mod Beyond
-pub mod Looked

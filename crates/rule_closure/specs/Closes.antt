@@ -1,13 +1,12 @@
 -- What closing a state comes to.
-use Rattle.std.specs.Prelude.{ℕ, nat_lt, ◌≡◌, ◌<◌, List, length, true, false}
+use Rattle.std.specs.Prelude.{ℕ, nat_lt, ◌≡◌, List, length}
 use Rattle.packing_terms.specs.declared.Exclusion.{Exclusion}
-use Rattle.packing_terms.specs.Packing.{PlainInstance, dims}
+use Rattle.packing_terms.specs.Packing.{PlainInstance}
 use Rattle.packing_terms.specs.Exclusions.{excludes}
 use Rattle.packing_terms.specs.Closure.{IsStable}
 use Rattle.rule_terms.specs.Places.{HasNoEmptyMask}
 use Rattle.edge_state.specs.BitRows.{row_has}
 use Rattle.closure_terms.specs.States.{HasEmptyMask}
-use Rattle.closure_terms.specs.Work.{IsSettled, IsChained}
 use Rattle.closure_terms.specs.Ends.{IsClosureOf, IsConflictOf}
 use Rattle.rule_closure.specs.declared.closer.Closed.{Closed}
 use Rattle.rule_closure.specs.declared.closer.Closed.TheVariants.{Stable, Conflict}
@@ -22,12 +21,6 @@ pub record HasRoom (n : ℕ) (head tail all : List ℕ) : Type 0 where
   pub heads : length head ≡ n
   pub tails : length tail ≡ n
   pub every : (x : ℕ) → row_has all x ≡ nat_lt x n
-
--- What was looked through of a list: no rule adds anything by it but CHAIN in the dimensions of a row.
-pub record IsLookedThrough (instance : PlainInstance) (seen es : List Exclusion) (dirty : List ℕ) : Type 0 where
-  pub settled : IsSettled instance seen es
-  pub chained : (i : ℕ) → i < dims instance → row_has dirty i ≡ false → IsChained instance i seen es
-  pub within : (i : ℕ) → row_has dirty i ≡ true → i < dims instance
 
 -- exactly the closure of the old exclusions is excluded, no rule adds to it, and no mask is empty: the closure has no conflict
 abbrev pub IsClosure : PlainInstance → List Exclusion → List Exclusion → Type 0

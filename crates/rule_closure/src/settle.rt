@@ -7,7 +7,7 @@ ghost use Rattle.edge_state.specs.BitRows.{row_has};
 ghost use Rattle.edge_state.specs.Answers.{IsChangeAfter};
 ghost use Rattle.closure_terms.specs.States.{IsSized, HasEmptyMask};
 ghost use Rattle.closure_terms.specs.Work.{IsWorked, IsReached, IsUnordered, IsBehind};
-ghost use Rattle.rule_closure.specs.Closes.{IsLookedThrough};
+ghost use Rattle.closure_terms.specs.Work.{IsLookedThrough};
 
 use crate::empties::is_empty_at;
 use crate::work::spread_from;

@@ -20,5 +20,6 @@ loop-child-preserved c =
       known = c.visit_child-node.ensures.met.known;
       same_dims = ap (λ (s : PlainEdges). s.dims) c.visit_child-node.ensures.sizes ∙ c.loop-child.invariant.same_dims;
       same_boxes = ap (λ (s : PlainEdges). s.boxes) c.visit_child-node.ensures.sizes ∙ c.loop-child.invariant.same_boxes;
+      same_room = ap (λ (s : PlainEdges). s.room) c.visit_child-node.ensures.sizes ∙ c.loop-child.invariant.same_room;
       same_closer = c.visit_child-node.ensures.closer ∙ c.loop-child.invariant.same_closer;
     }

@@ -9,5 +9,6 @@ invariant-loop-child l = record {
   known : IsKind l.instance l.state.trail l.node;
   same_dims : l.state.dims ≡ l.fn.state.dims;
   same_boxes : l.state.boxes ≡ l.fn.state.boxes;
+  same_room : l.state.room ≡ l.fn.state.room;
   same_closer : l.closer ≡ l.fn.closer;
 }

@@ -6,10 +6,10 @@ use Rattle.packing_terms.specs.Exclusions.{excludes}
 use Rattle.edge_state.specs.BitRows.{row_has}
 use Rattle.edge_state.proofs.RowBits.{members_fewer}
 use Rattle.edge_state.proofs.Kept.{row_shut}
-use Rattle.rule_closure.proofs.Filters.{row_within}
+use Rattle.closure_terms.proofs.Filters.{row_within}
 use Rattle.closure_terms.specs.Passes.{IsShut}
 use Rattle.closure_terms.proofs.Passes.{pass_none, sizes_passed, heads_more, tails_more, shut_kept, shut_fits}
-use Rattle.rule_closure.proofs.Members.{pass_row, pass_all}
+use Rattle.closure_terms.proofs.Members.{pass_row, pass_all}
 use Rattle.rule_closure.proofs.chains.shut_from.Goals as goal
 
 pub returns-then-fits : goal.returns-then-fits

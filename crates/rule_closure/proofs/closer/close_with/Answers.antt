@@ -4,7 +4,7 @@ use Rattle.edge_state.specs.Edges.{PlainEdges}
 use Rattle.edge_state.specs.BitRows.{row_has}
 use Rattle.edge_state.proofs.RowBits.{members_few}
 use Rattle.closure_terms.proofs.Settled.{trail_short, settled_transitive, stable_settled}
-use Rattle.rule_closure.proofs.Looked.{looked_after, less_to_do}
+use Rattle.closure_terms.proofs.Looked.{looked_after, less_to_do}
 use Rattle.rule_closure.proofs.closer.close_with.Goals as goal
 
 pub cover_chains-requires-clause-transitive : goal.cover_chains-requires-clause-transitive
@@ -34,6 +34,7 @@ pub loop-dim-preserved : goal.loop-dim-preserved
 loop-dim-preserved c = record {
   same_dims = ap (λ (z : PlainEdges). z.dims) c.settle-in-Some-first.ensures.sizes ∙ (c.cover_chains.ensures.worked.same_dims ∙ c.loop-dim.invariant.same_dims);
   same_boxes = ap (λ (z : PlainEdges). z.boxes) c.settle-in-Some-first.ensures.sizes ∙ (c.cover_chains.ensures.worked.same_boxes ∙ c.loop-dim.invariant.same_boxes);
+  same_room = ap (λ (z : PlainEdges). z.room) c.settle-in-Some-first.ensures.sizes ∙ (c.cover_chains.ensures.worked.same_room ∙ c.loop-dim.invariant.same_room);
   extends = extends_trans _ _ _ _ c.loop-dim.invariant.extends (extends_trans _ _ _ _ c.cover_chains.ensures.worked.extends c.settle-in-Some-first.ensures.extends);
   head_count = c.cover_chains.ensures.head_count;
   tail_count = c.cover_chains.ensures.tail_count;

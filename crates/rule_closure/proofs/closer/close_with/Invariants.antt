@@ -2,13 +2,14 @@ use Rattle.std.proofs.Common.{◌≡◌, ◌+◌, ◌-◌, ◌*◌, ◌/◌, len
 use Rattle.rule_terms.specs.Applied.{Extends}
 use Rattle.edge_state.specs.BitRows.{row_has, members_below}
 use Rattle.packing_terms.specs.Packing.{box_count}
-use Rattle.rule_closure.specs.Closes.{IsLookedThrough}
+use Rattle.closure_terms.specs.Work.{IsLookedThrough}
 use Rattle.rule_closure.proofs.closer.close_with.Given as goal
 
 abbrev pub invariant-loop-dim : goal.invariant-loop-dim
 invariant-loop-dim l = record {
   same_dims : l.state.dims ≡ l.fn.state.dims;
   same_boxes : l.state.boxes ≡ l.fn.state.boxes;
+  same_room : l.state.room ≡ l.fn.state.room;
   extends : Extends l.instance l.fn.state.trail l.state.trail;
   head_count : length l.head ≡ box_count l.instance;
   tail_count : length l.tail ≡ box_count l.instance;

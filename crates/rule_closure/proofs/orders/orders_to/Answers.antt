@@ -5,7 +5,7 @@ use Rattle.packing_terms.specs.Rules.{Order}
 use Rattle.edge_state.specs.BitRows.{row_has}
 use Rattle.closure_terms.proofs.Worked.{worked_lost, worked_kept, sizes_worked}
 use Rattle.edge_state.proofs.RowBits.{members_fewer}
-use Rattle.rule_closure.proofs.Members.{worked_rest, worked_row, worked_all, covered_named}
+use Rattle.closure_terms.proofs.Members.{worked_rest, worked_row, worked_all, covered_named}
 use Rattle.rule_closure.proofs.orders.orders_to.Goals as goal
 
 pub loop-b-init : goal.loop-b-init

@@ -6,7 +6,8 @@ use Rattle.packing_terms.specs.Exclusions.{excludes}
 use Rattle.edge_state.specs.BitRows.{row_has}
 use Rattle.edge_state.specs.Edges.{is_other}
 use Rattle.edge_state.proofs.Kept.{by_rel}
-use Rattle.rule_closure.proofs.Beyond.{may, of_three, covered_beyond, within_beyond}
+use Rattle.closure_terms.specs.Rows.{may, of_three}
+use Rattle.closure_terms.proofs.Beyond.{covered_beyond, within_beyond}
 use Rattle.rule_closure.proofs.rows.beyond_compositions.Goals as goal
 
 pub returns-clause-within : goal.returns-clause-within

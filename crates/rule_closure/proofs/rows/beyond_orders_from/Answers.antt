@@ -1,6 +1,6 @@
 use Rattle.std.proofs.Common.{sym, ◌∙◌}
 use Rattle.std.proofs.lemmas.Bool.{and_parts}
-use Rattle.rule_closure.proofs.Filters.{covered_order_from}
+use Rattle.closure_terms.proofs.Filters.{covered_order_from}
 use Rattle.rule_closure.proofs.rows.beyond_orders_from.Goals as goal
 
 pub returns-clause-within : goal.returns-clause-within

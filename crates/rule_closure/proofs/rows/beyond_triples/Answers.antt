@@ -3,7 +3,7 @@ use Rattle.std.proofs.lemmas.Bool.{and_parts}
 use Rattle.packing_terms.specs.declared.Rel.TheVariants.{Overlap}
 use Rattle.packing_terms.specs.Exclusions.{excludes}
 use Rattle.edge_state.proofs.Kept.{row_open}
-use Rattle.rule_closure.proofs.Filters.{covered_triple}
+use Rattle.closure_terms.proofs.Filters.{covered_triple}
 use Rattle.rule_closure.proofs.rows.beyond_triples.Goals as goal
 
 pub returns-clause-within : goal.returns-clause-within

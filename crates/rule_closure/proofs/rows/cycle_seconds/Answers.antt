@@ -3,7 +3,7 @@ use Rattle.std.proofs.lemmas.Bool.{and_parts}
 use Rattle.packing_terms.specs.declared.Rel.TheVariants.{Before, After}
 use Rattle.packing_terms.proofs.Sets.{excludes_symmetric}
 use Rattle.edge_state.specs.BitRows.{row_has}
-use Rattle.rule_closure.proofs.Filters.{both_off}
+use Rattle.closure_terms.proofs.Filters.{both_off}
 use Rattle.rule_closure.proofs.rows.cycle_seconds.Goals as goal
 
 pub returns-clause-within : goal.returns-clause-within

@@ -4,7 +4,7 @@ use Rattle.packing_terms.specs.declared.Rel.TheVariants.{Overlap}
 use Rattle.packing_terms.specs.Exclusions.{excludes}
 use Rattle.edge_state.specs.BitRows.{row_has}
 use Rattle.edge_state.proofs.Kept.{row_open}
-use Rattle.rule_closure.proofs.Filters.{minus_off}
+use Rattle.closure_terms.proofs.Filters.{minus_off}
 use Rattle.rule_closure.proofs.rows.cycle_thirds.Goals as goal
 
 pub returns-clause-within : goal.returns-clause-within

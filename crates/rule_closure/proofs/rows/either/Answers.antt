@@ -1,6 +1,6 @@
 use Rattle.packing_terms.specs.Packing.{box_count}
 use Rattle.packing_terms.specs.Exclusions.{excludes}
-use Rattle.rule_closure.proofs.Filters.{either_within, either_shut, either_some}
+use Rattle.closure_terms.proofs.Filters.{either_within, either_shut, either_some}
 use Rattle.rule_closure.proofs.rows.either.Goals as goal
 
 pub returns-clause-within : goal.returns-clause-within

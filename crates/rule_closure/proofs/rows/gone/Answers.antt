@@ -1,6 +1,6 @@
 use Rattle.std.proofs.lemmas.Bool.{lt-ltb}
 use Rattle.packing_terms.specs.Packing.{box_count}
-use Rattle.rule_closure.proofs.Filters.{gone_within, gone_other}
+use Rattle.closure_terms.proofs.Filters.{gone_within, gone_other}
 use Rattle.rule_closure.proofs.rows.gone.Goals as goal
 
 pub returns-clause-within : goal.returns-clause-within

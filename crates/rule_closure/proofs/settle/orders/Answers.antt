@@ -1,4 +1,4 @@
-use Rattle.rule_closure.proofs.Looked.{unordered}
+use Rattle.closure_terms.proofs.Looked.{unordered}
 use Rattle.rule_closure.proofs.settle.orders.Goals as goal
 
 pub returns : goal.returns

@@ -3,13 +3,14 @@ use Rattle.packing_terms.specs.Exclusions.{IsPlace}
 use Rattle.rule_terms.proofs.Applied.{extends_refl, extends_trans}
 use Rattle.closure_terms.proofs.Worked.{worked_kept}
 use Rattle.closure_terms.proofs.Settled.{change_place, trail_short, behind_within, grown_past, settled_all, chained_all}
-use Rattle.rule_closure.proofs.Looked.{looked_step}
+use Rattle.closure_terms.proofs.Looked.{looked_step}
 use Rattle.rule_closure.proofs.settle.settle.Goals as goal
 
 pub loop-change-init : goal.loop-change-init
 loop-change-init c = record {
   same_dims = refl;
   same_boxes = refl;
+  same_room = refl;
   extends = extends_refl _ _;
   later = omega arith;
   within = c.requires.mark;
@@ -80,6 +81,7 @@ loop-change-preserved c =
     record {
       same_dims = work.same_dims ∙ c.loop-change.invariant.same_dims;
       same_boxes = work.same_boxes ∙ c.loop-change.invariant.same_boxes;
+      same_room = work.same_room ∙ c.loop-change.invariant.same_room;
       extends = extends_trans _ _ _ _ c.loop-change.invariant.extends work.extends;
       later = omega (arith, c.loop-change.invariant.later, past.0);
       within = grown_past c.args.instance.now _ _ _ _ _ work.extends change.before_last c.behind-after.ensures;

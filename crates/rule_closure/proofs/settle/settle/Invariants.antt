@@ -1,12 +1,13 @@
 use Rattle.std.proofs.Common.{◌≡◌, ◌≤◌, ◌-◌, ◌*◌, ◌/◌, length, drop}
 use Rattle.rule_terms.specs.Applied.{Extends}
-use Rattle.rule_closure.specs.Closes.{IsLookedThrough}
+use Rattle.closure_terms.specs.Work.{IsLookedThrough}
 use Rattle.rule_closure.proofs.settle.settle.Given as goal
 
 abbrev pub invariant-loop-change : goal.invariant-loop-change
 invariant-loop-change l = record {
   same_dims : l.state.dims ≡ l.fn.state.dims;
   same_boxes : l.state.boxes ≡ l.fn.state.boxes;
+  same_room : l.state.room ≡ l.fn.state.room;
   extends : Extends l.instance l.fn.state.trail l.state.trail;
   later : l.fn.closed ≤ l.next;
   within : l.next ≤ length l.state.trail;

@@ -1,7 +1,8 @@
 use Rattle.std.proofs.Common.{◌⊎◌}
 use Rattle.packing_terms.specs.Rules.{Rule}
 use Rattle.closure_terms.proofs.Worked.{worked_then, worked_lost, worked_kept, sizes_worked}
-use Rattle.closure_terms.proofs.Instances.{Composes, Triples, Aparts, Cycles, Chords, OrdersFirst, OrdersSecond, OrdersCrossed, worked_reached}
+use Rattle.closure_terms.specs.Instances.{Composes, Triples, Aparts, Cycles, Chords, OrdersFirst, OrdersSecond, OrdersCrossed}
+use Rattle.closure_terms.proofs.Instances.{worked_reached}
 use Rattle.rule_closure.proofs.work.spread_from.Goals as goal
 
 pub triples-requires-clause-sizes : goal.triples-requires-clause-sizes

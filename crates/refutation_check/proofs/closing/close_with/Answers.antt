@@ -1,0 +1,47 @@
+use Rattle.std.proofs.Common.{◌≤◌, ◌-◌, ◌*◌, ◌/◌, ◌∙◌, ap, length}
+use Rattle.rule_terms.proofs.Applied.{extends_trans}
+use Rattle.edge_state.specs.Edges.{PlainEdges}
+use Rattle.edge_state.specs.BitRows.{row_has}
+use Rattle.edge_state.proofs.RowBits.{members_few}
+use Rattle.closure_terms.proofs.Settled.{trail_short, settled_transitive, stable_settled}
+use Rattle.closure_terms.proofs.Looked.{looked_after, less_to_do}
+use Rattle.refutation_check.proofs.closing.close_with.Goals as goal
+
+pub cover_chains-requires-clause-transitive : goal.cover_chains-requires-clause-transitive
+cover_chains-requires-clause-transitive c =
+    let looked = c.loop-dim.invariant.looked in settled_transitive _ _ _ (looked.within _ c.in-Some-first.ensures.least.there) looked.settled
+
+pub settle-requires-in-Some-first-clause-looked : goal.settle-requires-in-Some-first-clause-looked
+settle-requires-in-Some-first-clause-looked c =
+    looked_after _ _ _ _ _ _ _ c.loop-dim.invariant.looked c.cover_chains.ensures.worked c.mark-next.ensures c.without.ensures
+
+pub returns-in_default-settle-clause-extends : goal.returns-in_default-settle-clause-extends
+returns-in_default-settle-clause-extends c =
+    extends_trans _ _ _ _ c.loop-dim.invariant.extends (extends_trans _ _ _ _ c.cover_chains.ensures.worked.extends c.settle-in-Some-first.ensures.extends)
+
+pub loop-dim-smaller : goal.loop-dim-smaller
+loop-dim-smaller c =
+    let s = c.settle-in-Some-first.new.state in
+    let room = 3 * c.args.state.now.dims * c.args.state.now.boxes * (c.args.state.now.boxes - 1) / 2 in
+    let same_dims = ap (λ (z : PlainEdges). z.dims) c.settle-in-Some-first.ensures.sizes ∙ (c.cover_chains.ensures.worked.same_dims ∙ c.loop-dim.invariant.same_dims) in
+    let same_boxes = ap (λ (z : PlainEdges). z.boxes) c.settle-in-Some-first.ensures.sizes ∙ (c.cover_chains.ensures.worked.same_boxes ∙ c.loop-dim.invariant.same_boxes) in
+    let short : length s.trail ≤ room = rw (← same_dims, ← same_boxes) (trail_short s.dims s.boxes s.trail c.dims-sizes.ensures.limits.trail) in
+    less_to_do c.args.instance.now _ _ _ room c.mark-next.result c.in-Some-first.dim c.loop-dim.ordered c.without.result c.in-Some-settle.more
+    c.cover_chains.ensures.worked.extends c.settle-in-Some-first.ensures.extends c.mark-next.ensures short (members_few (row_has c.in-Some-settle.more) 64)
+    c.in-Some-settle.ensures.still c.without.ensures c.in-Some-first.ensures.least.there c.in-Some-first.ensures.limit
+
+pub loop-dim-preserved : goal.loop-dim-preserved
+loop-dim-preserved c = record {
+  same_dims = ap (λ (z : PlainEdges). z.dims) c.settle-in-Some-first.ensures.sizes ∙ (c.cover_chains.ensures.worked.same_dims ∙ c.loop-dim.invariant.same_dims);
+  same_boxes = ap (λ (z : PlainEdges). z.boxes) c.settle-in-Some-first.ensures.sizes ∙ (c.cover_chains.ensures.worked.same_boxes ∙ c.loop-dim.invariant.same_boxes);
+  same_room = ap (λ (z : PlainEdges). z.room) c.settle-in-Some-first.ensures.sizes ∙ (c.cover_chains.ensures.worked.same_room ∙ c.loop-dim.invariant.same_room);
+  extends = extends_trans _ _ _ _ c.loop-dim.invariant.extends (extends_trans _ _ _ _ c.cover_chains.ensures.worked.extends c.settle-in-Some-first.ensures.extends);
+  head_count = c.cover_chains.ensures.head_count;
+  tail_count = c.cover_chains.ensures.tail_count;
+  looked = c.in-Some-settle.ensures.looked;
+}
+
+pub returns-clause-ended : goal.returns-clause-ended
+returns-clause-ended c =
+    let looked = c.loop-dim.invariant.looked in
+    (stable_settled _ _ looked.settled (λ i h. looked.chained i h (c.in_default-first.ensures.least i)), looked.settled.full)

@@ -1,0 +1,20 @@
+use Rattle.std.proofs.Common.{◌≡◌, ◌+◌, ◌-◌, ◌*◌, ◌/◌, length}
+use Rattle.rule_terms.specs.Applied.{Extends}
+use Rattle.edge_state.specs.BitRows.{row_has, members_below}
+use Rattle.packing_terms.specs.Packing.{box_count}
+use Rattle.closure_terms.specs.Work.{IsLookedThrough}
+use Rattle.refutation_check.proofs.closing.close_with.Given as goal
+
+abbrev pub invariant-loop-dim : goal.invariant-loop-dim
+invariant-loop-dim l = record {
+  same_dims : l.state.dims ≡ l.fn.state.dims;
+  same_boxes : l.state.boxes ≡ l.fn.state.boxes;
+  same_room : l.state.room ≡ l.fn.state.room;
+  extends : Extends l.instance l.fn.state.trail l.state.trail;
+  head_count : length l.head ≡ box_count l.instance;
+  tail_count : length l.tail ≡ box_count l.instance;
+  looked : IsLookedThrough l.instance l.state.trail l.state.trail l.ordered;
+}
+
+abbrev pub decreases-loop-dim : goal.decreases-loop-dim
+decreases-loop-dim l = 65 * (3 * l.fn.state.dims * l.fn.state.boxes * (l.fn.state.boxes - 1) / 2 - length l.state.trail) + members_below (row_has l.ordered) 64

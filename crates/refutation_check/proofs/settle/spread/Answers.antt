@@ -1,0 +1,18 @@
+use Rattle.packing_terms.specs.Rules.{Rule}
+use Rattle.closure_terms.specs.Work.{IsReached}
+use Rattle.closure_terms.proofs.Worked.{worked_then, worked_lost_first, worked_kept, sizes_worked}
+use Rattle.refutation_check.proofs.settle.spread.Goals as goal
+
+pub returns-then-spread_from : goal.returns-then-spread_from
+returns-then-spread_from c = worked_lost_first _ _ _ _ _ _ c.if-spread_from.true c.spread_from.ensures
+
+pub spread_from-requires-2-clause-sizes : goal.spread_from-requires-2-clause-sizes
+spread_from-requires-2-clause-sizes c = sizes_worked _ _ _ _ _ _ c.spread_from.ensures c.requires.sizes
+
+pub returns : goal.returns
+returns c =
+    let j = c.args.dim in
+    let u = c.args.u in
+    let v = c.args.v in
+    let first = worked_kept c.args.instance.now _ _ _ (IsReached j u v) c.if-spread_from.false c.spread_from.ensures in
+    worked_then c.args.instance.now _ _ _ _ (λ (rule : Rule). IsReached j u v rule) (λ (rule : Rule). IsReached j v u rule) first c.spread_from-2.ensures

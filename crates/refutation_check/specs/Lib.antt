@@ -1,0 +1,5 @@
+pub mod Ended
+pub mod Rooms
+pub mod Nodes
+pub mod Tests
+pub mod Refuters

@@ -1,0 +1,77 @@
+//! CHAIN in one dimension, with the weights of heaviest chains.
+ghost use Rattle.std.specs.Prelude.{◌≡◌, ◌<◌, ◌≤◌, ℕ, false, length, slice_index};
+ghost use Rattle.packing_terms.specs.Packing.{dims, box_count, container_side};
+ghost use Rattle.packing_terms.specs.Exclusions.{excludes, IsSurelyBefore};
+ghost use Rattle.rule_terms.specs.Places.{HasNoEmptyMask};
+ghost use Rattle.rule_terms.specs.Runs.{AreHeads, AreTails, IsTransitive};
+ghost use Rattle.closure_terms.specs.States.{IsSized};
+ghost use Rattle.closure_terms.specs.Work.{IsChainIn, IsWorked};
+ghost use Rattle.closure_terms.specs.Passes.{IsPass, IsShut};
+
+use box_instances::Instance;
+use edge_state::{EdgeState, Rel};
+use orientation_rules::{apply_chain, heads, tails};
+
+// CHAIN at a box and each one that it may be before.
+fn shut_from(
+    instance: &Instance,
+    state: &mut EdgeState,
+    dim: u32,
+    u: u32,
+    head: &[u64],
+    tail: &[u64],
+)
+    requires sizes { IsSized instance.now state.old dim }
+    requires u { u < box_count instance.now }
+    requires head_count { length head.now ≡ box_count instance.now }
+    requires tail_count { length tail.now ≡ box_count instance.now }
+    requires heads { AreHeads instance.now (excludes state.old.trail) dim head.now }
+    requires tails { AreTails instance.now (excludes state.old.trail) dim tail.now }
+    ensures { IsPass instance.now state.old state.new (λ es. (v : ℕ)
+        → v < box_count instance.now → IsShut instance.now dim head.now tail.now u v es) }
+{
+    let mut rest = state.row(dim, u, Rel::Before);
+    while let Some(v) = rest.first() {
+        rest = rest.without(v);
+        apply_chain(instance, state, dim, u, v, head, tail);
+    }
+}
+
+// The same for each first box.
+fn shut_all(instance: &Instance, state: &mut EdgeState, dim: u32, head: &[u64], tail: &[u64])
+    requires sizes { IsSized instance.now state.old dim }
+    requires head_count { length head.now ≡ box_count instance.now }
+    requires tail_count { length tail.now ≡ box_count instance.now }
+    requires heads { AreHeads instance.now (excludes state.old.trail) dim head.now }
+    requires tails { AreTails instance.now (excludes state.old.trail) dim tail.now }
+    ensures { IsPass instance.now state.old state.new (λ es. (u : ℕ)
+        → u < box_count instance.now → (v : ℕ) → v < box_count instance.now
+        → IsShut instance.now dim head.now tail.now u v es) }
+{
+    for u in 0..instance.len() {
+        shut_from(instance, state, dim, u, head, tail);
+    }
+}
+
+/// CHAIN in one dimension, at all pairs. Surely before is transitive there, and no mask is empty.
+pub fn cover_chains(
+    instance: &Instance,
+    state: &mut EdgeState,
+    dim: u32,
+    head: &mut [u64],
+    tail: &mut [u64],
+)
+    requires sizes { IsSized instance.now state.old dim }
+    requires head_count { length head.old ≡ box_count instance.now }
+    requires tail_count { length tail.old ≡ box_count instance.now }
+    requires full { HasNoEmptyMask instance.now (excludes state.old.trail) }
+    requires transitive { IsTransitive (box_count instance.now) (IsSurelyBefore
+        (excludes state.old.trail) dim) }
+    ensures head_count { length head.new ≡ box_count instance.now }
+    ensures tail_count { length tail.new ≡ box_count instance.now }
+    ensures worked { IsWorked instance.now state.old state.new false (IsChainIn dim) }
+{
+    heads(instance, state, dim, head);
+    tails(instance, state, dim, tail);
+    shut_all(instance, state, dim, head, tail);
+}

@@ -1,0 +1,232 @@
+// The tests that a token must pass at a node, in their order.
+ghost use Rattle.std.specs.Prelude.{◌≡◌, ◌<◌, ◌&&◌, ◌||◌, not, List, length};
+ghost use Rattle.packing_terms.specs.declared.Exclusion.{Exclusion as PlainExclusion};
+ghost use Rattle.packing_terms.specs.declared.Rel.TheVariants.{Overlap, Before, After};
+ghost use Rattle.packing_terms.specs.Packing.{dims, box_count};
+ghost use Rattle.packing_terms.specs.Tokens.PlainToken.{Apart as PlainApart, Order as PlainOrder, Rules as PlainRules, TooLarge as PlainTooLarge};
+ghost use Rattle.relation_table.specs.Masks.{mask_has};
+ghost use Rattle.proof_tree.specs.Plain.{plain_token};
+ghost use Rattle.check_terms.specs.Judging.{names_dim, names_box, names_pair, are_legal, sides_fit, tuple_refusal, refusal};
+ghost use Rattle.refutation_check.specs.Tests.{box_fits};
+ghost use Rattle.refutation_check.specs.Nodes.{IsOver, IsJudged};
+
+use crate::node::{OpenNode, enter};
+use crate::room::Room;
+use box_instances::Instance;
+use check_terms::RefuseCode;
+use conservative_scales::{ScaleFn, exceeds, legal};
+use edge_state::{EdgeState, Rel};
+use proof_tree::Token;
+use relation_table::Mask;
+
+// Whether the number of a text names a dimension.
+fn names_dim(instance: &Instance, dim: u32) -> bool
+    ensures { result ≡ names_dim instance.now dim }
+{
+    (1 <= dim) & (dim <= instance.dims())
+}
+
+// Whether it names a box.
+fn names_box(instance: &Instance, box_no: u32) -> bool
+    ensures { result ≡ names_box instance.now box_no }
+{
+    (1 <= box_no) & (box_no <= instance.len())
+}
+
+// Whether the numbers name a dimension and two boxes, the lower one first.
+fn names_pair(instance: &Instance, dim: u32, u: u32, v: u32) -> bool
+    ensures { result ≡ names_pair instance.now dim u v }
+{
+    let there = names_dim(instance, dim);
+    there & (1 <= u) & (u < v) & (v <= instance.len())
+}
+
+// Whether the mask has overlap and another relation.
+fn may_part(mask: Mask) -> bool
+    ensures { result ≡ mask_has mask Overlap && (mask_has mask Before || mask_has mask After) }
+{
+    mask.has(Rel::Overlap) & (mask.has(Rel::Before) | mask.has(Rel::After))
+}
+
+// Whether the mask is exactly before and after.
+fn may_order(mask: Mask) -> bool
+    ensures { result ≡ not (mask_has mask Overlap) && mask_has mask Before && mask_has mask After }
+{
+    !mask.has(Rel::Overlap) & mask.has(Rel::Before) & mask.has(Rel::After)
+}
+
+// A split of a pair into apart or joined.
+fn apart_refusal(
+    instance: &Instance,
+    state: &mut EdgeState,
+    room: &mut Room,
+    node: OpenNode,
+    dim: u32,
+    u: u32,
+    v: u32,
+) -> Option<RefuseCode>
+    requires over { IsOver instance.now state.old node }
+    requires room { room.old.boxes ≡ box_count instance.now }
+    ensures sizes { state.new ≡ record state.old { trail = state.new.trail } }
+    ensures room { room.new ≡ room.old }
+    ensures judged { IsJudged instance.now node state.old.trail state.new.trail result (PlainApart dim u v) }
+{
+    if !names_pair(instance, dim, u, v) {
+        return Some(RefuseCode::Range);
+    }
+    if enter(instance, state, room, node) {
+        return Some(RefuseCode::Choice);
+    }
+    let mask = state.mask(dim - 1, u - 1, v - 1);
+    if may_part(mask) {
+        None
+    } else {
+        Some(RefuseCode::Choice)
+    }
+}
+
+// A split of a pair that is apart into its two orders.
+fn order_refusal(
+    instance: &Instance,
+    state: &mut EdgeState,
+    room: &mut Room,
+    node: OpenNode,
+    dim: u32,
+    u: u32,
+    v: u32,
+) -> Option<RefuseCode>
+    requires over { IsOver instance.now state.old node }
+    requires room { room.old.boxes ≡ box_count instance.now }
+    ensures sizes { state.new ≡ record state.old { trail = state.new.trail } }
+    ensures room { room.new ≡ room.old }
+    ensures judged { IsJudged instance.now node state.old.trail state.new.trail result (PlainOrder dim u v) }
+{
+    if !names_pair(instance, dim, u, v) {
+        return Some(RefuseCode::Range);
+    }
+    if enter(instance, state, room, node) {
+        return Some(RefuseCode::Choice);
+    }
+    let mask = state.mask(dim - 1, u - 1, v - 1);
+    if may_order(mask) {
+        None
+    } else {
+        Some(RefuseCode::Choice)
+    }
+}
+
+// A node whose closure has a conflict.
+fn rules_refusal(
+    instance: &Instance,
+    state: &mut EdgeState,
+    room: &mut Room,
+    node: OpenNode,
+) -> Option<RefuseCode>
+    requires over { IsOver instance.now state.old node }
+    requires room { room.old.boxes ≡ box_count instance.now }
+    ensures sizes { state.new ≡ record state.old { trail = state.new.trail } }
+    ensures room { room.new ≡ room.old }
+    ensures judged { IsJudged instance.now node state.old.trail state.new.trail result PlainRules }
+{
+    if enter(instance, state, room, node) {
+        return None;
+    }
+    Some(RefuseCode::Conflict)
+}
+
+// A box that is longer than the container.
+fn side_refusal(instance: &Instance, box_no: u32, dim: u32) -> Option<RefuseCode>
+    ensures { (es : List PlainExclusion) → result ≡ refusal instance.now es (PlainTooLarge box_no dim) }
+{
+    if !names_box(instance, box_no) {
+        return Some(RefuseCode::Range);
+    }
+    if !names_dim(instance, dim) {
+        return Some(RefuseCode::Range);
+    }
+    if instance.container_side(dim - 1) < instance.side(box_no - 1, dim - 1) {
+        return None;
+    }
+    Some(RefuseCode::Side)
+}
+
+// Whether the tuple has a legal function for each dimension.
+fn are_legal(instance: &Instance, tuple: &[ScaleFn]) -> bool
+    requires { length tuple.now ≡ dims instance.now }
+    ensures { result ≡ are_legal instance.now tuple.now }
+{
+    for dim in 0..instance.dims() {
+        if !legal(tuple[dim as usize], instance.container_side(dim)) {
+            return false;
+        }
+    }
+    true
+}
+
+// Whether no side of the box exceeds the container's.
+fn box_fits(instance: &Instance, box_no: u32) -> bool
+    requires { box_no < box_count instance.now }
+    ensures { result ≡ box_fits instance.now box_no }
+{
+    for dim in 0..instance.dims() {
+        if instance.container_side(dim) < instance.side(box_no, dim) {
+            return false;
+        }
+    }
+    true
+}
+
+// Whether no box's side exceeds the container's.
+fn sides_fit(instance: &Instance) -> bool
+    ensures { result ≡ sides_fit instance.now }
+{
+    for box_no in 0..instance.len() {
+        if !box_fits(instance, box_no) {
+            return false;
+        }
+    }
+    true
+}
+
+// A tuple of scale functions for one container.
+fn tuple_refusal(instance: &Instance, tuple: &[ScaleFn]) -> Option<RefuseCode>
+    ensures { result ≡ tuple_refusal instance.now 1 tuple.now }
+{
+    if tuple.len() != instance.dims() as usize {
+        return Some(RefuseCode::Kind);
+    }
+    if !are_legal(instance, tuple) {
+        return Some(RefuseCode::Range);
+    }
+    if !sides_fit(instance) {
+        return Some(RefuseCode::Excess);
+    }
+    if exceeds(instance, tuple, 1) {
+        return None;
+    }
+    Some(RefuseCode::Excess)
+}
+
+/// The first test that a token fails at a node. Where a split passes, the state is left at the closure of the node.
+pub fn judge(
+    instance: &Instance,
+    state: &mut EdgeState,
+    room: &mut Room,
+    node: OpenNode,
+    token: &Token,
+) -> Option<RefuseCode>
+    requires over { IsOver instance.now state.old node }
+    requires room { room.old.boxes ≡ box_count instance.now }
+    ensures sizes { state.new ≡ record state.old { trail = state.new.trail } }
+    ensures room { room.new ≡ room.old }
+    ensures judged { IsJudged instance.now node state.old.trail state.new.trail result (plain_token token.now) }
+{
+    match token {
+        Token::Apart { dim, u, v } => apart_refusal(instance, state, room, node, *dim, *u, *v),
+        Token::Order { dim, u, v } => order_refusal(instance, state, room, node, *dim, *u, *v),
+        Token::Rules => rules_refusal(instance, state, room, node),
+        Token::TooLarge { box_no, dim } => side_refusal(instance, *box_no, *dim),
+        Token::Scales(tuple) => tuple_refusal(instance, tuple.as_slice()),
+        _ => Some(RefuseCode::Kind),
+    }
+}

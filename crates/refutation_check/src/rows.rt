@@ -1,0 +1,147 @@
+//! Whole rows: the boxes at which a rule may have something to exclude.
+ghost use Rattle.std.specs.Prelude.{◌≡◌, ◌<◌, ◌&&◌, not, ℕ, true, false, nat_lt, IsTrue};
+ghost use Rattle.packing_terms.specs.declared.Rel.{Rel as PlainRel};
+ghost use Rattle.packing_terms.specs.declared.Rel.TheVariants.{Overlap, Before, After};
+ghost use Rattle.packing_terms.specs.Packing.{box_count};
+ghost use Rattle.packing_terms.specs.Exclusions.{excludes};
+ghost use Rattle.packing_terms.specs.Limits.{IsBoxCount};
+ghost use Rattle.packing_terms.specs.Rules.{Compose};
+ghost use Rattle.relation_table.specs.Masks.{mask_has};
+ghost use Rattle.edge_state.specs.BitRows.{row_has};
+ghost use Rattle.edge_state.specs.Edges.{is_other};
+ghost use Rattle.closure_terms.specs.States.{IsSized};
+ghost use Rattle.closure_terms.specs.Work.{IsCovered};
+ghost use Rattle.closure_terms.specs.Rows.{may, of_three};
+
+use box_instances::Instance;
+use edge_state::{BitRow, EdgeState, Mask, Rel};
+
+/// The row of all boxes.
+pub fn all_boxes(boxes: u32) -> BitRow<2>
+    requires { IsBoxCount boxes }
+    ensures { (x : ℕ) → row_has result x ≡ nat_lt x boxes }
+{
+    let mut all = BitRow::empty();
+    for v in 0..boxes {
+        all = all.with(v);
+    }
+    all
+}
+
+/// The boxes for which one of two relations to `u` is left.
+#[inline]
+pub fn some_left(
+    instance: &Instance,
+    state: &EdgeState,
+    dim: u32,
+    u: u32,
+    first: Rel,
+    second: Rel,
+) -> BitRow<2>
+    requires sizes { IsSized instance.now state.now dim }
+    requires u { u < box_count instance.now }
+    ensures within { (v : ℕ) → row_has result v ≡ true → v < box_count instance.now }
+    ensures others { (v : ℕ) → v < box_count instance.now → (u ≡ v → ⊥) → row_has result v ≡ false
+        → IsTrue (excludes state.now.trail dim u v first)
+        × IsTrue (excludes state.now.trail dim u v second) }
+    ensures left { (v : ℕ) → row_has result v ≡ true
+        → IsTrue (excludes state.now.trail dim u v first)
+        → IsTrue (excludes state.now.trail dim u v second) → ⊥ }
+{
+    let one = state.row(dim, u, first);
+    let other = state.row(dim, u, second);
+    one.or(other)
+}
+
+/// The boxes for which neither of two relations to `u` is left, and perhaps `u` itself.
+#[inline]
+pub fn none_left(
+    instance: &Instance,
+    state: &EdgeState,
+    all: BitRow<2>,
+    dim: u32,
+    u: u32,
+    first: Rel,
+    second: Rel,
+) -> BitRow<2>
+    requires sizes { IsSized instance.now state.now dim }
+    requires u { u < box_count instance.now }
+    requires all { (x : ℕ) → row_has all x ≡ nat_lt x (box_count instance.now) }
+    ensures within { (v : ℕ) → row_has result v ≡ true → v < box_count instance.now }
+    ensures others { (v : ℕ) → v < box_count instance.now → row_has result v ≡ false
+        → IsTrue (excludes state.now.trail dim u v first)
+        → IsTrue (excludes state.now.trail dim u v second) → ⊥ }
+{
+    all.minus(some_left(instance, state, dim, u, first, second))
+}
+
+// The row where it is wanted, and else the empty one.
+#[inline]
+fn only_if(wanted: bool, row: BitRow<2>) -> BitRow<2>
+    ensures { (x : ℕ) → row_has result x ≡ row_has row x && wanted }
+{
+    if wanted { row } else { BitRow::empty() }
+}
+
+// The boxes x for which a relation of the mask and one that is left to x allow this relation.
+#[inline]
+fn allowed(
+    mask: Mask,
+    overlap: BitRow<2>,
+    before: BitRow<2>,
+    after: BitRow<2>,
+    rel: Rel,
+) -> BitRow<2>
+    ensures { (x : ℕ) → row_has result x ≡ may rel (mask_has mask)
+        (of_three (row_has overlap x) (row_has before x) (row_has after x)) }
+{
+    let any = overlap.or(before).or(after);
+    let through_overlap = match rel {
+        Rel::Overlap => any,
+        Rel::Before => overlap.or(before),
+        Rel::After => overlap.or(after),
+    };
+    let through_before = match rel {
+        Rel::Overlap => overlap.or(after),
+        Rel::Before => any,
+        Rel::After => after,
+    };
+    let through_after = match rel {
+        Rel::Overlap => overlap.or(before),
+        Rel::Before => before,
+        Rel::After => any,
+    };
+    only_if(mask.has(Rel::Overlap), through_overlap)
+        .or(only_if(mask.has(Rel::Before), through_before))
+        .or(only_if(mask.has(Rel::After), through_after))
+}
+
+/// The boxes x at which COMPOSE at `u`, `v`, x may exclude something.
+pub fn beyond_compositions(
+    instance: &Instance,
+    state: &EdgeState,
+    dim: u32,
+    u: u32,
+    v: u32,
+) -> BitRow<2>
+    requires sizes { IsSized instance.now state.now dim }
+    requires u { u < box_count instance.now }
+    requires v { v < box_count instance.now }
+    requires distinct { u ≡ v → ⊥ }
+    ensures within { (x : ℕ) → row_has result x ≡ true → x < box_count instance.now }
+    ensures others { (x : ℕ) → x < box_count instance.now → row_has result x ≡ false
+        → IsCovered instance.now (excludes state.now.trail) state.now.trail (Compose dim u v x) }
+{
+    let _boxes = state.boxes();
+    let mask = state.mask(dim, u, v);
+    let overlap = state.row(dim, v, Rel::Overlap);
+    let before = state.row(dim, v, Rel::Before);
+    let after = state.row(dim, v, Rel::After);
+    let here_overlap = state.row(dim, u, Rel::Overlap);
+    let here_before = state.row(dim, u, Rel::Before);
+    let here_after = state.row(dim, u, Rel::After);
+    let beyond_overlap = here_overlap.minus(allowed(mask, overlap, before, after, Rel::Overlap));
+    let beyond_before = here_before.minus(allowed(mask, overlap, before, after, Rel::Before));
+    let beyond_after = here_after.minus(allowed(mask, overlap, before, after, Rel::After));
+    beyond_overlap.or(beyond_before).or(beyond_after).without(v)
+}

@@ -1,0 +1,147 @@
+//! Going along what changed: the worklist is the newer part of the state's list of exclusions.
+ghost use Rattle.std.specs.Prelude.{◌≡◌, ◌<◌, ◌≤◌, ◌+◌, ◌-◌, ◌⊎◌, ℕ, true, false, nat_lt, length, drop, MatchOption};
+ghost use Rattle.packing_terms.specs.Packing.{dims, box_count};
+ghost use Rattle.packing_terms.specs.Exclusions.{excludes, IsPlaceAmong};
+ghost use Rattle.rule_terms.specs.Applied.{Extends};
+ghost use Rattle.edge_state.specs.BitRows.{row_has};
+ghost use Rattle.edge_state.specs.Answers.{IsChangeAfter};
+ghost use Rattle.closure_terms.specs.States.{IsSized, HasEmptyMask};
+ghost use Rattle.closure_terms.specs.Work.{IsWorked, IsReached, IsUnordered, IsBehind, IsLookedThrough};
+
+use crate::cycles::spread_cycles;
+use crate::empties::is_lost;
+use crate::orders::spread_orders;
+use crate::triples::spread_triples;
+use box_instances::Instance;
+use edge_state::{BitRow, EdgeState, Exclusion, Mark, Rel};
+
+// All instances that read the mask of a place in one order of its boxes, up to those that add the
+// same.
+fn spread_from(
+    instance: &Instance,
+    state: &mut EdgeState,
+    all: BitRow<2>,
+    dim: u32,
+    p: u32,
+    q: u32,
+) -> bool
+    requires sizes { IsSized instance.now state.old dim }
+    requires p { p < box_count instance.now }
+    requires q { q < box_count instance.now }
+    requires distinct { p ≡ q → ⊥ }
+    requires all { (x : ℕ) → row_has all x ≡ nat_lt x (box_count instance.now) }
+    ensures { IsWorked instance.now state.old state.new result (IsReached dim p q) }
+{
+    if spread_triples(instance, state, dim, p, q) {
+        return true;
+    }
+    if spread_cycles(instance, state, all, dim, p, q) {
+        return true;
+    }
+    spread_orders(instance, state, all, dim, p, q)
+}
+
+// All that read it in either order. True is a lost mask.
+fn spread(
+    instance: &Instance,
+    state: &mut EdgeState,
+    all: BitRow<2>,
+    dim: u32,
+    u: u32,
+    v: u32,
+) -> bool
+    requires sizes { IsSized instance.now state.old dim }
+    requires u { u < box_count instance.now }
+    requires v { v < box_count instance.now }
+    requires distinct { u ≡ v → ⊥ }
+    requires all { (x : ℕ) → row_has all x ≡ nat_lt x (box_count instance.now) }
+    ensures { IsWorked instance.now state.old state.new result
+        (λ rule. IsReached dim u v rule ⊎ IsReached dim v u rule) }
+{
+    if spread_from(instance, state, all, dim, u, v) {
+        return true;
+    }
+    spread_from(instance, state, all, dim, v, u)
+}
+
+// The place of the list behind a change, and behind the next one too where that is at the same
+// place: a rule that leaves one relation makes two changes, which are looked through together.
+fn behind(state: &EdgeState, mark: Mark, change: Exclusion) -> Mark
+    requires { IsChangeAfter state.now.trail mark change (mark + 1) }
+    ensures { IsBehind state.now.trail mark change result }
+{
+    let after = state.place_after(mark);
+    let Some(next) = state.change_after(after) else {
+        return after;
+    };
+    if next.dim != change.dim || next.u != change.u || next.v != change.v {
+        return after;
+    }
+    state.place_after(after)
+}
+
+// Whether one of the two boxes of a change is surely before the other now.
+fn is_ordered(state: &EdgeState, change: Exclusion) -> bool
+    requires { IsPlaceAmong state.now.dims state.now.boxes change.dim change.u change.v }
+    ensures { result ≡ false → IsUnordered (excludes state.now.trail) change }
+{
+    let mask = state.mask(change.dim, change.u, change.v);
+    !mask.has(Rel::Overlap) & !(mask.has(Rel::Before) & mask.has(Rel::After))
+}
+
+// The dimensions in which CHAIN is to be looked at, with that of a change that orders its boxes.
+fn with_ordered(state: &EdgeState, ordered: BitRow<1>, change: Exclusion) -> BitRow<1>
+    requires place { IsPlaceAmong state.now.dims state.now.boxes change.dim change.u change.v }
+    requires dim { change.dim < 4 }
+    ensures clean { (i : ℕ) → row_has result i ≡ false → row_has ordered i ≡ false }
+    ensures unordered { (i : ℕ) → row_has result i ≡ false → change.dim ≡ i
+        → IsUnordered (excludes state.now.trail) change }
+    ensures within { (i : ℕ) → row_has result i ≡ true → (i ≡ change.dim) ⊎ (row_has ordered i ≡ true) }
+{
+    if is_ordered(state, change) {
+        return ordered.with(change.dim);
+    }
+    ordered
+}
+
+/// Looks through the exclusions that came after a place of the list, and those that follow, the
+/// oldest first. Afterwards no rule but CHAIN adds anything, and CHAIN only in the dimensions of
+/// the answer: those that were given, and those in which two boxes became ordered. `None` is a lost
+/// mask.
+pub fn settle(
+    instance: &Instance,
+    state: &mut EdgeState,
+    all: BitRow<2>,
+    closed: Mark,
+    ordered: BitRow<1>,
+) -> Option<BitRow<1>>
+    requires dims { state.old.dims ≡ dims instance.now }
+    requires boxes { state.old.boxes ≡ box_count instance.now }
+    requires all { (x : ℕ) → row_has all x ≡ nat_lt x (box_count instance.now) }
+    requires mark { closed ≤ length state.old.trail }
+    requires looked { IsLookedThrough instance.now
+        (drop (length state.old.trail - closed) state.old.trail) state.old.trail ordered }
+    ensures sizes { state.new ≡ record state.old { trail = state.new.trail } }
+    ensures extends { Extends instance.now state.old.trail state.new.trail }
+    ensures looked { MatchOption result (HasEmptyMask instance.now (excludes state.new.trail))
+        (IsLookedThrough instance.now state.new.trail state.new.trail) }
+    ensures still { MatchOption result (Unit {0})
+        (λ more. closed ≡ length state.new.trail → more ≡ ordered) }
+{
+    let mut next = closed;
+    let mut chains = ordered;
+    while let Some(change) = state.change_after(next) {
+        let _sizes = state.dims();
+        if is_lost(instance, state, change.dim, change.u, change.v) {
+            return None;
+        }
+        let after = behind(state, next, change);
+        let more = with_ordered(state, chains, change);
+        if spread(instance, state, all, change.dim, change.u, change.v) {
+            return None;
+        }
+        next = after;
+        chains = more;
+    }
+    Some(chains)
+}

@@ -1,0 +1,167 @@
+// Trees that the search found, and trees that it wouldn't write.
+use crate::instances::{drawn_instance, instance_of, is_refuted};
+use box_instances::Instance;
+use class_search::decide_alone;
+use proof_tree::{Outcome, Token};
+use refutation_check::{FeedVerdict, RefuseCode, Refuter};
+use std::alloc::Global;
+use std::test::Fail;
+
+// Whether the refutation of the search is accepted, with so many tokens at least; or none was found.
+fn is_checked(
+    alloc: Global,
+    instance: &Instance,
+    scales: bool,
+    least: usize,
+) -> Result<Option<bool>, Fail> {
+    match decide_alone(alloc, instance, 20_000, scales)? {
+        Outcome::No { tokens, .. } => {
+            let mut refuter = Refuter::new(alloc, instance)?;
+            let is_whole = is_refuted(&mut refuter, tokens.as_slice());
+            Ok(Some(is_whole && tokens.len() >= least))
+        }
+        _ => Ok(None),
+    }
+}
+
+#[test]
+fn what_the_search_refutes_is_accepted(rt: HostRuntime) -> Result<(), Fail> {
+    let alloc = rt.alloc();
+    let mut random = 7;
+    let mut found = 0u32;
+    for round in 0..120u32 {
+        let dims = 2 + round % 3;
+        let instance = drawn_instance(alloc, &mut random, dims, 4 + round % 5, 9, 10)?;
+        if let Some(is_accepted) = is_checked(alloc, &instance, round % 2 == 0, 1)? {
+            assert!(rt; is_accepted);
+            found = found.saturating_add(1);
+        }
+    }
+    assert!(rt; found > 20);
+    Ok(())
+}
+
+#[test]
+fn a_tree_of_ten_thousand_tokens_is_accepted(rt: HostRuntime) -> Result<(), Fail> {
+    let alloc = rt.alloc();
+    let row = instance_of(alloc, &[23, 10], &[(&[3, 6], 8)])?;
+    assert_eq!(rt; is_checked(alloc, &row, false, 10_079)?, Some(true));
+    Ok(())
+}
+
+#[test]
+fn as_many_boxes_as_there_may_be_are_checked(rt: HostRuntime) -> Result<(), Fail> {
+    let alloc = rt.alloc();
+    let large = instance_of(alloc, &[10, 10, 10, 10], &[(&[6, 6, 6, 6], 128)])?;
+    assert_eq!(rt; is_checked(alloc, &large, false, 1)?, Some(true));
+    let small = instance_of(alloc, &[127, 10], &[(&[1, 6], 128)])?;
+    assert_eq!(rt; is_checked(alloc, &small, true, 1)?, Some(true));
+    Ok(())
+}
+
+// The token of a kind: 0 a leaf, 1 a split by order, else one by apart or joined.
+fn token_of(kind: u32, dim: u32, u: u32, v: u32) -> Token {
+    match kind {
+        0 => Token::Rules,
+        1 => Token::Order { dim, u, v },
+        _ => Token::Apart { dim, u, v },
+    }
+}
+
+// What the last of these tokens is answered.
+fn last_answer(
+    alloc: Global,
+    instance: &Instance,
+    tokens: &[(u32, u32, u32, u32)],
+) -> Result<FeedVerdict, Fail> {
+    let mut refuter = Refuter::new(alloc, instance)?;
+    let mut answer = FeedVerdict::More;
+    for (kind, dim, u, v) in tokens {
+        answer = refuter.feed(&token_of(*kind, *dim, *u, *v));
+    }
+    Ok(answer)
+}
+
+// Leaves before splits, and the pairs from the last one on: the search splits the first pairs first.
+fn candidates(alloc: Global, dims: u32, boxes: u32) -> Result<Vec<(u32, u32, u32, u32)>, Fail> {
+    let mut list = Vec::new(alloc);
+    list.push((0, 1, 1, 2))?;
+    for dim in 1..=dims {
+        for last in 1..=boxes {
+            for first in 1..last {
+                let v = (boxes + 1).saturating_sub(first);
+                let u = (boxes + 1).saturating_sub(last);
+                list.push((1, dim, u, v))?;
+                list.push((2, dim, u, v))?;
+            }
+        }
+    }
+    Ok(list)
+}
+
+// Adds the first candidate that is accepted, and says what it was answered.
+fn extend(
+    alloc: Global,
+    instance: &Instance,
+    tokens: &mut Vec<(u32, u32, u32, u32)>,
+    list: &[(u32, u32, u32, u32)],
+) -> Result<Option<FeedVerdict>, Fail> {
+    for token in list {
+        tokens.push(*token)?;
+        let answer = last_answer(alloc, instance, tokens.as_slice())?;
+        if answer == FeedVerdict::More || answer == FeedVerdict::Done {
+            return Ok(Some(answer));
+        }
+        tokens.pop();
+    }
+    Ok(None)
+}
+
+#[test]
+fn other_trees_than_those_of_the_search_are_accepted(rt: HostRuntime) -> Result<(), Fail> {
+    let alloc = rt.alloc();
+    let row = instance_of(alloc, &[11, 10], &[(&[3, 6], 4)])?;
+    let list = candidates(alloc, 2, 4)?;
+    let mut tokens = Vec::new(alloc);
+    let mut answer = Some(FeedVerdict::More);
+    for _ in 0..100u32 {
+        if answer == Some(FeedVerdict::More) {
+            answer = extend(alloc, &row, &mut tokens, list.as_slice())?;
+        }
+    }
+    assert_eq!(rt; answer, Some(FeedVerdict::Done));
+    assert!(rt; tokens.len() > 10);
+    Ok(())
+}
+
+#[test]
+fn nothing_is_taken_behind_a_whole_tree(rt: HostRuntime) -> Result<(), Fail> {
+    let alloc = rt.alloc();
+    let boxes = instance_of(alloc, &[10, 10], &[(&[6, 4], 3)])?;
+    let mut refuter = Refuter::new(alloc, &boxes)?;
+    assert!(rt; !refuter.whole());
+    assert_eq!(rt; refuter.feed(&Token::Rules), FeedVerdict::Done);
+    assert!(rt; refuter.whole());
+    let after = FeedVerdict::Refused {
+        code: RefuseCode::After,
+    };
+    for _ in 0..2u32 {
+        assert_eq!(rt; refuter.feed(&Token::Rules), after);
+        assert!(rt; !refuter.whole());
+    }
+    Ok(())
+}
+
+#[test]
+fn a_refusal_stays(rt: HostRuntime) -> Result<(), Fail> {
+    let alloc = rt.alloc();
+    let boxes = instance_of(alloc, &[10, 10], &[(&[6, 4], 3)])?;
+    let mut refuter = Refuter::new(alloc, &boxes)?;
+    let range = FeedVerdict::Refused {
+        code: RefuseCode::Range,
+    };
+    assert_eq!(rt; refuter.feed(&Token::Order { dim: 9, u: 1, v: 2 }), range);
+    assert_eq!(rt; refuter.feed(&Token::Rules), range);
+    assert!(rt; !refuter.whole());
+    Ok(())
+}
