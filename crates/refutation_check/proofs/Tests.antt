@@ -40,19 +40,19 @@ legal_tuple instance fs count h = record {
       (all_at (λ i. is_legal (container_side instance i) (function_at fs i)) i (below (dims instance)) h (in_range 0 (dims instance) i (omega arith) (omega arith)));
 }
 
-module _ (instance : PlainInstance) (fs : List ScaleFn) (b : Bool) (exactly : IsTrue b ↔ Exceeds instance fs 1) where
-  pub accepted : b ≡ true → None ≡ tuple_refusal instance 1 fs
-  accepted h = sym ((tuple_exact instance 1 fs).1 (exactly.0 h))
+module _ (instance : PlainInstance) (fs : List ScaleFn) (copies : ℕ) (b : Bool) (exactly : IsTrue b ↔ Exceeds instance fs copies) where
+  pub accepted : b ≡ true → None ≡ tuple_refusal instance copies fs
+  accepted h = sym ((tuple_exact instance copies fs).1 (exactly.0 h))
 
-  pub not_exceeding : b ≡ false → length fs ≡ dims instance → are_legal instance fs ≡ true → Some Excess ≡ tuple_refusal instance 1 fs
-  not_exceeding h count legal = go (cases_Bool (sides_fit instance && has_excess instance 1 fs))
+  pub not_exceeding : b ≡ false → length fs ≡ dims instance → are_legal instance fs ≡ true → Some Excess ≡ tuple_refusal instance copies fs
+  not_exceeding h count legal = go (cases_Bool (sides_fit instance && has_excess instance copies fs))
     where
       to : (length fs == dims instance) ≡ true
       to = eq-eqb (length fs) (dims instance) count
 
-      go : ((sides_fit instance && has_excess instance 1 fs) ≡ true) ⊎ ((sides_fit instance && has_excess instance 1 fs) ≡ false) → Some Excess ≡ tuple_refusal instance 1 fs
+      go : ((sides_fit instance && has_excess instance copies fs) ≡ true) ⊎ ((sides_fit instance && has_excess instance copies fs) ≡ false) → Some Excess ≡ tuple_refusal instance copies fs
       go (inr e) = unless_false _ Excess None e ∙ (unless_true _ Range _ legal ∙ unless_true _ Kind _ to)
-      go (inl e) = absurd (true≢false (sym (exactly.1 ((tuple_exact instance 1 fs).0
+      go (inl e) = absurd (true≢false (sym (exactly.1 ((tuple_exact instance copies fs).0
           (sym (unless_true _ Excess None e ∙ (unless_true _ Range _ legal ∙ unless_true _ Kind _ to))))) ∙ h))
 
 pub not_le : (a b : ℕ) → b < a → nat_le a b ≡ false

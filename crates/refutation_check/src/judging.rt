@@ -1,8 +1,9 @@
 // The tests that a token must pass at a node, in their order.
-ghost use Rattle.std.specs.Prelude.{◌≡◌, ◌<◌, ◌&&◌, ◌||◌, not, List, length};
+ghost use Rattle.std.specs.Prelude.{◌≡◌, ◌≤◌, ◌<◌, ◌&&◌, ◌||◌, not, List, length};
 ghost use Rattle.packing_terms.specs.declared.Exclusion.{Exclusion as PlainExclusion};
 ghost use Rattle.packing_terms.specs.declared.Rel.TheVariants.{Overlap, Before, After};
 ghost use Rattle.packing_terms.specs.Packing.{dims, box_count};
+ghost use Rattle.packing_terms.specs.Limits.{most_boxes};
 ghost use Rattle.packing_terms.specs.Tokens.PlainToken.{Apart as PlainApart, Order as PlainOrder, Rules as PlainRules, TooLarge as PlainTooLarge};
 ghost use Rattle.relation_table.specs.Masks.{mask_has};
 ghost use Rattle.proof_tree.specs.Plain.{plain_token};
@@ -188,9 +189,13 @@ fn sides_fit(instance: &Instance) -> bool
     true
 }
 
-// A tuple of scale functions for one container.
-fn tuple_refusal(instance: &Instance, tuple: &[ScaleFn]) -> Option<RefuseCode>
-    ensures { result ≡ tuple_refusal instance.now 1 tuple.now }
+/// The first test that a tuple of scale functions fails for so many copies of the container, which
+/// are at most 128: `Kind` where it hasn't a function for each dimension, `Range` where one isn't
+/// legal for its container side, else `Excess` where a side of a box exceeds the container's or the
+/// tuple doesn't exceed.
+pub fn judge_tuple(instance: &Instance, tuple: &[ScaleFn], copies: u32) -> Option<RefuseCode>
+    requires { copies ≤ most_boxes }
+    ensures { result ≡ tuple_refusal instance.now copies tuple.now }
 {
     if tuple.len() != instance.dims() as usize {
         return Some(RefuseCode::Kind);
@@ -201,7 +206,7 @@ fn tuple_refusal(instance: &Instance, tuple: &[ScaleFn]) -> Option<RefuseCode>
     if !sides_fit(instance) {
         return Some(RefuseCode::Excess);
     }
-    if exceeds(instance, tuple, 1) {
+    if exceeds(instance, tuple, copies) {
         return None;
     }
     Some(RefuseCode::Excess)
@@ -226,7 +231,7 @@ pub fn judge(
         Token::Order { dim, u, v } => order_refusal(instance, state, room, node, *dim, *u, *v),
         Token::Rules => rules_refusal(instance, state, room, node),
         Token::TooLarge { box_no, dim } => side_refusal(instance, *box_no, *dim),
-        Token::Scales(tuple) => tuple_refusal(instance, tuple.as_slice()),
+        Token::Scales(tuple) => judge_tuple(instance, tuple.as_slice(), 1),
         _ => Some(RefuseCode::Kind),
     }
 }

@@ -20,4 +20,5 @@ mod sweep;
 mod triples;
 
 pub use check_terms::{FeedVerdict, RefuseCode};
+pub use judging::judge_tuple;
 pub use refuter::Refuter;

@@ -1,0 +1,9 @@
+pub mod Paths
+pub mod Ranges
+pub mod Views
+pub mod Placed
+pub mod Chosen
+pub mod BinSteps
+pub mod ValueSteps
+pub mod Moves
+pub mod Fed

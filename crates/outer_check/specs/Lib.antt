@@ -1,0 +1,5 @@
+pub mod Frames
+pub mod Nodes
+pub mod Outers
+pub mod Steps
+pub mod Taking

@@ -1,0 +1,6 @@
+/// What an outer tree is to refute: that the boxes fit in so many bins, or that they reach a value.
+#[derive(Clone, Copy, Debug, PartialEq, Eq)]
+pub enum Goal {
+    Bins(u32),
+    Value(u64),
+}

@@ -1,0 +1,145 @@
+// What a token makes of the parts of an outer refuter.
+ghost use Rattle.std.specs.Prelude.{◌≡◌, ◌≤◌, length, [], vec_capacity};
+ghost use Rattle.packing_terms.specs.Packing.{PlainInstance, box_count};
+ghost use Rattle.check_terms.specs.Checking.{starting};
+ghost use Rattle.proof_tree.specs.Plain.{plain_token};
+ghost use Rattle.outer_check.specs.declared.goal.Goal.{Goal as PlainGoal};
+ghost use Rattle.outer_check.specs.declared.place.Place.TheVariants.{AtNode, InSet};
+ghost use Rattle.outer_check.specs.Frames.{next_frames, boxes_put};
+ghost use Rattle.outer_check.specs.Outers.{CanBeRefuted, IsGoing, AreOf};
+ghost use Rattle.outer_check.specs.Steps.{IsStep, place_behind};
+ghost use Rattle.outer_check.specs.Taking.{IsTaken};
+
+use crate::goal::Goal;
+use crate::path::Path;
+use crate::place::Place;
+use crate::step::{Step, step_for_bins, step_for_value};
+use box_instances::Instance;
+use check_terms::{FeedVerdict, RefuseCode};
+use proof_tree::Token;
+use refutation_check::Refuter;
+
+// The current node is closed.
+fn leave(path: &mut Path, place: &mut Place)
+    ensures path { path.new ≡ record path.old { frames = next_frames path.old.frames } }
+    ensures place { place.new ≡ place_behind (next_frames path.old.frames) }
+{
+    *place = if path.leave() {
+        Place::AtNode
+    } else {
+        Place::AtEnd
+    };
+}
+
+// What a token does at the outer node that the path leads to.
+fn step_of(instance: &Instance, goal: Goal, path: &Path, token: &Token) -> Step
+    requires boxes { path.now.boxes ≡ box_count instance.now }
+    requires can { CanBeRefuted instance.now goal }
+    requires are { AreOf goal path.now.frames }
+    ensures { IsStep instance.now goal path.now.frames (plain_token token.now) result }
+{
+    match goal {
+        Goal::Bins(bins) => step_for_bins(instance, path, bins, token),
+        Goal::Value(value) => step_for_value(instance, path, value, token),
+    }
+}
+
+// A token in the inner tree of a set.
+fn take_inner(
+    path: &mut Path,
+    place: &mut Place,
+    inner: &mut Refuter<'_>,
+    token: &Token,
+) -> Result<(), RefuseCode>
+    requires { place.old ≡ InSet }
+    ensures { (instance : PlainInstance) (goal : PlainGoal) → IsGoing instance goal path.old place.old inner.old
+        → IsTaken instance goal path.old place.old inner.old (plain_token token.now) path.new place.new inner.new result }
+{
+    match inner.feed(token) {
+        FeedVerdict::More => Ok(()),
+        FeedVerdict::Done => {
+            leave(path, place);
+            Ok(())
+        }
+        FeedVerdict::Refused { code } => Err(code),
+    }
+}
+
+// The inner tree of the boxes that the splits put into their child of this number begins.
+fn begin(path: &Path, place: &mut Place, inner: &mut Refuter<'_>, keep: &mut Vec<u32>, child: u32)
+    requires boxes { path.now.boxes ≡ box_count inner.old.instance }
+    requires room { path.now.boxes ≤ vec_capacity keep.old }
+    requires some { 1 ≤ length (boxes_put path.now.boxes path.now.frames child) }
+    ensures place { place.new ≡ InSet }
+    ensures inner { inner.new ≡ record inner.old {
+      keep = boxes_put path.now.boxes path.now.frames child;
+      checked = starting [];
+    } }
+    ensures room { vec_capacity keep.new ≡ vec_capacity keep.old }
+{
+    path.gather(child, keep);
+    inner.restart(keep.as_slice());
+    *place = Place::InSet;
+}
+
+// A token at an outer node.
+fn take_outer(
+    instance: &Instance,
+    goal: Goal,
+    path: &mut Path,
+    place: &mut Place,
+    inner: &mut Refuter<'_>,
+    keep: &mut Vec<u32>,
+    token: &Token,
+) -> Result<(), RefuseCode>
+    requires can { CanBeRefuted instance.now goal }
+    requires going { IsGoing instance.now goal path.old place.old inner.old }
+    requires there { place.old ≡ AtNode }
+    requires room { path.old.boxes ≤ vec_capacity keep.old }
+    ensures taken { IsTaken instance.now goal path.old place.old inner.old (plain_token token.now) path.new place.new inner.new result }
+    ensures room { vec_capacity keep.new ≡ vec_capacity keep.old }
+{
+    match step_of(instance, goal, path, token) {
+        Step::Refuse(code) => Err(code),
+        Step::Close => {
+            leave(path, place);
+            Ok(())
+        }
+        Step::Enter {
+            box_no,
+            children,
+            used,
+        } => {
+            path.enter(box_no, children, used);
+            Ok(())
+        }
+        Step::Begin(child) => {
+            begin(path, place, inner, keep, child);
+            Ok(())
+        }
+    }
+}
+
+/// A token, where nothing was refused: it is refused and leaves the tree, or the tree is that behind
+/// it.
+pub fn take(
+    instance: &Instance,
+    goal: Goal,
+    path: &mut Path,
+    place: &mut Place,
+    inner: &mut Refuter<'_>,
+    keep: &mut Vec<u32>,
+    token: &Token,
+) -> Result<(), RefuseCode>
+    requires can { CanBeRefuted instance.now goal }
+    requires going { IsGoing instance.now goal path.old place.old inner.old }
+    requires room { path.old.boxes ≤ vec_capacity keep.old }
+    ensures taken { IsTaken instance.now goal path.old place.old inner.old (plain_token token.now) path.new place.new inner.new result }
+    ensures room { vec_capacity keep.new ≡ vec_capacity keep.old }
+{
+    match *place {
+        Place::AtEnd => Err(RefuseCode::After),
+        Place::InSet => take_inner(path, place, inner, token),
+        Place::AtNode => take_outer(instance, goal, path, place, inner, keep, token),
+    }
+}
