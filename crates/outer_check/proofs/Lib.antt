@@ -7,3 +7,4 @@ pub mod BinSteps
 pub mod ValueSteps
 pub mod Moves
 pub mod Fed
+pub mod Opened

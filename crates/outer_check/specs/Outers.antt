@@ -1,6 +1,6 @@
 -- What an outer refuter is seen as: the tree that is fed as the definition has it (the path to the current node, with the number of closed children of
 -- each split on it; behind the token of a refuted set the open nodes of its inner tree), and the refusal if there was one.
-use Rattle.std.specs.Prelude.{ℕ, ◌≡◌, ◌≤◌, Bool, true, false, List, [], ◌∷◌, length, Option, Some, None}
+use Rattle.std.specs.Prelude.{ℕ, ◌≡◌, ◌≤◌, Bool, true, false, List, [], ◌∷◌, length, Option, Some, None, Result, Ok, Err}
 use Rattle.packing_terms.specs.declared.Exclusion.{Exclusion}
 use Rattle.packing_terms.specs.Packing.{PlainInstance, box_count}
 use Rattle.packing_terms.specs.Limits.{most_boxes}
@@ -47,6 +47,11 @@ judged_at refusal (On path (Inside keep es behind)) t = refusal (Inner keep es) 
 abbrev pub tree_refusal : PlainInstance → OuterTree → PlainToken → Option RefuseCode
 tree_refusal instance (ForBins k view) t = judged_at (bin_refusal instance k) view t
 tree_refusal instance (ForValue y view) t = judged_at (value_refusal instance y) view t
+
+-- what a judged token leaves: the refusal, or these open nodes
+abbrev pub left_open : {Node : Type 0} → Option RefuseCode → List (OpenNode Node) → Result (List (OpenNode Node)) RefuseCode
+left_open (Some code) nodes = Err code
+left_open None nodes = Ok nodes
 
 -- the tree after an accepted token
 abbrev pub tree_after : OuterTree → PlainToken → OuterTree

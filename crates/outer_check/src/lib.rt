@@ -2,6 +2,7 @@
 #![tactic(auto)]
 
 mod goal;
+mod laws;
 mod path;
 mod place;
 mod refuter;
@@ -10,4 +11,5 @@ mod taking;
 
 pub use check_terms::{FeedVerdict, RefuseCode};
 pub use goal::Goal;
+pub use laws::outer_steps_leave_the_open_nodes;
 pub use refuter::OuterRefuter;

@@ -7,6 +7,8 @@ mod codes;
 #[cfg(test)]
 mod instances;
 #[cfg(test)]
+mod outer;
+#[cfg(test)]
 mod sets;
 #[cfg(test)]
 mod trees;
