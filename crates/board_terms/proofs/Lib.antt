@@ -1,0 +1,11 @@
+pub mod Lists
+pub mod Left
+pub mod Chain
+pub mod Changes
+pub mod Fair
+pub mod Replays
+pub mod RunRight
+pub mod Outs
+pub mod Once
+pub mod Calls
+pub mod Rows

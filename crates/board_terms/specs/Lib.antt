@@ -1,0 +1,5 @@
+pub mod Board
+pub mod Runs
+pub mod Steps
+pub mod Replay
+pub mod Kept

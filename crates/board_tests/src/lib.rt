@@ -1,0 +1,16 @@
+//! Tests of the work board over class trees: both scripts, a thousand random schedules, and a worker that is short of memory
+//! at each moment. Every board that is over gives the outcome of one thread.
+#![tactic(auto)]
+
+#[cfg(test)]
+mod compare;
+#[cfg(test)]
+mod rows;
+#[cfg(test)]
+mod runner;
+#[cfg(test)]
+mod schedules;
+#[cfg(test)]
+mod scripts;
+#[cfg(test)]
+mod shortage;

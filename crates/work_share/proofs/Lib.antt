@@ -1,0 +1,14 @@
+pub mod Stored
+pub mod Fronts
+pub mod Advance
+pub mod Waiting
+pub mod Making
+pub mod Tokens
+pub mod Standing
+pub mod Kept
+pub mod Taking
+pub mod Starting
+pub mod Finishing
+pub mod Outside
+pub mod Inserted
+pub mod Splitting

@@ -1,0 +1,114 @@
+// The joining of a finished run.
+ghost use Rattle.std.specs.Prelude.{◌≡◌, ◌≤◌, ◌<◌, ◌++◌, ℕ, List, length, map, IfOk, OnOk, true, false};
+ghost use Rattle.packing_terms.specs.Tokens.{PlainToken};
+ghost use Rattle.tree_terms.specs.Trees.{No, join, told};
+ghost use Rattle.board_terms.specs.Kept.{AreBelow, AreDistinct};
+ghost use Rattle.board_terms.specs.Runs.{Run, run_of, with_entry};
+ghost use Rattle.proof_tree.specs.Plain.{plain_outcome, plain_token};
+ghost use Rattle.work_share.specs.Slots.{entry_of, entries_of};
+ghost use Rattle.work_share.specs.Fronts.{IsFront, Ends, piece_of};
+ghost use Rattle.work_share.specs.Joining.{tokens_told, tokens_in, tokens_of};
+
+use crate::front::Front;
+use crate::slot::{Slot, SlotState};
+use box_instances::NoMemory;
+use proof_tree::{Outcome, Token};
+use std::alloc::{AllocError, Global};
+use std::mem;
+
+// What a run comes to that ends with this entry, where this count stands before it.
+fn end_run(slot: &mut Slot, budget: u64, before: u64) -> Outcome
+    requires within { before ≤ budget }
+    requires ends { (number : ℕ) → Ends budget before (piece_of (entry_of number slot.old)) }
+    ensures { (number : ℕ) (tokens : List PlainToken) (run : Run)
+        → plain_outcome result ≡ told budget (join (No tokens before) (with_entry budget (entry_of number slot.old) run).verdict) }
+{
+    match mem::replace(&mut slot.state, SlotState::Out) {
+        SlotState::Done(Outcome::Yes { numbers, count }) if count <= budget - before => {
+            Outcome::Yes {
+                numbers,
+                count: before + count,
+            }
+        }
+        _ => Outcome::Past,
+    }
+}
+
+// Moves the tokens of an outcome behind others.
+fn push_told(tokens: &mut Vec<Token>, outcome: Outcome) -> Result<(), AllocError>
+    ensures { OnOk result (map plain_token tokens.new.items ≡ map plain_token tokens.old.items ++ tokens_told (plain_outcome outcome)) }
+{
+    match outcome {
+        Outcome::No {
+            tokens: mut more,
+            count: _,
+        } => tokens.append(&mut more),
+        Outcome::Yes {
+            numbers: _numbers,
+            count: _,
+        } => Ok(()),
+        Outcome::Past => Ok(()),
+    }
+}
+
+// Moves the tokens of a finished entry behind others.
+fn push_tokens(tokens: &mut Vec<Token>, slot: &mut Slot) -> Result<(), AllocError>
+    ensures { OnOk result ((number : ℕ) → map plain_token tokens.new.items ≡ map plain_token tokens.old.items ++ tokens_in (entry_of number slot.old)) }
+{
+    match mem::replace(&mut slot.state, SlotState::Out) {
+        SlotState::Done(outcome) => push_told(tokens, outcome),
+        SlotState::Split {
+            token,
+            own: _,
+            children: _,
+        } => {
+            tokens.push(token)?;
+            Ok(())
+        }
+        SlotState::Waits => Ok(()),
+        SlotState::Out => Ok(()),
+    }
+}
+
+// The tokens of all entries in their order.
+fn join_tokens(
+    alloc: Global,
+    mut slots: Vec<Slot>,
+    order: &[usize],
+) -> Result<Vec<Token>, AllocError>
+    requires below { AreBelow (length slots.items) order.now }
+    requires distinct { AreDistinct order.now }
+    ensures { IfOk result (λ tokens. map plain_token tokens.items ≡ tokens_of (entries_of slots.items order.now)) }
+{
+    let mut tokens = Vec::new(alloc);
+    for number in order {
+        push_tokens(&mut tokens, &mut slots[*number])?;
+    }
+    Ok(tokens)
+}
+
+// What a run that is over comes to.
+pub fn join_run(
+    alloc: Global,
+    mut slots: Vec<Slot>,
+    order: &[usize],
+    budget: u64,
+    front: Front,
+) -> Result<Outcome, NoMemory>
+    requires below { AreBelow (length slots.items) order.now }
+    requires distinct { AreDistinct order.now }
+    requires front { IsFront budget (entries_of slots.items order.now) front.len front.count front.is_ended }
+    requires over { front.is_ended ≡ false → front.len ≡ length order.now }
+    ensures { IfOk result (λ r. plain_outcome r ≡ told budget (run_of budget (entries_of slots.items order.now)).verdict) }
+{
+    if front.is_ended {
+        return Ok(end_run(&mut slots[order[front.len]], budget, front.count));
+    }
+    match join_tokens(alloc, slots, order) {
+        Ok(tokens) => Ok(Outcome::No {
+            tokens,
+            count: front.count,
+        }),
+        Err(_) => Err(NoMemory),
+    }
+}
