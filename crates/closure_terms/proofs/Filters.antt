@@ -1,6 +1,6 @@
 -- Where a row leaves a box out, an instance of the rule adds nothing there.
-use Rattle.std.proofs.Common.{◌≡◌, ◌≢◌, ℕ, ◌<◌, ◌⊎◌, inl, inr, refl, sym, ◌∙◌, Bool, true, false, not, ◌&&◌, ◌||◌, ltb, List}
-use Rattle.std.proofs.lemmas.Bool.{true≢false, and_parts, ltb-true}
+use Rattle.std.proofs.Common.{◌≡◌, ◌≢◌, ℕ, ◌<◌, ◌⊎◌, inl, inr, refl, sym, ◌∙◌, Bool, true, false, not, ◌&&◌, ◌||◌, eqb, ltb, List}
+use Rattle.std.proofs.lemmas.Bool.{true≢false, and_parts, eqb-true, ltb-true}
 use Rattle.packing_terms.specs.declared.Rel.{Rel}
 use Rattle.packing_terms.specs.declared.Rel.TheVariants.{Overlap, Before, After}
 use Rattle.packing_terms.specs.declared.Exclusion.{Exclusion}
@@ -12,6 +12,7 @@ use Rattle.packing_terms.proofs.Sets.{excludes_symmetric}
 use Rattle.edge_state.specs.Edges.{is_other}
 use Rattle.edge_state.proofs.Kept.{row_open, row_shut}
 use Rattle.closure_terms.specs.Work.{IsCovered}
+use Rattle.closure_terms.proofs.Worked.{covered_if, covered_not}
 
 pub or_off : (a b : Bool) → (a || b) ≡ false → (a ≡ false) × (b ≡ false)
 or_off false b h = (refl, h)
@@ -67,6 +68,19 @@ covered_by instance es rule h = record { holds = λ i u v r add. go i u v r add 
     go : (i u v : ℕ) (r : Rel) → Adds instance (excludes es) rule i u v r → excludes es i u v r ≡ true
     go _ _ _ _ (added r is p c) = h is p r c
     go _ _ _ _ (mirror_added r is p c) = excludes_symmetric es (dim_of rule) (first_of rule) (second_of rule) r (h is p r c)
+
+-- an instance of distinct boxes whose premises fail
+pub covered_never : (instance : PlainInstance) (es : List Exclusion) (rule : Rule) → (IsRuleInstance instance rule → Premises instance (excludes es) rule → ⊥)
+    → IsCovered instance (excludes es) es rule
+covered_never instance es rule fails = covered_if instance (excludes es) es rule (λ is. covered_not instance (excludes es) es rule (fails is))
+
+-- a box that isn't in a row, or is the one that was taken out
+pub without_off : (a : Bool) (x y : ℕ) → (a && not (eqb x y)) ≡ false → (a ≡ false) ⊎ (x ≡ y)
+without_off a x y h = go (minus_off a (eqb x y) h)
+  where
+    go : (a ≡ false) ⊎ (eqb x y ≡ true) → (a ≡ false) ⊎ (x ≡ y)
+    go (inl f) = inl f
+    go (inr e) = inr (eqb-true x y e)
 
 joined_rest : (X : Exclusions) (i u v : ℕ) (r : Rel) → r ≢ Overlap → (X i u v Before ≡ true) × (X i u v After ≡ true) → X i u v r ≡ true
 joined_rest X i u v Overlap ne h = absurd (ne refl)

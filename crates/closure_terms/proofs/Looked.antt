@@ -1,5 +1,5 @@
 -- What was looked through, and what is left to do.
-use Rattle.std.proofs.Common.{◌≡◌, ℕ, ◌+◌, ◌-◌, ◌*◌, ◌<◌, ◌≤◌, ◌⊎◌, inl, inr, refl, sym, ◌∙◌, arith, Bool, true, false, not, ◌&&◌, eqb, List, length, drop}
+use Rattle.std.proofs.Common.{◌≡◌, ℕ, ◌+◌, ◌-◌, ◌*◌, ◌<◌, ◌≤◌, ◌⊎◌, inl, inr, refl, sym, ap, ◌∙◌, arith, Bool, true, false, not, ◌&&◌, eqb, List, length, drop}
 use Rattle.std.proofs.lemmas.Bool.{true≢false, cases_Bool, cases_eq, and_parts, eqb-true}
 use Rattle.std.proofs.lemmas.List.{length-append}
 use Rattle.packing_terms.specs.declared.Rel.{Rel}
@@ -100,3 +100,7 @@ less_to_do instance old mid new room k dim dirty less more first second e short 
 
     grown_second : length new ≡ length second.more + length mid
     grown_second = rw second.grown (length-append second.more mid)
+
+-- a place of the list stays one where exclusions come on top
+pub marked : (instance : PlainInstance) (k : ℕ) (old new : List Exclusion) → k ≡ length old → Extends instance old new → k ≤ length new
+marked instance k old new e more = omega (arith, e, ap length more.grown ∙ length-append more.more old)

@@ -69,3 +69,25 @@ pub pass_all : (instance : PlainInstance) (a b : PlainEdges) (n : ℕ) (row : �
     → IsPass instance a b (λ es. (x : ℕ) → x < n → row x ≡ false → P x es) → IsPass instance a b (λ es. (x : ℕ) → x < n → P x es)
 pass_all instance a b n row P none h =
     pass_as instance a b (λ es. (x : ℕ) → x < n → row x ≡ false → P x es) (λ es. (x : ℕ) → x < n → P x es) (λ es p x l. p x l (none x)) h
+
+-- what holds of each member that was looked at, with one more
+pub member_next : (row before after : ℕ → Bool) (y : ℕ) (P : ℕ → Type 0) → ((x : ℕ) → after x ≡ before x && not (eqb x y))
+    → ((x : ℕ) → row x ≡ true → before x ≡ false → P x) → P y → (x : ℕ) → row x ≡ true → after x ≡ false → P x
+member_next row before after y P less h here x on off = go (cases_Bool (eqb x y)) (sym (less x) ∙ off)
+  where
+    go : (eqb x y ≡ true) ⊎ (eqb x y ≡ false) → (before x && not (eqb x y)) ≡ false → P x
+    go (inl k) f = let same : x ≡ y = eqb-true x y k in subst P (sym same) here
+    go (inr k) f = h x on (both_on (before x) (not (eqb x y)) (rw k refl) f)
+
+-- where no member and no other box does anything
+pub none_worked : (instance : PlainInstance) (s : PlainEdges) (n : ℕ) (row : ℕ → Bool) (Q : ℕ → ℕ → Rule)
+    → ((x : ℕ) → row x ≡ true → (y : ℕ) → y < n → IsCovered instance (excludes s.trail) s.trail (Q x y))
+    → ((x : ℕ) → x < n → row x ≡ false → (y : ℕ) → IsCovered instance (excludes s.trail) s.trail (Q x y))
+    → IsWorked instance s s false (λ rule. (x : ℕ) × (x < n) × ((y : ℕ) × (y < n) × (rule ≡ Q x y)))
+none_worked instance s n row Q members others =
+    worked_none instance s (λ rule. (x : ℕ) × (x < n) × ((y : ℕ) × (y < n) × (rule ≡ Q x y)))
+    (λ rule h. covered_named instance s.trail rule (Q h.0 h.2.0) h.2.2 (go h.0 h.2.0 h.1 h.2.1 (cases_Bool (row h.0))))
+  where
+    go : (x y : ℕ) → x < n → y < n → (row x ≡ true) ⊎ (row x ≡ false) → IsCovered instance (excludes s.trail) s.trail (Q x y)
+    go x y hx hy (inl on) = members x on y hy
+    go x y hx hy (inr off) = others x hx off y

@@ -31,5 +31,6 @@ module _ (instance : PlainInstance) (j p q : ℕ) (rule : Rule) where
 -- all of them, in the order in which they are applied
 abbrev pub AppliedAll : PlainInstance → ℕ → ℕ → ℕ → Rule → Type 0
 AppliedAll instance j p q rule =
-    ((((((Composes instance j p q rule ⊎ Triples instance j p q rule) ⊎ Aparts instance j p q rule) ⊎ Cycles instance j p q rule) ⊎ Chords instance j p q rule)
-    ⊎ OrdersFirst instance j p q rule) ⊎ OrdersSecond instance j p q rule) ⊎ OrdersCrossed instance j p q rule
+    (((Composes instance j p q rule ⊎ (Triples instance j p q rule ⊎ Chords instance j p q rule))
+    ⊎ (Aparts instance j p q rule ⊎ Cycles instance j p q rule))
+    ⊎ (OrdersFirst instance j p q rule ⊎ OrdersSecond instance j p q rule)) ⊎ OrdersCrossed instance j p q rule

@@ -164,12 +164,13 @@ fn from_root(
     dims: u8,
     boxes: u8,
     most: u32,
+    container: u32,
 ) -> Result<u32, Fail>
     requires dims { IsDimCount dims }
     requires boxes { IsBoxCount boxes }
 {
     let sides = sides_of(alloc, random, boxes, most)?;
-    let instance = instance_of(alloc, dims, boxes, 20, sides.as_slice())?;
+    let instance = instance_of(alloc, dims, boxes, container, sides.as_slice())?;
     let mut state = EdgeState::new(alloc, u32::from(dims), u32::from(boxes))?;
     let mut whole = EdgeState::new(alloc, u32::from(dims), u32::from(boxes))?;
     let mut closer = Closer::new(alloc, u32::from(dims), u32::from(boxes))?;
@@ -193,9 +194,23 @@ fn closing_what_changed_is_closing(rt: HostRuntime) -> Result<(), Fail> {
         let dims = 2 + (number % 3) as u8;
         let boxes = 4 + (number % 17) as u8;
         let most = 7 + number % 3;
-        let here = from_root(&rt, rt.alloc(), &mut random, dims, boxes, most)?;
+        let here = from_root(&rt, rt.alloc(), &mut random, dims, boxes, most, 20)?;
         stay = stay.saturating_add(here);
     }
     assert!(rt; stay >= 2000, "{stay} stay");
+    Ok(())
+}
+
+#[test]
+fn closing_what_changed_is_closing_with_many_boxes(rt: HostRuntime) -> Result<(), Fail> {
+    let mut random = 7;
+    let mut stay = 0u32;
+    for boxes in [63, 64, 65, 66, 127, 128] {
+        for dims in 2..4u8 {
+            let here = from_root(&rt, rt.alloc(), &mut random, dims, boxes, 40, 90)?;
+            stay = stay.saturating_add(here);
+        }
+    }
+    assert!(rt; stay >= 100, "{stay} stay");
     Ok(())
 }

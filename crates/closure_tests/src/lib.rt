@@ -5,6 +5,8 @@
 #[cfg(test)]
 mod descents;
 #[cfg(test)]
+mod many_boxes;
+#[cfg(test)]
 mod plain_closure;
 #[cfg(test)]
 mod random;

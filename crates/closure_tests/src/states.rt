@@ -11,11 +11,17 @@ use std::alloc::Global;
 use std::process::Abort;
 use std::test::Fail;
 
-// Excludes some relations, fewer than `tries`, in both states.
-fn exclude_some(
+// The box of the state that stands for one of the plain state: that of the list, or the same.
+fn box_of(numbers: &[u32], u: u8) -> u32 {
+    numbers.get(usize::from(u)).copied().unwrap_or(u32::from(u))
+}
+
+/// Excludes some relations, fewer than `tries`, in both states.
+pub fn exclude_some(
     rt: &impl Abort,
     random: &mut u32,
     tries: u32,
+    numbers: &[u32],
     plain: &mut PlainState,
     state: &mut EdgeState,
 ) {
@@ -26,23 +32,27 @@ fn exclude_some(
         let r = next(random, 3) as u8;
         if u != v {
             plain.exclude(dim as u8, u as u8, v as u8, r);
-            assert!(rt; dim < state.dims() && u < state.boxes() && v < state.boxes());
-            state.exclude(dim, u, v, rel_of(r));
+            let (first, second) = (box_of(numbers, u as u8), box_of(numbers, v as u8));
+            assert!(rt; dim < state.dims() && first < state.boxes() && second < state.boxes());
+            assert!(rt; first != second);
+            state.exclude(dim, first, second, rel_of(r));
         }
     }
 }
 
-// Checks that both states exclude the same.
-fn check_same(rt: &impl Abort, state: &EdgeState, plain: &PlainState) {
+/// Checks that both states exclude the same.
+pub fn check_same(rt: &impl Abort, numbers: &[u32], state: &EdgeState, plain: &PlainState) {
     for i in 0..plain.dims {
         for u in 0..plain.boxes {
             for v in 0..plain.boxes {
                 for r in 0..3 {
-                    let (dim, first, second) = (u32::from(i), u32::from(u), u32::from(v));
+                    let dim = u32::from(i);
+                    let (first, second) = (box_of(numbers, u), box_of(numbers, v));
                     if u != v {
                         assert!(rt;
                             dim < state.dims() && first < state.boxes() && second < state.boxes()
                         );
+                        assert!(rt; first != second);
                         let left = state.mask(dim, first, second).has(rel_of(r));
                         assert!(rt; left != plain.is_out(i, u, v, r));
                     }
@@ -52,7 +62,8 @@ fn check_same(rt: &impl Abort, state: &EdgeState, plain: &PlainState) {
     }
 }
 
-fn close_state(
+/// Closes a state of these sizes.
+pub fn close_state(
     rt: &impl Abort,
     closer: &mut Closer,
     instance: &Instance,
@@ -87,7 +98,7 @@ fn closes_as_defined(
     let mut plain = PlainState::new(alloc, dims, boxes, 20, sides)?;
     let mut state = EdgeState::new(alloc, u32::from(dims), u32::from(boxes))?;
     let mut closer = Closer::new(alloc, u32::from(dims), u32::from(boxes))?;
-    exclude_some(rt, random, tries, &mut plain, &mut state);
+    exclude_some(rt, random, tries, &[], &mut plain, &mut state);
     let conflict = plain.close(alloc)?;
     let closed = close_state(
         rt,
@@ -100,12 +111,13 @@ fn closes_as_defined(
     let stable = closed == Closed::Stable;
     assert!(rt; stable != conflict);
     if stable {
-        check_same(rt, &state, &plain);
+        check_same(rt, &[], &state, &plain);
     }
     Ok(stable)
 }
 
-fn one_if(is: bool) -> u32 {
+/// 1 or 0.
+pub fn one_if(is: bool) -> u32 {
     if is { 1 } else { 0 }
 }
 

@@ -56,7 +56,7 @@ one_number Before After e = absurd (omega (arith, e))
 one_number After Overlap e = absurd (omega (arith, e))
 one_number After Before e = absurd (omega (arith, e))
 
-one_row : (n i u j a : ℕ) (r s : Rel) → u < n → a < n → row_index n i u r ≡ row_index n j a s → (i ≡ j) × (u ≡ a) × (r ≡ s)
+pub one_row : (n i u j a : ℕ) (r s : Rel) → u < n → a < n → row_index n i u r ≡ row_index n j a s → (i ≡ j) × (u ≡ a) × (r ≡ s)
 one_row n i u j a r s hu ha e =
     let p = same_from_place (i * n + u) (rel_number r) (j * n + a) (rel_number s) 3 (number_small r) (number_small s) e in
     let q = same_from_place i u j a n hu ha p.0 in
@@ -208,16 +208,10 @@ below_one_more x v = same_bool _ _ (λ h. forth (or_cases _ _ h)) (λ h. back (l
     back h (inl e) = right (ltb x v) (eqb x v) (eq-eqb x v e)
     back h (inr ne) = or_left (ltb x v) (eqb x v) (lt-ltb x v (omega (arith, ne)))
 
--- one row more is filled
-pub filled_next : (n : ℕ) (rows : List (List ℕ)) (at : ℕ) (all w : List ℕ)
-    → ((k : ℕ) → k < at → (x : ℕ) → row_has (get_or rows k []) x ≡ is_other n (k / 3 % n) x) → at < length rows
-    → ((x : ℕ) → row_has all x ≡ ltb x n) → ((x : ℕ) → row_has w x ≡ row_has all x && not (eqb x (at / 3 % n)))
-    → (k : ℕ) → k < at + 1 → (x : ℕ) → row_has (get_or (set rows at w) k []) x ≡ is_other n (k / 3 % n) x
-filled_next n rows at all w filled there every made k h x = go (cases_eq k at)
-  where
-    go : (k ≡ at) ⊎ (k ≡ at → ⊥) → row_has (get_or (set rows at w) k []) x ≡ is_other n (k / 3 % n) x
-    go (inl e) = rw e (rw (get_or-set_same rows at w [] there) (made x ∙ ap (λ b. b && not (eqb x (at / 3 % n))) (every x)))
-    go (inr ne) = rw (get_or-set_other rows at k w [] ne) (filled k (omega (arith, ne)) x)
+-- a row of all boxes but its own
+pub without_own : (n at x : ℕ) (row w : List ℕ) → row_has row x ≡ ltb x n → row_has w x ≡ row_has row x && not (eqb x (at / 3 % n))
+    → row_has w x ≡ is_other n (at / 3 % n) x
+without_own n at x row w all made = made ∙ ap (λ b. b && not (eqb x (at / 3 % n))) all
 
 and_true : (b : Bool) → b && true ≡ b
 and_true true = refl

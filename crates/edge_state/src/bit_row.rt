@@ -1,5 +1,5 @@
 //! A set of numbers below 64 * K, in K words.
-ghost use Rattle.std.specs.Prelude.{◌≡◌, ◌==◌, ◌<◌, ◌*◌, ◌&&◌, ◌||◌, not, true, false, ℕ, MatchOption};
+ghost use Rattle.std.specs.Prelude.{◌≡◌, ◌==◌, ◌<◌, ◌≤◌, ◌*◌, ◌&&◌, ◌||◌, not, true, false, ℕ, [], ◌∷◌, slice_index, MatchOption};
 ghost use Rattle.edge_state.specs.BitRows.{IsRowWidth, row_has, members_below, IsLeast};
 
 use std::marker::Model;
@@ -31,6 +31,30 @@ impl<const K: usize> BitRow<K> {
         ensures { (x : ℕ) → row_has result x ≡ false }
     {
         BitRow { words: [0; K] }
+    }
+
+    // The set whose first words are these, or its first numbers where it has one word.
+    #[inline]
+    pub(crate) fn of_words(first: u64, second: u64) -> Self
+        requires { IsRowWidth K }
+        ensures within { (x : ℕ) → x < 64 * K → row_has result x ≡ row_has (first ∷ second ∷ []) x }
+        ensures beyond { (x : ℕ) → 64 * K ≤ x → row_has result x ≡ false }
+    {
+        let mut words = [0; K];
+        words[0] = first;
+        if K > 1 {
+            words[1] = second;
+        }
+        BitRow { words }
+    }
+
+    // One of its words.
+    #[inline]
+    pub(crate) fn word(&self, at: usize) -> u64
+        requires { at < K }
+        ensures { result ≡ slice_index self.now at }
+    {
+        self.words[at]
     }
 
     /// Whether the number is in the set.

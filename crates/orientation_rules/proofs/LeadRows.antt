@@ -1,12 +1,12 @@
 -- Rows of the boxes that a chain goes on to.
-use Rattle.std.proofs.Common.{◌≡◌, ◌≢◌, ℕ, ◌<◌, ◌≤◌, ◌+◌, ◌⊎◌, inl, inr, arith, slice_index, refl, sym, ap, subst, ◌∙◌, Bool, true, false, not, ◌&&◌, ◌||◌, eqb, ltb, List}
+use Rattle.std.proofs.Common.{◌≡◌, ◌≢◌, ℕ, ◌<◌, ◌≤◌, ◌⊎◌, inl, inr, arith, slice_index, refl, sym, ap, subst, ◌∙◌, Bool, true, false, not, ◌&&◌, eqb, ltb, List}
 use Rattle.std.proofs.lemmas.Bool.{true≢false, cases_Bool, and_parts, ltb-true, eqb-true, eq-eqb}
 use Rattle.packing_terms.specs.declared.Rel.{Rel}
 use Rattle.packing_terms.specs.declared.Rel.TheVariants.{Overlap, Before, After}
 use Rattle.packing_terms.specs.declared.Exclusion.{Exclusion}
 use Rattle.packing_terms.specs.Exclusions.{Exclusions, excludes}
 use Rattle.packing_terms.proofs.Sets.{excludes_symmetric}
-use Rattle.rule_terms.specs.Runs.{Leads, IsRaise, IsSettledAt, IsOneWay}
+use Rattle.rule_terms.specs.Runs.{Leads, IsSettledAt, IsOneWay}
 use Rattle.edge_state.specs.Edges.{is_other}
 use Rattle.edge_state.proofs.Kept.{row_open, row_shut}
 use Rattle.orientation_rules.specs.Weights.{OthersStay}

@@ -17,10 +17,10 @@ module _ (instance : PlainInstance) (j p q : ℕ) (rule : Rule) where
 pub sorted : (instance : PlainInstance) (j p q : ℕ) (rule : Rule) → AppliedAll instance j p q rule
     → (Threes instance j p q rule ⊎ Fours instance j p q rule) ⊎ Orders instance j p q rule
 sorted instance j p q rule (inr h) = inr (inr h)
-sorted instance j p q rule (inl (inr h)) = inr (inl (inr h))
-sorted instance j p q rule (inl (inl (inr h))) = inr (inl (inl h))
-sorted instance j p q rule (inl (inl (inl (inr h)))) = inl (inr (inr h))
-sorted instance j p q rule (inl (inl (inl (inl (inr h))))) = inl (inr (inl h))
-sorted instance j p q rule (inl (inl (inl (inl (inl (inr h)))))) = inl (inl (inr h))
-sorted instance j p q rule (inl (inl (inl (inl (inl (inl (inr h))))))) = inl (inl (inl (inr h)))
-sorted instance j p q rule (inl (inl (inl (inl (inl (inl (inl h))))))) = inl (inl (inl (inl h)))
+sorted instance j p q rule (inl (inr (inr h))) = inr (inl (inr h))
+sorted instance j p q rule (inl (inr (inl h))) = inr (inl (inl h))
+sorted instance j p q rule (inl (inl (inr (inr h)))) = inl (inr (inl h))
+sorted instance j p q rule (inl (inl (inr (inl h)))) = inl (inl (inr h))
+sorted instance j p q rule (inl (inl (inl (inr (inr h))))) = inl (inr (inr h))
+sorted instance j p q rule (inl (inl (inl (inr (inl h))))) = inl (inl (inl (inr h)))
+sorted instance j p q rule (inl (inl (inl (inl h)))) = inl (inl (inl (inl h)))

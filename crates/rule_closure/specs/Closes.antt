@@ -1,5 +1,5 @@
 -- What closing a state comes to.
-use Rattle.std.specs.Prelude.{ℕ, nat_lt, ◌≡◌, List, length}
+use Rattle.std.specs.Prelude.{ℕ, nat_lt, min, ◌≡◌, List, length}
 use Rattle.packing_terms.specs.declared.Exclusion.{Exclusion}
 use Rattle.packing_terms.specs.Packing.{PlainInstance}
 use Rattle.packing_terms.specs.Exclusions.{excludes}
@@ -16,11 +16,12 @@ pub record PlainCloser : Type 0 where
   pub dims : ℕ
   pub boxes : ℕ
 
--- a weight for each box, for the chains that end in it and for those that start there; and the row of all boxes
-pub record HasRoom (n : ℕ) (head tail all : List ℕ) : Type 0 where
+-- a weight for each box, for the chains that end in it and for those that start there; and the row of all boxes, in one word where they fit
+pub record HasRoom (n : ℕ) (head tail one_word two_words : List ℕ) : Type 0 where
   pub heads : length head ≡ n
   pub tails : length tail ≡ n
-  pub every : (x : ℕ) → row_has all x ≡ nat_lt x n
+  pub narrow : (x : ℕ) → row_has one_word x ≡ nat_lt x (min n 64)
+  pub wide : (x : ℕ) → row_has two_words x ≡ nat_lt x n
 
 -- exactly the closure of the old exclusions is excluded, no rule adds to it, and no mask is empty: the closure has no conflict
 abbrev pub IsClosure : PlainInstance → List Exclusion → List Exclusion → Type 0

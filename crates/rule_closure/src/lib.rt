@@ -6,6 +6,7 @@ mod closer;
 mod empties;
 mod orders;
 mod pairs;
+mod places;
 mod rows;
 mod settle;
 mod work;

@@ -1,14 +1,15 @@
 //! ORDER at what a changed place tells: each call applies some instances one after another and answers whether a mask is
 //! lost, that is, empty; it stops there.
-ghost use Rattle.std.specs.Prelude.{◌≡◌, ◌<◌, ℕ, nat_lt, [], ◌∷◌};
+ghost use Rattle.std.specs.Prelude.{◌≡◌, ◌<◌, ℕ, true, false, nat_lt, [], ◌∷◌};
 ghost use Rattle.packing_terms.specs.Packing.{dims, box_count};
+ghost use Rattle.packing_terms.specs.Exclusions.{excludes};
 ghost use Rattle.packing_terms.specs.Rules.{Order, AreBoxes};
-ghost use Rattle.edge_state.specs.BitRows.{row_has};
+ghost use Rattle.edge_state.specs.BitRows.{HoldsBoxes, row_has};
 ghost use Rattle.closure_terms.specs.States.{IsSized};
-ghost use Rattle.closure_terms.specs.Work.{IsWorked};
+ghost use Rattle.closure_terms.specs.Work.{IsCovered, IsWorked};
 
 use crate::empties::is_empty_at;
-use crate::rows::{beyond_orders_from, beyond_orders_to, gone};
+use crate::rows::{beyond_orders_from, beyond_orders_to, gone, is_empty};
 use box_instances::Instance;
 use cycle_rules::apply_order;
 use edge_state::{BitRow, EdgeState, Rel};
@@ -43,7 +44,15 @@ fn order_at(
 }
 
 // ORDER at the first ordered pair and the last box, with each third.
-fn orders_from(instance: &Instance, state: &mut EdgeState, dim: u32, a: u32, b: u32, d: u32) -> bool
+fn orders_from<const K: usize>(
+    instance: &Instance,
+    state: &mut EdgeState,
+    dim: u32,
+    a: u32,
+    b: u32,
+    d: u32,
+) -> bool
+    requires words { HoldsBoxes K (box_count instance.now) }
     requires sizes { IsSized instance.now state.old dim }
     requires a { a < box_count instance.now }
     requires b { b < box_count instance.now }
@@ -57,7 +66,7 @@ fn orders_from(instance: &Instance, state: &mut EdgeState, dim: u32, a: u32, b: 
     if !state.sure_before(dim, a, b) || state.mask(dim, a, d).has(Rel::Before) {
         return false;
     }
-    let mut rest = beyond_orders_from(instance, state, dim, a, b, d);
+    let mut rest = beyond_orders_from::<K>(instance, state, dim, a, b, d);
     while let Some(c) = rest.first() {
         rest = rest.without(c);
         if order_at(instance, state, dim, a, b, c, d) {
@@ -68,7 +77,15 @@ fn orders_from(instance: &Instance, state: &mut EdgeState, dim: u32, a: u32, b: 
 }
 
 // ORDER at the second ordered pair and the first box, with each second.
-fn orders_to(instance: &Instance, state: &mut EdgeState, dim: u32, a: u32, c: u32, d: u32) -> bool
+fn orders_to<const K: usize>(
+    instance: &Instance,
+    state: &mut EdgeState,
+    dim: u32,
+    a: u32,
+    c: u32,
+    d: u32,
+) -> bool
+    requires words { HoldsBoxes K (box_count instance.now) }
     requires sizes { IsSized instance.now state.old dim }
     requires a { a < box_count instance.now }
     requires c { c < box_count instance.now }
@@ -82,7 +99,7 @@ fn orders_to(instance: &Instance, state: &mut EdgeState, dim: u32, a: u32, c: u3
     if !state.sure_before(dim, c, d) || state.mask(dim, a, d).has(Rel::Before) {
         return false;
     }
-    let mut rest = beyond_orders_to(instance, state, dim, a, c, d);
+    let mut rest = beyond_orders_to::<K>(instance, state, dim, a, c, d);
     while let Some(b) = rest.first() {
         rest = rest.without(b);
         if order_at(instance, state, dim, a, b, c, d) {
@@ -92,15 +109,100 @@ fn orders_to(instance: &Instance, state: &mut EdgeState, dim: u32, a: u32, c: u3
     false
 }
 
-/// ORDER with the first pair ordered.
-pub fn orders_first(
+// Whether ORDER may exclude something with its first pair, for one of the last boxes.
+fn may_order_lasts<const K: usize>(
+    instance: &Instance,
+    state: &EdgeState,
+    dim: u32,
+    a: u32,
+    b: u32,
+    lasts: BitRow<K>,
+) -> bool
+    requires words { HoldsBoxes K (box_count instance.now) }
+    requires sizes { IsSized instance.now state.now dim }
+    requires a { a < box_count instance.now }
+    requires b { b < box_count instance.now }
+    requires within { (d : ℕ) → row_has lasts d ≡ true → d < box_count instance.now }
+    ensures { result ≡ false → (d : ℕ) → row_has lasts.entry d ≡ true → (c : ℕ)
+        → c < box_count instance.now
+        → IsCovered instance.now (excludes state.now.trail) state.now.trail (Order dim a b c d) }
+{
+    let mut rest = lasts;
+    while let Some(d) = rest.first() {
+        rest = rest.without(d);
+        if !is_empty(beyond_orders_from::<K>(instance, state, dim, a, b, d)) {
+            return true;
+        }
+    }
+    false
+}
+
+// Whether ORDER may exclude something with its second pair, for one of the first boxes.
+fn may_order_firsts<const K: usize>(
+    instance: &Instance,
+    state: &EdgeState,
+    dim: u32,
+    c: u32,
+    d: u32,
+    firsts: BitRow<K>,
+) -> bool
+    requires words { HoldsBoxes K (box_count instance.now) }
+    requires sizes { IsSized instance.now state.now dim }
+    requires c { c < box_count instance.now }
+    requires d { d < box_count instance.now }
+    requires within { (a : ℕ) → row_has firsts a ≡ true → a < box_count instance.now }
+    ensures { result ≡ false → (a : ℕ) → row_has firsts.entry a ≡ true → (b : ℕ)
+        → b < box_count instance.now
+        → IsCovered instance.now (excludes state.now.trail) state.now.trail (Order dim a b c d) }
+{
+    let mut rest = firsts;
+    while let Some(a) = rest.first() {
+        rest = rest.without(a);
+        if !is_empty(beyond_orders_to::<K>(instance, state, dim, a, c, d)) {
+            return true;
+        }
+    }
+    false
+}
+
+// Whether ORDER may exclude something with its first and its last box, for one of the second ones.
+fn may_order_seconds<const K: usize>(
+    instance: &Instance,
+    state: &EdgeState,
+    dim: u32,
+    a: u32,
+    d: u32,
+    seconds: BitRow<K>,
+) -> bool
+    requires words { HoldsBoxes K (box_count instance.now) }
+    requires sizes { IsSized instance.now state.now dim }
+    requires a { a < box_count instance.now }
+    requires d { d < box_count instance.now }
+    requires within { (b : ℕ) → row_has seconds b ≡ true → b < box_count instance.now }
+    ensures { result ≡ false → (b : ℕ) → row_has seconds.entry b ≡ true → (c : ℕ)
+        → c < box_count instance.now
+        → IsCovered instance.now (excludes state.now.trail) state.now.trail (Order dim a b c d) }
+{
+    let mut rest = seconds;
+    while let Some(b) = rest.first() {
+        rest = rest.without(b);
+        if !is_empty(beyond_orders_from::<K>(instance, state, dim, a, b, d)) {
+            return true;
+        }
+    }
+    false
+}
+
+/// ORDER with the first pair given.
+pub fn orders_first<const K: usize>(
     instance: &Instance,
     state: &mut EdgeState,
-    all: BitRow<2>,
+    all: BitRow<K>,
     dim: u32,
     a: u32,
     b: u32,
 ) -> bool
+    requires words { HoldsBoxes K (box_count instance.now) }
     requires sizes { IsSized instance.now state.old dim }
     requires a { a < box_count instance.now }
     requires b { b < box_count instance.now }
@@ -110,28 +212,30 @@ pub fn orders_first(
         (λ rule. (d : ℕ) × (d < box_count instance.now)
         × ((c : ℕ) × (c < box_count instance.now) × (rule ≡ Order dim a b c d))) }
 {
-    if !state.sure_before(dim, a, b) {
+    let lasts = gone(instance, state, all, dim, a, Rel::Before, Rel::Before);
+    if !may_order_lasts(instance, state, dim, a, b, lasts) {
         return false;
     }
-    let mut rest = gone(instance, state, all, dim, a, Rel::Before, Rel::Before);
+    let mut rest = lasts;
     while let Some(d) = rest.first() {
         rest = rest.without(d);
-        if orders_from(instance, state, dim, a, b, d) {
+        if orders_from::<K>(instance, state, dim, a, b, d) {
             return true;
         }
     }
     false
 }
 
-/// ORDER with the second pair ordered.
-pub fn orders_second(
+/// ORDER with the second pair given.
+pub fn orders_second<const K: usize>(
     instance: &Instance,
     state: &mut EdgeState,
-    all: BitRow<2>,
+    all: BitRow<K>,
     dim: u32,
     c: u32,
     d: u32,
 ) -> bool
+    requires words { HoldsBoxes K (box_count instance.now) }
     requires sizes { IsSized instance.now state.old dim }
     requires c { c < box_count instance.now }
     requires d { d < box_count instance.now }
@@ -141,13 +245,14 @@ pub fn orders_second(
         (λ rule. (a : ℕ) × (a < box_count instance.now)
         × ((b : ℕ) × (b < box_count instance.now) × (rule ≡ Order dim a b c d))) }
 {
-    if !state.sure_before(dim, c, d) {
+    let firsts = gone(instance, state, all, dim, d, Rel::After, Rel::After);
+    if !may_order_firsts(instance, state, dim, c, d, firsts) {
         return false;
     }
-    let mut rest = gone(instance, state, all, dim, d, Rel::After, Rel::After);
+    let mut rest = firsts;
     while let Some(a) = rest.first() {
         rest = rest.without(a);
-        if orders_to(instance, state, dim, a, c, d) {
+        if orders_to::<K>(instance, state, dim, a, c, d) {
             return true;
         }
     }
@@ -155,14 +260,15 @@ pub fn orders_second(
 }
 
 /// ORDER with the first box not before the last.
-pub fn orders_crossed(
+pub fn orders_crossed<const K: usize>(
     instance: &Instance,
     state: &mut EdgeState,
-    all: BitRow<2>,
+    all: BitRow<K>,
     dim: u32,
     a: u32,
     d: u32,
 ) -> bool
+    requires words { HoldsBoxes K (box_count instance.now) }
     requires sizes { IsSized instance.now state.old dim }
     requires a { a < box_count instance.now }
     requires d { d < box_count instance.now }
@@ -175,10 +281,14 @@ pub fn orders_crossed(
     if state.mask(dim, a, d).has(Rel::Before) {
         return false;
     }
-    let mut rest = gone(instance, state, all, dim, a, Rel::Overlap, Rel::After);
+    let seconds = gone(instance, state, all, dim, a, Rel::Overlap, Rel::After);
+    if !may_order_seconds(instance, state, dim, a, d, seconds) {
+        return false;
+    }
+    let mut rest = seconds;
     while let Some(b) = rest.first() {
         rest = rest.without(b);
-        if orders_from(instance, state, dim, a, b, d) {
+        if orders_from::<K>(instance, state, dim, a, b, d) {
             return true;
         }
     }

@@ -5,7 +5,7 @@ ghost use Rattle.packing_terms.specs.Packing.{box_count};
 ghost use Rattle.packing_terms.specs.Exclusions.{excludes, IsApart, IsJoined};
 ghost use Rattle.packing_terms.specs.Limits.{IsBoxCount};
 ghost use Rattle.packing_terms.specs.Rules.{Triple, Compose, Cycle, Order};
-ghost use Rattle.edge_state.specs.BitRows.{row_has};
+ghost use Rattle.edge_state.specs.BitRows.{IsRowWidth, HoldsBoxes, row_has};
 ghost use Rattle.closure_terms.specs.States.{IsSized};
 ghost use Rattle.closure_terms.specs.Work.{IsCovered};
 
@@ -14,29 +14,45 @@ use edge_state::{BitRow, EdgeState, Rel};
 
 // The row where it is wanted, and else the empty one.
 #[inline]
-fn pick(row: BitRow<2>, wanted: bool) -> BitRow<2>
-    ensures { (x : ℕ) → row_has result x ≡ row_has row x && wanted }
+fn pick<const K: usize>(row: BitRow<K>, wanted: bool) -> BitRow<K>
+    requires { IsRowWidth K }
+    ensures { (x : ℕ) → row_has result x ≡ row_has row.entry x && wanted }
 {
     if wanted { row } else { BitRow::empty() }
 }
 
+/// Whether a row has no member.
+#[inline]
+pub fn is_empty<const K: usize>(row: BitRow<K>) -> bool
+    requires { IsRowWidth K }
+    ensures { result ≡ true → (x : ℕ) → row_has row.entry x ≡ false }
+{
+    match row.first() {
+        Some(_) => false,
+        None => true,
+    }
+}
+
 // What is in one of three rows.
 #[inline]
-fn one_of(first: BitRow<2>, second: BitRow<2>, third: BitRow<2>) -> BitRow<2>
-    ensures { (x : ℕ) → row_has result x ≡ (row_has first x || row_has second x) || row_has third x }
+fn one_of<const K: usize>(first: BitRow<K>, second: BitRow<K>, third: BitRow<K>) -> BitRow<K>
+    requires { IsRowWidth K }
+    ensures { (x : ℕ) → row_has result x ≡ (row_has first.entry x || row_has second.entry x)
+        || row_has third.entry x }
 {
     first.or(second).or(third)
 }
 
 /// The boxes x at which COMPOSE at `u`, `v`, x may exclude something: at all others it adds
 /// nothing.
-pub fn beyond_compositions(
+pub fn beyond_compositions<const K: usize>(
     instance: &Instance,
     state: &EdgeState,
     dim: u32,
     u: u32,
     v: u32,
-) -> BitRow<2>
+) -> BitRow<K>
+    requires words { HoldsBoxes K (box_count instance.now) }
     requires sizes { IsSized instance.now state.now dim }
     requires u { u < box_count instance.now }
     requires v { v < box_count instance.now }
@@ -50,9 +66,9 @@ pub fn beyond_compositions(
     let is_overlap = mask.has(Rel::Overlap);
     let is_before = mask.has(Rel::Before);
     let is_after = mask.has(Rel::After);
-    let overlap = state.row(dim, v, Rel::Overlap);
-    let before = state.row(dim, v, Rel::Before);
-    let after = state.row(dim, v, Rel::After);
+    let overlap = state.row_in::<K>(dim, v, Rel::Overlap);
+    let before = state.row_in::<K>(dim, v, Rel::Before);
+    let after = state.row_in::<K>(dim, v, Rel::After);
     let not_after = overlap.or(before);
     let not_before = overlap.or(after);
     let any = not_after.or(after);
@@ -71,9 +87,9 @@ pub fn beyond_compositions(
         pick(after, is_before),
         pick(any, is_after),
     );
-    let here_overlap = state.row(dim, u, Rel::Overlap);
-    let here_before = state.row(dim, u, Rel::Before);
-    let here_after = state.row(dim, u, Rel::After);
+    let here_overlap = state.row_in::<K>(dim, u, Rel::Overlap);
+    let here_before = state.row_in::<K>(dim, u, Rel::Before);
+    let here_after = state.row_in::<K>(dim, u, Rel::After);
     let beyond = one_of(
         here_overlap.minus(may_overlap),
         here_before.minus(may_precede),
@@ -83,11 +99,12 @@ pub fn beyond_compositions(
 }
 
 /// The row of all boxes.
-pub fn all_boxes(boxes: u32) -> BitRow<2>
-    requires { IsBoxCount boxes }
+pub fn all_boxes<const K: usize>(boxes: u32) -> BitRow<K>
+    requires words { HoldsBoxes K boxes }
+    requires count { IsBoxCount boxes }
     ensures { (x : ℕ) → row_has result x ≡ nat_lt x boxes }
 {
-    let mut all = BitRow::empty();
+    let mut all: BitRow<K> = BitRow::empty();
     for v in 0..boxes {
         all = all.with(v);
     }
@@ -96,14 +113,15 @@ pub fn all_boxes(boxes: u32) -> BitRow<2>
 
 // The boxes for which one of two relations to `u` isn't excluded.
 #[inline]
-fn either(
+fn either<const K: usize>(
     instance: &Instance,
     state: &EdgeState,
     dim: u32,
     u: u32,
     first: Rel,
     second: Rel,
-) -> BitRow<2>
+) -> BitRow<K>
+    requires words { HoldsBoxes K (box_count instance.now) }
     requires sizes { IsSized instance.now state.now dim }
     requires u { u < box_count instance.now }
     ensures within { (v : ℕ) → row_has result v ≡ true → v < box_count instance.now }
@@ -114,35 +132,44 @@ fn either(
         → IsTrue (excludes state.now.trail dim u v first)
         → IsTrue (excludes state.now.trail dim u v second) → ⊥ }
 {
-    let one = state.row(dim, u, first);
-    let other = state.row(dim, u, second);
+    let one = state.row_in::<K>(dim, u, first);
+    let other = state.row_in::<K>(dim, u, second);
     one.or(other)
 }
 
-/// The boxes for which both relations to `u` are excluded, and perhaps `u` itself.
+/// The other boxes for which both relations to `u` are excluded.
 #[inline]
-pub fn gone(
+pub fn gone<const K: usize>(
     instance: &Instance,
     state: &EdgeState,
-    all: BitRow<2>,
+    all: BitRow<K>,
     dim: u32,
     u: u32,
     first: Rel,
     second: Rel,
-) -> BitRow<2>
+) -> BitRow<K>
+    requires words { HoldsBoxes K (box_count instance.now) }
     requires sizes { IsSized instance.now state.now dim }
     requires u { u < box_count instance.now }
     requires all { (x : ℕ) → row_has all x ≡ nat_lt x (box_count instance.now) }
     ensures within { (v : ℕ) → row_has result v ≡ true → v < box_count instance.now }
-    ensures others { (v : ℕ) → v < box_count instance.now → row_has result v ≡ false
+    ensures others { (v : ℕ) → v < box_count instance.now → (u ≡ v → ⊥) → row_has result v ≡ false
         → IsTrue (excludes state.now.trail dim u v first)
         → IsTrue (excludes state.now.trail dim u v second) → ⊥ }
 {
-    all.minus(either(instance, state, dim, u, first, second))
+    let left = either::<K>(instance, state, dim, u, first, second);
+    all.minus(left).without(u)
 }
 
 /// The boxes v at which TRIPLE may exclude something at `u`, v with `x`.
-pub fn beyond_triples(instance: &Instance, state: &EdgeState, dim: u32, u: u32, x: u32) -> BitRow<2>
+pub fn beyond_triples<const K: usize>(
+    instance: &Instance,
+    state: &EdgeState,
+    dim: u32,
+    u: u32,
+    x: u32,
+) -> BitRow<K>
+    requires words { HoldsBoxes K (box_count instance.now) }
     requires sizes { IsSized instance.now state.now dim }
     requires u { u < box_count instance.now }
     requires x { x < box_count instance.now }
@@ -150,19 +177,21 @@ pub fn beyond_triples(instance: &Instance, state: &EdgeState, dim: u32, u: u32, 
     ensures others { (v : ℕ) → v < box_count instance.now → row_has result v ≡ false
         → IsCovered instance.now (excludes state.now.trail) state.now.trail (Triple dim u v x) }
 {
-    let free = either(instance, state, dim, u, Rel::Before, Rel::After);
-    free.minus(state.row(dim, x, Rel::Overlap))
+    let free = either::<K>(instance, state, dim, u, Rel::Before, Rel::After);
+    let near = state.row_in::<K>(dim, x, Rel::Overlap);
+    free.minus(near).without(x)
 }
 
 /// The boxes d at which CYCLE may exclude something at `b`, d.
-pub fn beyond_cycles(
+pub fn beyond_cycles<const K: usize>(
     instance: &Instance,
     state: &EdgeState,
     dim: u32,
     a: u32,
     b: u32,
     c: u32,
-) -> BitRow<2>
+) -> BitRow<K>
+    requires words { HoldsBoxes K (box_count instance.now) }
     requires sizes { IsSized instance.now state.now dim }
     requires a { a < box_count instance.now }
     requires b { b < box_count instance.now }
@@ -171,21 +200,22 @@ pub fn beyond_cycles(
     ensures others { (d : ℕ) → d < box_count instance.now → row_has result d ≡ false
         → IsCovered instance.now (excludes state.now.trail) state.now.trail (Cycle dim a b c d) }
 {
-    let free = either(instance, state, dim, b, Rel::Before, Rel::After);
-    let third = either(instance, state, dim, c, Rel::Before, Rel::After);
-    let first = either(instance, state, dim, a, Rel::Before, Rel::After);
+    let free = either::<K>(instance, state, dim, b, Rel::Before, Rel::After);
+    let third = either::<K>(instance, state, dim, c, Rel::Before, Rel::After);
+    let first = either::<K>(instance, state, dim, a, Rel::Before, Rel::After);
     free.minus(third).minus(first)
 }
 
 /// The boxes c at which ORDER may exclude something at c, `b`, with the last box given.
-pub fn beyond_orders_from(
+pub fn beyond_orders_from<const K: usize>(
     instance: &Instance,
     state: &EdgeState,
     dim: u32,
     a: u32,
     b: u32,
     d: u32,
-) -> BitRow<2>
+) -> BitRow<K>
+    requires words { HoldsBoxes K (box_count instance.now) }
     requires sizes { IsSized instance.now state.now dim }
     requires b { b < box_count instance.now }
     requires d { d < box_count instance.now }
@@ -193,20 +223,21 @@ pub fn beyond_orders_from(
     ensures others { (c : ℕ) → c < box_count instance.now → row_has result c ≡ false
         → IsCovered instance.now (excludes state.now.trail) state.now.trail (Order dim a b c d) }
 {
-    let free = either(instance, state, dim, b, Rel::Overlap, Rel::Before);
-    let last = either(instance, state, dim, d, Rel::Overlap, Rel::Before);
-    free.minus(last)
+    let free = either::<K>(instance, state, dim, b, Rel::Overlap, Rel::Before);
+    let last = either::<K>(instance, state, dim, d, Rel::Overlap, Rel::Before);
+    free.minus(last).without(d)
 }
 
 /// The boxes b at which ORDER may exclude something at `c`, b, with the first box given.
-pub fn beyond_orders_to(
+pub fn beyond_orders_to<const K: usize>(
     instance: &Instance,
     state: &EdgeState,
     dim: u32,
     a: u32,
     c: u32,
     d: u32,
-) -> BitRow<2>
+) -> BitRow<K>
+    requires words { HoldsBoxes K (box_count instance.now) }
     requires sizes { IsSized instance.now state.now dim }
     requires a { a < box_count instance.now }
     requires c { c < box_count instance.now }
@@ -214,49 +245,52 @@ pub fn beyond_orders_to(
     ensures others { (b : ℕ) → b < box_count instance.now → row_has result b ≡ false
         → IsCovered instance.now (excludes state.now.trail) state.now.trail (Order dim a b c d) }
 {
-    let free = either(instance, state, dim, c, Rel::Overlap, Rel::After);
-    let first = either(instance, state, dim, a, Rel::Overlap, Rel::After);
-    free.minus(first)
+    let free = either::<K>(instance, state, dim, c, Rel::Overlap, Rel::After);
+    let first = either::<K>(instance, state, dim, a, Rel::Overlap, Rel::After);
+    free.minus(first).without(a)
 }
 
 /// The boxes that are joined with `b` and apart from `a`.
-pub fn cycle_thirds(
+pub fn cycle_thirds<const K: usize>(
     instance: &Instance,
     state: &EdgeState,
-    all: BitRow<2>,
+    all: BitRow<K>,
     dim: u32,
     a: u32,
     b: u32,
-) -> BitRow<2>
+) -> BitRow<K>
+    requires words { HoldsBoxes K (box_count instance.now) }
     requires sizes { IsSized instance.now state.now dim }
     requires a { a < box_count instance.now }
     requires b { b < box_count instance.now }
     requires all { (x : ℕ) → row_has all x ≡ nat_lt x (box_count instance.now) }
     ensures within { (c : ℕ) → row_has result c ≡ true → c < box_count instance.now }
-    ensures others { (c : ℕ) → c < box_count instance.now → row_has result c ≡ false
-        → IsJoined (excludes state.now.trail) dim b c → IsApart (excludes state.now.trail) dim a c
+    ensures others { (c : ℕ) → c < box_count instance.now → (a ≡ c → ⊥) → (b ≡ c → ⊥)
+        → row_has result c ≡ false → IsJoined (excludes state.now.trail) dim b c → IsApart (excludes state.now.trail) dim a c
         → ⊥ }
 {
     let joined = gone(instance, state, all, dim, b, Rel::Before, Rel::After);
-    joined.minus(state.row(dim, a, Rel::Overlap))
+    let near = state.row_in::<K>(dim, a, Rel::Overlap);
+    joined.minus(near).without(a)
 }
 
 /// The boxes that are joined with `a` and with `c`.
-pub fn cycle_seconds(
+pub fn cycle_seconds<const K: usize>(
     instance: &Instance,
     state: &EdgeState,
-    all: BitRow<2>,
+    all: BitRow<K>,
     dim: u32,
     a: u32,
     c: u32,
-) -> BitRow<2>
+) -> BitRow<K>
+    requires words { HoldsBoxes K (box_count instance.now) }
     requires sizes { IsSized instance.now state.now dim }
     requires a { a < box_count instance.now }
     requires c { c < box_count instance.now }
     requires all { (x : ℕ) → row_has all x ≡ nat_lt x (box_count instance.now) }
     ensures within { (b : ℕ) → row_has result b ≡ true → b < box_count instance.now }
-    ensures others { (b : ℕ) → b < box_count instance.now → row_has result b ≡ false
-        → IsJoined (excludes state.now.trail) dim a b
+    ensures others { (b : ℕ) → b < box_count instance.now → (a ≡ b → ⊥) → (c ≡ b → ⊥)
+        → row_has result b ≡ false → IsJoined (excludes state.now.trail) dim a b
         → IsJoined (excludes state.now.trail) dim b c → ⊥ }
 {
     let first = gone(instance, state, all, dim, a, Rel::Before, Rel::After);

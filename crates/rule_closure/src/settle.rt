@@ -3,26 +3,27 @@ ghost use Rattle.std.specs.Prelude.{◌≡◌, ◌<◌, ◌≤◌, ◌+◌, ◌-
 ghost use Rattle.packing_terms.specs.Packing.{dims, box_count};
 ghost use Rattle.packing_terms.specs.Exclusions.{excludes, IsPlaceAmong};
 ghost use Rattle.rule_terms.specs.Applied.{Extends};
-ghost use Rattle.edge_state.specs.BitRows.{row_has};
+ghost use Rattle.edge_state.specs.BitRows.{HoldsBoxes, row_has};
 ghost use Rattle.edge_state.specs.Answers.{IsChangeAfter};
 ghost use Rattle.closure_terms.specs.States.{IsSized, HasEmptyMask};
 ghost use Rattle.closure_terms.specs.Work.{IsWorked, IsReached, IsUnordered, IsBehind};
 ghost use Rattle.closure_terms.specs.Work.{IsLookedThrough};
 
 use crate::empties::is_empty_at;
-use crate::work::spread_from;
+use crate::places::spread_from;
 use box_instances::Instance;
 use edge_state::{BitRow, EdgeState, Exclusion, Mark, Rel};
 
 // All instances that read the mask of a place, up to those that add the same.
-fn spread(
+fn spread<const K: usize>(
     instance: &Instance,
     state: &mut EdgeState,
-    all: BitRow<2>,
+    all: BitRow<K>,
     dim: u32,
     u: u32,
     v: u32,
 ) -> bool
+    requires words { HoldsBoxes K (box_count instance.now) }
     requires sizes { IsSized instance.now state.old dim }
     requires u { u < box_count instance.now }
     requires v { v < box_count instance.now }
@@ -81,13 +82,14 @@ fn dirtied(state: &EdgeState, dirty: BitRow<1>, change: Exclusion) -> BitRow<1>
 /// oldest first. Afterwards no rule but CHAIN adds anything, and CHAIN only in the dimensions of
 /// the answer; to those that were given come those in which two boxes became ordered. `None` comes
 /// where a mask is lost.
-pub fn settle(
+pub fn settle<const K: usize>(
     instance: &Instance,
     state: &mut EdgeState,
-    all: BitRow<2>,
+    all: BitRow<K>,
     closed: Mark,
     dirty: BitRow<1>,
 ) -> Option<BitRow<1>>
+    requires words { HoldsBoxes K (box_count instance.now) }
     requires dims { state.old.dims ≡ dims instance.now }
     requires boxes { state.old.boxes ≡ box_count instance.now }
     requires all { (x : ℕ) → row_has all x ≡ nat_lt x (box_count instance.now) }

@@ -1,16 +1,15 @@
-//! What follows from a changed place: the instances of the rules that read its mask.
+//! COMPOSE, TRIPLE, APART and CYCLE at what a changed place tells.
 //!
 //! Each call applies some instances one after another and answers whether a mask is lost, that is,
 //! empty; it stops there.
-ghost use Rattle.std.specs.Prelude.{◌≡◌, ◌≢◌, ◌<◌, ℕ, nat_lt, [], ◌∷◌};
-ghost use Rattle.packing_terms.specs.Packing.{dims, box_count};
+ghost use Rattle.std.specs.Prelude.{◌≡◌, ◌≢◌, ◌<◌, ◌≤◌, ◌+◌, ℕ, nat_lt, [], ◌∷◌};
+ghost use Rattle.packing_terms.specs.Packing.{dims, box_count, side, container_side};
 ghost use Rattle.packing_terms.specs.Rules.{Apart, Triple, Compose, Cycle, Order, AreBoxes};
-ghost use Rattle.edge_state.specs.BitRows.{row_has};
+ghost use Rattle.edge_state.specs.BitRows.{HoldsBoxes, row_has};
 ghost use Rattle.closure_terms.specs.States.{IsSized};
-ghost use Rattle.closure_terms.specs.Work.{IsWorked, IsReached};
+ghost use Rattle.closure_terms.specs.Work.{IsWorked};
 
 use crate::empties::is_empty_at;
-use crate::orders::{orders_crossed, orders_first, orders_second};
 use crate::rows::{
     beyond_compositions, beyond_cycles, beyond_triples, cycle_seconds, cycle_thirds, gone,
 };
@@ -39,6 +38,7 @@ fn apart_at(instance: &Instance, state: &mut EdgeState, dim: u32, i: u32, u: u32
 }
 
 /// APART in each other dimension, where two boxes are joined in this one.
+#[inline]
 pub fn aparts(instance: &Instance, state: &mut EdgeState, dim: u32, u: u32, v: u32) -> bool
     requires sizes { IsSized instance.now state.old dim }
     requires u { u < box_count instance.now }
@@ -75,8 +75,54 @@ fn triple_at(instance: &Instance, state: &mut EdgeState, dim: u32, u: u32, v: u3
     is_empty_at(instance, state, dim, u, v)
 }
 
-// TRIPLE with two boxes apart, for each third that is apart from the second.
-fn triples(instance: &Instance, state: &mut EdgeState, dim: u32, u: u32, x: u32) -> bool
+// The least side of a third box with which two boxes are together longer than the container.
+#[inline]
+fn least_third(instance: &Instance, dim: u32, u: u32, x: u32) -> u64
+    requires dim { dim < dims instance.now }
+    requires u { u < box_count instance.now }
+    requires x { x < box_count instance.now }
+    ensures { (w : ℕ) → w < result
+        → side instance.now u dim + w + side instance.now x dim ≤ container_side instance.now dim }
+{
+    let together = u64::from(instance.side(u, dim)) + u64::from(instance.side(x, dim));
+    (u64::from(instance.container_side(dim)) + 1).saturating_sub(together)
+}
+
+// TRIPLE at three boxes, where the side of the second one isn't less than the least with which the
+// three are too long.
+#[inline(always)]
+fn triple_over(
+    instance: &Instance,
+    state: &mut EdgeState,
+    dim: u32,
+    u: u32,
+    v: u32,
+    x: u32,
+    least: u64,
+) -> bool
+    requires sizes { IsSized instance.now state.old dim }
+    requires u { u < box_count instance.now }
+    requires v { v < box_count instance.now }
+    requires x { x < box_count instance.now }
+    requires least { (w : ℕ) → w < least
+        → side instance.now u dim + w + side instance.now x dim ≤ container_side instance.now dim }
+    ensures { IsWorked instance.now state.old state.new result (λ rule. rule ≡ Triple dim u v x) }
+{
+    if u64::from(instance.side(v, dim)) < least {
+        return false;
+    }
+    triple_at(instance, state, dim, u, v, x)
+}
+
+/// TRIPLE with two boxes, for each third that is apart from the second.
+pub fn triples<const K: usize>(
+    instance: &Instance,
+    state: &mut EdgeState,
+    dim: u32,
+    u: u32,
+    x: u32,
+) -> bool
+    requires words { HoldsBoxes K (box_count instance.now) }
     requires sizes { IsSized instance.now state.old dim }
     requires u { u < box_count instance.now }
     requires x { x < box_count instance.now }
@@ -84,13 +130,11 @@ fn triples(instance: &Instance, state: &mut EdgeState, dim: u32, u: u32, x: u32)
     ensures { IsWorked instance.now state.old state.new result
         (λ rule. (v : ℕ) × (v < box_count instance.now) × (rule ≡ Triple dim u v x)) }
 {
-    if state.mask(dim, u, x).has(Rel::Overlap) {
-        return false;
-    }
-    let mut rest = beyond_triples(instance, state, dim, u, x);
+    let least = least_third(instance, dim, u, x);
+    let mut rest = beyond_triples::<K>(instance, state, dim, u, x);
     while let Some(v) = rest.first() {
         rest = rest.without(v);
-        if triple_at(instance, state, dim, u, v, x) {
+        if triple_over(instance, state, dim, u, v, x, least) {
             return true;
         }
     }
@@ -114,8 +158,15 @@ fn compose_at(instance: &Instance, state: &mut EdgeState, dim: u32, u: u32, v: u
     is_empty_at(instance, state, dim, u, x)
 }
 
-// COMPOSE at two boxes, for each third.
-fn composes(instance: &Instance, state: &mut EdgeState, dim: u32, u: u32, v: u32) -> bool
+/// COMPOSE at two boxes, for each third.
+pub fn composes<const K: usize>(
+    instance: &Instance,
+    state: &mut EdgeState,
+    dim: u32,
+    u: u32,
+    v: u32,
+) -> bool
+    requires words { HoldsBoxes K (box_count instance.now) }
     requires sizes { IsSized instance.now state.old dim }
     requires u { u < box_count instance.now }
     requires v { v < box_count instance.now }
@@ -123,7 +174,7 @@ fn composes(instance: &Instance, state: &mut EdgeState, dim: u32, u: u32, v: u32
     ensures { IsWorked instance.now state.old state.new result
         (λ rule. (x : ℕ) × (x < box_count instance.now) × (rule ≡ Compose dim u v x)) }
 {
-    let mut rest = beyond_compositions(instance, state, dim, u, v);
+    let mut rest = beyond_compositions::<K>(instance, state, dim, u, v);
     while let Some(x) = rest.first() {
         rest = rest.without(x);
         if compose_at(instance, state, dim, u, v, x) {
@@ -158,7 +209,15 @@ fn cycle_at(
 }
 
 // CYCLE at three boxes, with each fourth.
-fn cycles_from(instance: &Instance, state: &mut EdgeState, dim: u32, a: u32, b: u32, c: u32) -> bool
+fn cycles_from<const K: usize>(
+    instance: &Instance,
+    state: &mut EdgeState,
+    dim: u32,
+    a: u32,
+    b: u32,
+    c: u32,
+) -> bool
+    requires words { HoldsBoxes K (box_count instance.now) }
     requires sizes { IsSized instance.now state.old dim }
     requires a { a < box_count instance.now }
     requires b { b < box_count instance.now }
@@ -175,7 +234,7 @@ fn cycles_from(instance: &Instance, state: &mut EdgeState, dim: u32, a: u32, b: 
     {
         return false;
     }
-    let mut rest = beyond_cycles(instance, state, dim, a, b, c);
+    let mut rest = beyond_cycles::<K>(instance, state, dim, a, b, c);
     while let Some(d) = rest.first() {
         rest = rest.without(d);
         if cycle_at(instance, state, dim, a, b, c, d) {
@@ -185,15 +244,16 @@ fn cycles_from(instance: &Instance, state: &mut EdgeState, dim: u32, a: u32, b: 
     false
 }
 
-// CYCLE with the first two boxes joined.
-fn cycles(
+/// CYCLE with the first two boxes given.
+pub fn cycles<const K: usize>(
     instance: &Instance,
     state: &mut EdgeState,
-    all: BitRow<2>,
+    all: BitRow<K>,
     dim: u32,
     a: u32,
     b: u32,
 ) -> bool
+    requires words { HoldsBoxes K (box_count instance.now) }
     requires sizes { IsSized instance.now state.old dim }
     requires a { a < box_count instance.now }
     requires b { b < box_count instance.now }
@@ -203,28 +263,26 @@ fn cycles(
         (λ rule. (c : ℕ) × (c < box_count instance.now)
         × ((d : ℕ) × (d < box_count instance.now) × (rule ≡ Cycle dim a b c d))) }
 {
-    if !state.joined(dim, a, b) {
-        return false;
-    }
     let mut rest = cycle_thirds(instance, state, all, dim, a, b);
     while let Some(c) = rest.first() {
         rest = rest.without(c);
-        if cycles_from(instance, state, dim, a, b, c) {
+        if cycles_from::<K>(instance, state, dim, a, b, c) {
             return true;
         }
     }
     false
 }
 
-// CYCLE with the first and the third box apart.
-fn chords(
+/// CYCLE with the first and the third box given.
+pub fn chords<const K: usize>(
     instance: &Instance,
     state: &mut EdgeState,
-    all: BitRow<2>,
+    all: BitRow<K>,
     dim: u32,
     a: u32,
     c: u32,
 ) -> bool
+    requires words { HoldsBoxes K (box_count instance.now) }
     requires sizes { IsSized instance.now state.old dim }
     requires a { a < box_count instance.now }
     requires c { c < box_count instance.now }
@@ -234,55 +292,12 @@ fn chords(
         (λ rule. (b : ℕ) × (b < box_count instance.now)
         × ((d : ℕ) × (d < box_count instance.now) × (rule ≡ Cycle dim a b c d))) }
 {
-    if state.mask(dim, a, c).has(Rel::Overlap) {
-        return false;
-    }
     let mut rest = cycle_seconds(instance, state, all, dim, a, c);
     while let Some(b) = rest.first() {
         rest = rest.without(b);
-        if cycles_from(instance, state, dim, a, b, c) {
+        if cycles_from::<K>(instance, state, dim, a, b, c) {
             return true;
         }
     }
     false
-}
-
-/// The instances that read the mask of two boxes in this order, up to those that add the same.
-pub fn spread_from(
-    instance: &Instance,
-    state: &mut EdgeState,
-    all: BitRow<2>,
-    dim: u32,
-    p: u32,
-    q: u32,
-) -> bool
-    requires sizes { IsSized instance.now state.old dim }
-    requires p { p < box_count instance.now }
-    requires q { q < box_count instance.now }
-    requires distinct { p ≡ q → ⊥ }
-    requires all { (x : ℕ) → row_has all x ≡ nat_lt x (box_count instance.now) }
-    ensures { IsWorked instance.now state.old state.new result (IsReached dim p q) }
-{
-    if composes(instance, state, dim, p, q) {
-        return true;
-    }
-    if triples(instance, state, dim, p, q) {
-        return true;
-    }
-    if aparts(instance, state, dim, p, q) {
-        return true;
-    }
-    if cycles(instance, state, all, dim, p, q) {
-        return true;
-    }
-    if chords(instance, state, all, dim, p, q) {
-        return true;
-    }
-    if orders_first(instance, state, all, dim, p, q) {
-        return true;
-    }
-    if orders_second(instance, state, all, dim, p, q) {
-        return true;
-    }
-    orders_crossed(instance, state, all, dim, p, q)
 }

@@ -7,11 +7,11 @@ use Rattle.closure_terms.proofs.Filters.{both_off}
 use Rattle.rule_closure.proofs.rows.cycle_seconds.Goals as goal
 
 pub returns-clause-within : goal.returns-clause-within
-returns-clause-within c x on = c.gone-first.ensures.within x (and_parts _ _ (sym (c.and.ensures x) ∙ on)).0
+returns-clause-within g c x on = c.gone-first.ensures.within x (and_parts _ _ (sym (c.and.ensures x) ∙ on)).0
 
 pub returns-clause-others : goal.returns-clause-others
-returns-clause-others c x small off one two = go (both_off _ _ (sym (c.and.ensures x) ∙ off))
+returns-clause-others g c x small first second off one two = go (both_off _ _ (sym (c.and.ensures x) ∙ off))
   where
     go : (row_has c.gone-first.result x ≡ false) ⊎ (row_has c.gone.result x ≡ false) → ⊥
-    go (inl f) = c.gone-first.ensures.others x small f one.0 one.1
-    go (inr g) = c.gone.ensures.others x small g (excludes_symmetric c.args.state.now.trail c.args.dim x c.args.c After two.1) (excludes_symmetric c.args.state.now.trail c.args.dim x c.args.c Before two.0)
+    go (inl f) = c.gone-first.ensures.others x small first f one.0 one.1
+    go (inr h) = c.gone.ensures.others x small second h (excludes_symmetric c.args.state.now.trail c.args.dim x c.args.c After two.1) (excludes_symmetric c.args.state.now.trail c.args.dim x c.args.c Before two.0)

@@ -1,6 +1,5 @@
-use Rattle.std.proofs.Common.{◌≡◌, ◌<◌, ◌/◌, arith, rules, length, refl, sym, ◌∙◌}
+use Rattle.std.proofs.Common.{◌≡◌, ◌<◌, ◌/◌, arith, rules, length}
 use Rattle.edge_state.proofs.RowBits.{with_has}
-use Rattle.edge_state.specs.BitRows.{row_has}
 use Rattle.edge_state.proofs.bit_row.BitRow.with.Goals as goal
 
 pub returns : goal.returns

@@ -1,4 +1,4 @@
-use Rattle.std.proofs.Common.{ℕ, ◌≡◌, ◌<◌, ◌≤◌, ◌*◌, ◌^◌, ◌%◌, ◌/◌, bit_or, slice_index}
+use Rattle.std.proofs.Common.{◌≡◌, ◌<◌, ◌≤◌, ◌*◌, ◌^◌, ◌%◌, ◌/◌, bit_or, slice_index}
 use Rattle.std.proofs.Math.ListN.{set}
 use Rattle.edge_state.proofs.bit_row.BitRow.with.Given as goal
 

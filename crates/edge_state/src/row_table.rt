@@ -1,0 +1,166 @@
+//! Rows of bits in as many words as their numbers need.
+ghost use Rattle.std.specs.Prelude.{◌≡◌, ◌<◌, ◌≤◌, ◌*◌, ◌&&◌, ◌||◌, ◌==◌, not, false, ℕ, [], IfOk, length, replicate, set, slice_index, slice_index_or, if◌then◌else◌};
+ghost use Rattle.edge_state.specs.BitRows.{IsRowWidth, row_has};
+ghost use Rattle.edge_state.specs.RowTables.{filled_table, IsRowSet};
+
+use crate::BitRow;
+use box_instances::NoMemory;
+use std::alloc::Global;
+use std::marker::Model;
+
+/// A list of rows, each a set of numbers below 64, or below 128 where the rows have a second word: all have one, or none.
+///
+/// It is seen as the rows in two words, with the count of second words that are kept; a word that isn't kept is 0.
+#[derive(Drop)]
+pub struct RowTable {
+    first: Vec<u64>,
+    second: Vec<u64>,
+}
+
+impl Model for RowTable {
+    ghost use Rattle.std.specs.Prelude.{length};
+    ghost use Rattle.edge_state.specs.RowTables.{PlainTable, paired};
+
+    ghost Value = { PlainTable };
+
+    ghost view = { λ t. record {
+      rows = paired t.first.items t.second.items;
+      seconds = length t.second.items;
+    } };
+}
+
+// How many rows are kept with a second word, of so many.
+fn seconds_of(count: usize, wide: bool) -> usize
+    ensures { result ≡ (if wide then count else 0) }
+{
+    if wide { count } else { 0 }
+}
+
+// Writes one word over all.
+fn fill_words(words: &mut Vec<u64>, word: u64)
+    ensures { words.new.items ≡ replicate (length words.old.items) word }
+{
+    for at in 0..words.len() {
+        words[at] = word;
+    }
+}
+
+impl RowTable {
+    /// So many times the same row, with a second word only where that is wanted.
+    pub fn new(
+        alloc: Global,
+        count: usize,
+        row: BitRow<2>,
+        wide: bool,
+    ) -> Result<RowTable, NoMemory>
+        ensures { IfOk result (λ table. table ≡ filled_table count row wide) }
+    {
+        let Ok(first) = vec![in alloc; row.word(0); count] else {
+            return Err(NoMemory);
+        };
+        let Ok(second) = vec![in alloc; row.word(1); seconds_of(count, wide)] else {
+            return Err(NoMemory);
+        };
+        Ok(RowTable { first, second })
+    }
+
+    /// Makes all rows this one. `wide` says whether they are kept with their second words.
+    pub fn fill(&mut self, row: BitRow<2>, wide: bool)
+        requires { self.old.seconds ≡ (if wide then length self.old.rows else 0) }
+        ensures { self.new ≡ filled_table (length self.old.rows) row wide }
+    {
+        fill_words(&mut self.first, row.word(0));
+        fill_words(&mut self.second, row.word(1));
+    }
+
+    /// How many rows there are.
+    #[inline]
+    pub fn len(&self) -> usize
+        ensures { result ≡ length self.now.rows }
+    {
+        self.first.len()
+    }
+
+    // A word of a row, 0 where it isn't kept.
+    #[inline]
+    fn word(&self, at: usize, part: u32) -> u64
+        requires { at < length self.now.rows }
+        ensures value { result ≡ slice_index (slice_index_or self.now.rows at []) part }
+        ensures words { length (slice_index_or self.now.rows at []) ≡ 2 }
+    {
+        if part == 0 {
+            return self.first[at];
+        }
+        if part == 1 && at < self.second.len() {
+            return self.second[at];
+        }
+        0
+    }
+
+    // Writes a word of a row that is kept.
+    #[inline]
+    fn put(&mut self, at: usize, part: u32, word: u64)
+        requires at { at < length self.old.rows }
+        requires part { part < 2 }
+        requires kept { 0 < part → at < self.old.seconds }
+        ensures { self.new ≡ record self.old {
+          rows = set self.old.rows at
+              (set (slice_index_or self.old.rows at []) part word);
+        } }
+    {
+        if part == 0 {
+            self.first[at] = word;
+        } else {
+            self.second[at] = word;
+        }
+    }
+
+    /// The row in so many words, which hold all of it or its first numbers.
+    #[inline]
+    pub fn row<const K: usize>(&self, at: usize) -> BitRow<K>
+        requires width { IsRowWidth K }
+        requires at { at < length self.now.rows }
+        ensures within { (x : ℕ) → x < 64 * K → row_has result x ≡ row_has (slice_index_or self.now.rows at []) x }
+        ensures beyond { (x : ℕ) → 64 * K ≤ x → row_has result x ≡ false }
+    {
+        BitRow::of_words(self.word(at, 0), self.word(at, 1))
+    }
+
+    /// Whether the number is in the row.
+    #[inline]
+    pub fn has(&self, at: usize, number: u32) -> bool
+        requires { at < length self.now.rows }
+        ensures { result ≡ row_has (slice_index_or self.now.rows at []) number }
+    {
+        let word = self.word(at, number / 64);
+        word >> (number % 64) & 1 == 1
+    }
+
+    /// Puts the number into the row. Its word is kept.
+    #[inline]
+    pub fn insert(&mut self, at: usize, number: u32)
+        requires at { at < length self.old.rows }
+        requires number { number < 128 }
+        requires kept { 64 ≤ number → at < self.old.seconds }
+        ensures { IsRowSet self.old self.new at
+            (λ x. row_has (slice_index_or self.old.rows at []) x || x == number) }
+    {
+        let part = number / 64;
+        let word = self.word(at, part);
+        self.put(at, part, word | 1 << (number % 64));
+    }
+
+    /// Takes the number out of the row. Its word is kept.
+    #[inline]
+    pub fn remove(&mut self, at: usize, number: u32)
+        requires at { at < length self.old.rows }
+        requires number { number < 128 }
+        requires kept { 64 ≤ number → at < self.old.seconds }
+        ensures { IsRowSet self.old self.new at
+            (λ x. row_has (slice_index_or self.old.rows at []) x && not (x == number)) }
+    {
+        let part = number / 64;
+        let word = self.word(at, part);
+        self.put(at, part, word & !(1 << (number % 64)));
+    }
+}

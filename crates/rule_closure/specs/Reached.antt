@@ -1,0 +1,22 @@
+-- The instances that are applied for one place, in one order of its boxes, by what they ask of it.
+use Rattle.std.specs.Prelude.{ℕ, ◌≡◌, ◌≢◌, ◌<◌, ◌⊎◌}
+use Rattle.packing_terms.specs.Packing.{PlainInstance, dims, box_count}
+use Rattle.packing_terms.specs.Rules.{Rule, Apart, Triple, Cycle, Order}
+
+-- those that ask for boxes that are apart
+abbrev pub IsReachedApart : PlainInstance → ℕ → ℕ → ℕ → Rule → Type 0
+IsReachedApart instance j p q rule =
+    ((v : ℕ) × (v < box_count instance) × (rule ≡ Triple j p v q))
+    ⊎ ((b : ℕ) × (b < box_count instance) × ((d : ℕ) × (d < box_count instance) × (rule ≡ Cycle j p b q d)))
+
+-- those that ask for boxes that are joined
+abbrev pub IsReachedJoined : PlainInstance → ℕ → ℕ → ℕ → Rule → Type 0
+IsReachedJoined instance j p q rule =
+    ((i : ℕ) × (i < dims instance) × ((j ≢ i) × (rule ≡ Apart i p q)))
+    ⊎ ((c : ℕ) × (c < box_count instance) × ((d : ℕ) × (d < box_count instance) × (rule ≡ Cycle j p q c d)))
+
+-- those that ask for a box that is surely before the other
+abbrev pub IsReachedOrdered : PlainInstance → ℕ → ℕ → ℕ → Rule → Type 0
+IsReachedOrdered instance j p q rule =
+    ((d : ℕ) × (d < box_count instance) × ((c : ℕ) × (c < box_count instance) × (rule ≡ Order j p q c d)))
+    ⊎ ((a : ℕ) × (a < box_count instance) × ((b : ℕ) × (b < box_count instance) × (rule ≡ Order j a b p q)))
