@@ -68,16 +68,14 @@ struct Total {
     past_early: u32,
 }
 
-fn run_row(alloc: Global, row: &Row, seeds: u32, total: &mut Total) -> Result<(), Fail> {
+fn run_row(alloc: Global, row: &Row, rounds: u32, total: &mut Total) -> Result<(), Fail> {
     let instance = instance_of(alloc, row)?;
     let tree = ClassTree::new(alloc, &instance, row.scales)?;
-    for seed in 0..seeds {
+    let mut seed = row.container[0];
+    for _ in 0..rounds {
         for budget in row.budgets {
-            let numbers = draw(
-                alloc,
-                seed.wrapping_mul(7919).wrapping_add(budget as u32),
-                48,
-            )?;
+            seed = seed.wrapping_add(7919);
+            let numbers = draw(alloc, seed, 48)?;
             if let Some(shown) = run_schedule(alloc, &tree, budget, numbers.as_slice())? {
                 total.right = total.right.saturating_add(u32::from(shown.is_right));
                 total.overtaken = total
@@ -92,7 +90,7 @@ fn run_row(alloc: Global, row: &Row, seeds: u32, total: &mut Total) -> Result<()
     Ok(())
 }
 
-// 42 seeds over six rows with four budgets each: 1008 schedules. In some a yes is finished before another on its left, and in some
+// 42 rounds over six rows with four budgets each: 1008 schedules. In some a yes is finished before another on its left, and in some
 // the budget is passed by the leftmost run while tasks wait.
 #[test]
 fn random_schedules_give_the_outcome_of_one_thread(rt: HostRuntime) -> Result<(), Fail> {
