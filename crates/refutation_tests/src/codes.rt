@@ -2,6 +2,8 @@
 ghost use Rattle.std.specs.Prelude.{◌≡◌};
 
 use crate::instances::instance_of;
+use FeedVerdict::{Done, More};
+use ScaleFn::{Cut, Id, Step};
 use box_instances::{Instance, NoMemory};
 use conservative_scales::{ScaleFn, ScaleTuple};
 use edge_state::{Exclusion, Rel};
@@ -10,198 +12,185 @@ use refutation_check::{FeedVerdict, RefuseCode, Refuter};
 use std::alloc::Global;
 use std::test::Fail;
 
-// What the first token of a tree is answered.
-fn first_answer(
+const KIND: FeedVerdict = FeedVerdict::Refused {
+    code: RefuseCode::Kind,
+};
+
+const RANGE: FeedVerdict = FeedVerdict::Refused {
+    code: RefuseCode::Range,
+};
+
+const CHOICE: FeedVerdict = FeedVerdict::Refused {
+    code: RefuseCode::Choice,
+};
+
+const CONFLICT: FeedVerdict = FeedVerdict::Refused {
+    code: RefuseCode::Conflict,
+};
+
+const EXCESS: FeedVerdict = FeedVerdict::Refused {
+    code: RefuseCode::Excess,
+};
+
+const SIDE: FeedVerdict = FeedVerdict::Refused {
+    code: RefuseCode::Side,
+};
+
+// A token of an inner tree, or of an outer one, by a short form.
+#[derive(Clone, Copy)]
+enum Brief {
+    Apart(u32, u32, u32),
+    Order(u32, u32, u32),
+    Rules,
+    TooLarge(u32, u32),
+    Scales(&'static [ScaleFn]),
+    Assign,
+    Choose,
+    Bin,
+    Set,
+    Short,
+    Outer,
+}
+
+use Brief::{Apart, Assign, Bin, Choose, Order, Outer, Rules, Scales, Set, Short, TooLarge};
+
+fn token_of(alloc: Global, brief: Brief) -> Result<Token, Fail> {
+    Ok(match brief {
+        Apart(dim, u, v) => Token::Apart { dim, u, v },
+        Order(dim, u, v) => Token::Order { dim, u, v },
+        Rules => Token::Rules,
+        TooLarge(box_no, dim) => Token::TooLarge { box_no, dim },
+        Scales(functions) => Token::Scales(ScaleTuple::from_slice(alloc, functions)?),
+        Assign => Token::Assign { box_no: 1 },
+        Choose => Token::Choose { box_no: 1 },
+        Bin => Token::SetRefuted { bin: Some(1) },
+        Set => Token::SetRefuted { bin: None },
+        Short => Token::ValueShort,
+        Outer => Token::GlobalScales(ScaleTuple::new(alloc)),
+    })
+}
+
+// Boxes with how often each stands, and what the first token of their tree is answered.
+type Case = (
+    u32,
+    &'static [(&'static [u32], u32)],
+    &'static [(Brief, FeedVerdict)],
+);
+
+// Two boxes in a square of 10, of which one must lie above the other.
+const TWO: &[(&[u32], u32)] = &[(&[6, 4], 1), (&[6, 6], 1)];
+
+const CASES: [Case; 8] = [
+    // Numbers out of range are refused first.
+    (
+        10,
+        TWO,
+        &[
+            (Apart(0, 1, 2), RANGE),
+            (Apart(3, 1, 2), RANGE),
+            (Apart(1, 0, 2), RANGE),
+            (Apart(1, 1, 3), RANGE),
+            (Apart(1, 2, 1), RANGE),
+            (Apart(1, 1, 1), RANGE),
+            (Order(0, 1, 2), RANGE),
+            (Order(3, 1, 2), RANGE),
+            (Order(1, 0, 2), RANGE),
+            (Order(1, 1, 3), RANGE),
+            (Order(1, 2, 1), RANGE),
+            (Order(1, 1, 1), RANGE),
+            (TooLarge(0, 1), RANGE),
+            (TooLarge(3, 1), RANGE),
+            (TooLarge(1, 0), RANGE),
+            (TooLarge(1, 3), RANGE),
+        ],
+    ),
+    // Splits are those of the closed masks.
+    (
+        10,
+        TWO,
+        &[
+            (Apart(1, 1, 2), CHOICE),
+            (Apart(2, 1, 2), CHOICE),
+            (Order(1, 1, 2), CHOICE),
+            (Order(2, 1, 2), More),
+            (Rules, CONFLICT),
+        ],
+    ),
+    (
+        10,
+        &[(&[3, 3], 2)],
+        &[(Order(1, 1, 2), CHOICE), (Apart(1, 1, 2), More)],
+    ),
+    // A split of a conflict is no choice.
+    (
+        10,
+        &[(&[6, 6], 2), (&[1, 1], 2)],
+        &[(Apart(1, 3, 4), CHOICE), (Rules, Done)],
+    ),
+    (
+        10,
+        &[(&[10, 11], 1)],
+        &[(TooLarge(1, 1), SIDE), (TooLarge(1, 2), Done)],
+    ),
+    // Tuples are tested by count, then range, then excess.
+    (
+        9,
+        &[(&[4, 4], 5)],
+        &[
+            (Scales(&[Step(2), Id]), Done),
+            (Scales(&[Step(0)]), KIND),
+            (Scales(&[Id, Id, Step(0)]), KIND),
+            (Scales(&[Id, Step(0)]), RANGE),
+            (Scales(&[Id, Step(17)]), RANGE),
+            (Scales(&[Id, Cut(0)]), RANGE),
+            (Scales(&[Id, Cut(5)]), RANGE),
+            (Scales(&[Id, Id]), EXCESS),
+        ],
+    ),
+    (
+        9,
+        &[(&[10, 4], 5)],
+        &[
+            (Scales(&[Id, Step(0)]), RANGE),
+            (Scales(&[Step(2), Id]), EXCESS),
+        ],
+    ),
+    // Tokens of outer trees are of another kind.
+    (
+        10,
+        TWO,
+        &[
+            (Assign, KIND),
+            (Choose, KIND),
+            (Bin, KIND),
+            (Set, KIND),
+            (Short, KIND),
+            (Outer, KIND),
+        ],
+    ),
+];
+
+// Whether the first token of a tree is answered so.
+fn is_answered(
     alloc: Global,
     instance: &Instance,
-    token: &Token,
-) -> Result<FeedVerdict, NoMemory> {
+    brief: Brief,
+    answer: FeedVerdict,
+) -> Result<bool, Fail> {
+    let token = token_of(alloc, brief)?;
     let mut refuter = Refuter::new(alloc, instance)?;
-    Ok(refuter.feed(token))
-}
-
-fn is_refused(
-    alloc: Global,
-    instance: &Instance,
-    token: Token,
-    code: RefuseCode,
-) -> Result<bool, NoMemory> {
-    Ok(first_answer(alloc, instance, &token)? == FeedVerdict::Refused { code })
-}
-
-// A split of a pair, by apart or joined, or by its two orders.
-fn split(is_order: bool, dim: u32, u: u32, v: u32) -> Token {
-    if is_order {
-        Token::Order { dim, u, v }
-    } else {
-        Token::Apart { dim, u, v }
-    }
-}
-
-fn scales(alloc: Global, functions: &[ScaleFn]) -> Result<Token, Fail> {
-    Ok(Token::Scales(ScaleTuple::from_slice(alloc, functions)?))
-}
-
-// Two boxes of which one must lie above the other.
-fn two_boxes(alloc: Global) -> Result<Instance, Fail> {
-    instance_of(alloc, &[10, 10], &[(&[6, 4], 1), (&[6, 6], 1)])
+    Ok(refuter.feed(&token) == answer)
 }
 
 #[test]
-fn numbers_out_of_range_are_refused_first(rt: HostRuntime) -> Result<(), Fail> {
+fn each_refusal_has_its_cause(rt: HostRuntime) -> Result<(), Fail> {
     let alloc = rt.alloc();
-    let boxes = two_boxes(alloc)?;
-    for (dim, u, v) in [
-        (0, 1, 2),
-        (3, 1, 2),
-        (1, 0, 2),
-        (1, 1, 3),
-        (1, 2, 1),
-        (1, 1, 1),
-    ] {
-        for is_order in [false, true] {
-            assert!(rt; is_refused(alloc, &boxes, split(is_order, dim, u, v), RefuseCode::Range)?);
+    for (side, boxes, tokens) in CASES {
+        let instance = instance_of(alloc, &[side, side], boxes)?;
+        for (brief, answer) in tokens {
+            assert!(rt; is_answered(alloc, &instance, *brief, *answer)?);
         }
     }
-    for (box_no, dim) in [(0, 1), (3, 1), (1, 0), (1, 3)] {
-        let token = Token::TooLarge { box_no, dim };
-        assert!(rt; is_refused(alloc, &boxes, token, RefuseCode::Range)?);
-    }
-    Ok(())
-}
-
-#[test]
-fn splits_are_those_of_the_closed_masks(rt: HostRuntime) -> Result<(), Fail> {
-    let alloc = rt.alloc();
-    let boxes = two_boxes(alloc)?;
-    for (is_order, dim) in [(false, 1), (false, 2), (true, 1)] {
-        assert!(rt;
-            is_refused(
-                alloc,
-                &boxes,
-                split(is_order, dim, 1, 2),
-                RefuseCode::Choice
-            )?
-        );
-    }
-    assert_eq!(rt;
-        first_answer(alloc, &boxes, &split(true, 2, 1, 2))?,
-        FeedVerdict::More
-    );
-    let open = instance_of(alloc, &[10, 10], &[(&[3, 3], 2)])?;
-    assert!(rt; is_refused(alloc, &open, split(true, 1, 1, 2), RefuseCode::Choice)?);
-    assert_eq!(rt;
-        first_answer(alloc, &open, &split(false, 1, 1, 2))?,
-        FeedVerdict::More
-    );
-    Ok(())
-}
-
-#[test]
-fn a_split_of_a_conflict_is_no_choice(rt: HostRuntime) -> Result<(), Fail> {
-    let alloc = rt.alloc();
-    let boxes = instance_of(alloc, &[10, 10], &[(&[6, 6], 2), (&[1, 1], 2)])?;
-    assert!(rt; is_refused(alloc, &boxes, split(false, 1, 3, 4), RefuseCode::Choice)?);
-    assert_eq!(rt;
-        first_answer(alloc, &boxes, &Token::Rules)?,
-        FeedVerdict::Done
-    );
-    assert!(rt;
-        is_refused(
-            alloc,
-            &two_boxes(alloc)?,
-            Token::Rules,
-            RefuseCode::Conflict
-        )?
-    );
-    Ok(())
-}
-
-#[test]
-fn a_side_exceeds_or_is_refused(rt: HostRuntime) -> Result<(), Fail> {
-    let alloc = rt.alloc();
-    let boxes = instance_of(alloc, &[10, 10], &[(&[10, 11], 1)])?;
-    let token = Token::TooLarge { box_no: 1, dim: 1 };
-    assert!(rt; is_refused(alloc, &boxes, token, RefuseCode::Side)?);
-    let token = Token::TooLarge { box_no: 1, dim: 2 };
-    assert_eq!(rt; first_answer(alloc, &boxes, &token)?, FeedVerdict::Done);
-    Ok(())
-}
-
-#[test]
-fn tuples_are_tested_by_count_then_range_then_excess(rt: HostRuntime) -> Result<(), Fail> {
-    use ScaleFn::{Cut, Id, Step};
-    let alloc = rt.alloc();
-    let boxes = instance_of(alloc, &[9, 9], &[(&[4, 4], 5)])?;
-    assert_eq!(rt;
-        first_answer(alloc, &boxes, &scales(alloc, &[Step(2), Id])?)?,
-        FeedVerdict::Done
-    );
-    assert!(rt; is_refused(alloc, &boxes, scales(alloc, &[Step(0)])?, RefuseCode::Kind)?);
-    assert!(rt;
-        is_refused(
-            alloc,
-            &boxes,
-            scales(alloc, &[Id, Id, Step(0)])?,
-            RefuseCode::Kind
-        )?
-    );
-    for wrong in [Step(0), Step(17), Cut(0), Cut(5)] {
-        assert!(rt;
-            is_refused(
-                alloc,
-                &boxes,
-                scales(alloc, &[Id, wrong])?,
-                RefuseCode::Range
-            )?
-        );
-    }
-    assert!(rt; is_refused(alloc, &boxes, scales(alloc, &[Id, Id])?, RefuseCode::Excess)?);
-    let large = instance_of(alloc, &[9, 9], &[(&[10, 4], 5)])?;
-    assert!(rt;
-        is_refused(
-            alloc,
-            &large,
-            scales(alloc, &[Id, Step(0)])?,
-            RefuseCode::Range
-        )?
-    );
-    assert!(rt;
-        is_refused(
-            alloc,
-            &large,
-            scales(alloc, &[Step(2), Id])?,
-            RefuseCode::Excess
-        )?
-    );
-    Ok(())
-}
-
-#[test]
-fn tokens_of_outer_trees_are_of_another_kind(rt: HostRuntime) -> Result<(), Fail> {
-    let alloc = rt.alloc();
-    let boxes = two_boxes(alloc)?;
-    let none = ScaleTuple::new(alloc);
-    assert!(rt; is_refused(alloc, &boxes, Token::Assign { box_no: 1 }, RefuseCode::Kind)?);
-    assert!(rt; is_refused(alloc, &boxes, Token::Choose { box_no: 1 }, RefuseCode::Kind)?);
-    assert!(rt;
-        is_refused(
-            alloc,
-            &boxes,
-            Token::SetRefuted { bin: Some(1) },
-            RefuseCode::Kind
-        )?
-    );
-    assert!(rt;
-        is_refused(
-            alloc,
-            &boxes,
-            Token::SetRefuted { bin: None },
-            RefuseCode::Kind
-        )?
-    );
-    assert!(rt; is_refused(alloc, &boxes, Token::ValueShort, RefuseCode::Kind)?);
-    assert!(rt; is_refused(alloc, &boxes, Token::GlobalScales(none), RefuseCode::Kind)?);
     Ok(())
 }
 
@@ -232,27 +221,25 @@ fn under(
     Ok(Some(refuter.feed(token)))
 }
 
+// How many orders are excluded, whether the token is a leaf or else a split by order, and its answer.
+const STARTS: [(usize, bool, FeedVerdict); 4] = [
+    (0, false, More),
+    (1, false, CHOICE),
+    (1, true, CONFLICT),
+    (2, true, Done),
+];
+
 #[test]
 fn a_refutation_begins_with_exclusions(rt: HostRuntime) -> Result<(), Fail> {
     let alloc = rt.alloc();
-    let boxes = two_boxes(alloc)?;
-    let order = split(true, 2, 1, 2);
-    assert_eq!(rt; under(alloc, &boxes, 0, &order)?, Some(FeedVerdict::More));
-    assert_eq!(rt;
-        under(alloc, &boxes, 1, &order)?,
-        Some(FeedVerdict::Refused {
-            code: RefuseCode::Choice
-        })
-    );
-    assert_eq!(rt;
-        under(alloc, &boxes, 1, &Token::Rules)?,
-        Some(FeedVerdict::Refused {
-            code: RefuseCode::Conflict
-        })
-    );
-    assert_eq!(rt;
-        under(alloc, &boxes, 2, &Token::Rules)?,
-        Some(FeedVerdict::Done)
-    );
+    let boxes = instance_of(alloc, &[10, 10], TWO)?;
+    for (count, is_leaf, answer) in STARTS {
+        let token = if is_leaf {
+            Token::Rules
+        } else {
+            Token::Order { dim: 2, u: 1, v: 2 }
+        };
+        assert!(rt; under(alloc, &boxes, count, &token)? == Some(answer));
+    }
     Ok(())
 }
