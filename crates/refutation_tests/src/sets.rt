@@ -17,8 +17,17 @@ fn is_set(keep: &[u32], limit: u32) -> bool
     ensures there { result ≡ true → All (λ v. v < limit) keep.now }
     ensures rising { result ≡ true → IsStrictlyIncreasing keep.now }
 {
-    for at in 0..keep.len() {
-        if keep[at] >= limit || at > 0 && keep[at - 1] >= keep[at] {
+    if keep.is_empty() {
+        return true;
+    }
+    if keep[0] >= limit {
+        return false;
+    }
+    for at in 1..keep.len() {
+        if keep[at] >= limit {
+            return false;
+        }
+        if keep[at - 1] >= keep[at] {
             return false;
         }
     }
@@ -72,6 +81,21 @@ fn set_is_checked(
     }
 }
 
+// How many of the drawn sets the search refutes, checked by one refuter; none where a refutation isn't accepted.
+fn checked_sets(alloc: Global, instance: &Instance, random: &mut u32) -> Result<Option<u32>, Fail> {
+    let mut refuter = Refuter::new(alloc, instance)?;
+    let mut found = 0u32;
+    for _ in 0..12u32 {
+        let keep = drawn_set(alloc, random, instance.len())?;
+        match set_is_checked(alloc, instance, &mut refuter, keep.as_slice())? {
+            Some(true) => found = found.saturating_add(1),
+            Some(false) => return Ok(None),
+            None => {}
+        }
+    }
+    Ok(Some(found))
+}
+
 #[test]
 fn sets_are_checked_one_after_another(rt: HostRuntime) -> Result<(), Fail> {
     let alloc = rt.alloc();
@@ -79,19 +103,9 @@ fn sets_are_checked_one_after_another(rt: HostRuntime) -> Result<(), Fail> {
     let mut found = 0u32;
     for round in 0..12u32 {
         let instance = drawn_instance(alloc, &mut random, 2 + round % 3, 9, 8, 10)?;
-        let mut refuter = Refuter::new(alloc, &instance)?;
-        for _ in 0..12u32 {
-            let keep = drawn_set(alloc, &mut random, instance.len())?;
-            if let Some(is_accepted) = set_is_checked(
-                alloc,
-                &instance,
-                &mut refuter,
-                keep.as_slice(),
-            )? {
-                assert!(rt; is_accepted);
-                found = found.saturating_add(1);
-            }
-        }
+        let more = checked_sets(alloc, &instance, &mut random)?;
+        assert!(rt; more.is_some());
+        found = found.saturating_add(more.unwrap_or(0));
     }
     assert!(rt; found > 10);
     Ok(())

@@ -89,8 +89,8 @@ fn candidates(alloc: Global, dims: u32, boxes: u32) -> Result<Vec<(u32, u32, u32
     for dim in 1..=dims {
         for last in 1..=boxes {
             for first in 1..last {
-                let v = (boxes + 1).saturating_sub(first);
-                let u = (boxes + 1).saturating_sub(last);
+                let v = boxes.saturating_sub(first.saturating_sub(1));
+                let u = boxes.saturating_sub(last.saturating_sub(1));
                 list.push((1, dim, u, v))?;
                 list.push((2, dim, u, v))?;
             }
