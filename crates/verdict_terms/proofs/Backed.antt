@@ -1,16 +1,12 @@
 -- What stands behind the result line, up to `end`, backs its claim.
-use Rattle.std.proofs.Common.{◌≡◌, ℕ, suc, pred, ◌+◌, ◌*◌, ◌<◌, ◌≤◌, refl, sym, ap, ap₂, subst, ◌∙◌, arith, Bool, true, false, cond, ◌&&◌, ◌-◌, inl, List, [], ◌∷◌, ◌++◌, length, map, append_assoc, Option, Some, None, Ok, codes}
+use Rattle.std.proofs.Common.{◌≡◌, ℕ, suc, pred, ◌+◌, ◌*◌, ◌≤◌, refl, sym, ap, ap₂, subst, ◌∙◌, arith, Bool, true, false, cond, ◌&&◌, ◌-◌, inl, List, [], ◌∷◌, ◌++◌, length, append_assoc, Option, Some, None, Ok, codes}
 use Rattle.std.specs.Prelude.{nat_le, nat_lt}
-use Rattle.std.specs.List.{range_with_len}
 use Rattle.std.proofs.lemmas.Bool.{and_parts, leb-true, ltb-true}
 use Rattle.std.proofs.lemmas.List.{length-append, length-map}
-use Rattle.std.proofs.lemmas.List.FromFn.{length-map-range_with_len}
-use Rattle.packing_terms.specs.Packing.{PlainInstance, dims, box_count, container_side, side, place, IsPacking}
-use Rattle.packing_terms.specs.Goals.{with_last_side, subset, in_bin, places_of, worth}
+use Rattle.packing_terms.specs.Packing.{PlainInstance, dims, box_count, container_side, side}
+use Rattle.packing_terms.specs.Goals.{with_last_side, subset, worth}
 use Rattle.packing_terms.specs.Tokens.{PlainToken}
 use Rattle.packing_terms.specs.Tokens.PlainToken.{Apart, Order, Rules, TooLarge, Scales, Assign, Choose, SetRefuted, ValueShort, GlobalScales}
-use Rattle.packing_terms.proofs.Members.{in_map, in_range}
-use Rattle.packing_terms.proofs.InBins.{length_joined}
 use Rattle.check_terms.specs.declared.answers.PlaceVerdict.TheVariants.{Good}
 use Rattle.check_terms.specs.Placing.{place_verdict}
 use Rattle.check_terms.specs.Judging.{names_box}
@@ -27,6 +23,7 @@ use Rattle.verdict_terms.specs.Stages.Stage.{Placing, Sharing, Taking, Proving, 
 use Rattle.verdict_terms.specs.Form.{AreNumberedLines, ArePlaced, AreShared, AreTaken, AreRefuting, IsExceedingLine, AreProved, Backs}
 use Rattle.verdict_terms.proofs.Passed.{bind_ok, require_ok, is_word_ok, ok_is}
 use Rattle.verdict_terms.proofs.Walk.{read_words}
+use Rattle.verdict_terms.proofs.BinsGood.{bins_good}
 use Rattle.verdict_terms.proofs.TreesTold.{end_told, token_ok, refuting_told}
 use Rattle.verdict_terms.proofs.PlacesTold.{group_good, places_good, places_told, shares_told, takes_told, numbered_count}
 
@@ -83,26 +80,19 @@ numbered_length key most d (words ∷ lines) (n ∷ ns) places (xs, more, e, lin
     let r : suc (length ns) * d ≡ d + length ns * d = grind arith in
     ap length e ∙ omega (arith, a, b, c, r)
 
-set_places : (instance : PlainInstance) (places keep : List ℕ) → length (places_of instance places keep) ≡ box_count (subset instance keep) * dims (subset instance keep)
-set_places instance places keep =
-    length_joined (λ v. map (λ i. place instance places v i) (range_with_len 0 (dims instance))) (dims instance)
-    (λ v. length-map-range_with_len (λ i. place instance places v i) 0 (dims instance)) keep
-    ∙ ap (λ n. n * dims instance) (sym (length-map keep _))
-
 shares_backed : (instance : PlainInstance) (claim told : Claim) (k : ℕ) (lines : List (List (List ℕ))) → read_words (Sharing instance claim k [] []) lines ≡ Ok told
     → (front : List (List (List ℕ))) × (back : List (List (List ℕ))) × (lines ≡ front ++ back) × AreShared instance k front × (read_words (placed claim (to_refute instance claim)) back ≡ Ok told)
 shares_backed instance claim told k lines e =
-    let t = shares_told instance claim told k [] [] lines e in
-    let packed : (b : ℕ) → b < k → IsPacking (subset instance (in_bin t.more_bins b)) (places_of instance t.more (in_bin t.more_bins b)) =
-    λ b h. (places_tested (subset instance (in_bin t.more_bins b)) (places_of instance t.more (in_bin t.more_bins b)) Good (set_places instance t.more (in_bin t.more_bins b))).0
-    (group_good (map (λ b. (in_bin t.more_bins b, place_verdict (subset instance (in_bin t.more_bins b)) (places_of instance t.more (in_bin t.more_bins b)))) (range_with_len 0 k)) t.good
-    (in_bin t.more_bins b, place_verdict (subset instance (in_bin t.more_bins b)) (places_of instance t.more (in_bin t.more_bins b)))
-    (in_map (λ b. (in_bin t.more_bins b, place_verdict (subset instance (in_bin t.more_bins b)) (places_of instance t.more (in_bin t.more_bins b)))) b (range_with_len 0 k)
-    (in_range 0 k b (omega arith) (omega (arith, h))))) in (
+    let t = shares_told instance claim told k [] [] lines e in (
       t.front,
       t.back,
       t.are,
-      record { bins = t.more_bins; places = t.more; are_lines = t.are_lines; packing = record { count = t.count; placed = numbered_length (codes "place") k (dims instance) t.front t.more_bins t.more t.are_lines ∙ ap (λ n. n * dims instance) t.count; numbers = t.below; packed = packed } },
+      record {
+        bins = t.more_bins;
+        places = t.more;
+        are_lines = t.are_lines;
+        packing = bins_good instance k t.more_bins t.more t.count (numbered_length (codes "place") k (dims instance) t.front t.more_bins t.more t.are_lines) t.below t.good;
+      },
       t.rest,
     )
 

@@ -6,6 +6,7 @@ pub mod TreesTold
 pub mod True
 pub mod PlacesTold
 pub mod Backed
+pub mod BinsGood
 pub mod ResultsTold
 pub mod FormTold
 pub mod Taken

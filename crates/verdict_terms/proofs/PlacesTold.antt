@@ -282,7 +282,7 @@ rising_push us v rising below k h = go (cases_lt (k + 1) (length us))
         let small = ltb-true (get_or us k 0) v (all_at (λ u. nat_lt u v) (get_or us k 0) us below (in_list us k (omega (arith, n)))) in
         omega (arith, a, b, small)
 
-set_push : (instance : PlainInstance) (taken : List ℕ) (v : ℕ) → IsBoxSet instance taken → v < box_count instance → list_all (λ u. nat_lt u v) taken ≡ true
+pub set_push : (instance : PlainInstance) (taken : List ℕ) (v : ℕ) → IsBoxSet instance taken → v < box_count instance → list_all (λ u. nat_lt u v) taken ≡ true
     → IsBoxSet instance (taken ++ v ∷ [])
 set_push instance taken v set there below = record {
   there = All-append (λ v. v < box_count instance) taken (v ∷ []) set.there (all_cons (λ v. v < box_count instance) v [] there (λ i d h. absurd (omega arith)));

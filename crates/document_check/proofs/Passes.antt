@@ -1,0 +1,116 @@
+-- A pass over a document, phase by phase.
+use Rattle.std.proofs.Common.{◌≡◌, ◌∙◌, ℕ, ◌+◌, inr, true, refl, sym, ap, subst, arith, List, [], Option, Some, None, Result, Ok, Err}
+use Rattle.text_terms.specs.Feeding.{Lexer, new_lexer}
+use Rattle.document_terms.specs.declared.claim.Claim.{Claim}
+use Rattle.verdict_terms.specs.declared.reason.Reason.{Reason}
+use Rattle.verdict_terms.specs.declared.reason.Reason.TheVariants.{TooShort}
+use Rattle.verdict_terms.specs.Stages.{Stage}
+use Rattle.verdict_terms.specs.Stages.Stage.{Beginning, Reading, Placing, Sharing, Taking, Proving, Refuting, Exceeding, Ending, Ended}
+use Rattle.verdict_terms.specs.Documents.{Refusal, at_end}
+use Rattle.document_check.specs.declared.check.CheckEnd.{CheckEnd}
+use Rattle.document_check.specs.declared.check.CheckEnd.TheVariants.{Refused, TooLong, ReadFault, NoMemory}
+use Rattle.document_check.specs.declared.judge.ReadEnd.{ReadEnd}
+use Rattle.document_check.specs.declared.judge.ReadEnd.TheVariants.{End, Paused, Refused as ReadRefused, TooLong as ReadTooLong, ReadFault as ReadFailed, NoMemory as ReadNoMemory}
+use Rattle.document_check.specs.declared.position.Position.{Position}
+use Rattle.document_check.specs.Checked.{most_bytes, IsChecked, Comes}
+use Rattle.document_check.specs.Reading.{PlainJudge, IsAt, IsReadBehind, EndsAs, ended_claim}
+use Rattle.document_check.specs.Passes.{end_of, IsCheckedFrom, IsReadOn, Goes}
+use Rattle.document_check.proofs.Beginnings.{at_behind}
+use Rattle.document_check.proofs.Steps.{gives_none, so_far_start}
+
+-- the verdict at the end of the text
+abbrev verdict_of : Option Claim → ℕ → Result Claim Refusal
+verdict_of (Some claim) n = Ok claim
+verdict_of None n = Err (record { line = n + 1; reason = TooShort })
+
+at_end_is : (stage : Stage) (n : ℕ) → at_end stage n ≡ verdict_of (ended_claim stage) n
+at_end_is Beginning n = refl
+at_end_is (Reading job parts) n = refl
+at_end_is (Placing instance claim refuted places) n = refl
+at_end_is (Sharing instance claim k bins places) n = refl
+at_end_is (Taking instance claim value taken places) n = refl
+at_end_is (Proving claim refuted) n = refl
+at_end_is (Refuting claim tree) n = refl
+at_end_is (Exceeding instance claim m) n = refl
+at_end_is (Ending claim behind) n = refl
+at_end_is (Ended claim) n = refl
+
+module _ (old left : Option (List ℕ)) (before now : ℕ) (at : Position) (stage : Stage) (next : Lexer) (behind : Stage) (count : ℕ) where
+  abbrev pub Behind : ReadEnd → Type 0
+  Behind end = IsReadBehind most_bytes old left before now at.lexer stage at.count next behind count end
+
+  ended : (start : ℕ) (claim : Option Claim) (taken : List ℕ) → EndsAs most_bytes left start now taken next behind count End → ended_claim behind ≡ claim
+      → Comes left start now taken (end_of claim next.number)
+  ended start (Some claim) taken (ends, within, verdict) e = (verdict ∙ (at_end_is behind next.number ∙ ap (λ c. verdict_of c next.number) e), within, ends)
+  ended start None taken (ends, within, verdict) e = (verdict ∙ (at_end_is behind next.number ∙ ap (λ c. verdict_of c next.number) e), within, inr ends)
+
+  pub end_from : Behind End → (claim : Option Claim) → ended_claim behind ≡ claim → IsCheckedFrom old left before now at stage (end_of claim next.number)
+  end_from read claim e first start le taking =
+      let r = read first start le taking in
+      record { taken = r.taken; gives = r.gives; rising = r.rising; comes = ended start claim r.taken r.ends e }
+
+  pub refused_from : (reason : Reason) → Behind (ReadRefused reason) → IsCheckedFrom old left before now at stage (Refused next.number reason)
+  refused_from reason read first start le taking =
+      let r = read first start le taking in
+      record { taken = r.taken; gives = r.gives; rising = r.rising; comes = r.ends }
+
+  pub long_from : Behind ReadTooLong → IsCheckedFrom old left before now at stage TooLong
+  long_from read first start le taking =
+      let r = read first start le taking in
+      record { taken = r.taken; gives = r.gives; rising = r.rising; comes = r.ends }
+
+  pub fault_from : Behind ReadFailed → IsCheckedFrom old left before now at stage ReadFault
+  fault_from read first start le taking =
+      let r = read first start le taking in
+      record { taken = r.taken; gives = r.gives; rising = r.rising; comes = r.ends }
+
+  pub memory_from : Behind ReadNoMemory → IsCheckedFrom old left before now at stage NoMemory
+  memory_from read first start le taking =
+      let r = read first start le taking in
+      record { taken = r.taken; gives = r.gives; rising = r.rising; comes = tt }
+
+  pub paused_from : Behind Paused → IsReadOn old left before now at stage (record { lexer = next; count = count }) behind
+  paused_from read first start le taking =
+      let r = read first start le taking in
+      (r.rising, record { taken = r.taken; gives = r.gives; counted = r.ends.0; so_far = r.ends.1 })
+
+-- memory was refused before a line was taken
+pub no_memory_here : (old : Option (List ℕ)) (before : ℕ) (at : Position) (stage : Stage) → IsCheckedFrom old old before before at stage NoMemory
+no_memory_here old before at stage first start le taking = record { taken = taking.taken; gives = taking.gives; rising = le; comes = tt }
+
+-- one phase, and then what is left
+module _ (old mid left : Option (List ℕ)) (before between now : ℕ) (at next : Position) (stage behind : Stage) (result : CheckEnd) where
+  pub then_from : IsReadOn old mid before between at stage next behind → (rest : Stage) → behind ≡ rest → IsCheckedFrom mid left between now next rest result
+      → IsCheckedFrom old left before now at stage result
+  then_from on rest same more first start le taking =
+      let g = on first start le taking in
+      subst (λ s. IsCheckedFrom mid left between now next s result) (sym same) more first start g.0 g.1
+
+pub then_no_memory : (old mid : Option (List ℕ)) (before between : ℕ) (at next : Position) (stage behind : Stage) → IsReadOn old mid before between at stage next behind
+    → IsCheckedFrom old mid before between at stage NoMemory
+then_no_memory old mid before between at next stage behind on =
+    then_from old mid mid before between between at next stage behind NoMemory on behind refl (no_memory_here mid between next behind)
+
+-- from the first byte on
+pub from_start : (old left : Option (List ℕ)) (before now : ℕ) (result : CheckEnd) → IsCheckedFrom old left before now (record { lexer = new_lexer; count = 0 }) Beginning result
+    → IsChecked old left before now result
+from_start old left before now result from =
+    from old before (omega arith) (record { taken = []; gives = gives_none old; counted = refl; so_far = so_far_start })
+
+-- lines of a judge that tells where the document stands behind them
+pub goes_known : (old left : Option (List ℕ)) (before now : ℕ) (at next : Position) (judge : PlainJudge) (stage behind known : Stage) (result : Option CheckEnd)
+    → judge ≡ record { stage = stage; takes = true; behind = Some known } → Goes old left before now at judge.stage next behind result
+    → (result ≡ None → IsAt judge.behind behind) → Goes old left before now at stage next known result
+goes_known old left before now at next judge stage behind known (Some end) is goes e =
+    subst (λ s. IsCheckedFrom old left before now at s end) (ap (λ (j : PlainJudge). j.stage) is) goes
+goes_known old left before now at next judge stage behind known None is goes e =
+    subst (λ s. IsReadOn old left before now at stage next s) (at_behind judge.behind behind known (e refl) (ap (λ (j : PlainJudge). j.behind) is))
+    (subst (λ s. IsReadOn old left before now at s next behind) (ap (λ (j : PlainJudge). j.stage) is) goes)
+
+-- the same, where it is known behind them
+pub goes_on : (old left : Option (List ℕ)) (before now : ℕ) (at next : Position) (judge : PlainJudge) (stage behind known : Stage) (result : Option CheckEnd)
+    → judge.stage ≡ stage → Goes old left before now at judge.stage next behind result → result ≡ None → behind ≡ known → IsReadOn old left before now at stage next known
+goes_on old left before now at next judge stage behind known result is goes none e =
+    subst (λ s. IsReadOn old left before now at stage next s) e
+    (subst (λ s. IsReadOn old left before now at s next behind) is
+    (subst (λ r. Goes old left before now at judge.stage next behind r) none goes))

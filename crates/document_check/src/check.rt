@@ -1,0 +1,89 @@
+// The check of a document.
+ghost use Rattle.std.specs.Prelude.{◌≡◌};
+ghost use Rattle.verdict_terms.specs.Stages.{claimed};
+ghost use Rattle.document_check.specs.Checked.{IsChecked};
+ghost use Rattle.document_check.specs.Passes.{IsPosition, IsCheckedFrom};
+ghost use Rattle.document_check.specs.Ranges.{IsRanged};
+
+use crate::head::Claimed;
+use crate::phases::{
+    check_bins, check_exceeding, check_fitting, check_heights, check_not_fitting, check_values,
+};
+use crate::position::Position;
+use crate::showing::read_head;
+use document_terms::Claim;
+use pack_streams::Source;
+use std::alloc::Global;
+use verdict_terms::Reason;
+
+/// What the check of a document came to.
+#[derive(Clone, Copy, Debug, PartialEq, Eq)]
+pub enum CheckEnd {
+    /// The whole input is a document of the claim.
+    Verified(Claim),
+    /// The first refused line, counted from 1, and why.
+    Refused { line: u64, reason: Reason },
+    /// More than 1,099,511,627,776 bytes came.
+    TooLong,
+    /// A read failed.
+    ReadFault,
+    /// Memory was refused.
+    NoMemory,
+}
+
+// The rest of a document behind its result line.
+fn check_claimed<S: Source>(
+    alloc: Global,
+    input: &mut S,
+    at: &mut Position,
+    head: &Claimed,
+) -> CheckEnd
+    requires at { IsPosition at.old }
+    requires ranged { IsRanged head.now.instance head.now.claim }
+    ensures { IsCheckedFrom (S.left input.old) (S.left input.new) (S.faults input.old) (S.faults input.new)
+        at.old (claimed head.now.instance head.now.claim) result }
+{
+    let instance = &head.instance;
+    let claim = head.claim;
+    match claim {
+        Claim::Fitting => check_fitting(alloc, input, at, instance),
+        Claim::NotFitting => check_not_fitting(alloc, input, at, instance),
+        Claim::LeastHeight { height } => {
+            check_heights(alloc, input, at, instance, claim, height, height - 1)
+        }
+        Claim::HeightBetween { refuted, placed } => {
+            check_heights(alloc, input, at, instance, claim, placed, refuted)
+        }
+        Claim::NoHeight => {
+            check_exceeding(alloc, input, at, instance, claim, instance.dims() - 1)
+        }
+        Claim::LeastBins { bins } => {
+            check_bins(alloc, input, at, instance, claim, bins, bins - 1)
+        }
+        Claim::BinsBetween { refuted, placed } => {
+            check_bins(alloc, input, at, instance, claim, placed, refuted)
+        }
+        Claim::NoBins => check_exceeding(alloc, input, at, instance, claim, instance.dims()),
+        Claim::GreatestValue { value } => {
+            check_values(alloc, input, at, instance, claim, value, value + 1)
+        }
+        Claim::ValueBetween { placed, refuted } => {
+            check_values(alloc, input, at, instance, claim, placed, refuted)
+        }
+    }
+}
+
+/// Reads a document to its end or to the line feed of its first refused line, and no further, in one pass.
+///
+/// `TooLong` and `ReadFault` come only where no line that was whole before is refused, and `ReadFault` only where
+/// the source's count of faults rose. It holds the instance, the places of its boxes, the open nodes of one tree
+/// and the words of one line.
+pub fn check_document<S: Source>(alloc: Global, input: &mut S) -> CheckEnd
+    ensures { IsChecked (S.left input.old) (S.left input.new) (S.faults input.old) (S.faults input.new) result }
+{
+    let mut at = Position::start();
+    match read_head(alloc, input, &mut at) {
+        Ok(head) => check_claimed(alloc, input, &mut at, &head),
+        Err(end) => end,
+    }
+}

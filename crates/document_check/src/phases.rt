@@ -1,0 +1,319 @@
+// The rest of a document behind its result line, phase by phase.
+ghost use Rattle.std.specs.Prelude.{◌≡◌, ◌≤◌, true, Some, []};
+ghost use Rattle.packing_terms.specs.Packing.{dims, box_count};
+ghost use Rattle.packing_terms.specs.Limits.{most_height};
+ghost use Rattle.packing_terms.specs.Goals.{with_last_side};
+ghost use Rattle.packing_terms.specs.Scales.{SidesFit};
+ghost use Rattle.verdict_terms.specs.Stages.{placed, to_refute};
+ghost use Rattle.verdict_terms.specs.Stages.Stage.{Placing, Sharing, Taking, Proving, Refuting, Exceeding, Ending};
+ghost use Rattle.verdict_terms.specs.Trees.{begun, refuted_by, tree_dims, ToFit, ToFitIn, ToReach};
+ghost use Rattle.document_check.specs.Endings.{AreDims};
+ghost use Rattle.document_check.specs.Passes.{IsPosition, IsCheckedFrom};
+
+use crate::check::CheckEnd;
+use crate::ending::EndReader;
+use crate::judge::LineJudge;
+use crate::position::{Position, give_lines};
+use crate::showing::{read_exceeding, read_places, read_shares, read_taken};
+use crate::tree::{TreeChecker, TreeReader};
+use box_instances::Instance;
+use document_terms::Claim;
+use outer_check::{Goal, OuterRefuter};
+use pack_streams::Source;
+use refutation_check::Refuter;
+use std::alloc::Global;
+
+// `end`, behind places or behind the tree of an instance of so many dimensions.
+fn check_end<S: Source>(
+    alloc: Global,
+    input: &mut S,
+    at: &mut Position,
+    claim: Claim,
+    tree_dims: Option<u32>,
+) -> CheckEnd
+    requires at { IsPosition at.old }
+    requires dims { AreDims tree_dims }
+    ensures { IsCheckedFrom (S.left input.old) (S.left input.new) (S.faults input.old) (S.faults input.new)
+        at.old (Ending claim tree_dims) result }
+{
+    let mut judge = EndReader::new(alloc, claim, tree_dims);
+    match give_lines(input, at, &mut judge) {
+        Some(end) => end,
+        None => {
+            let _never = judge.is_paused();
+            unreachable!()
+        }
+    }
+}
+
+// A tree that is being read, of an instance of so many dimensions, and `end`.
+fn check_tree<S: Source, C: TreeChecker + Drop>(
+    alloc: Global,
+    input: &mut S,
+    at: &mut Position,
+    claim: Claim,
+    dims: u32,
+    mut judge: TreeReader<C>,
+) -> CheckEnd
+    requires at { IsPosition at.old }
+    requires least { 2 ≤ dims }
+    requires most { dims ≤ 4 }
+    requires takes { judge.takes ≡ true }
+    requires behind { judge.behind ≡ Some (Ending claim (Some dims)) }
+    ensures { IsCheckedFrom (S.left input.old) (S.left input.new) (S.faults input.old) (S.faults input.new)
+        at.old judge.stage result }
+{
+    match give_lines(input, at, &mut judge) {
+        Some(end) => end,
+        None => check_end(alloc, input, at, claim, Some(dims)),
+    }
+}
+
+// `proof`, the tree of an instance of so many dimensions, and `end`.
+fn check_proof<S: Source, C: TreeChecker + Drop>(
+    alloc: Global,
+    input: &mut S,
+    at: &mut Position,
+    claim: Claim,
+    dims: u32,
+    checker: C,
+) -> CheckEnd
+    requires at { IsPosition at.old }
+    requires least { 2 ≤ dims }
+    requires most { dims ≤ 4 }
+    requires same_dims { dims ≡ tree_dims (refuted_by (C.tree checker)) }
+    requires begun { begun (refuted_by (C.tree checker)) ≡ C.tree checker }
+    requires opens { C.is_open checker ≡ true }
+    ensures { IsCheckedFrom (S.left input.old) (S.left input.new) (S.faults input.old) (S.faults input.new)
+        at.old (Proving claim (refuted_by (C.tree checker))) result }
+{
+    let judge = TreeReader::at_proof(alloc, claim, dims, checker);
+    check_tree(alloc, input, at, claim, dims, judge)
+}
+
+// The tree of an instance of so many dimensions, and `end`.
+fn check_tokens<S: Source, C: TreeChecker + Drop>(
+    alloc: Global,
+    input: &mut S,
+    at: &mut Position,
+    claim: Claim,
+    dims: u32,
+    checker: C,
+) -> CheckEnd
+    requires at { IsPosition at.old }
+    requires least { 2 ≤ dims }
+    requires most { dims ≤ 4 }
+    requires same_dims { dims ≡ tree_dims (refuted_by (C.tree checker)) }
+    requires opens { C.is_open checker ≡ true }
+    ensures { IsCheckedFrom (S.left input.old) (S.left input.new) (S.faults input.old) (S.faults input.new)
+        at.old (Refuting claim (C.tree checker)) result }
+{
+    let judge = TreeReader::at_tokens(alloc, claim, dims, checker);
+    check_tree(alloc, input, at, claim, dims, judge)
+}
+
+// `proof`, a tree that refutes that the instance fits, and `end`.
+fn check_misfit<S: Source>(
+    alloc: Global,
+    input: &mut S,
+    at: &mut Position,
+    claim: Claim,
+    instance: &Instance,
+) -> CheckEnd
+    requires { IsPosition at.old }
+    ensures { IsCheckedFrom (S.left input.old) (S.left input.new) (S.faults input.old) (S.faults input.new)
+        at.old (Proving claim (ToFit instance.now)) result }
+{
+    let dims = instance.dims();
+    match Refuter::new(alloc, instance) {
+        Ok(refuter) => check_proof(alloc, input, at, claim, dims, refuter),
+        Err(_) => CheckEnd::NoMemory,
+    }
+}
+
+// `proof`, a tree that refutes that the instance fits in so many bins, and `end`.
+fn check_few_bins<S: Source>(
+    alloc: Global,
+    input: &mut S,
+    at: &mut Position,
+    claim: Claim,
+    instance: &Instance,
+    refuted: u32,
+) -> CheckEnd
+    requires at { IsPosition at.old }
+    requires sides { SidesFit instance.now }
+    requires few { refuted ≤ box_count instance.now }
+    ensures { IsCheckedFrom (S.left input.old) (S.left input.new) (S.faults input.old) (S.faults input.new)
+        at.old (Proving claim (ToFitIn instance.now refuted)) result }
+{
+    let dims = instance.dims();
+    match OuterRefuter::new(alloc, instance, Goal::Bins(refuted)) {
+        Ok(refuter) => check_proof(alloc, input, at, claim, dims, refuter),
+        Err(_) => CheckEnd::NoMemory,
+    }
+}
+
+// A tree that refutes that the instance reaches the value, and `end`.
+fn check_high_value<S: Source>(
+    alloc: Global,
+    input: &mut S,
+    at: &mut Position,
+    claim: Claim,
+    instance: &Instance,
+    refuted: u64,
+) -> CheckEnd
+    requires { IsPosition at.old }
+    ensures { IsCheckedFrom (S.left input.old) (S.left input.new) (S.faults input.old) (S.faults input.new)
+        at.old (Refuting claim (begun (ToReach instance.now refuted))) result }
+{
+    let dims = instance.dims();
+    match OuterRefuter::new(alloc, instance, Goal::Value(refuted)) {
+        Ok(refuter) => check_tokens(alloc, input, at, claim, dims, refuter),
+        Err(_) => CheckEnd::NoMemory,
+    }
+}
+
+/// The places of all boxes, and `end`.
+pub fn check_fitting<S: Source>(
+    alloc: Global,
+    input: &mut S,
+    at: &mut Position,
+    instance: &Instance,
+) -> CheckEnd
+    requires { IsPosition at.old }
+    ensures { IsCheckedFrom (S.left input.old) (S.left input.new) (S.faults input.old) (S.faults input.new)
+        at.old (Placing instance.now Claim.Fitting (to_refute instance.now Claim.Fitting) []) result }
+{
+    match read_places(alloc, input, at, instance, instance, Claim::Fitting) {
+        Some(end) => end,
+        None => check_end(alloc, input, at, Claim::Fitting, None),
+    }
+}
+
+/// A tree that refutes that the instance fits, and `end`.
+pub fn check_not_fitting<S: Source>(
+    alloc: Global,
+    input: &mut S,
+    at: &mut Position,
+    instance: &Instance,
+) -> CheckEnd
+    requires { IsPosition at.old }
+    ensures { IsCheckedFrom (S.left input.old) (S.left input.new) (S.faults input.old) (S.faults input.new)
+        at.old (Refuting Claim.NotFitting (begun (ToFit instance.now))) result }
+{
+    let dims = instance.dims();
+    match Refuter::new(alloc, instance) {
+        Ok(refuter) => check_tokens(alloc, input, at, Claim::NotFitting, dims, refuter),
+        Err(_) => CheckEnd::NoMemory,
+    }
+}
+
+// The places of all boxes in the one container, `proof`, a tree that they don't fit in the other, and `end`.
+fn check_placed<S: Source>(
+    alloc: Global,
+    input: &mut S,
+    at: &mut Position,
+    instance: &Instance,
+    claim: Claim,
+    held: &Instance,
+    lower: &Instance,
+) -> CheckEnd
+    requires at { IsPosition at.old }
+    requires says { placed claim (to_refute instance.now claim) ≡ Proving claim (ToFit lower.now) }
+    ensures { IsCheckedFrom (S.left input.old) (S.left input.new) (S.faults input.old) (S.faults input.new)
+        at.old (Placing held.now claim (to_refute instance.now claim) []) result }
+{
+    match read_places(alloc, input, at, instance, held, claim) {
+        Some(end) => end,
+        None => check_misfit(alloc, input, at, claim, lower),
+    }
+}
+
+/// The places of all boxes at one height, `proof`, a tree that refutes another height, and `end`.
+pub fn check_heights<S: Source>(
+    alloc: Global,
+    input: &mut S,
+    at: &mut Position,
+    instance: &Instance,
+    claim: Claim,
+    reached: u32,
+    refuted: u32,
+) -> CheckEnd
+    requires at { IsPosition at.old }
+    requires high { reached ≤ most_height }
+    requires low { refuted ≤ most_height }
+    requires says { placed claim (to_refute instance.now claim) ≡ Proving claim (ToFit (with_last_side instance.now refuted)) }
+    ensures { IsCheckedFrom (S.left input.old) (S.left input.new) (S.faults input.old) (S.faults input.new)
+        at.old (Placing (with_last_side instance.now reached) claim (to_refute instance.now claim) []) result }
+{
+    let Ok(held) = instance.with_last_side(alloc, reached) else {
+        return CheckEnd::NoMemory;
+    };
+    let Ok(lower) = instance.with_last_side(alloc, refuted) else {
+        return CheckEnd::NoMemory;
+    };
+    check_placed(alloc, input, at, instance, claim, &held, &lower)
+}
+
+/// One token that a box exceeds the container in one of the first so many dimensions, and `end`.
+pub fn check_exceeding<S: Source>(
+    alloc: Global,
+    input: &mut S,
+    at: &mut Position,
+    instance: &Instance,
+    claim: Claim,
+    dim_count: u32,
+) -> CheckEnd
+    requires at { IsPosition at.old }
+    requires few { dim_count ≤ dims instance.now }
+    ensures { IsCheckedFrom (S.left input.old) (S.left input.new) (S.faults input.old) (S.faults input.new)
+        at.old (Exceeding instance.now claim dim_count) result }
+{
+    match read_exceeding(alloc, input, at, instance, claim, dim_count) {
+        Some(end) => end,
+        None => check_end(alloc, input, at, claim, Some(instance.dims())),
+    }
+}
+
+/// The places of all boxes in so many bins, `proof`, a tree that refutes another number of bins, and `end`.
+pub fn check_bins<S: Source>(
+    alloc: Global,
+    input: &mut S,
+    at: &mut Position,
+    instance: &Instance,
+    claim: Claim,
+    bin_count: u32,
+    refuted: u32,
+) -> CheckEnd
+    requires at { IsPosition at.old }
+    requires few { refuted ≤ box_count instance.now }
+    requires says { placed claim (to_refute instance.now claim) ≡ Proving claim (ToFitIn instance.now refuted) }
+    ensures { IsCheckedFrom (S.left input.old) (S.left input.new) (S.faults input.old) (S.faults input.new)
+        at.old (Sharing instance.now claim bin_count [] []) result }
+{
+    match read_shares(alloc, input, at, instance, claim, bin_count) {
+        Some(end) => end,
+        None => check_few_bins(alloc, input, at, claim, instance, refuted),
+    }
+}
+
+/// The taken boxes of one value, `proof`, a tree that refutes another value, and `end`.
+pub fn check_values<S: Source>(
+    alloc: Global,
+    input: &mut S,
+    at: &mut Position,
+    instance: &Instance,
+    claim: Claim,
+    reached: u64,
+    refuted: u64,
+) -> CheckEnd
+    requires at { IsPosition at.old }
+    requires says { to_refute instance.now claim ≡ ToReach instance.now refuted }
+    ensures { IsCheckedFrom (S.left input.old) (S.left input.new) (S.faults input.old) (S.faults input.new)
+        at.old (Taking instance.now claim reached [] []) result }
+{
+    match read_taken(alloc, input, at, instance, claim, reached) {
+        Some(end) => end,
+        None => check_high_value(alloc, input, at, claim, instance, refuted),
+    }
+}

@@ -1,0 +1,118 @@
+// What shows that a claim is reached: places, bins, taken boxes, a box that exceeds the container.
+ghost use Rattle.std.specs.Prelude.{◌≡◌, ◌≤◌, None, Some, [], IfOk};
+ghost use Rattle.packing_terms.specs.Packing.{dims};
+ghost use Rattle.verdict_terms.specs.Stages.{claimed, placed, to_refute};
+ghost use Rattle.verdict_terms.specs.Stages.Stage.{Beginning, Placing, Sharing, Taking, Refuting, Exceeding, Ending};
+ghost use Rattle.verdict_terms.specs.Trees.{begun};
+ghost use Rattle.document_check.specs.Passes.{IsPosition, Goes, GoesBehind};
+ghost use Rattle.document_check.specs.Ranges.{IsRanged};
+ghost use Rattle.document_check.specs.Sharings.{HaveSides};
+
+use crate::check::CheckEnd;
+use crate::exceeding::ExceedingReader;
+use crate::head::{Claimed, HeadReader};
+use crate::places::PlaceReader;
+use crate::position::{Position, give_lines};
+use crate::sharing::ShareReader;
+use crate::taking::TakeReader;
+use box_instances::Instance;
+use document_terms::Claim;
+use pack_streams::Source;
+use std::alloc::Global;
+
+/// The lines up to the result line.
+pub fn read_head<S: Source>(
+    alloc: Global,
+    input: &mut S,
+    at: &mut Position,
+) -> Result<Claimed, CheckEnd>
+    requires { IsPosition at.old }
+    ensures at { IfOk result (λ c. IsPosition at.new) }
+    ensures ranged { IfOk result (λ c. IsRanged c.instance c.claim) }
+    ensures goes { GoesBehind (S.left input.old) (S.left input.new) (S.faults input.old) (S.faults input.new) at.old at.new result }
+{
+    let mut head = HeadReader::new(alloc);
+    if let Some(end) = give_lines(input, at, &mut head) {
+        return Err(end);
+    }
+    match head.into_claimed() {
+        Some(claimed) => Ok(claimed),
+        None => unreachable!(),
+    }
+}
+
+/// The places of all boxes in a container that may have another last side. `None` tells that they are a packing.
+pub fn read_places<S: Source>(
+    alloc: Global,
+    input: &mut S,
+    at: &mut Position,
+    instance: &Instance,
+    held: &Instance,
+    claim: Claim,
+) -> Option<CheckEnd>
+    requires { IsPosition at.old }
+    ensures at { result ≡ None → IsPosition at.new }
+    ensures goes { Goes (S.left input.old) (S.left input.new) (S.faults input.old) (S.faults input.new)
+        at.old (Placing held.now claim (to_refute instance.now claim) []) at.new (placed claim (to_refute instance.now claim)) result }
+{
+    let mut judge = PlaceReader::new(alloc, instance, held, claim);
+    give_lines(input, at, &mut judge)
+}
+
+/// The bins and places of all boxes. `None` tells that they are a packing of so many bins.
+pub fn read_shares<S: Source>(
+    alloc: Global,
+    input: &mut S,
+    at: &mut Position,
+    instance: &Instance,
+    claim: Claim,
+    bin_count: u32,
+) -> Option<CheckEnd>
+    requires { IsPosition at.old }
+    ensures at { result ≡ None → IsPosition at.new }
+    ensures sides { result ≡ None → HaveSides (placed claim (to_refute instance.now claim)) }
+    ensures goes { Goes (S.left input.old) (S.left input.new) (S.faults input.old) (S.faults input.new)
+        at.old (Sharing instance.now claim bin_count [] []) at.new (placed claim (to_refute instance.now claim)) result }
+{
+    let mut judge = ShareReader::new(alloc, instance, claim, bin_count);
+    let end = give_lines(input, at, &mut judge);
+    let _are_shared = judge.are_shared();
+    end
+}
+
+/// The taken boxes, up to `proof`. `None` tells that they are a packing of at least the value.
+pub fn read_taken<S: Source>(
+    alloc: Global,
+    input: &mut S,
+    at: &mut Position,
+    instance: &Instance,
+    claim: Claim,
+    value: u64,
+) -> Option<CheckEnd>
+    requires { IsPosition at.old }
+    ensures at { result ≡ None → IsPosition at.new }
+    ensures goes { Goes (S.left input.old) (S.left input.new) (S.faults input.old) (S.faults input.new)
+        at.old (Taking instance.now claim value [] []) at.new (Refuting claim (begun (to_refute instance.now claim))) result }
+{
+    let mut judge = TakeReader::new(alloc, instance, claim, value);
+    give_lines(input, at, &mut judge)
+}
+
+/// The token that a box exceeds the container in one of the first so many dimensions. `None` tells that it does.
+pub fn read_exceeding<S: Source>(
+    alloc: Global,
+    input: &mut S,
+    at: &mut Position,
+    instance: &Instance,
+    claim: Claim,
+    dim_count: u32,
+) -> Option<CheckEnd>
+    requires at { IsPosition at.old }
+    requires few { dim_count ≤ dims instance.now }
+    ensures at { result ≡ None → IsPosition at.new }
+    ensures goes { Goes (S.left input.old) (S.left input.new) (S.faults input.old) (S.faults input.new)
+        at.old (Exceeding instance.now claim dim_count) at.new (Ending claim (Some (dims instance.now))) result }
+{
+    let mut judge = ExceedingReader::new(alloc, instance, claim, dim_count);
+    give_lines(input, at, &mut judge)
+}
