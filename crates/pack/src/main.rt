@@ -1,22 +1,24 @@
-//! `pack`: decides whether boxes fit a container, over the streams of the process.
+//! `pack`: decides whether boxes fit a container and checks documents, over the streams of the process.
 #![tactic(auto)]
 
 use pack_command::run;
-use pack_streams::{StdSink, StdSource, write_all};
+use pack_streams::{Sink, StdSink, StdSource, write_all};
+use std::io::BufReader;
 use std::process::ExitCode;
 use std::{env, io};
 
 fn main(rt: HostRuntime) -> ExitCode {
     let alloc = rt.alloc();
-    let mut input = StdSource::new(rt.stdin());
     let mut out = StdSink::new(rt.stdout());
     let mut err = StdSink::new(rt.stderr());
+    // `check` reads a byte at a time, which is no system call each behind a buffer.
+    let mut input = match BufReader::new(alloc, rt.stdin()) {
+        Ok(reader) => StdSource::new(reader),
+        Err(_) => return out_of_memory(&mut err),
+    };
     let words = match command_words(&rt) {
         Ok(words) => words,
-        Err(error) if error.kind() == io::ErrorKind::OutOfMemory => {
-            let _told = write_all(&mut err, b"pack: out of memory\n");
-            return ExitCode::from(6);
-        }
+        Err(error) if error.kind() == io::ErrorKind::OutOfMemory => return out_of_memory(&mut err),
         // A word that isn't UTF-8 is no job, as no words are.
         Err(_) => Vec::new(alloc),
     };
@@ -30,4 +32,10 @@ fn command_words(rt: &HostRuntime) -> io::Result<Vec<String>> {
         words.push(word)?;
     }
     Ok(words)
+}
+
+// Tells that memory was refused.
+fn out_of_memory<E: Sink>(err: &mut E) -> ExitCode {
+    let _told = write_all(err, b"pack: out of memory\n");
+    ExitCode::from(6)
 }

@@ -23,7 +23,7 @@ use Rattle.pack_command.specs.Asked.{AsksFit}
 use Rattle.pack_command.specs.Answered.{fit_of, branchings, IsDecided, IsEnough}
 use Rattle.pack_command.specs.Run.{IsWritten}
 
-some_same : {A : Type 0} (x y : A) → Some x ≡ Some y → x ≡ y
+pub some_same : {A : Type 0} (x y : A) → Some x ≡ Some y → x ≡ y
 some_same x y e = cc
 
 ok_same : {A B : Type 0} (x y : A) (r : Result A B) → r ≡ Ok x → r ≡ Ok y → x ≡ y

@@ -2,13 +2,15 @@
 use Rattle.std.specs.Prelude.{◌≡◌, List, map, String, string_bytes, Option, Some, None, Result, Ok, Err}
 use Rattle.std.specs.declared.alloc.Global.{Global}
 use Rattle.pack_words.specs.Job.{job_of_words}
-use Rattle.pack_words.specs.declared.job.Job.TheVariants.{Fit}
+use Rattle.pack_words.specs.declared.job.Job.TheVariants.{Fit, Check}
 use Rattle.pack_words.specs.declared.job.JobWords.{JobWords}
 use Rattle.work_share.specs.declared.settings.Settings.{Settings}
+use Rattle.pack_command.specs.declared.words.Asked.{Asked}
+use Rattle.pack_command.specs.declared.words.Asked.TheVariants.{Solving, Checking}
 use Rattle.pack_command.specs.declared.stop.Stop.{Stop}
 use Rattle.pack_command.specs.declared.stop.Stop.TheVariants.{Words, Unbuilt, TooLong, Text, ReadFault, WriteFault, NoMemory}
 
--- what is built: the job `fit` with one worker
+-- what is built of the solving jobs: `fit` with one worker
 pub record IsBuilt (asked : JobWords) : Type 0 where
   pub job : asked.job ≡ Fit
   pub workers : asked.settings.workers ≡ 1
@@ -24,19 +26,27 @@ pub record AsksFit (words : List (String Global)) (settings : Settings) : Type 0
   pub built : IsBuilt asked
   pub with_settings : asked.settings ≡ settings
 
+-- the words are the job `check`
+pub record AsksCheck (words : List (String Global)) : Type 0 where
+  pub asked : JobWords
+  pub is : asked_job words ≡ Some asked
+  pub job : asked.job ≡ Check
+
 -- the words are a job that isn't built
 pub record AsksOther (words : List (String Global)) : Type 0 where
   pub asked : JobWords
   pub is : asked_job words ≡ Some asked
   pub unbuilt : IsBuilt asked → ⊥
+  pub no_check : asked.job ≡ Check → ⊥
 
 -- the words are no job
 abbrev pub AsksNothing : List (String Global) → Type 0
 AsksNothing words = asked_job words ≡ None
 
--- the settings of what is built, or why the program stops
-abbrev pub IsAsked : List (String Global) → Result Settings Stop → Type 0
-IsAsked words (Ok settings) = AsksFit words settings
+-- what is built, or why the program stops
+abbrev pub IsAsked : List (String Global) → Result Asked Stop → Type 0
+IsAsked words (Ok (Solving settings)) = AsksFit words settings
+IsAsked words (Ok Checking) = AsksCheck words
 IsAsked words (Err Words) = AsksNothing words
 IsAsked words (Err Unbuilt) = AsksOther words
 IsAsked words (Err NoMemory) = Unit {0}

@@ -5,3 +5,5 @@ pub mod Answered
 pub mod Asked
 pub mod Inputs
 pub mod Run
+pub mod Lines
+pub mod Checks

@@ -1,0 +1,123 @@
+-- What a check that ended in a verdict says of all bytes, and of the instance in them.
+use Rattle.std.proofs.Common.{◌≡◌, ℕ, ◌<◌, ◌≤◌, ◌+◌, ◌-◌, ◌⊎◌, inl, inr, refl, sym, ap, subst, ◌∙◌, List, [], ◌++◌, length, take, arith, Option, Some, None, Result, Ok, Err, String, Global}
+use Rattle.std.proofs.Math.Seq.{take-append-add}
+use Rattle.document_terms.specs.declared.claim.Claim.{Claim}
+use Rattle.document_terms.specs.Claims.{IsTrueOf}
+use Rattle.pack_streams.specs.Moves.{Gives, Gains}
+use Rattle.pack_words.specs.declared.job.Job.TheVariants.{Fit, Check}
+use Rattle.pack_words.specs.declared.job.JobWords.{JobWords}
+use Rattle.work_share.specs.declared.settings.Settings.{Settings}
+use Rattle.verdict_terms.specs.Documents.{Refusal, document_verdict, verdict_line}
+use Rattle.verdict_terms.specs.Form.{IsDocument}
+use Rattle.verdict_terms.proofs.Stays.{refusals_stay}
+use Rattle.verdict_terms.proofs.FormGiven.{documents_have_form}
+use Rattle.verdict_terms.proofs.True.{documents_are_true}
+use Rattle.verdict_terms.specs.Fed.{NoneRefused}
+use Rattle.document_check.specs.Checked.{most_bytes, IsEnough}
+use Rattle.pack_command.specs.declared.stop.Stop.TheVariants.{WriteFault}
+use Rattle.pack_command.specs.declared.words.Asked.{Asked}
+use Rattle.pack_command.specs.declared.words.Asked.TheVariants.{Solving}
+use Rattle.pack_command.specs.Asked.{AsksFit, AsksCheck, IsAsked}
+use Rattle.pack_command.specs.Checks.{verdict_status, IsReached, IsFound, IsJudged, IsExactly, IsClaimed, IsDone, IsLeft}
+use Rattle.pack_command.specs.Run.{IsWritten, IsCutShort}
+use Rattle.pack_command.proofs.Decided.{some_same, taken_all}
+
+-- what was asked is `fit` with these settings
+pub asks_fit : (words : List (String Global)) (asked : Asked) (settings : Settings) → IsAsked words (Ok asked) → asked ≡ Solving settings → AsksFit words settings
+asks_fit words asked settings asks is = subst (λ a. IsAsked words (Ok a)) is asks
+
+pub written_done : (words : List (String Global)) (old new sunk_old sunk_new : Option (List ℕ)) (status : ℕ)
+    → IsWritten words old new sunk_old sunk_new status → IsDone words old new sunk_old sunk_new status
+written_done words old new sunk_old sunk_new status w = inl w
+
+pub cut_left : (words : List (String Global)) (old new sunk_old sunk_new : Option (List ℕ))
+    → IsCutShort words old new sunk_old sunk_new → IsLeft words old new sunk_old sunk_new WriteFault
+cut_left words old new sunk_old sunk_new cut = inl cut
+
+-- no words ask for a solving job and for a check
+pub one_job : (words : List (String Global)) (settings : Settings) → AsksFit words settings → AsksCheck words → ⊥
+one_job words settings fit check =
+    let same : fit.asked ≡ check.asked = some_same _ _ (sym fit.is ∙ check.is) in
+    let jobs : ◌≡◌ Fit Check = sym fit.built.job ∙ ap (λ (w : JobWords). w.job) same ∙ check.job in
+    cc (jobs)
+
+-- what was done for a solving job is a written answer, and for a check a written verdict
+pub solved_done : (words : List (String Global)) (old new sunk_old sunk_new : Option (List ℕ)) (status : ℕ) (settings : Settings) → AsksFit words settings
+    → IsDone words old new sunk_old sunk_new status → IsWritten words old new sunk_old sunk_new status
+solved_done words old new sunk_old sunk_new status settings asks (inl w) = w
+solved_done words old new sunk_old sunk_new status settings asks (inr c) = absurd (one_job words settings asks c.0)
+
+pub judged_done : (words : List (String Global)) (old new sunk_old sunk_new : Option (List ℕ)) (status : ℕ) → AsksCheck words
+    → IsDone words old new sunk_old sunk_new status → IsJudged old new sunk_old sunk_new status
+judged_done words old new sunk_old sunk_new status asks (inl w) = absurd (one_job words w.answered.settings w.answered.asked asks)
+judged_done words old new sunk_old sunk_new status asks (inr c) = c.1
+
+-- what was taken, and the rest of the bytes
+told_rest : (old left : Option (List ℕ)) (taken bytes : List ℕ) → old ≡ Some bytes → Gives old left taken → (rest : List ℕ) × (bytes ≡ taken ++ rest)
+told_rest old None taken bytes is gives = absurd (cc (is, gives))
+told_rest old (Some rest) taken bytes is gives = (rest, some_same _ _ (sym is ∙ gives))
+
+-- the verdict that was reached is that of all bytes
+reached_verdict : (old left : Option (List ℕ)) (taken bytes : List ℕ) (verdict : Result Claim Refusal) → old ≡ Some bytes → Gives old left taken
+    → IsReached left taken verdict → document_verdict bytes ≡ verdict
+reached_verdict old left taken bytes (Ok claim) is gives reached =
+    ap document_verdict (sym (taken_all old left taken bytes is gives reached.2)) ∙ reached.0
+reached_verdict old left taken bytes (Err refusal) is gives reached = by_enough reached.2
+  where
+    by_enough : IsEnough left taken refusal → document_verdict bytes ≡ Err refusal
+    by_enough (inl ends) =
+        let rest = told_rest old left taken bytes is gives in
+        ap document_verdict rest.1 ∙ refusals_stay taken rest.0 refusal reached.0 ends
+    by_enough (inr ended) = ap document_verdict (sym (taken_all old left taken bytes is gives ended)) ∙ reached.0
+
+pub judged_exactly : (old new sunk_old sunk_new : Option (List ℕ)) (status : ℕ) (bytes : List ℕ) → old ≡ Some bytes
+    → IsJudged old new sunk_old sunk_new status → IsExactly bytes sunk_old sunk_new status
+judged_exactly old new sunk_old sunk_new status bytes is judged =
+    let found = judged.found in
+    let same : document_verdict bytes ≡ judged.verdict = reached_verdict old new found.taken bytes judged.verdict is found.gives found.reached in
+    record {
+      status_is = judged.status_is ∙ ap verdict_status (sym same);
+      line = subst (λ v. Gains sunk_old sunk_new (verdict_line v)) (sym same) judged.line;
+    }
+
+-- no verdict is reached on more bytes than are read, where no whole line within these is refused
+pub judged_within : (old new sunk_old sunk_new : Option (List ℕ)) (status : ℕ) (bytes : List ℕ) → old ≡ Some bytes → most_bytes < length bytes
+    → NoneRefused (take most_bytes bytes) → IsJudged old new sunk_old sunk_new status → ⊥
+judged_within old new sunk_old sunk_new status bytes is past none judged = go judged.verdict judged.found
+  where
+    whole : (taken : List ℕ) → length taken ≤ most_bytes → taken ≡ bytes → ⊥
+    whole taken few same = omega (arith, few, past, ap length same)
+
+    go : (verdict : Result Claim Refusal) → IsFound old new verdict → ⊥
+    go (Ok claim) found = whole found.taken found.reached.1 (taken_all old new found.taken bytes is found.gives found.reached.2)
+    go (Err refusal) found = by_enough found.reached.2
+      where
+        by_enough : IsEnough new found.taken refusal → ⊥
+        by_enough (inr ended) = whole found.taken found.reached.1 (taken_all old new found.taken bytes is found.gives ended)
+        by_enough (inl ends) =
+            let rest = told_rest old new found.taken bytes is found.gives in
+            let few : length found.taken ≤ most_bytes = found.reached.1 in
+            let more : ℕ = most_bytes - length found.taken in
+            let split : most_bytes ≡ length found.taken + more = omega (arith, few) in
+            none found.taken (take more rest.0) refusal
+            (ap (take most_bytes) rest.1 ∙ ap (λ n. take n (found.taken ++ rest.0)) split ∙ take-append-add found.taken rest.0 more) ends found.reached.0
+
+-- a verified document shows its claim, and that is true
+pub judged_claimed : (old new sunk_old sunk_new : Option (List ℕ)) (status : ℕ) → status ≡ 0
+    → IsJudged old new sunk_old sunk_new status → IsClaimed old new sunk_old sunk_new
+judged_claimed old new sunk_old sunk_new status zero judged = go judged.verdict judged.found (sym judged.status_is ∙ zero) judged.line
+  where
+    go : (verdict : Result Claim Refusal) → IsFound old new verdict → verdict_status verdict ≡ 0 → Gains sunk_old sunk_new (verdict_line verdict)
+        → IsClaimed old new sunk_old sunk_new
+    go (Ok claim) found ok line =
+        let document : IsDocument found.taken claim = (documents_have_form found.taken claim).0 found.reached.0 in
+        record {
+          bytes = found.taken;
+          taken = found.gives;
+          ended = found.reached.2;
+          claim = claim;
+          document = document;
+          holds = documents_are_true found.taken claim document;
+          line = line;
+        }
+    go (Err refusal) found bad line = absurd (cc (bad))

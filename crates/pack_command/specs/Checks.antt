@@ -1,0 +1,118 @@
+-- What the check of a document promises. `taken` are the bytes that were taken from the source.
+use Rattle.std.specs.Prelude.{ℕ, ◌<◌, ◌≤◌, ◌≡◌, ◌⊎◌, List, String, length, take, Result, Ok, Err}
+use Rattle.std.specs.declared.option.Option.{Option}
+use Rattle.std.specs.declared.alloc.Global.{Global}
+use Rattle.std.specs.Io.KnownBytes.{IsAtEnd}
+use Rattle.document_terms.specs.declared.claim.Claim.{Claim}
+use Rattle.document_terms.specs.Claims.{IsTrueOf}
+use Rattle.pack_streams.specs.Moves.{Gives, Gains}
+use Rattle.pack_streams.specs.Writing.{GainsPart}
+use Rattle.verdict_terms.specs.Documents.{Refusal, document_verdict, verdict_line}
+use Rattle.verdict_terms.specs.Fed.{NoneRefused}
+use Rattle.verdict_terms.specs.Form.{IsDocument}
+use Rattle.document_check.specs.Checked.{most_bytes, IsEnough}
+use Rattle.pack_words.specs.declared.job.Job.TheVariants.{Check}
+use Rattle.pack_words.specs.declared.job.JobWords.{JobWords}
+use Rattle.pack_command.specs.Asked.{AsksCheck}
+use Rattle.pack_command.specs.Run.{IsWritten, IsStopped}
+use Rattle.pack_command.specs.declared.stop.Stop.{Stop}
+use Rattle.pack_command.specs.declared.stop.Stop.TheVariants.{Words, Unbuilt, TooLong, Text, ReadFault, WriteFault, NoMemory}
+use Rattle.pack_command.specs.declared.verdict.Verdict.{Verdict}
+use Rattle.pack_command.specs.declared.verdict.Verdict.TheVariants.{Verified, Refused}
+
+-- the verdict on a document, as its definition has it
+abbrev pub plain_verdict : Verdict → Result Claim Refusal
+plain_verdict (Verified claim) = Ok claim
+plain_verdict (Refused line reason) = Err (record { line = line; reason = reason })
+
+-- verified has status 0, refused has status 1
+abbrev pub verdict_status : Result Claim Refusal → ℕ
+verdict_status (Ok claim) = 0
+verdict_status (Err refusal) = 1
+
+-- the bytes taken have the verdict: they are the whole input, or end in the line feed of the refused line
+abbrev pub IsReached : Option (List ℕ) → List ℕ → Result Claim Refusal → Type 0
+IsReached left taken (Ok claim) = (document_verdict taken ≡ Ok claim) × (length taken ≤ most_bytes) × IsAtEnd left
+IsReached left taken (Err refusal) = (document_verdict taken ≡ Err refusal) × (length taken ≤ most_bytes) × IsEnough left taken refusal
+
+-- a verdict was reached
+pub record IsFound (old new : Option (List ℕ)) (verdict : Result Claim Refusal) : Type 0 where
+  pub taken : List ℕ
+  pub gives : Gives old new taken
+  pub reached : IsReached new taken verdict
+
+-- more bytes came than are read, and no line that was whole within these is refused
+pub record IsPastLimit (old new : Option (List ℕ)) : Type 0 where
+  pub taken : List ℕ
+  pub gives : Gives old new taken
+  pub past : most_bytes < length taken
+  pub none : NoneRefused (take most_bytes taken)
+
+-- the input broke off, and no line that was whole before is refused
+pub record IsBrokenOff (old new : Option (List ℕ)) : Type 0 where
+  pub taken : List ℕ
+  pub gives : Gives old new taken
+  pub none : NoneRefused taken
+
+-- the verdict, or why there is none
+abbrev pub IsVerdict : Option (List ℕ) → Option (List ℕ) → Result Verdict Stop → Type 0
+IsVerdict old new (Ok verdict) = IsFound old new (plain_verdict verdict)
+IsVerdict old new (Err TooLong) = IsPastLimit old new
+IsVerdict old new (Err ReadFault) = IsBrokenOff old new
+IsVerdict old new (Err NoMemory) = (taken : List ℕ) × Gives old new taken
+IsVerdict old new (Err Words) = ⊥
+IsVerdict old new (Err Unbuilt) = ⊥
+IsVerdict old new (Err (Text fault)) = ⊥
+IsVerdict old new (Err WriteFault) = ⊥
+
+-- a verdict was reached, and its whole line was written
+pub record IsJudged (old new sunk_old sunk_new : Option (List ℕ)) (status : ℕ) : Type 0 where
+  pub verdict : Result Claim Refusal
+  pub found : IsFound old new verdict
+  pub status_is : status ≡ verdict_status verdict
+  pub line : Gains sunk_old sunk_new (verdict_line verdict)
+
+-- a verdict was reached, and a part at the front of its line was written
+pub record IsLineCut (old new sunk_old sunk_new : Option (List ℕ)) : Type 0 where
+  pub verdict : Result Claim Refusal
+  pub found : IsFound old new verdict
+  pub part : GainsPart sunk_old sunk_new (verdict_line verdict)
+
+-- why a check ended without the line of a verdict
+abbrev pub IsUnjudged : (old new sunk_old sunk_new : Option (List ℕ)) → Stop → Type 0
+IsUnjudged old new sunk_old sunk_new TooLong = IsPastLimit old new × (sunk_new ≡ sunk_old)
+IsUnjudged old new sunk_old sunk_new ReadFault = IsBrokenOff old new × (sunk_new ≡ sunk_old)
+IsUnjudged old new sunk_old sunk_new WriteFault = IsLineCut old new sunk_old sunk_new
+IsUnjudged old new sunk_old sunk_new NoMemory = ((taken : List ℕ) × Gives old new taken) × (sunk_new ≡ sunk_old)
+IsUnjudged old new sunk_old sunk_new Words = ⊥
+IsUnjudged old new sunk_old sunk_new Unbuilt = ⊥
+IsUnjudged old new sunk_old sunk_new (Text fault) = ⊥
+
+-- verified or refused
+abbrev pub IsVerdictStatus : ℕ → Type 0
+IsVerdictStatus status = (status ≡ 0) ⊎ (status ≡ 1)
+
+-- exactly the line of the verdict on these bytes was written, with its status
+pub record IsExactly (bytes : List ℕ) (sunk_old sunk_new : Option (List ℕ)) (status : ℕ) : Type 0 where
+  pub status_is : status ≡ verdict_status (document_verdict bytes)
+  pub line : Gains sunk_old sunk_new (verdict_line (document_verdict bytes))
+
+-- The whole input is a document, the claim of the line that was written is its own, and is true of the instance in it.
+pub record IsClaimed (old new sunk_old sunk_new : Option (List ℕ)) : Type 0 where
+  pub bytes : List ℕ
+  pub taken : Gives old new bytes
+  pub ended : IsAtEnd new
+  pub claim : Claim
+  pub document : IsDocument bytes claim
+  pub holds : IsTrueOf document.instance claim
+  pub line : Gains sunk_old sunk_new (verdict_line (Ok claim))
+
+-- a solving job's answer or a check's verdict, written whole
+abbrev pub IsDone : List (String Global) → (old new sunk_old sunk_new : Option (List ℕ)) → ℕ → Type 0
+IsDone words old new sunk_old sunk_new status =
+    IsWritten words old new sunk_old sunk_new status ⊎ (AsksCheck words × IsJudged old new sunk_old sunk_new status)
+
+-- why a job ended without
+abbrev pub IsLeft : List (String Global) → (old new sunk_old sunk_new : Option (List ℕ)) → Stop → Type 0
+IsLeft words old new sunk_old sunk_new stop =
+    IsStopped words old new sunk_old sunk_new stop ⊎ (AsksCheck words × IsUnjudged old new sunk_old sunk_new stop)

@@ -1,0 +1,37 @@
+-- The parts of the one line of a verdict.
+use Rattle.std.specs.Prelude.{ℕ, List, [], ◌∷◌, ◌++◌, codes}
+use Rattle.std.specs.List.{flat_map}
+use Rattle.std.specs.Fmt.{decimal}
+use Rattle.check_terms.specs.declared.answers.RefuseCode.{RefuseCode}
+use Rattle.document_terms.specs.declared.claim.Claim.{Claim}
+use Rattle.document_terms.specs.declared.claim.Claim.TheVariants.{Fitting, NotFitting, LeastHeight, HeightBetween, NoHeight, LeastBins, BinsBetween, NoBins, GreatestValue, ValueBetween}
+use Rattle.verdict_terms.specs.declared.reason.Reason.{Reason}
+use Rattle.verdict_terms.specs.Reasons.{code_word, reason_words}
+
+-- a text, a number and a line feed
+abbrev pub numbered : List ℕ → ℕ → List ℕ
+numbered text number = text ++ (decimal number ++ 10 ∷ [])
+
+-- a text, two numbers with a space between them and a line feed
+abbrev pub paired : List ℕ → ℕ → ℕ → List ℕ
+paired text first second = text ++ (decimal first ++ (32 ∷ (decimal second ++ 10 ∷ [])))
+
+-- the end of the line of a refusal from the space before the reason on
+abbrev pub reason_end : Reason → List ℕ
+reason_end reason = flat_map (λ word. 32 ∷ word) (reason_words reason) ++ 10 ∷ []
+
+abbrev pub code_end : RefuseCode → List ℕ
+code_end code = 32 ∷ (code_word code ++ 10 ∷ [])
+
+-- the line of a claim, as it is written
+abbrev pub claim_text : Claim → List ℕ
+claim_text Fitting = codes "verified fit yes\n"
+claim_text NotFitting = codes "verified fit no\n"
+claim_text (LeastHeight h) = numbered (codes "verified strip least ") h
+claim_text (HeightBetween a b) = paired (codes "verified strip between ") a b
+claim_text NoHeight = codes "verified strip none\n"
+claim_text (LeastBins k) = numbered (codes "verified bins least ") k
+claim_text (BinsBetween a b) = paired (codes "verified bins between ") a b
+claim_text NoBins = codes "verified bins none\n"
+claim_text (GreatestValue v) = numbered (codes "verified knapsack greatest ") v
+claim_text (ValueBetween a b) = paired (codes "verified knapsack between ") a b
