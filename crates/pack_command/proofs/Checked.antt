@@ -1,8 +1,7 @@
 -- What a check that ended in a verdict says of all bytes, and of the instance in them.
-use Rattle.std.proofs.Common.{◌≡◌, ℕ, ◌<◌, ◌≤◌, ◌+◌, ◌-◌, ◌⊎◌, inl, inr, refl, sym, ap, subst, ◌∙◌, List, [], ◌++◌, length, take, arith, Option, Some, None, Result, Ok, Err, String, Global}
+use Rattle.std.proofs.Common.{◌≡◌, ℕ, ◌<◌, ◌≤◌, ◌+◌, ◌-◌, inl, inr, sym, ap, subst, ◌∙◌, List, ◌++◌, length, take, arith, Option, Some, None, Result, Ok, Err, String, Global}
 use Rattle.std.proofs.Math.Seq.{take-append-add}
 use Rattle.document_terms.specs.declared.claim.Claim.{Claim}
-use Rattle.document_terms.specs.Claims.{IsTrueOf}
 use Rattle.pack_streams.specs.Moves.{Gives, Gains}
 use Rattle.pack_words.specs.declared.job.Job.TheVariants.{Fit, Check}
 use Rattle.pack_words.specs.declared.job.JobWords.{JobWords}

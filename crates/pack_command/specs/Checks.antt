@@ -11,8 +11,6 @@ use Rattle.verdict_terms.specs.Documents.{Refusal, document_verdict, verdict_lin
 use Rattle.verdict_terms.specs.Fed.{NoneRefused}
 use Rattle.verdict_terms.specs.Form.{IsDocument}
 use Rattle.document_check.specs.Checked.{most_bytes, IsEnough}
-use Rattle.pack_words.specs.declared.job.Job.TheVariants.{Check}
-use Rattle.pack_words.specs.declared.job.JobWords.{JobWords}
 use Rattle.pack_command.specs.Asked.{AsksCheck}
 use Rattle.pack_command.specs.Run.{IsWritten, IsStopped}
 use Rattle.pack_command.specs.declared.stop.Stop.{Stop}
