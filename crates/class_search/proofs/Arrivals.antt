@@ -17,7 +17,7 @@ pub arrival_is : (instance : PlainInstance) (tree : Option SearchTree) (es : Lis
 arrival_is instance tree es (RefutedRoot token) h = h
 arrival_is instance tree es (Inner kind) h = h.is
 
--- what is told of the tree there is told of the tree
+-- what is told of the tree that was found is told of that of the path
 pub arrival_told : (instance : PlainInstance) (tree : Option SearchTree) (es : List Exclusion) (arrival : Arrival) (cap : ℕ) (r : PlainOutcome)
     → IsArrival instance tree es arrival → r ≡ told cap (outcome (arrival_tree instance es arrival)) → IfSome tree (λ x. r ≡ told cap (outcome x))
 arrival_told instance tree es arrival cap r h e =

@@ -137,7 +137,15 @@ impl<'a> ClassTree<'a> {
         let mut closer = Closer::new(alloc, self.instance.dims(), self.instance.len())?;
         let arrival = self.come_to(alloc, &mut state, &mut closer, path);
         let (instance, pairs) = (self.instance, self.pairs.as_slice());
-        explored(alloc, instance, pairs, &mut state, &mut closer, arrival, cap)
+        explored(
+            alloc,
+            instance,
+            pairs,
+            &mut state,
+            &mut closer,
+            arrival,
+            cap,
+        )
     }
 }
 
