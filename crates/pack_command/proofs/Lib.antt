@@ -1,4 +1,5 @@
 pub mod Joined
+pub mod StripTexts
 pub mod Decided
 pub mod Answering
 mod Blocks

@@ -3,5 +3,7 @@ pub mod Placed
 pub mod Stops
 pub mod Answered
 pub mod Asked
+pub mod Solutions
+pub mod Strips
 pub mod Inputs
 pub mod Run

@@ -1,12 +1,13 @@
 //! The jobs of `pack`, from bytes to bytes.
 #![tactic(auto)]
 
-mod answer;
 mod documents;
 mod front;
 mod input;
+mod solution;
 mod stop;
 mod stream;
+mod strip_documents;
 mod top;
 mod words;
 

@@ -4,15 +4,18 @@ ghost use Rattle.packing_terms.specs.Packing.{PlainInstance};
 ghost use Rattle.text_terms.specs.Texts.{text_instance};
 ghost use Rattle.pack_streams.specs.Faults.{Rose};
 ghost use Rattle.pack_streams.specs.Moves.{Gains};
-ghost use Rattle.pack_command.specs.Answered.{fit_of, IsAnswerStatus, IsDecided, IsEnough};
-ghost use Rattle.pack_command.specs.Asked.{AsksFit};
+ghost use Rattle.document_terms.specs.declared.claim.SolvingJob.{SolvingJob as PlainJob};
+ghost use Rattle.document_terms.specs.declared.claim.SolvingJob.TheVariants.{Fit, Strip};
+ghost use Rattle.pack_command.specs.Answered.{answer_for, IsAnswerStatus, IsDecided, IsEnough};
+ghost use Rattle.pack_command.specs.Asked.{AsksToSolve};
+ghost use Rattle.pack_command.specs.Strips.{IsStripDecided};
 ghost use Rattle.pack_command.specs.Stops.{status_of, message_of};
 ghost use Rattle.pack_command.specs.Run.{IsWritten, IsStopped, IsTold};
 ghost use Rattle.pack_command.specs.declared.stop.Stop.{Stop as PlainStop};
 ghost use Rattle.work_share.specs.declared.settings.Settings.{Settings as PlainSettings};
 
-use crate::answer::{decide_fit, status_of};
 use crate::input::read_input;
+use crate::solution::solve;
 use crate::stop::Stop;
 use crate::stream::stream_answer;
 use crate::words::read_job;
@@ -21,7 +24,7 @@ use std::alloc::Global;
 
 /// Does the job that the words name, and answers the status that the program ends with.
 ///
-/// Status 0 is yes, 1 is no and 3 is undecided: the answer is whole before its first byte goes to `out`, the document is written whole in
+/// Status 0 is yes or least, 1 is no or none and 3 is undecided or between: the answer is whole before its first byte goes to `out`, the document is written whole in
 /// pieces of 4,096 bytes, and nothing to `err`. With every other status one line on `err` names the cause: 2 the words, what isn't
 /// built yet, the length or the text of the input; 4 a failed read; 5 a failed write, after a part at the front of the document; 6 want
 /// of memory. With 2, 4 and 6 nothing was written to `out`.
@@ -34,19 +37,30 @@ pub fn run<R, S: Source, K: Sink, E: Sink>(
     err: &mut E,
 ) -> u8
     // Within the limits, and without a fault or want of memory, the status and the document are those of the definition.
-    ensures answers { (settings : PlainSettings) (bytes : List ℕ) (instance : PlainInstance) → AsksFit words.now settings
-        → S.left input.old ≡ Some bytes → length bytes ≤ 1048576 → text_instance bytes ≡ Ok instance
+    ensures answers { (job : PlainJob) (settings : PlainSettings) (bytes : List ℕ) (instance : PlainInstance)
+        → AsksToSolve words.now job settings → S.left input.old ≡ Some bytes → length bytes ≤ 1048576 → text_instance bytes ≡ Ok instance
         → (Rose (S.faults input.old) (S.faults input.new) → ⊥) → (Rose (K.faults out.old) (K.faults out.new) → ⊥) → result ≢ 6
-        → (result ≡ (fit_of settings instance).status) × Gains (K.written out.old) (K.written out.new) (fit_of settings instance).text }
+        → (result ≡ (answer_for job settings instance).status)
+        × Gains (K.written out.old) (K.written out.new) (answer_for job settings instance).text }
 
-    // So it is yes with a packing or no with a refutation, exactly as a packing exists, or undecided exactly where the tree has more
-    // branchings than the budget; and never undecided where the budget is enough for every tree.
-    ensures decides { (settings : PlainSettings) (bytes : List ℕ) (instance : PlainInstance) → AsksFit words.now settings
+    // So `fit` is yes with a packing or no with a refutation, exactly as a packing exists, or undecided exactly where the tree has more
+    // branchings than the budget.
+    ensures decides { (settings : PlainSettings) (bytes : List ℕ) (instance : PlainInstance) → AsksToSolve words.now Fit settings
         → S.left input.old ≡ Some bytes → length bytes ≤ 1048576 → text_instance bytes ≡ Ok instance
         → (Rose (S.faults input.old) (S.faults input.new) → ⊥) → (Rose (K.faults out.old) (K.faults out.new) → ⊥) → result ≢ 6
         → IsDecided instance settings (K.written out.old) (K.written out.new) result }
-    ensures enough { (settings : PlainSettings) (bytes : List ℕ) (instance : PlainInstance) → AsksFit words.now settings
-        → S.left input.old ≡ Some bytes → text_instance bytes ≡ Ok instance → IsEnough instance settings.budget → result ≢ 3 }
+
+    // And `strip` is the least height over all packings with both certificates, or none exactly where there is none, or two heights between
+    // which it lies, with both certificates, exactly where the tree of a height that is decided has more branchings than the budget.
+    ensures least { (settings : PlainSettings) (bytes : List ℕ) (instance : PlainInstance) → AsksToSolve words.now Strip settings
+        → S.left input.old ≡ Some bytes → length bytes ≤ 1048576 → text_instance bytes ≡ Ok instance
+        → (Rose (S.faults input.old) (S.faults input.new) → ⊥) → (Rose (K.faults out.old) (K.faults out.new) → ⊥) → result ≢ 6
+        → IsStripDecided instance settings (K.written out.old) (K.written out.new) result }
+
+    // Neither is undecided or between where the budget is enough for every tree.
+    ensures enough { (job : PlainJob) (settings : PlainSettings) (bytes : List ℕ) (instance : PlainInstance)
+        → AsksToSolve words.now job settings → S.left input.old ≡ Some bytes → text_instance bytes ≡ Ok instance
+        → IsEnough instance settings.budget → result ≢ 3 }
 
     // With an answer the whole input was taken and the whole document was written, whether or not a count of faults rose.
     ensures answered { IsAnswerStatus result
@@ -85,14 +99,14 @@ fn job<R, S: Source, K: Sink>(
     ensures write_fault { result ≡ Err Stop.WriteFault → Rose (K.faults out.old) (K.faults out.new) }
     ensures counts { (S.faults input.old ≤ S.faults input.new) × (K.faults out.old ≤ K.faults out.new) }
 {
-    let settings = read_job(alloc, words)?;
+    let asked = read_job(alloc, words)?;
     let instance = read_input(alloc, input)?;
-    let outcome = match decide_fit(rt, alloc, &instance, settings) {
-        Ok(outcome) => outcome,
+    let solution = match solve(rt, alloc, &instance, asked.job, asked.settings) {
+        Ok(solution) => solution,
         Err(_) => return Err(Stop::NoMemory),
     };
-    match stream_answer(out, &instance, &outcome) {
-        Ok(()) => Ok(status_of(&outcome)),
+    match stream_answer(out, &instance, &solution) {
+        Ok(()) => Ok(solution.status()),
         Err(_) => Err(Stop::WriteFault),
     }
 }
