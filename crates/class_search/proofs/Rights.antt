@@ -10,7 +10,7 @@ use Rattle.tree_terms.specs.Trees.{SearchTree, node_at, PlainOutcome, Decided, P
 use Rattle.tree_terms.specs.Search.{AreAtPlaces, IsRightUnder, IsYes}
 use Rattle.tree_terms.specs.ClassTree.{class_tree}
 use Rattle.tree_terms.specs.Paths.{exclusions_at}
-use Rattle.tree_terms.proofs.Decisions.{class_tree_search, decides}
+use Rattle.tree_terms.proofs.Decisions.{class_tree_search, class_tree_right, decides}
 use Rattle.tree_terms.proofs.PathNodes.{search_at}
 use Rattle.tree_terms.proofs.Searches.{outcome_right}
 use Rattle.tree_terms.proofs.Counts.{class_count}
@@ -24,6 +24,11 @@ told_right instance es budget v h = go (nat_lt budget (count_of v))
     go : (b : Bool) → IsRight instance es (if b then Past else Decided v)
     go true = tt
     go false = h
+
+pub class_right : (instance : PlainInstance) → IsInternalInstance instance → (scales : Bool) (budget : ℕ) (r : PlainOutcome)
+    → r ≡ told budget (outcome (class_tree instance [] scales)) → IsRight instance [] r
+class_right instance limits scales budget r e =
+    rw e (told_right instance [] budget (outcome (class_tree instance [] scales)) (class_tree_right instance limits [] tt scales))
 
 verdict_decides : (instance : PlainInstance) (v : Verdict) → (Fits instance → IsYes v) → (IsYes v → Fits instance) → Decides instance (Decided v)
 verdict_decides instance (Yes numbers count) f g = g tt

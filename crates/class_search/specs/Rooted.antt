@@ -34,3 +34,13 @@ pub record IsInner (instance : PlainInstance) (node : Option SearchTree) (es : L
 abbrev pub IsArrival : PlainInstance → Option SearchTree → List Exclusion → Arrival → Type 0
 IsArrival instance node es (RefutedRoot token) = node ≡ Some (Refuted (plain_token token ∷ []) 0)
 IsArrival instance node es (Inner kind) = IsInner instance node es kind
+
+-- the tree of the node that a path came to
+abbrev pub arrival_tree : PlainInstance → List Exclusion → Arrival → SearchTree
+arrival_tree instance es (RefutedRoot token) = Refuted (plain_token token ∷ []) 0
+arrival_tree instance es (Inner kind) = kind_tree instance es kind
+
+-- what is known of it, where no test of the root refutes it
+abbrev pub IsKnownArrival : PlainInstance → List Exclusion → Arrival → Type 0
+IsKnownArrival instance es (RefutedRoot token) = Unit {0}
+IsKnownArrival instance es (Inner kind) = IsKind instance es kind × SidesFit instance

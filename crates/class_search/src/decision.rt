@@ -6,11 +6,11 @@ ghost use Rattle.tree_terms.specs.ClassTree.{class_tree};
 ghost use Rattle.proof_tree.specs.Plain.{plain_outcome};
 ghost use Rattle.class_search.specs.Right.{IsRight, Decides, IsDecided};
 
-use crate::ClassTree;
+use crate::Decider;
 use box_instances::{Instance, NoMemory};
 use proof_tree::Outcome;
 use std::alloc::Global;
-use work_share::{Settings, Tree};
+use work_share::Settings;
 
 /// Whether an instance fits, decided by its class tree under a budget of branchings.
 ///
@@ -28,9 +28,8 @@ pub fn decide_alone(
     ensures enough { 3 ^ (dims instance.now * box_count instance.now * (box_count instance.now - 1) / 2) ≤ budget + 1
         → IfOk result (λ r. IsDecided (plain_outcome r)) }
 {
-    let _limits = instance.len();
-    let tree = ClassTree::new(alloc, instance, scales)?;
-    tree.explore(alloc, &[], budget)
+    let mut decider = Decider::new(alloc, instance)?;
+    decider.decide(alloc, instance, budget, scales)
 }
 
 /// Whether an instance fits, decided by its class tree under the budget of the settings. The workers are 1.

@@ -3,7 +3,9 @@
 //! Source: the search over packing classes of Fekete, Schepers and van der Veen (2007).
 #![tactic(auto)]
 
+mod decider;
 mod decision;
+mod exploring;
 mod pairs;
 mod places;
 mod rank;
@@ -14,8 +16,10 @@ mod tree;
 mod visit;
 mod walk;
 
+pub use decider::Decider;
 pub use decision::{decide, decide_alone};
 pub use edge_state::Exclusion;
+pub use level_search::{Ladder, Level, Reached, bisect};
 pub use tree::ClassTree;
 
 #[cfg(test)]

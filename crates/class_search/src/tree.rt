@@ -11,11 +11,12 @@ ghost use Rattle.class_search.specs.Right.{IsRight, Decides, IsDecided};
 ghost use Rattle.class_search.specs.Rooted.{IsArrival};
 ghost use Rattle.class_search.specs.Tree.{shape, same_trees};
 
+use crate::exploring::explored;
 use crate::rank::ranked_pairs;
 use crate::root::{Arrival, visit_class_root};
 use crate::same::{are_same_exclusions, are_same_instances};
 use crate::visit::visit_root;
-use crate::walk::{descend, told, walk};
+use crate::walk::{descend, told};
 use box_instances::{Instance, NoMemory};
 use edge_state::{EdgeState, Exclusion};
 use proof_tree::Outcome;
@@ -134,24 +135,17 @@ impl<'a> ClassTree<'a> {
     {
         let mut state = self.start_state(alloc)?;
         let mut closer = Closer::new(alloc, self.instance.dims(), self.instance.len())?;
-        match self.come_to(alloc, &mut state, &mut closer, path) {
-            Arrival::RefutedRoot(token) => {
-                let mut tokens = Vec::new(alloc);
-                let Ok(()) = tokens.push(token) else {
-                    return Err(NoMemory);
-                };
-                Ok(Outcome::No { tokens, count: 0 })
-            }
-            Arrival::Inner(node) => walk(
-                alloc,
-                self.instance,
-                self.pairs.as_slice(),
-                &mut state,
-                &mut closer,
-                node,
-                cap,
-            ),
-        }
+        let arrival = self.come_to(alloc, &mut state, &mut closer, path);
+        let (instance, pairs) = (self.instance, self.pairs.as_slice());
+        explored(
+            alloc,
+            instance,
+            pairs,
+            &mut state,
+            &mut closer,
+            arrival,
+            cap,
+        )
     }
 }
 

@@ -1,28 +1,52 @@
--- What was read and decided is an answer of the instance.
-use Rattle.std.proofs.Common.{ℕ, ◌≡◌, List, ap, sym, ◌∙◌, Ok, String, Global}
+-- What was read and found is an answer of the instance.
+use Rattle.std.proofs.Common.{ℕ, ◌≡◌, List, ap, sym, ◌∙◌, Some, Ok, String, Global}
 use Rattle.std.specs.declared.option.Option.{Option}
 use Rattle.packing_terms.specs.Packing.{PlainInstance}
 use Rattle.packing_terms.specs.Limits.{IsInstance}
-use Rattle.tree_terms.specs.Trees.{PlainOutcome}
-use Rattle.answer_terms.specs.Answers.{answer_text, status_of}
-use Rattle.answer_terms.specs.Solved.{solved, fit_answer}
+use Rattle.document_terms.specs.declared.claim.SolvingJob.{SolvingJob}
+use Rattle.document_terms.specs.declared.claim.SolvingJob.TheVariants.{Fit as SolvesFit, Strip as SolvesStrip, Bins as SolvesBins, Knapsack as SolvesKnapsack}
+use Rattle.answer_terms.specs.Answers.{Answer, answer_text, status_of}
 use Rattle.pack_streams.specs.Moves.{Gains}
 use Rattle.pack_streams.specs.Writing.{GainsPart}
+use Rattle.pack_words.specs.declared.job.Job.{Job}
+use Rattle.pack_words.specs.declared.job.Job.TheVariants.{Fit, Strip, Bins, Knapsack, Check, Make}
 use Rattle.work_share.specs.declared.settings.Settings.{Settings}
-use Rattle.pack_command.specs.Answered.{IsFitOutcome}
-use Rattle.pack_command.specs.Asked.{AsksFit}
+use Rattle.pack_command.specs.declared.solution.Solution.{Solution}
+use Rattle.pack_command.specs.Solutions.{answer_found, IsSolution}
+use Rattle.pack_command.specs.Asked.{solving_job, AsksToSolve, IsBuiltJob}
 use Rattle.pack_command.specs.Inputs.{IsRead}
 use Rattle.pack_command.specs.Run.{IsAnswered, IsWritten, IsCutShort}
 
 -- what is built has one worker
-pub one_worker : (words : List (String Global)) (settings : Settings) → AsksFit words settings → settings.workers ≡ 1
-one_worker words settings asks = ap (λ (s : Settings). s.workers) (sym asks.with_settings) ∙ asks.built.workers
+pub one_worker : (words : List (String Global)) (job : SolvingJob) (settings : Settings) → AsksToSolve words job settings → settings.workers ≡ 1
+one_worker words job settings asks = ap (λ (s : Settings). s.workers) (sym asks.with_settings) ∙ asks.built.workers
 
-module _ (words : List (String Global)) (old new sunk_old sunk_new : Option (List ℕ)) (settings : Settings) (instance : PlainInstance) (o : PlainOutcome)
-    (asks : AsksFit words settings) (read : IsRead old new (Ok instance)) (limits : IsInstance instance) (decided : IsFitOutcome instance settings o) where
-  answered : IsAnswered words old new (status_of (fit_answer o)) (answer_text instance (fit_answer o))
-  unfolding solved
+job_built : (asked : Job) (job : SolvingJob) → solving_job asked ≡ Some job → IsBuiltJob job
+job_built asked SolvesFit e = tt
+job_built asked SolvesStrip e = tt
+job_built Fit SolvesBins e = absurd (cc (e))
+job_built Strip SolvesBins e = absurd (cc (e))
+job_built Bins SolvesBins e = absurd (cc (e))
+job_built Knapsack SolvesBins e = absurd (cc (e))
+job_built Check SolvesBins e = absurd (cc (e))
+job_built Make SolvesBins e = absurd (cc (e))
+job_built Fit SolvesKnapsack e = absurd (cc (e))
+job_built Strip SolvesKnapsack e = absurd (cc (e))
+job_built Bins SolvesKnapsack e = absurd (cc (e))
+job_built Knapsack SolvesKnapsack e = absurd (cc (e))
+job_built Check SolvesKnapsack e = absurd (cc (e))
+job_built Make SolvesKnapsack e = absurd (cc (e))
+
+-- and is one of the jobs that are built
+pub asked_built : (words : List (String Global)) (job : SolvingJob) (settings : Settings) → AsksToSolve words job settings → IsBuiltJob job
+asked_built words job settings asks = job_built _ job asks.built.job_is
+
+module _ (words : List (String Global)) (old new sunk_old sunk_new : Option (List ℕ)) (job : SolvingJob) (settings : Settings) (instance : PlainInstance)
+    (solution : Solution) (asks : AsksToSolve words job settings) (read : IsRead old new (Ok instance)) (limits : IsInstance instance)
+    (found : IsSolution job settings instance solution) where
+  answered : IsAnswered words old new (status_of (answer_found solution)) (answer_text instance (answer_found solution))
   answered = record {
+    job = job;
     settings = settings;
     bytes = read.0;
     instance = instance;
@@ -30,13 +54,13 @@ module _ (words : List (String Global)) (old new sunk_old sunk_new : Option (Lis
     input = read.1;
     read = read.2;
     limits = limits;
-    status_is = ap (λ x. status_of (fit_answer x)) decided.outcome;
-    document_is = ap (λ x. answer_text instance (fit_answer x)) decided.outcome;
+    status_is = ap (λ (a : Answer). status_of a) found.answer;
+    document_is = ap (λ (a : Answer). answer_text instance a) found.answer;
   }
 
-  pub answer_written : (status : ℕ) → status ≡ status_of (fit_answer o) → Gains sunk_old sunk_new (answer_text instance (fit_answer o))
+  pub answer_written : (status : ℕ) → status ≡ status_of (answer_found solution) → Gains sunk_old sunk_new (answer_text instance (answer_found solution))
       → IsWritten words old new sunk_old sunk_new status
-  answer_written status is gains = rw is (record { document = answer_text instance (fit_answer o); answered = answered; written = gains })
+  answer_written status is gains = rw is (record { document = answer_text instance (answer_found solution); answered = answered; written = gains })
 
-  pub answer_cut : GainsPart sunk_old sunk_new (answer_text instance (fit_answer o)) → IsCutShort words old new sunk_old sunk_new
-  answer_cut part = record { status = status_of (fit_answer o); document = answer_text instance (fit_answer o); answered = answered; part = part }
+  pub answer_cut : GainsPart sunk_old sunk_new (answer_text instance (answer_found solution)) → IsCutShort words old new sunk_old sunk_new
+  answer_cut part = record { status = status_of (answer_found solution); document = answer_text instance (answer_found solution); answered = answered; part = part }

@@ -3,7 +3,7 @@ use Rattle.std.proofs.Common.{◌≡◌, ℕ, ◌<◌, ◌≤◌, ◌+◌, ◌-�
 use Rattle.std.proofs.Math.Seq.{take-append-add}
 use Rattle.document_terms.specs.declared.claim.Claim.{Claim}
 use Rattle.pack_streams.specs.Moves.{Gives, Gains}
-use Rattle.pack_words.specs.declared.job.Job.TheVariants.{Fit, Check}
+use Rattle.document_terms.specs.declared.claim.SolvingJob.{SolvingJob}
 use Rattle.pack_words.specs.declared.job.JobWords.{JobWords}
 use Rattle.work_share.specs.declared.settings.Settings.{Settings}
 use Rattle.verdict_terms.specs.Documents.{Refusal, document_verdict, verdict_line}
@@ -13,17 +13,19 @@ use Rattle.verdict_terms.proofs.FormGiven.{documents_have_form}
 use Rattle.verdict_terms.proofs.True.{documents_are_true}
 use Rattle.verdict_terms.specs.Fed.{NoneRefused}
 use Rattle.document_check.specs.Checked.{most_bytes, IsEnough}
+use Rattle.pack_command.specs.declared.stop.Stop.{Stop}
 use Rattle.pack_command.specs.declared.stop.Stop.TheVariants.{WriteFault}
 use Rattle.pack_command.specs.declared.words.Asked.{Asked}
 use Rattle.pack_command.specs.declared.words.Asked.TheVariants.{Solving}
-use Rattle.pack_command.specs.Asked.{AsksFit, AsksCheck, IsAsked}
+use Rattle.pack_command.specs.Asked.{solving_job, AsksToSolve, AsksCheck, IsAsked}
 use Rattle.pack_command.specs.Checks.{verdict_status, IsReached, IsFound, IsJudged, IsExactly, IsClaimed, IsDone, IsLeft}
-use Rattle.pack_command.specs.Run.{IsWritten, IsCutShort}
-use Rattle.pack_command.proofs.Decided.{some_same, taken_all}
+use Rattle.pack_command.specs.Run.{IsWritten, IsStopped, IsCutShort}
+use Rattle.pack_command.proofs.Written.{some_same, taken_all}
 
--- what was asked is `fit` with these settings
-pub asks_fit : (words : List (String Global)) (asked : Asked) (settings : Settings) → IsAsked words (Ok asked) → asked ≡ Solving settings → AsksFit words settings
-asks_fit words asked settings asks is = subst (λ a. IsAsked words (Ok a)) is asks
+-- what was asked is the solving job with these settings
+pub asks_solving : (words : List (String Global)) (asked : Asked) (job : SolvingJob) (settings : Settings) → IsAsked words (Ok asked) → asked ≡ Solving job settings
+    → AsksToSolve words job settings
+asks_solving words asked job settings asks is = subst (λ a. IsAsked words (Ok a)) is asks
 
 pub written_done : (words : List (String Global)) (old new sunk_old sunk_new : Option (List ℕ)) (status : ℕ)
     → IsWritten words old new sunk_old sunk_new status → IsDone words old new sunk_old sunk_new status
@@ -34,21 +36,26 @@ pub cut_left : (words : List (String Global)) (old new sunk_old sunk_new : Optio
 cut_left words old new sunk_old sunk_new cut = inl cut
 
 -- no words ask for a solving job and for a check
-pub one_job : (words : List (String Global)) (settings : Settings) → AsksFit words settings → AsksCheck words → ⊥
-one_job words settings fit check =
-    let same : fit.asked ≡ check.asked = some_same _ _ (sym fit.is ∙ check.is) in
-    let jobs : ◌≡◌ Fit Check = sym fit.built.job ∙ ap (λ (w : JobWords). w.job) same ∙ check.job in
-    cc (jobs)
+pub one_job : (words : List (String Global)) (job : SolvingJob) (settings : Settings) → AsksToSolve words job settings → AsksCheck words → ⊥
+one_job words job settings solve check =
+    let same : solve.asked ≡ check.asked = some_same _ _ (sym solve.is ∙ check.is) in
+    let none : None ≡ Some job = sym (ap (λ (w : JobWords). solving_job w.job) same ∙ ap solving_job check.job) ∙ solve.built.job_is in
+    absurd (cc (none))
 
 -- what was done for a solving job is a written answer, and for a check a written verdict
-pub solved_done : (words : List (String Global)) (old new sunk_old sunk_new : Option (List ℕ)) (status : ℕ) (settings : Settings) → AsksFit words settings
-    → IsDone words old new sunk_old sunk_new status → IsWritten words old new sunk_old sunk_new status
-solved_done words old new sunk_old sunk_new status settings asks (inl w) = w
-solved_done words old new sunk_old sunk_new status settings asks (inr c) = absurd (one_job words settings asks c.0)
+pub solved_done : (words : List (String Global)) (old new sunk_old sunk_new : Option (List ℕ)) (status : ℕ) (job : SolvingJob) (settings : Settings)
+    → AsksToSolve words job settings → IsDone words old new sunk_old sunk_new status → IsWritten words old new sunk_old sunk_new status
+solved_done words old new sunk_old sunk_new status job settings asks (inl w) = w
+solved_done words old new sunk_old sunk_new status job settings asks (inr c) = absurd (one_job words job settings asks c.0)
+
+pub solved_left : (words : List (String Global)) (old new sunk_old sunk_new : Option (List ℕ)) (stop : Stop) (job : SolvingJob) (settings : Settings)
+    → AsksToSolve words job settings → IsLeft words old new sunk_old sunk_new stop → IsStopped words old new sunk_old sunk_new stop
+solved_left words old new sunk_old sunk_new stop job settings asks (inl s) = s
+solved_left words old new sunk_old sunk_new stop job settings asks (inr c) = absurd (one_job words job settings asks c.0)
 
 pub judged_done : (words : List (String Global)) (old new sunk_old sunk_new : Option (List ℕ)) (status : ℕ) → AsksCheck words
     → IsDone words old new sunk_old sunk_new status → IsJudged old new sunk_old sunk_new status
-judged_done words old new sunk_old sunk_new status asks (inl w) = absurd (one_job words w.answered.settings w.answered.asked asks)
+judged_done words old new sunk_old sunk_new status asks (inl w) = absurd (one_job words w.answered.job w.answered.settings w.answered.asked asks)
 judged_done words old new sunk_old sunk_new status asks (inr c) = c.1
 
 -- what was taken, and the rest of the bytes

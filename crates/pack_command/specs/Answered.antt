@@ -1,34 +1,28 @@
--- The answer of `fit` for an instance, under the settings of the words.
+-- The answer of a solving job for an instance, under the settings of the words; and what that of `fit` says.
 use Rattle.std.specs.Prelude.{ℕ, ◌+◌, ◌-◌, ◌*◌, ◌/◌, ◌^◌, ◌<◌, ◌≤◌, ◌≡◌, ◌⊎◌, List, []}
 use Rattle.std.specs.declared.option.Option.{Option}
 use Rattle.packing_terms.specs.Packing.{PlainInstance, dims, box_count, IsPacking, Fits}
 use Rattle.packing_terms.specs.Tokens.{PlainToken}
 use Rattle.packing_terms.specs.Refutation.{Refutes}
-use Rattle.tree_terms.specs.Trees.{PlainOutcome, outcome, told, count_of}
+use Rattle.tree_terms.specs.Trees.{outcome, count_of}
 use Rattle.tree_terms.specs.ClassTree.{class_tree}
-use Rattle.document_terms.specs.declared.claim.SolvingJob.TheVariants.{Fit}
+use Rattle.document_terms.specs.declared.claim.SolvingJob.{SolvingJob}
 use Rattle.document_terms.specs.declared.claim.Claim.TheVariants.{Fitting, NotFitting}
 use Rattle.answer_terms.specs.Answers.{answer_text}
 use Rattle.answer_terms.specs.Answers.Answer.{Undecided, Claimed}
 use Rattle.answer_terms.specs.Solved.{JobAnswer, answer_of}
 use Rattle.pack_streams.specs.Moves.{Gains}
 use Rattle.work_share.specs.declared.settings.Settings.{Settings}
-use Rattle.pack_command.specs.Placed.{IsPlaced}
 
--- the answer that `fit` has for the instance, its status and its document; the number of workers has no part
-abbrev pub fit_of : Settings → PlainInstance → JobAnswer
-fit_of settings instance = answer_of Fit settings.budget settings.scales instance
+-- the answer that the job has for the instance, its status and its document; the number of workers has no part
+abbrev pub answer_for : SolvingJob → Settings → PlainInstance → JobAnswer
+answer_for job settings instance = answer_of job settings.budget settings.scales instance
 
 -- the count of branchings of the instance's class tree
 abbrev pub branchings : Settings → PlainInstance → ℕ
 branchings settings instance = count_of (outcome (class_tree instance [] settings.scales))
 
--- what is told of the class tree under the budget
-pub record IsFitOutcome (instance : PlainInstance) (settings : Settings) (told_of : PlainOutcome) : Type 0 where
-  pub outcome : told_of ≡ told settings.budget (outcome (class_tree instance [] settings.scales))
-  pub placed : IsPlaced instance told_of
-
--- a status of an answer: yes, no, or undecided
+-- a status of an answer: yes or least, no or none, undecided or between
 abbrev pub IsAnswerStatus : ℕ → Type 0
 IsAnswerStatus status = (status ≡ 0) ⊎ ((status ≡ 1) ⊎ (status ≡ 3))
 
@@ -61,6 +55,6 @@ IsDecided instance settings sunk_old sunk_new status =
     IsYes instance settings sunk_old sunk_new status
     ⊎ (IsNo instance settings sunk_old sunk_new status ⊎ IsUndecided instance settings sunk_old sunk_new status)
 
--- a budget that is enough for every tree of the instance
+-- a budget that is enough for every tree of the instance, and for that of each height
 abbrev pub IsEnough : PlainInstance → ℕ → Type 0
 IsEnough instance budget = 3 ^ (dims instance * box_count instance * (box_count instance - 1) / 2) ≤ budget + 1

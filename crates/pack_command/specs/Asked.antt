@@ -1,8 +1,11 @@
 -- What the words of a command line ask for.
 use Rattle.std.specs.Prelude.{◌≡◌, List, map, String, string_bytes, Option, Some, None, Result, Ok, Err}
 use Rattle.std.specs.declared.alloc.Global.{Global}
+use Rattle.document_terms.specs.declared.claim.SolvingJob.{SolvingJob}
+use Rattle.document_terms.specs.declared.claim.SolvingJob.TheVariants.{Fit as SolvesFit, Strip as SolvesStrip, Bins as SolvesBins, Knapsack as SolvesKnapsack}
 use Rattle.pack_words.specs.Job.{job_of_words}
-use Rattle.pack_words.specs.declared.job.Job.TheVariants.{Fit, Check}
+use Rattle.pack_words.specs.declared.job.Job.{Job}
+use Rattle.pack_words.specs.declared.job.Job.TheVariants.{Fit, Strip, Bins, Knapsack, Check, Make}
 use Rattle.pack_words.specs.declared.job.JobWords.{JobWords}
 use Rattle.work_share.specs.declared.settings.Settings.{Settings}
 use Rattle.pack_command.specs.declared.words.Asked.{Asked}
@@ -10,20 +13,36 @@ use Rattle.pack_command.specs.declared.words.Asked.TheVariants.{Solving, Checkin
 use Rattle.pack_command.specs.declared.stop.Stop.{Stop}
 use Rattle.pack_command.specs.declared.stop.Stop.TheVariants.{Words, Unbuilt, TooLong, Text, ReadFault, WriteFault, NoMemory}
 
--- what is built of the solving jobs: `fit` with one worker
-pub record IsBuilt (asked : JobWords) : Type 0 where
-  pub job : asked.job ≡ Fit
+-- the solving jobs that are built
+abbrev pub solving_job : Job → Option SolvingJob
+solving_job Fit = Some SolvesFit
+solving_job Strip = Some SolvesStrip
+solving_job Bins = None
+solving_job Knapsack = None
+solving_job Check = None
+solving_job Make = None
+
+-- what is built of the solving jobs: `fit` and `strip`, with one worker
+pub record IsBuilt (asked : JobWords) (job : SolvingJob) : Type 0 where
+  pub job_is : solving_job asked.job ≡ Some job
   pub workers : asked.settings.workers ≡ 1
+
+-- the solving job is built
+abbrev pub IsBuiltJob : SolvingJob → Type 0
+IsBuiltJob SolvesFit = Unit {0}
+IsBuiltJob SolvesStrip = Unit {0}
+IsBuiltJob SolvesBins = ⊥
+IsBuiltJob SolvesKnapsack = ⊥
 
 -- the job of the words, if they are one
 abbrev pub asked_job : List (String Global) → Option JobWords
 asked_job words = job_of_words (map string_bytes words)
 
--- the words are a job that is built, with these settings
-pub record AsksFit (words : List (String Global)) (settings : Settings) : Type 0 where
+-- the words are this solving job, which is built, with these settings
+pub record AsksToSolve (words : List (String Global)) (job : SolvingJob) (settings : Settings) : Type 0 where
   pub asked : JobWords
   pub is : asked_job words ≡ Some asked
-  pub built : IsBuilt asked
+  pub built : IsBuilt asked job
   pub with_settings : asked.settings ≡ settings
 
 -- the words are the job `check`
@@ -36,7 +55,7 @@ pub record AsksCheck (words : List (String Global)) : Type 0 where
 pub record AsksOther (words : List (String Global)) : Type 0 where
   pub asked : JobWords
   pub is : asked_job words ≡ Some asked
-  pub unbuilt : IsBuilt asked → ⊥
+  pub unbuilt : (job : SolvingJob) → IsBuilt asked job → ⊥
   pub no_check : asked.job ≡ Check → ⊥
 
 -- the words are no job
@@ -45,7 +64,7 @@ AsksNothing words = asked_job words ≡ None
 
 -- what is built, or why the program stops
 abbrev pub IsAsked : List (String Global) → Result Asked Stop → Type 0
-IsAsked words (Ok (Solving settings)) = AsksFit words settings
+IsAsked words (Ok (Solving job settings)) = AsksToSolve words job settings
 IsAsked words (Ok Checking) = AsksCheck words
 IsAsked words (Err Words) = AsksNothing words
 IsAsked words (Err Unbuilt) = AsksOther words

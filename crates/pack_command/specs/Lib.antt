@@ -3,6 +3,8 @@ pub mod Placed
 pub mod Stops
 pub mod Answered
 pub mod Asked
+pub mod Solutions
+pub mod Strips
 pub mod Inputs
 pub mod Run
 pub mod Lines

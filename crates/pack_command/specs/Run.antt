@@ -9,23 +9,25 @@ use Rattle.pack_streams.specs.Faults.{Rose}
 use Rattle.pack_streams.specs.Moves.{Gives, Gains}
 use Rattle.pack_streams.specs.Writing.{GainsPart}
 use Rattle.work_share.specs.declared.settings.Settings.{Settings}
-use Rattle.pack_command.specs.Answered.{fit_of}
-use Rattle.pack_command.specs.Asked.{AsksFit, AsksNothing, AsksOther}
+use Rattle.document_terms.specs.declared.claim.SolvingJob.{SolvingJob}
+use Rattle.pack_command.specs.Answered.{answer_for}
+use Rattle.pack_command.specs.Asked.{AsksToSolve, AsksNothing, AsksOther}
 use Rattle.pack_command.specs.Inputs.{IsWholeInput, IsRead}
 use Rattle.pack_command.specs.declared.stop.Stop.{Stop}
 use Rattle.pack_command.specs.declared.stop.Stop.TheVariants.{Words, Unbuilt, TooLong, Text, ReadFault, WriteFault, NoMemory}
 
--- the words ask for `fit`, the whole input is the text of an instance, and these are its status and its document
+-- the words ask for a solving job, the whole input is the text of an instance, and these are its status and its document
 pub record IsAnswered (words : List (String Global)) (old new : Option (List ℕ)) (status : ℕ) (document : List ℕ) : Type 0 where
+  pub job : SolvingJob
   pub settings : Settings
   pub bytes : List ℕ
   pub instance : PlainInstance
-  pub asked : AsksFit words settings
+  pub asked : AsksToSolve words job settings
   pub input : IsWholeInput old new bytes
   pub read : text_instance bytes ≡ Ok instance
   pub limits : IsInstance instance
-  pub status_is : status ≡ (fit_of settings instance).status
-  pub document_is : document ≡ (fit_of settings instance).text
+  pub status_is : status ≡ (answer_for job settings instance).status
+  pub document_is : document ≡ (answer_for job settings instance).text
 
 -- an answer was found, and a part at the front of its document was written
 pub record IsCutShort (words : List (String Global)) (old new sunk_old sunk_new : Option (List ℕ)) : Type 0 where
@@ -34,9 +36,9 @@ pub record IsCutShort (words : List (String Global)) (old new sunk_old sunk_new 
   pub answered : IsAnswered words old new status document
   pub part : GainsPart sunk_old sunk_new document
 
--- the words ask for `fit`
+-- the words ask for a solving job
 abbrev pub Asks : List (String Global) → Type 0
-Asks words = (settings : Settings) × AsksFit words settings
+Asks words = (job : SolvingJob) × (settings : Settings) × AsksToSolve words job settings
 
 -- why a job ended without an answer, and what it took from the source and gave to the sink
 abbrev pub IsStopped : List (String Global) → (old new sunk_old sunk_new : Option (List ℕ)) → Stop → Type 0

@@ -19,8 +19,8 @@ use instance_text::write_instance;
 use pack_streams::{Sink, WriteFault, write_number, write_on};
 use proof_tree::{Outcome, Token, write_tokens_on};
 
-// Each call below writes where no fault came before, and else does nothing.
-type Written = Result<(), WriteFault>;
+/// How writing went so far. Each call below writes where no fault came before, and else does nothing.
+pub type Written = Result<(), WriteFault>;
 
 // Writes the coordinates of a box, each after a space.
 fn write_coordinates<K: Sink>(
@@ -62,8 +62,8 @@ fn write_place<K: Sink>(
     write_on(sink, placed, b"\n")
 }
 
-// Writes the lines of all places.
-fn write_places<K: Sink>(
+/// Writes the lines of all places.
+pub fn write_places<K: Sink>(
     sink: &mut K,
     so_far: Written,
     instance: &Instance,
@@ -80,8 +80,8 @@ fn write_places<K: Sink>(
     now
 }
 
-// Writes the lines of the instance.
-fn write_instance_on<K: Sink>(sink: &mut K, so_far: Written, instance: &Instance) -> Written
+/// Writes the lines of the instance.
+pub fn write_instance_on<K: Sink>(sink: &mut K, so_far: Written, instance: &Instance) -> Written
     requires { IsInstance instance.now }
     ensures { Continues (K.written sink.old) (K.written sink.new) (K.faults sink.old) (K.faults sink.new)
         (instance_text instance.now) so_far result }
@@ -131,7 +131,7 @@ fn write_undecided<K: Sink>(sink: &mut K, instance: &Instance) -> Written
 }
 
 /// Writes the document of an answer of `fit`: a yes with the place of each box, a no with its refutation, or undecided.
-pub fn write_answer<K: Sink>(sink: &mut K, instance: &Instance, outcome: &Outcome) -> Written
+pub fn write_fit<K: Sink>(sink: &mut K, instance: &Instance, outcome: &Outcome) -> Written
     requires limits { IsInstance instance.now }
     requires placed { IsPlaced instance.now (plain_outcome outcome.now) }
     ensures { Writes (K.written sink.old) (K.written sink.new) (K.faults sink.old) (K.faults sink.new)

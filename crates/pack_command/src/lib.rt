@@ -1,13 +1,14 @@
 //! The jobs of `pack`, from bytes to bytes.
 #![tactic(auto)]
 
-mod answer;
 mod checking;
 mod documents;
 mod front;
 mod input;
+mod solution;
 mod stop;
 mod stream;
+mod strip_documents;
 mod top;
 mod verdict;
 mod words;

@@ -2,31 +2,43 @@
 ghost use Rattle.std.specs.Prelude.{◌≡◌};
 ghost use Rattle.packing_terms.specs.Limits.{IsInstance};
 ghost use Rattle.pack_streams.specs.Writing.{Writes};
-ghost use Rattle.proof_tree.specs.Plain.{plain_outcome};
 ghost use Rattle.answer_terms.specs.Answers.{answer_text};
-ghost use Rattle.answer_terms.specs.Solved.{fit_answer};
-ghost use Rattle.pack_command.specs.Placed.{IsPlaced};
+ghost use Rattle.pack_command.specs.Solutions.{answer_found, IsPlacedSolution};
 
-use crate::documents::write_answer;
+use crate::documents::{Written, write_fit};
 use crate::front::{Behind, Done, Front};
+use crate::solution::Solution;
+use crate::strip_documents::write_strip;
 use box_instances::Instance;
 use pack_streams::{Sink, WriteFault};
-use proof_tree::Outcome;
 use std::marker::{Brand, PhantomData};
+
+// Writes the document of an answer.
+fn write_answer<K: Sink>(sink: &mut K, instance: &Instance, solution: &Solution) -> Written
+    requires limits { IsInstance instance.now }
+    requires placed { IsPlacedSolution instance.now solution.now }
+    ensures { Writes (K.written sink.old) (K.written sink.new) (K.faults sink.old) (K.faults sink.new)
+        (answer_text instance.now (answer_found solution.now)) result }
+{
+    match solution {
+        Solution::Fit(outcome) => write_fit(sink, instance, outcome),
+        Solution::Strip(strip) => write_strip(sink, instance, strip),
+    }
+}
 
 // Writes the document through a front before the sink, which is named by the ghost name of the reference to it.
 fn write_through<'a, K: Sink, B: Behind>(
     out: &'a mut K,
     instance: &Instance,
-    outcome: &Outcome,
+    solution: &Solution,
 ) -> Done<'a, K>
     requires limits { IsInstance instance.now }
-    requires placed { IsPlaced instance.now (plain_outcome outcome.now) }
+    requires placed { IsPlacedSolution instance.now solution.now }
     requires name { out.ghost_name ≡ B.name }
     requires begun { K.written out.now ≡ B.begun }
     ensures same { result.out.ghost_name ≡ out.entry.ghost_name }
     ensures written { Writes (K.written out.entry.now) (K.written result.out.now) (K.faults out.entry.now) (K.faults result.out.now)
-        (answer_text instance.now (fit_answer (plain_outcome outcome.now))) result.result }
+        (answer_text instance.now (answer_found solution.now)) result.result }
 {
     let mut front: Front<'a, K, B> = Front {
         out,
@@ -35,7 +47,7 @@ fn write_through<'a, K: Sink, B: Behind>(
         end: 0,
         behind: PhantomData,
     };
-    match write_answer(&mut front, instance, outcome) {
+    match write_answer(&mut front, instance, solution) {
         Ok(()) => {
             let result = front.empty();
             let Front {
@@ -63,18 +75,18 @@ fn write_through<'a, K: Sink, B: Behind>(
     }
 }
 
-/// Writes the document of an answer of `fit` in pieces of 4,096 bytes, of which the last may be shorter. Where the sink takes only a
+/// Writes the document of an answer in pieces of 4,096 bytes, of which the last may be shorter. Where the sink takes only a
 /// part of a piece, the rest of it is offered next; the first failure ends the writing. No more than one piece is held.
 pub fn stream_answer<K: Sink>(
     out: &mut K,
     instance: &Instance,
-    outcome: &Outcome,
+    solution: &Solution,
 ) -> Result<(), WriteFault>
     requires limits { IsInstance instance.now }
-    requires placed { IsPlaced instance.now (plain_outcome outcome.now) }
+    requires placed { IsPlacedSolution instance.now solution.now }
     ensures { Writes (K.written out.old) (K.written out.new) (K.faults out.old) (K.faults out.new)
-        (answer_text instance.now (fit_answer (plain_outcome outcome.now))) result }
+        (answer_text instance.now (answer_found solution.now)) result }
 {
-    let done = write_through::<K, Brand>(out, instance, outcome);
+    let done = write_through::<K, Brand>(out, instance, solution);
     done.result
 }

@@ -4,18 +4,21 @@ ghost use Rattle.packing_terms.specs.Packing.{PlainInstance};
 ghost use Rattle.text_terms.specs.Texts.{text_instance};
 ghost use Rattle.pack_streams.specs.Faults.{Rose};
 ghost use Rattle.pack_streams.specs.Moves.{Gains};
+ghost use Rattle.document_terms.specs.declared.claim.SolvingJob.{SolvingJob as PlainJob};
+ghost use Rattle.document_terms.specs.declared.claim.SolvingJob.TheVariants.{Fit, Strip};
 ghost use Rattle.verdict_terms.specs.Fed.{NoneRefused};
-ghost use Rattle.pack_command.specs.Answered.{fit_of, IsAnswerStatus, IsDecided, IsEnough};
-ghost use Rattle.pack_command.specs.Asked.{AsksFit, AsksCheck};
+ghost use Rattle.pack_command.specs.Answered.{answer_for, IsAnswerStatus, IsDecided, IsEnough};
+ghost use Rattle.pack_command.specs.Asked.{AsksToSolve, AsksCheck};
 ghost use Rattle.pack_command.specs.Checks.{IsDone, IsLeft, IsExactly, IsClaimed};
+ghost use Rattle.pack_command.specs.Strips.{IsStripDecided};
 ghost use Rattle.pack_command.specs.Stops.{status_of, message_of};
 ghost use Rattle.pack_command.specs.Run.{IsTold};
 ghost use Rattle.pack_command.specs.declared.stop.Stop.{Stop as PlainStop};
 ghost use Rattle.work_share.specs.declared.settings.Settings.{Settings as PlainSettings};
 
-use crate::answer::{decide_fit, status_of};
 use crate::checking::check;
 use crate::input::read_input;
+use crate::solution::solve;
 use crate::stop::Stop;
 use crate::stream::stream_answer;
 use crate::words::{Asked, read_job};
@@ -24,10 +27,11 @@ use std::alloc::Global;
 
 /// Does the job that the words name, and answers the status that the program ends with.
 ///
-/// Status 0 is yes or verified, 1 is no or refused and 3 is undecided: the answer is whole before its first byte goes to `out`, the
-/// document, or the one line of `check`, is written whole in pieces of 4,096 bytes, and nothing to `err`. With every other status one
-/// line on `err` names the cause: 2 the words, what isn't built yet, the length or the text of the input; 4 a failed read; 5 a failed
-/// write, after a part at the front of what was to be written; 6 want of memory. With 2, 4 and 6 nothing was written to `out`.
+/// Status 0 is yes, least or verified, 1 is no, none or refused, and 3 is undecided or between: the answer is whole before its first
+/// byte goes to `out`, the document, or the one line of `check`, is written whole in pieces of 4,096 bytes, and nothing to `err`. With
+/// every other status one line on `err` names the cause: 2 the words, what isn't built yet, the length or the text of the input; 4 a
+/// failed read; 5 a failed write, after a part at the front of what was to be written; 6 want of memory. With 2, 4 and 6 nothing was
+/// written to `out`.
 pub fn run<R, S: Source, K: Sink, E: Sink>(
     rt: &R,
     alloc: Global,
@@ -37,19 +41,30 @@ pub fn run<R, S: Source, K: Sink, E: Sink>(
     err: &mut E,
 ) -> u8
     // Within the limits, and without a fault or want of memory, the status and the document are those of the definition.
-    ensures answers { (settings : PlainSettings) (bytes : List ℕ) (instance : PlainInstance) → AsksFit words.now settings
-        → S.left input.old ≡ Some bytes → length bytes ≤ 1048576 → text_instance bytes ≡ Ok instance
+    ensures answers { (job : PlainJob) (settings : PlainSettings) (bytes : List ℕ) (instance : PlainInstance)
+        → AsksToSolve words.now job settings → S.left input.old ≡ Some bytes → length bytes ≤ 1048576 → text_instance bytes ≡ Ok instance
         → (Rose (S.faults input.old) (S.faults input.new) → ⊥) → (Rose (K.faults out.old) (K.faults out.new) → ⊥) → result ≢ 6
-        → (result ≡ (fit_of settings instance).status) × Gains (K.written out.old) (K.written out.new) (fit_of settings instance).text }
+        → (result ≡ (answer_for job settings instance).status)
+        × Gains (K.written out.old) (K.written out.new) (answer_for job settings instance).text }
 
-    // So it is yes with a packing or no with a refutation, exactly as a packing exists, or undecided exactly where the tree has more
-    // branchings than the budget; and never undecided where the budget is enough for every tree.
-    ensures decides { (settings : PlainSettings) (bytes : List ℕ) (instance : PlainInstance) → AsksFit words.now settings
+    // So `fit` is yes with a packing or no with a refutation, exactly as a packing exists, or undecided exactly where the tree has more
+    // branchings than the budget.
+    ensures decides { (settings : PlainSettings) (bytes : List ℕ) (instance : PlainInstance) → AsksToSolve words.now Fit settings
         → S.left input.old ≡ Some bytes → length bytes ≤ 1048576 → text_instance bytes ≡ Ok instance
         → (Rose (S.faults input.old) (S.faults input.new) → ⊥) → (Rose (K.faults out.old) (K.faults out.new) → ⊥) → result ≢ 6
         → IsDecided instance settings (K.written out.old) (K.written out.new) result }
-    ensures enough { (settings : PlainSettings) (bytes : List ℕ) (instance : PlainInstance) → AsksFit words.now settings
-        → S.left input.old ≡ Some bytes → text_instance bytes ≡ Ok instance → IsEnough instance settings.budget → result ≢ 3 }
+
+    // And `strip` is the least height over all packings with both certificates, or none exactly where there is none, or two heights between
+    // which it lies, with both certificates, exactly where the tree of a height that is decided has more branchings than the budget.
+    ensures least { (settings : PlainSettings) (bytes : List ℕ) (instance : PlainInstance) → AsksToSolve words.now Strip settings
+        → S.left input.old ≡ Some bytes → length bytes ≤ 1048576 → text_instance bytes ≡ Ok instance
+        → (Rose (S.faults input.old) (S.faults input.new) → ⊥) → (Rose (K.faults out.old) (K.faults out.new) → ⊥) → result ≢ 6
+        → IsStripDecided instance settings (K.written out.old) (K.written out.new) result }
+
+    // Neither is undecided or between where the budget is enough for every tree.
+    ensures enough { (job : PlainJob) (settings : PlainSettings) (bytes : List ℕ) (instance : PlainInstance)
+        → AsksToSolve words.now job settings → S.left input.old ≡ Some bytes → text_instance bytes ≡ Ok instance
+        → IsEnough instance settings.budget → result ≢ 3 }
 
     // Where the words ask for `check`, it is exactly the line of the verdict on the bytes, with its status.
     ensures checks { (bytes : List ℕ) → AsksCheck words.now → S.left input.old ≡ Some bytes → length bytes ≤ 1099511627776
@@ -103,17 +118,19 @@ fn job<R, S: Source, K: Sink>(
     ensures write_fault { result ≡ Err Stop.WriteFault → Rose (K.faults out.old) (K.faults out.new) }
     ensures counts { (S.faults input.old ≤ S.faults input.new) × (K.faults out.old ≤ K.faults out.new) }
 {
-    let settings = match read_job(alloc, words)? {
-        Asked::Solving(settings) => settings,
-        Asked::Checking => return check(alloc, input, out),
-    };
-    let instance = read_input(alloc, input)?;
-    let outcome = match decide_fit(rt, alloc, &instance, settings) {
-        Ok(outcome) => outcome,
-        Err(_) => return Err(Stop::NoMemory),
-    };
-    match stream_answer(out, &instance, &outcome) {
-        Ok(()) => Ok(status_of(&outcome)),
-        Err(_) => Err(Stop::WriteFault),
+    let asked = read_job(alloc, words)?;
+    match asked {
+        Asked::Checking => check(alloc, input, out),
+        Asked::Solving { job, settings } => {
+            let instance = read_input(alloc, input)?;
+            let solution = match solve(rt, alloc, &instance, job, settings) {
+                Ok(solution) => solution,
+                Err(_) => return Err(Stop::NoMemory),
+            };
+            match stream_answer(out, &instance, &solution) {
+                Ok(()) => Ok(solution.status()),
+                Err(_) => Err(Stop::WriteFault),
+            }
+        }
     }
 }

@@ -1,26 +1,35 @@
 // What the words of the command line ask for.
-ghost use Rattle.std.specs.Prelude.{MatchBool};
+ghost use Rattle.std.specs.Prelude.{MatchOption};
+ghost use Rattle.document_terms.specs.declared.claim.SolvingJob.{SolvingJob as PlainJob};
 ghost use Rattle.pack_command.specs.Asked.{IsAsked, IsBuilt};
 
 use crate::stop::Stop;
+use document_terms::SolvingJob;
 use pack_words::{Job, JobWords, WordsError, read_words};
 use std::alloc::Global;
 use work_share::Settings;
 
-/// A job that is built.
+/// What the words ask for.
 #[derive(Clone, Copy, Debug, PartialEq, Eq)]
 pub enum Asked {
-    /// `fit` with these settings.
-    Solving(Settings),
+    /// A solving job that is built, and how it is to be run.
+    Solving { job: SolvingJob, settings: Settings },
     /// `check`.
     Checking,
 }
 
-// Whether the solving job and its settings are built: `fit` with one worker.
-fn is_built(asked: JobWords) -> bool
-    ensures { MatchBool result (IsBuilt asked) (¬ IsBuilt asked) }
+// The solving job that is asked for, where it and its settings are built: `fit` or `strip` with one worker.
+fn built_job(asked: JobWords) -> Option<SolvingJob>
+    ensures { MatchOption result ((job : PlainJob) → ¬ IsBuilt asked job) (λ job. IsBuilt asked job) }
 {
-    asked.job == Job::Fit && asked.settings.workers == 1
+    if asked.settings.workers != 1 {
+        return None;
+    }
+    match asked.job {
+        Job::Fit => Some(SolvingJob::Fit),
+        Job::Strip => Some(SolvingJob::Strip),
+        Job::Bins | Job::Knapsack | Job::Check | Job::Make => None,
+    }
 }
 
 /// What the words ask for, where that is built.
@@ -28,9 +37,14 @@ pub fn read_job(alloc: Global, words: &[String]) -> Result<Asked, Stop>
     ensures { IsAsked words.now result }
 {
     match read_words(alloc, words) {
-        Ok(asked) if is_built(asked) => Ok(Asked::Solving(asked.settings)),
         Ok(asked) if asked.job == Job::Check => Ok(Asked::Checking),
-        Ok(_) => Err(Stop::Unbuilt),
+        Ok(asked) => match built_job(asked) {
+            Some(job) => Ok(Asked::Solving {
+                job,
+                settings: asked.settings,
+            }),
+            None => Err(Stop::Unbuilt),
+        },
         Err(WordsError::Refused) => Err(Stop::Words),
         Err(WordsError::NoMemory) => Err(Stop::NoMemory),
     }

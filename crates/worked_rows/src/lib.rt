@@ -9,3 +9,5 @@ mod fits;
 mod refusals;
 #[cfg(test)]
 mod runs;
+#[cfg(test)]
+mod strips;

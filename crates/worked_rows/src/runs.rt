@@ -13,14 +13,14 @@ pub struct Told {
 }
 
 impl Told {
-    /// Whether what was written is the document of `fit` with these lines of the instance, and behind them these.
-    pub fn is_document(&self, instance: &[u8], rest: &[u8]) -> bool {
-        let head = b"answer fit\n".len();
+    /// Whether what was written is the document with this first line, these lines of the instance, and behind them these.
+    pub fn is_document(&self, first: &[u8], instance: &[u8], rest: &[u8]) -> bool {
+        let head = first.len();
         let body = head.saturating_add(instance.len());
         if self.out.len() != body.saturating_add(rest.len()) || !self.err.is_empty() {
             return false;
         }
-        self.out.starts_with(b"answer fit\n")
+        self.out.starts_with(first)
             && &self.out[head..body] == instance
             && &self.out[body..] == rest
     }

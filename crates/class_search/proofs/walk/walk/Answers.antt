@@ -7,6 +7,7 @@ use Rattle.proof_tree.specs.Plain.{plain_token}
 use Rattle.class_search.specs.declared.walk.Waiting.{Waiting}
 use Rattle.class_search.specs.Visits.{kind_tree}
 use Rattle.class_search.proofs.Lists.{reverse_last}
+use Rattle.class_search.proofs.Sizes.{sizes_of, same_sizes}
 use Rattle.class_search.proofs.Walking.{conflict_next, split_next, pairs_settled}
 use Rattle.class_search.proofs.walk.walk.Goals as goal
 
@@ -21,6 +22,8 @@ loop-node-preserved-in-Some c =
       within = c.loop-node.invariant.within;
       same_dims = ap (λ (s : PlainEdges). s.dims) c.visit_child-node.ensures.sizes ∙ (ap (λ (s : PlainEdges). s.dims) c.undo.ensures ∙ c.loop-node.invariant.same_dims);
       same_boxes = ap (λ (s : PlainEdges). s.boxes) c.visit_child-node.ensures.sizes ∙ (ap (λ (s : PlainEdges). s.boxes) c.undo.ensures ∙ c.loop-node.invariant.same_boxes);
+      sizes = same_sizes c.args.state.now c.loop-node.state c.visit_child-node.new.state c.loop-node.invariant.sizes
+          (same_sizes c.loop-node.state c.undo.new.self c.visit_child-node.new.state (sizes_of c.loop-node.state c.undo.new.self _ c.undo.ensures) c.visit_child-node.ensures.sizes);
       same_closer = c.visit_child-node.ensures.closer ∙ c.loop-node.invariant.same_closer;
     })
 
@@ -45,5 +48,6 @@ loop-node-preserved c =
       within = omega (arith, c.loop-node.invariant.within, c.if-count-cap.false);
       same_dims = ap (λ (s : PlainEdges). s.dims) c.visit_child-node-in-Divided.ensures.sizes ∙ c.loop-node.invariant.same_dims;
       same_boxes = ap (λ (s : PlainEdges). s.boxes) c.visit_child-node-in-Divided.ensures.sizes ∙ c.loop-node.invariant.same_boxes;
+      sizes = same_sizes c.args.state.now c.loop-node.state c.visit_child-node-in-Divided.new.state c.loop-node.invariant.sizes c.visit_child-node-in-Divided.ensures.sizes;
       same_closer = c.visit_child-node-in-Divided.ensures.closer ∙ c.loop-node.invariant.same_closer;
     })

@@ -1,14 +1,17 @@
-use Rattle.pack_command.proofs.Answering.{answer_written, answer_cut, one_worker}
-use Rattle.pack_command.proofs.Checked.{asks_fit, written_done, cut_left}
+use Rattle.pack_command.proofs.Answering.{answer_written, answer_cut, one_worker, asked_built}
+use Rattle.pack_command.proofs.Checked.{asks_solving, written_done, cut_left}
 use Rattle.pack_command.proofs.top.job.Goals as goal
 
-pub decide_fit-requires : goal.decide_fit-requires
-decide_fit-requires g c = one_worker _ _ (asks_fit _ _ _ c.in_ok-settings.ensures c.in-Solving.is)
+pub solve-requires-clause-alone : goal.solve-requires-clause-alone
+solve-requires-clause-alone g c = one_worker _ _ _ (asks_solving _ _ _ _ c.in_ok-asked.ensures c.in-Solving.is)
+
+pub solve-requires-clause-built : goal.solve-requires-clause-built
+solve-requires-clause-built g c = asked_built _ _ _ (asks_solving _ _ _ _ c.in_ok-asked.ensures c.in-Solving.is)
 
 pub returns-in-Ok-stream_answer-clause-answered : goal.returns-in-Ok-stream_answer-clause-answered
-returns-in-Ok-stream_answer-clause-answered g c = written_done _ _ _ _ _ _ (answer_written _ _ _ _ _ _ _ _ (asks_fit _ _ _ c.in_ok-settings.ensures c.in-Solving.is)
-    c.in_ok-instance.ensures.moves c.in_ok-instance.ensures.limits c.in-Ok.ensures _ c.status_of.ensures c.in-Ok-stream_answer.ensures.whole)
+returns-in-Ok-stream_answer-clause-answered g c = written_done _ _ _ _ _ _ (answer_written _ _ _ _ _ _ _ _ _ (asks_solving _ _ _ _ c.in_ok-asked.ensures c.in-Solving.is)
+    c.in_ok-instance.ensures.moves c.in_ok-instance.ensures.limits c.in-Ok.ensures _ c.status.ensures c.in-Ok-stream_answer.ensures.whole)
 
 pub returns-clause-stopped : goal.returns-clause-stopped
-returns-clause-stopped g c = cut_left _ _ _ _ _ (answer_cut _ _ _ _ _ _ _ _ (asks_fit _ _ _ c.in_ok-settings.ensures c.in-Solving.is)
+returns-clause-stopped g c = cut_left _ _ _ _ _ (answer_cut _ _ _ _ _ _ _ _ _ (asks_solving _ _ _ _ c.in_ok-asked.ensures c.in-Solving.is)
     c.in_ok-instance.ensures.moves c.in_ok-instance.ensures.limits c.in-Ok.ensures c.stream_answer.ensures.part)

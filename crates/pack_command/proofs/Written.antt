@@ -1,0 +1,120 @@
+-- Within the limits, and without a fault, the answer that was written is the one that the instance has, and it decides.
+use Rattle.std.proofs.Common.{ℕ, ◌≡◌, ◌≤◌, ◌<◌, ◌⊎◌, inl, inr, true, false, List, [], ◌++◌, length, length-append, append-nil, arith, sym, ap, ◌∙◌, subst, Option, Some, None, Ok, String, Global, Result}
+use Rattle.std.proofs.lemmas.Bool.{true≢false}
+use Rattle.std.specs.Io.KnownBytes.{IsAtEnd}
+use Rattle.packing_terms.specs.Packing.{PlainInstance}
+use Rattle.packing_terms.specs.Limits.{IsInstance}
+use Rattle.packing_terms.proofs.Internal.{written_internal, some_dimension}
+use Rattle.tree_terms.proofs.Counts.{class_count}
+use Rattle.tree_terms.proofs.SpentRuns.{height_spent, height_enough}
+use Rattle.text_terms.specs.Texts.{text_instance}
+use Rattle.document_terms.specs.declared.claim.SolvingJob.{SolvingJob}
+use Rattle.document_terms.specs.declared.claim.SolvingJob.TheVariants.{Fit, Strip, Bins, Knapsack}
+use Rattle.answer_terms.specs.Solved.{JobAnswer}
+use Rattle.pack_streams.specs.Moves.{Gives, Gains}
+use Rattle.pack_words.specs.declared.job.JobWords.{JobWords}
+use Rattle.work_share.specs.declared.settings.Settings.{Settings}
+use Rattle.pack_command.specs.Asked.{solving_job, AsksToSolve, IsBuiltJob}
+use Rattle.pack_command.specs.Answered.{answer_for, IsDecided, IsEnough}
+use Rattle.pack_command.specs.Strips.{IsStripDecided}
+use Rattle.pack_command.specs.Run.{IsWritten}
+use Rattle.pack_command.proofs.Answering.{asked_built}
+use Rattle.pack_command.proofs.Decided.{fit_decided}
+use Rattle.pack_command.proofs.StripDecided.{strip_decided}
+
+pub some_same : {A : Type 0} (x y : A) → Some x ≡ Some y → x ≡ y
+some_same x y e = cc
+
+ok_same : {A B : Type 0} (x y : A) (r : Result A B) → r ≡ Ok x → r ≡ Ok y → x ≡ y
+ok_same x y r e f = cc
+
+-- what was taken up to the end is all that the source told
+pub taken_all : (old new : Option (List ℕ)) (bytes told : List ℕ) → old ≡ Some told → Gives old new bytes → IsAtEnd new → bytes ≡ told
+taken_all old None bytes told is gives end = absurd (cc (is, gives))
+taken_all old (Some rest) bytes told is gives end =
+    let whole : bytes ++ rest ≡ told = some_same _ _ (sym gives ∙ is) in
+    let none : bytes ++ rest ≡ bytes = ap (λ r. bytes ++ r) end ∙ append-nil bytes in
+    sym none ∙ whole
+
+-- no more can be taken than the source told
+pub taken_within : (old new : Option (List ℕ)) (bytes told : List ℕ) → old ≡ Some told → Gives old new bytes → length bytes ≤ length told
+taken_within old None bytes told is gives = absurd (cc (is, gives))
+taken_within old (Some rest) bytes told is gives =
+    let whole : bytes ++ rest ≡ told = some_same _ _ (sym gives ∙ is) in
+    omega (arith, ap length whole, length-append bytes rest)
+
+-- the words ask for one job
+job_same : (words : List (String Global)) (j k : SolvingJob) (a b : Settings) → AsksToSolve words j a → AsksToSolve words k b → j ≡ k
+job_same words j k a b x y =
+    let same : x.asked ≡ y.asked = some_same _ _ (sym x.is ∙ y.is) in
+    some_same _ _ (sym x.built.job_is ∙ (ap (λ (w : JobWords). solving_job w.job) same ∙ y.built.job_is))
+
+-- with one list of settings
+settings_same : (words : List (String Global)) (j k : SolvingJob) (a b : Settings) → AsksToSolve words j a → AsksToSolve words k b → a ≡ b
+settings_same words j k a b x y =
+    let same : x.asked ≡ y.asked = some_same _ _ (sym x.is ∙ y.is) in
+    sym x.with_settings ∙ ap (λ (w : JobWords). w.settings) same ∙ y.with_settings
+
+module _ (words : List (String Global)) (old new sunk_old sunk_new : Option (List ℕ)) (status : ℕ) (settings : Settings) (told : List ℕ) (instance : PlainInstance)
+    (w : IsWritten words old new sunk_old sunk_new status) (is : old ≡ Some told) (read : text_instance told ≡ Ok instance) where
+  same_instance : (w.answered).instance ≡ instance
+  same_instance =
+      let a = w.answered in
+      let bytes_are : a.bytes ≡ told = taken_all old new a.bytes told is a.input.taken a.input.ended in
+      let read_told : text_instance told ≡ Ok a.instance = subst (λ b. text_instance b ≡ Ok a.instance) bytes_are a.read in
+      ok_same _ _ _ read_told read
+
+  same_answer : (job : SolvingJob) → AsksToSolve words job settings → answer_for (w.answered).job (w.answered).settings (w.answered).instance ≡ answer_for job settings instance
+  same_answer job asks =
+      let a = w.answered in
+      ap (λ i. answer_for a.job a.settings i) same_instance
+      ∙ (ap (λ (x : Settings). answer_for a.job x instance) (settings_same words _ _ _ _ a.asked asks)
+      ∙ ap (λ (j : SolvingJob). answer_for j settings instance) (job_same words _ _ _ _ a.asked asks))
+
+  -- the answer that was written is that of the instance that the source told
+  pub written_answers : (job : SolvingJob) → AsksToSolve words job settings
+      → (status ≡ (answer_for job settings instance).status) × Gains sunk_old sunk_new (answer_for job settings instance).text
+  written_answers job asks =
+      let a = w.answered in
+      let e = same_answer job asks in
+      let d : w.document ≡ (answer_for job settings instance).text = a.document_is ∙ ap (λ (x : JobAnswer). x.text) e in
+      (a.status_is ∙ ap (λ (x : JobAnswer). x.status) e, subst (λ t. Gains sunk_old sunk_new t) d w.written)
+
+  limits : IsInstance instance
+  limits = subst IsInstance same_instance (w.answered).limits
+
+  -- and it decides
+  pub written_decides : AsksToSolve words Fit settings → IsDecided instance settings sunk_old sunk_new status
+  written_decides asks =
+      let a = written_answers Fit asks in
+      subst (λ s. IsDecided instance settings sunk_old sunk_new s) (sym a.0) (fit_decided settings instance limits sunk_old sunk_new a.1)
+
+  pub written_least : AsksToSolve words Strip settings → IsStripDecided instance settings sunk_old sunk_new status
+  written_least asks =
+      let a = written_answers Strip asks in
+      subst (λ s. IsStripDecided instance settings sunk_old sunk_new s) (sym a.0) (strip_decided settings instance limits sunk_old sunk_new a.1)
+
+  fit_enough : IsEnough instance settings.budget → IsDecided instance settings sunk_old sunk_new status → ¬ (status ≡ 3)
+  fit_enough enough (inl y) three = let e = y.status_is in omega (arith, e, three)
+  fit_enough enough (inr (inl n)) three = let e = n.status_is in omega (arith, e, three)
+  fit_enough enough (inr (inr u)) three =
+      let p = u.past in
+      let b = class_count instance (some_dimension instance (written_internal instance limits)) [] settings.scales in
+      omega (arith, p, b, enough)
+
+  strip_enough : IsEnough instance settings.budget → IsStripDecided instance settings sunk_old sunk_new status → ¬ (status ≡ 3)
+  strip_enough enough (inl l) three = let e = l.status_is in omega (arith, e, three)
+  strip_enough enough (inr (inl b)) three =
+      true≢false (sym ((height_spent instance settings.budget settings.scales).1 b.past)
+      ∙ height_enough instance (written_internal instance limits) settings.budget settings.scales enough)
+  strip_enough enough (inr (inr n)) three = let e = n.status_is in omega (arith, e, three)
+
+  -- a budget that bounds every count is enough
+  pub written_enough : (job : SolvingJob) → AsksToSolve words job settings → IsEnough instance settings.budget → ¬ (status ≡ 3)
+  written_enough job asks enough = go job (asked_built words job settings asks) asks
+    where
+      go : (j : SolvingJob) → IsBuiltJob j → AsksToSolve words j settings → ¬ (status ≡ 3)
+      go Fit b a = fit_enough enough (written_decides a)
+      go Strip b a = strip_enough enough (written_least a)
+      go Bins b a = absurd b
+      go Knapsack b a = absurd b

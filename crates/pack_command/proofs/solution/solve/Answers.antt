@@ -1,0 +1,17 @@
+use Rattle.std.proofs.Common.{◌≡◌, sym, subst}
+use Rattle.document_terms.specs.declared.claim.SolvingJob.{SolvingJob}
+use Rattle.pack_command.specs.declared.solution.Solution.TheVariants.{Fit, Strip}
+use Rattle.pack_command.specs.Solutions.{IsSolution}
+use Rattle.pack_command.proofs.Solving.{fit_solution, strip_solution}
+use Rattle.pack_command.proofs.solution.solve.Goals as goal
+
+pub returns-in_ok-decide-in-Fit : goal.returns-in_ok-decide-in-Fit
+returns-in_ok-decide-in-Fit g c =
+    subst (λ (job : SolvingJob). IsSolution job c.args.settings c.args.instance.now (Fit c.in_ok-decide-in-Fit.field-0)) (sym c.in-Fit.is)
+    (fit_solution c.args.settings c.args.instance.now c.in_ok-decide-in-Fit.field-0 c.in_ok-decide-in-Fit.ensures.outcome c.in_ok-decide-in-Fit.ensures.right)
+
+pub returns-in_ok-least_height-in-Strip : goal.returns-in_ok-least_height-in-Strip
+returns-in_ok-least_height-in-Strip g c =
+    subst (λ (job : SolvingJob). IsSolution job c.args.settings c.args.instance.now (Strip c.in_ok-least_height-in-Strip.field-0)) (sym c.in-Strip.is)
+    (strip_solution c.args.settings c.args.instance.now c.in_ok-least_height-in-Strip.field-0 c.in_ok-least_height-in-Strip.ensures.answer
+    c.in_ok-least_height-in-Strip.ensures.right)

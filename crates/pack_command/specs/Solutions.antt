@@ -1,0 +1,44 @@
+-- What a solving job finds, as an answer of the definition.
+use Rattle.std.specs.Prelude.{ℕ, ◌*◌, ◌<◌, ◌≡◌, List, [], length}
+use Rattle.packing_terms.specs.Packing.{PlainInstance, dims, box_count}
+use Rattle.document_terms.specs.declared.claim.SolvingJob.{SolvingJob}
+use Rattle.document_terms.specs.declared.claim.Claim.TheVariants.{LeastHeight, HeightBetween, NoHeight}
+use Rattle.answer_terms.specs.Answers.{Answer}
+use Rattle.answer_terms.specs.Answers.Answer.{Claimed}
+use Rattle.answer_terms.specs.Solved.{solved, fit_answer, none_answer}
+use Rattle.proof_tree.specs.Plain.{plain_tokens, plain_outcome}
+use Rattle.strip_solver.specs.declared.strip.Strip.{Strip as FoundStrip}
+use Rattle.strip_solver.specs.declared.strip.Strip.TheVariants.{Least, Between, NoneFits}
+use Rattle.work_share.specs.declared.settings.Settings.{Settings}
+use Rattle.pack_command.specs.Placed.{IsPlaced}
+use Rattle.pack_command.specs.declared.solution.Solution.{Solution}
+use Rattle.pack_command.specs.declared.solution.Solution.TheVariants.{Fit, Strip}
+
+-- the answer of a strip
+abbrev pub strip_found : FoundStrip → Answer
+strip_found (Least height places tokens) = Claimed (LeastHeight height) places.items (plain_tokens tokens.items)
+strip_found (Between refuted tokens height places) = Claimed (HeightBetween refuted height) places.items (plain_tokens tokens.items)
+strip_found (NoneFits v i) = none_answer NoHeight (v, i)
+
+abbrev pub answer_found : Solution → Answer
+answer_found (Fit outcome) = fit_answer (plain_outcome outcome)
+answer_found (Strip strip) = strip_found strip
+
+-- a number for each box and dimension
+abbrev pub AreAllPlaced : PlainInstance → List ℕ → Type 0
+AreAllPlaced instance places = length places ≡ box_count instance * dims instance
+
+-- the places of a strip are as many as there are coordinates, and the box that is too wide is one of the instance
+abbrev pub IsPlacedStrip : PlainInstance → FoundStrip → Type 0
+IsPlacedStrip instance (Least height places tokens) = AreAllPlaced instance places.items
+IsPlacedStrip instance (Between refuted tokens height places) = AreAllPlaced instance places.items
+IsPlacedStrip instance (NoneFits v i) = (v < box_count instance) × (i < dims instance)
+
+abbrev pub IsPlacedSolution : PlainInstance → Solution → Type 0
+IsPlacedSolution instance (Fit outcome) = IsPlaced instance (plain_outcome outcome)
+IsPlacedSolution instance (Strip strip) = IsPlacedStrip instance strip
+
+-- the answer of the job for the instance, under these settings
+pub record IsSolution (job : SolvingJob) (settings : Settings) (instance : PlainInstance) (solution : Solution) : Type 0 where
+  pub answer : answer_found solution ≡ solved job settings.budget settings.scales instance
+  pub placed : IsPlacedSolution instance solution

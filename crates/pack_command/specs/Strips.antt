@@ -1,0 +1,59 @@
+-- What the answer of `strip` says.
+use Rattle.std.specs.Prelude.{ℕ, pred, ◌<◌, ◌≡◌, ◌⊎◌, List, []}
+use Rattle.std.specs.declared.option.Option.{Option}
+use Rattle.packing_terms.specs.Packing.{PlainInstance, IsPacking}
+use Rattle.packing_terms.specs.Goals.{with_last_side, IsLeastHeight}
+use Rattle.packing_terms.specs.TooLarge.{IsFirstTooWide}
+use Rattle.packing_terms.specs.Tokens.{PlainToken}
+use Rattle.packing_terms.specs.Refutation.{Refutes}
+use Rattle.document_terms.specs.Claims.{IsHeightBetween}
+use Rattle.document_terms.specs.declared.claim.Claim.TheVariants.{LeastHeight, HeightBetween, NoHeight}
+use Rattle.answer_terms.specs.Answers.{answer_text}
+use Rattle.answer_terms.specs.Answers.Answer.{Claimed}
+use Rattle.answer_terms.specs.Solved.{none_answer}
+use Rattle.pack_streams.specs.Moves.{Gains}
+use Rattle.strip_solver.specs.Strips.{HasLargeHeight}
+use Rattle.work_share.specs.declared.settings.Settings.{Settings}
+
+-- The least height over all packings, with places that are a packing in it and tokens that refute the height below. No height that was decided has
+-- more branchings than the budget.
+pub record IsLeast (instance : PlainInstance) (settings : Settings) (sunk_old sunk_new : Option (List ℕ)) (status : ℕ) : Type 0 where
+  pub status_is : status ≡ 0
+  pub height : ℕ
+  pub least : IsLeastHeight instance height
+  pub places : List ℕ
+  pub packing : IsPacking (with_last_side instance height) places
+  pub tokens : List PlainToken
+  pub refutation : Refutes (with_last_side instance (pred height)) [] tokens
+  pub within : ¬ HasLargeHeight instance settings.budget settings.scales
+  pub written : Gains sunk_old sunk_new (answer_text instance (Claimed (LeastHeight height) places tokens))
+
+-- Two heights between which the least one lies: a refuted one and a placed one, with both certificates. Some height that was decided has more branchings
+-- than the budget.
+pub record IsBetween (instance : PlainInstance) (settings : Settings) (sunk_old sunk_new : Option (List ℕ)) (status : ℕ) : Type 0 where
+  pub status_is : status ≡ 3
+  pub refuted : ℕ
+  pub placed : ℕ
+  pub order : refuted < placed
+  pub between : IsHeightBetween instance refuted placed
+  pub places : List ℕ
+  pub packing : IsPacking (with_last_side instance placed) places
+  pub tokens : List PlainToken
+  pub refutation : Refutes (with_last_side instance refuted) [] tokens
+  pub past : HasLargeHeight instance settings.budget settings.scales
+  pub written : Gains sunk_old sunk_new (answer_text instance (Claimed (HeightBetween refuted placed) places tokens))
+
+-- There is no least height, because of the first box that exceeds the container in a dimension other than the last.
+pub record IsNone (instance : PlainInstance) (sunk_old sunk_new : Option (List ℕ)) (status : ℕ) : Type 0 where
+  pub status_is : status ≡ 1
+  pub none : ¬ ((height : ℕ) × IsLeastHeight instance height)
+  pub box_no : ℕ
+  pub dim : ℕ
+  pub first : IsFirstTooWide instance box_no dim
+  pub written : Gains sunk_old sunk_new (answer_text instance (none_answer NoHeight (box_no, dim)))
+
+-- one of the three
+abbrev pub IsStripDecided : PlainInstance → Settings → (sunk_old sunk_new : Option (List ℕ)) → ℕ → Type 0
+IsStripDecided instance settings sunk_old sunk_new status =
+    IsLeast instance settings sunk_old sunk_new status
+    ⊎ (IsBetween instance settings sunk_old sunk_new status ⊎ IsNone instance sunk_old sunk_new status)

@@ -1,0 +1,91 @@
+// What a solving job finds for an instance.
+ghost use Rattle.std.specs.Prelude.{◌≡◌, IfOk};
+ghost use Rattle.packing_terms.specs.Limits.{IsInstance};
+ghost use Rattle.answer_terms.specs.Answers.{status_of};
+ghost use Rattle.pack_command.specs.Asked.{IsBuiltJob};
+ghost use Rattle.pack_command.specs.Solutions.{answer_found, IsSolution};
+
+use box_instances::{Instance, NoMemory};
+use class_search::decide;
+use document_terms::SolvingJob;
+use proof_tree::Outcome;
+use std::alloc::Global;
+use strip_solver::{Strip, least_height};
+use work_share::Settings;
+
+/// What a solving job found.
+#[derive(Drop)]
+pub enum Solution {
+    Fit(Outcome),
+    Strip(Strip),
+}
+
+impl Solution {
+    /// The status of the answer: 0 for yes and least, 1 for no and none, 3 for undecided and between.
+    pub fn status(&self) -> u8
+        ensures { result ≡ status_of (answer_found self.now) }
+    {
+        match self {
+            Solution::Fit(outcome) => fit_status(outcome),
+            Solution::Strip(strip) => strip_status(strip),
+        }
+    }
+}
+
+// The status of an answer of `fit`.
+fn fit_status(outcome: &Outcome) -> u8
+    ensures { result ≡ status_of (answer_found (Solution.Fit outcome.now)) }
+{
+    match outcome {
+        Outcome::Yes {
+            numbers: _,
+            count: _,
+        } => 0,
+        Outcome::No {
+            tokens: _,
+            count: _,
+        } => 1,
+        Outcome::Past => 3,
+    }
+}
+
+// The status of an answer of `strip`.
+fn strip_status(strip: &Strip) -> u8
+    ensures { result ≡ status_of (answer_found (Solution.Strip strip.now)) }
+{
+    match strip {
+        Strip::Least {
+            height: _,
+            places: _,
+            tokens: _,
+        } => 0,
+        Strip::NoneFits { box_no: _, dim: _ } => 1,
+        Strip::Between {
+            refuted: _,
+            tokens: _,
+            height: _,
+            places: _,
+        } => 3,
+    }
+}
+
+/// What a job finds for an instance under these settings.
+pub fn solve<R>(
+    rt: &R,
+    alloc: Global,
+    instance: &Instance,
+    job: SolvingJob,
+    settings: Settings,
+) -> Result<Solution, NoMemory>
+    requires limits { IsInstance instance.now }
+    requires built { IsBuiltJob job }
+    requires alone { settings.workers ≡ 1 }
+    ensures { IfOk result (λ s. IsSolution job settings instance.now s) }
+{
+    match job {
+        SolvingJob::Fit => Ok(Solution::Fit(decide(rt, alloc, instance, &settings)?)),
+        SolvingJob::Strip => Ok(Solution::Strip(least_height(rt, alloc, instance, &settings)?)),
+        SolvingJob::Bins => unreachable!(),
+        SolvingJob::Knapsack => unreachable!(),
+    }
+}
