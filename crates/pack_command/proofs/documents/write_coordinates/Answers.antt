@@ -1,6 +1,6 @@
 use Rattle.std.proofs.Common.{◌≡◌, refl, arith}
 use Rattle.packing_terms.specs.Packing.{dims}
-use Rattle.pack_streams.proofs.Writers.{none, more, same}
+use Rattle.pack_streams.proofs.Writers.{more, same}
 use Rattle.pack_command.proofs.Joined.{coordinate_more, coordinates_all}
 use Rattle.pack_command.proofs.documents.write_coordinates.Goals as goal
 
