@@ -1,5 +1,5 @@
 -- What a path came to, and the tree there.
-use Rattle.std.proofs.Common.{◌≡◌, ℕ, refl, sym, ap, subst, ◌∙◌, List, Option, Some, IfSome}
+use Rattle.std.proofs.Common.{◌≡◌, ℕ, sym, subst, List, Option, Some, IfSome}
 use Rattle.packing_terms.specs.declared.Exclusion.{Exclusion}
 use Rattle.packing_terms.specs.Packing.{PlainInstance}
 use Rattle.tree_terms.specs.Trees.{SearchTree, PlainOutcome, outcome, told}

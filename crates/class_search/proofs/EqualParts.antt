@@ -1,5 +1,5 @@
 -- Instances with the same parts are the same.
-use Rattle.std.proofs.Common.{◌≡◌, ℕ, ◌<◌, refl, sym, ap₂, ◌∙◌, arith, List, length, get_or}
+use Rattle.std.proofs.Common.{◌≡◌, ℕ, ◌<◌, refl, sym, ap₂, ◌∙◌, length, get_or}
 use Rattle.std.proofs.lemmas.Grind.{same_number_lists}
 use Rattle.std.proofs.lemmas.List.{ext_get_or}
 use Rattle.packing_terms.specs.Packing.{PlainBox, PlainInstance, no_box, dims, box_count}

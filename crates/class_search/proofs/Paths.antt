@@ -1,5 +1,5 @@
 -- The way down a path.
-use Rattle.std.proofs.Common.{◌≡◌, ℕ, zero, suc, ◌<◌, ◌≤◌, refl, sym, ap, ◌∙◌, arith, Bool, true, false, not, ltb, if◌then◌else◌, ◌==◌, List, [], ◌∷◌, ◌++◌, Some, None, IsSome}
+use Rattle.std.proofs.Common.{◌≡◌, ℕ, zero, suc, refl, sym, ap, ◌∙◌, arith, Bool, true, false, not, ltb, if◌then◌else◌, ◌==◌, List, ◌∷◌, ◌++◌, Some, None, IsSome}
 use Rattle.std.proofs.lemmas.Bool.{true≢false, ltb-true}
 use Rattle.packing_terms.specs.declared.Exclusion.{Exclusion}
 use Rattle.packing_terms.specs.Packing.{PlainInstance}

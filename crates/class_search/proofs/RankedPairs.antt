@@ -1,5 +1,5 @@
 -- The pairs by rank, as they are built.
-use Rattle.std.proofs.Common.{◌≡◌, ℕ, suc, ◌+◌, ◌<◌, ◌≤◌, refl, sym, ap, ◌∙◌, arith, List, [], ◌∷◌, ◌++◌, length, get_or, map, take, drop, append_assoc, append-nil}
+use Rattle.std.proofs.Common.{◌≡◌, ℕ, ◌+◌, ◌<◌, ◌≤◌, refl, sym, ap, ◌∙◌, List, [], ◌∷◌, ◌++◌, length, get_or, map, take, drop, append_assoc, append-nil}
 use Rattle.std.proofs.lemmas.List.{drop_more, drop_all, take_more, map_push}
 use Rattle.packing_terms.specs.Packing.{PlainInstance}
 use Rattle.tree_terms.specs.Rank.{ranked, in_order, pairs_after, ranked_pairs}

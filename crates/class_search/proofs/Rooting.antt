@@ -1,19 +1,19 @@
 -- The root's own tests, and the way down a path.
-use Rattle.std.proofs.Common.{◌≡◌, ◌≢◌, ℕ, zero, suc, ◌+◌, ◌<◌, ◌≤◌, ◌⊎◌, inl, inr, refl, sym, ap, ap₂, subst, ◌∙◌, arith, Bool, true, false, not, cond, ◌==◌, length, List, [], ◌∷◌, ◌++◌, map, nat_lt, append-nil, Option, Some, None, IsSome, MatchOption}
+use Rattle.std.proofs.Common.{◌≡◌, ◌≢◌, ℕ, zero, suc, ◌+◌, ◌<◌, ◌≤◌, ◌⊎◌, inl, inr, refl, sym, ap, ap₂, subst, ◌∙◌, arith, Bool, true, false, cond, ◌==◌, length, List, [], ◌∷◌, ◌++◌, map, nat_lt, append-nil, Option, Some, None, IsSome}
 use Rattle.std.specs.List.{find, flat_map, range_with_len}
-use Rattle.std.proofs.lemmas.Bool.{true≢false, cases_Bool, cases_eq, eqb-true}
+use Rattle.std.proofs.lemmas.Bool.{true≢false, cases_eq, eqb-true}
 use Rattle.packing_terms.specs.declared.Exclusion.{Exclusion}
 use Rattle.packing_terms.specs.declared.ScaleFn.{ScaleFn}
 use Rattle.packing_terms.specs.Packing.{PlainInstance, dims, box_count, container_side, side}
 use Rattle.packing_terms.specs.Exclusions.{Exclusions, excludes}
 use Rattle.packing_terms.specs.Closure.{HasConflict, Derives}
 use Rattle.packing_terms.specs.Scales.{SidesFit}
-use Rattle.packing_terms.specs.Tokens.PlainToken.{Rules, TooLarge, Scales}
-use Rattle.rule_terms.specs.Rounds.{below, closure, has_conflict}
+use Rattle.packing_terms.specs.Tokens.PlainToken.{Rules, TooLarge}
+use Rattle.rule_terms.specs.Rounds.{below, has_conflict}
 use Rattle.rule_closure.specs.Closes.{IsClosure}
 use Rattle.tree_terms.specs.Trees.{SearchTree, Refuted, node_at}
 use Rattle.tree_terms.specs.InnerTree.{inner_tree}
-use Rattle.tree_terms.specs.ClassTree.{box_sides, first_large, excess_where, scales_after, root_of, closes_in_conflict, class_tree}
+use Rattle.tree_terms.specs.ClassTree.{first_large, excess_where, scales_after, root_of, closes_in_conflict, class_tree}
 use Rattle.tree_terms.proofs.Closed.{same_closure}
 use Rattle.tree_terms.proofs.ClassSearch.{none_large}
 use Rattle.proof_tree.specs.declared.token.Token.{Token}

@@ -1,7 +1,7 @@
 -- Each turn of the walk leaves what is still to be given.
-use Rattle.std.proofs.Common.{◌≡◌, ℕ, zero, suc, ◌+◌, ◌-◌, ◌<◌, ◌≤◌, ◌⊎◌, inl, inr, refl, sym, ap, ap₂, subst, ◌∙◌, arith, Bool, true, false, not, cond, List, [], ◌∷◌, ◌++◌, length, drop, Option, Some, None, append_assoc, add-zero}
+use Rattle.std.proofs.Common.{◌≡◌, ℕ, zero, suc, ◌+◌, ◌-◌, ◌<◌, ◌≤◌, inl, inr, refl, sym, ap, ap₂, subst, ◌∙◌, arith, Bool, true, false, not, cond, List, [], ◌∷◌, ◌++◌, length, Some, None, append_assoc, add-zero}
 use Rattle.std.specs.List.{find}
-use Rattle.std.proofs.lemmas.Bool.{true≢false, cases_Bool, not-true}
+use Rattle.std.proofs.lemmas.Bool.{true≢false}
 use Rattle.packing_terms.specs.declared.Exclusion.{Exclusion}
 use Rattle.packing_terms.specs.Packing.{PlainInstance, dims, box_count}
 use Rattle.packing_terms.specs.Exclusions.{excludes}
@@ -11,12 +11,10 @@ use Rattle.packing_terms.specs.Tokens.PlainToken.{Rules}
 use Rattle.packing_terms.proofs.Sets.{excludes_right, excludes_symmetric}
 use Rattle.packing_terms.proofs.Found.{find_none}
 use Rattle.packing_terms.proofs.Members.{IsIn}
-use Rattle.rule_terms.specs.Rounds.{below}
-use Rattle.rule_terms.specs.Steps.{with_exclusion}
-use Rattle.rule_terms.specs.Places.{HasNoEmptyMask, IsSettled}
-use Rattle.tree_terms.specs.Trees.{SearchTree, Settled, Refuted, Split as SplitTree, Verdict, Yes, No, nothing, join, outcome, count_of, Decided, told}
+use Rattle.rule_terms.specs.Places.{IsSettled}
+use Rattle.tree_terms.specs.Trees.{SearchTree, Verdict, Yes, No, nothing, join, outcome, count_of, Decided, told}
 use Rattle.tree_terms.specs.Rank.{ranked_pairs}
-use Rattle.tree_terms.specs.InnerTree.{SplitNode, is_settled, is_unsettled, settled_places, split_at, split_tree, inner_tree}
+use Rattle.tree_terms.specs.InnerTree.{SplitNode, is_settled, is_unsettled, settled_places, inner_tree}
 use Rattle.tree_terms.proofs.RankLemmas.{ranked_rise, pair_ranked}
 use Rattle.tree_terms.proofs.Nodes.{settled_pair}
 use Rattle.tree_terms.proofs.Told.{told_decided}
@@ -26,8 +24,8 @@ use Rattle.class_search.specs.declared.visit.NodeKind.{NodeKind}
 use Rattle.class_search.specs.declared.visit.NodeKind.TheVariants.{Conflict, Settled as SettledKind, Divided}
 use Rattle.class_search.specs.declared.walk.Waiting.{Waiting}
 use Rattle.class_search.specs.Settling.{pair_at, ArePairsAmong, AreSettledBefore}
-use Rattle.class_search.specs.Splits.{plain_split, added, with_all, IsSplitAmong}
-use Rattle.class_search.specs.Visits.{Grows, kind_tree, IsKind, IsMet, IsDivided}
+use Rattle.class_search.specs.Splits.{plain_split, added, with_all}
+use Rattle.class_search.specs.Visits.{Grows, kind_tree, IsKind, IsMet}
 use Rattle.class_search.specs.Walks.{IsPastSettled, oldest, waiting_verdict, AreWaiting, IsLeft}
 use Rattle.class_search.proofs.Firsts.{find_at, find_never}
 use Rattle.tree_terms.proofs.NodeSteps.{set_tree}

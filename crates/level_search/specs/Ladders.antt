@@ -2,7 +2,7 @@
 --
 --     low        1      2     ...                        high       asked strictly between low and high:
 --      |---------x------x------?------?------o------o------|        o is reached, x isn't
-use Rattle.std.specs.Prelude.{ℕ, ◌<◌, ◌≤◌, ◌≡◌, ◌↔◌, List, Bool, false}
+use Rattle.std.specs.Prelude.{ℕ, ◌<◌, ◌≤◌, ◌≡◌, ◌↔◌, List, false}
 use Rattle.packing_terms.specs.Tokens.{PlainToken}
 use Rattle.tree_terms.specs.Levels.{PlainLevel, PlacedBy, RefutedBy, SpentAt, PlainReached}
 use Rattle.proof_tree.specs.Plain.{plain_tokens}

@@ -48,4 +48,3 @@ fit_decided settings instance limits old new gains =
           within = subst (λ w. count_of w ≤ settings.budget) f l;
           written = g;
         }))
-

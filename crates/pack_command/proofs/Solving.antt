@@ -1,5 +1,5 @@
 -- What a job finds is the answer of the definition.
-use Rattle.std.proofs.Common.{ℕ, ◌≡◌, ◌+◌, ◌-◌, ◌*◌, ◌<◌, arith, refl, sym, ap, subst, ◌∙◌, Bool, List, [], length, Some, None, Option}
+use Rattle.std.proofs.Common.{ℕ, ◌≡◌, ◌-◌, ◌*◌, arith, sym, ap, subst, ◌∙◌, Bool, [], length, None, Option}
 use Rattle.std.proofs.Math.ListN.{length-set}
 use Rattle.packing_terms.specs.Packing.{PlainInstance, dims, box_count}
 use Rattle.packing_terms.specs.Goals.{with_last_side}
@@ -8,7 +8,6 @@ use Rattle.tree_terms.specs.ClassTree.{class_tree, first_too_wide}
 use Rattle.tree_terms.specs.Levels.{PlainReached, height_run}
 use Rattle.tree_terms.proofs.FirstFound.{first_too_wide_is, none_too_wide_is}
 use Rattle.document_terms.specs.declared.claim.SolvingJob.TheVariants.{Fit as SolvesFit, Strip as SolvesStrip}
-use Rattle.answer_terms.specs.Answers.{Answer}
 use Rattle.answer_terms.specs.Solved.{solved, fit_answer, strip_answer}
 use Rattle.proof_tree.specs.declared.outcome.Outcome.{Outcome}
 use Rattle.proof_tree.specs.Plain.{plain_outcome}
@@ -19,7 +18,7 @@ use Rattle.strip_solver.specs.Strips.{IsAnswer, IsTrueStrip}
 use Rattle.work_share.specs.declared.settings.Settings.{Settings}
 use Rattle.pack_command.specs.Placed.{IsPlaced}
 use Rattle.pack_command.specs.declared.solution.Solution.TheVariants.{Fit, Strip}
-use Rattle.pack_command.specs.Solutions.{strip_found, AreAllPlaced, IsPlacedStrip, IsSolution}
+use Rattle.pack_command.specs.Solutions.{strip_found, IsPlacedStrip, IsSolution}
 
 right_placed : (instance : PlainInstance) (o : PlainOutcome) → IsRight instance [] o → IsPlaced instance o
 right_placed instance (Decided (Yes numbers count)) h = h.count

@@ -1,5 +1,5 @@
 -- Within the limits, and without a fault or want of memory, a solving job doesn't stop without an answer.
-use Rattle.std.proofs.Common.{ℕ, ◌≡◌, ◌≤◌, List, length, arith, refl, sym, ap, ◌∙◌, subst, Option, Some, None, Ok, Err, String, Global}
+use Rattle.std.proofs.Common.{ℕ, ◌≡◌, ◌≤◌, List, length, arith, refl, sym, ◌∙◌, subst, Option, Some, Ok, String, Global}
 use Rattle.packing_terms.specs.Packing.{PlainInstance}
 use Rattle.text_terms.specs.Texts.{text_instance}
 use Rattle.document_terms.specs.declared.claim.SolvingJob.{SolvingJob}

@@ -1,8 +1,7 @@
 -- What the answer of `strip` says.
-use Rattle.std.proofs.Common.{ℕ, pred, suc, ◌≡◌, ◌<◌, inl, inr, Bool, true, false, refl, sym, ap, ◌∙◌, List, Option, Some, None}
+use Rattle.std.proofs.Common.{ℕ, ◌≡◌, inl, inr, Bool, true, false, refl, sym, ap, ◌∙◌, List, Option, Some, None}
 use Rattle.std.proofs.lemmas.Bool.{true≢false}
 use Rattle.packing_terms.specs.Packing.{PlainInstance}
-use Rattle.packing_terms.specs.Goals.{HasTooWideBox}
 use Rattle.packing_terms.specs.Limits.{IsInstance}
 use Rattle.tree_terms.specs.ClassTree.{first_too_wide}
 use Rattle.tree_terms.specs.Levels.{PlainReached, height_run}
@@ -10,10 +9,9 @@ use Rattle.tree_terms.proofs.FirstFound.{first_too_wide_is}
 use Rattle.tree_terms.proofs.SpentRuns.{height_spent}
 use Rattle.document_terms.specs.declared.claim.SolvingJob.TheVariants.{Strip}
 use Rattle.document_terms.specs.declared.claim.Claim.TheVariants.{LeastHeight, HeightBetween, NoHeight}
-use Rattle.answer_terms.specs.Answers.{Answer, answer_text, status_of}
+use Rattle.answer_terms.specs.Answers.{answer_text, status_of}
 use Rattle.answer_terms.specs.Answers.Answer.{Claimed}
 use Rattle.answer_terms.specs.Solved.{solved, strip_answer, reached_claim}
-use Rattle.answer_terms.specs.Shown.{IsShown}
 use Rattle.answer_terms.proofs.Shown.{answers_shown}
 use Rattle.answer_terms.proofs.True.{answers_true}
 use Rattle.pack_streams.specs.Moves.{Gains}

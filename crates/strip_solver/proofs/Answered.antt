@@ -1,5 +1,5 @@
 -- What the answer for a strip says, from where the run of heights ended.
-use Rattle.std.proofs.Common.{◌≡◌, ℕ, ◌+◌, ◌-◌, ◌*◌, ◌/◌, ◌^◌, ◌<◌, ◌≤◌, refl, sym, ap, subst, ◌∙◌, arith, Bool, true, false, List, [], length}
+use Rattle.std.proofs.Common.{◌≡◌, ℕ, ◌+◌, ◌-◌, ◌*◌, ◌/◌, ◌^◌, ◌<◌, ◌≤◌, refl, sym, ap, subst, ◌∙◌, arith, Bool, true, false, []}
 use Rattle.std.proofs.lemmas.Bool.{true≢false}
 use Rattle.packing_terms.specs.Packing.{PlainInstance, IsPacking, Fits, dims, box_count}
 use Rattle.packing_terms.specs.Goals.{with_last_side, HasTooWideBox, IsLeastHeight}
@@ -18,7 +18,7 @@ use Rattle.tree_terms.proofs.SpentRuns.{height_spent, height_end, height_enough}
 use Rattle.proof_tree.specs.Plain.{plain_tokens}
 use Rattle.strip_solver.specs.declared.strip.Strip.{Strip}
 use Rattle.strip_solver.specs.declared.strip.Strip.TheVariants.{Least, Between, NoneFits}
-use Rattle.strip_solver.specs.Strips.{Tells, IsAnswer, IsTrueStrip, HasLargeHeight, IsSpentExactly, IsFinal}
+use Rattle.strip_solver.specs.Strips.{Tells, IsAnswer, IsTrueStrip, IsSpentExactly, IsFinal}
 use Rattle.strip_solver.proofs.Raised.{internal_at}
 
 -- the first box that is too wide is one

@@ -1,14 +1,14 @@
 -- Instances with another last side.
-use Rattle.std.proofs.Common.{◌≡◌, ℕ, zero, suc, ◌+◌, ◌-◌, ◌*◌, ◌<◌, ◌≤◌, refl, sym, ap, subst, ◌∙◌, arith, nat_lt, if◌then◌else◌, Bool, List, [], ◌∷◌, length, get_or}
+use Rattle.std.proofs.Common.{◌≡◌, ℕ, ◌-◌, ◌<◌, ◌≤◌, refl, sym, ap, subst, arith, List, [], ◌∷◌, get_or}
 use Rattle.std.specs.List.{fold}
 use Rattle.std.proofs.Math.ListN.{length-set}
 use Rattle.std.proofs.lemmas.List.{get_or-set_same, get_or-set_other}
 use Rattle.packing_terms.specs.Packing.{PlainInstance, dims, box_count, side}
 use Rattle.packing_terms.specs.Goals.{with_last_side}
-use Rattle.packing_terms.specs.Limits.{IsSide, AreKerfs, AreBoxItems, IsInternalInstance, most_side, most_height}
+use Rattle.packing_terms.specs.Limits.{IsSide, AreKerfs, AreBoxItems, IsInternalInstance, most_height}
 use Rattle.packing_terms.specs.Scales.{product_below}
 use Rattle.rule_terms.specs.Rounds.{below}
-use Rattle.tree_terms.specs.Rank.{volume, insert_by_volume, ranked, pairs_after, ranked_pairs}
+use Rattle.tree_terms.specs.Rank.{volume, insert_by_volume, pairs_after, ranked_pairs}
 use Rattle.tree_terms.specs.Levels.{first_heights}
 use Rattle.tree_terms.proofs.Optima.{stack_small}
 use Rattle.class_search.specs.Deciders.{decider_of}

@@ -59,7 +59,9 @@ impl<'a> Ladder for HeightLadder<'a> {
     fn decide<R>(&mut self, _rt: &R, level: u64) -> Result<Level, NoMemory> {
         let _limits = self.instance.len();
         let tall = self.instance.with_last_side(self.alloc, level as u32)?;
-        let outcome = self.decider.decide(self.alloc, &tall, self.budget, self.scales)?;
+        let outcome = self
+            .decider
+            .decide(self.alloc, &tall, self.budget, self.scales)?;
         Ok(level_of(outcome))
     }
 }

@@ -1,4 +1,4 @@
-use Rattle.std.proofs.Common.{◌≡◌, ◌<◌, arith, sym, ◌∙◌}
+use Rattle.std.proofs.Common.{◌≡◌, arith}
 use Rattle.packing_terms.specs.Packing.{box_count}
 use Rattle.class_search.proofs.EqualParts.{same_instances}
 use Rattle.class_search.proofs.same.are_same_instances.Goals as goal

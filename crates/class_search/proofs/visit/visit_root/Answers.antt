@@ -1,4 +1,4 @@
-use Rattle.std.proofs.Common.{◌<◌, arith}
+use Rattle.std.proofs.Common.{arith}
 use Rattle.packing_terms.proofs.Internal.{some_dimension}
 use Rattle.tree_terms.proofs.NodeSteps.{conflict_node}
 use Rattle.class_search.proofs.Visited.{extends_grows, next_met, may_split}

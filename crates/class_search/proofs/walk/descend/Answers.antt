@@ -1,4 +1,4 @@
-use Rattle.std.proofs.Common.{◌≡◌, ◌<◌, ◌+◌, ℕ, List, ap, subst, ◌∙◌, drop, get_or, Some, IsSome}
+use Rattle.std.proofs.Common.{◌+◌, ℕ, List, ap, subst, ◌∙◌, drop, get_or, Some, IsSome}
 use Rattle.std.proofs.lemmas.List.{drop_more}
 use Rattle.tree_terms.specs.Trees.{node_at}
 use Rattle.edge_state.specs.Edges.{PlainEdges}

@@ -1,4 +1,4 @@
-use Rattle.std.proofs.Common.{◌≡◌, ◌+◌, ◌≤◌, ap, ◌∙◌, arith, map, reverse}
+use Rattle.std.proofs.Common.{ap, ◌∙◌, arith, map, reverse}
 use Rattle.std.proofs.lemmas.List.{map_push}
 use Rattle.tree_terms.specs.Trees.{outcome}
 use Rattle.edge_state.specs.Edges.{PlainEdges}

@@ -1,6 +1,6 @@
-use Rattle.std.proofs.Common.{◌≡◌, refl, sym, ◌∙◌, true, false}
+use Rattle.std.proofs.Common.{refl, sym, ◌∙◌}
 use Rattle.level_search.specs.Ladders.{plain_level, plain_reached}
-use Rattle.level_search.proofs.OnRun.{fewer_after, on_run_first, on_run_next, halfway_inside, run_told, keeps_told, spent_told, rising_told, falling_told}
+use Rattle.level_search.proofs.OnRun.{fewer_after, on_run_next, run_told, keeps_told, spent_told, rising_told, falling_told}
 use Rattle.level_search.proofs.bisection.bisect.Goals as goal
 
 pub loop-reached-preserved : goal.loop-reached-preserved

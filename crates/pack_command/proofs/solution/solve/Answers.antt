@@ -1,4 +1,4 @@
-use Rattle.std.proofs.Common.{◌≡◌, sym, subst}
+use Rattle.std.proofs.Common.{sym, subst}
 use Rattle.document_terms.specs.declared.claim.SolvingJob.{SolvingJob}
 use Rattle.pack_command.specs.declared.solution.Solution.TheVariants.{Fit, Strip}
 use Rattle.pack_command.specs.Solutions.{IsSolution}

@@ -1,4 +1,4 @@
-use Rattle.std.proofs.Common.{◌≡◌, ◌∙◌, ap, Err}
+use Rattle.std.proofs.Common.{◌∙◌, ap, Err}
 use Rattle.document_terms.specs.declared.claim.SolvingJob.TheVariants.{Fit, Strip}
 use Rattle.pack_command.specs.Stops.{status_of}
 use Rattle.pack_command.proofs.Stopped.{never_stops}

@@ -1,6 +1,5 @@
-use Rattle.std.proofs.Common.{◌≡◌, ap, [], Some, IfOk}
+use Rattle.std.proofs.Common.{ap, [], Some}
 use Rattle.std.proofs.lemmas.Result.{IfOk-weaker}
-use Rattle.tree_terms.specs.Trees.{outcome, told}
 use Rattle.tree_terms.specs.ClassTree.{class_tree}
 use Rattle.edge_state.specs.Edges.{PlainEdges}
 use Rattle.proof_tree.specs.Plain.{plain_outcome}

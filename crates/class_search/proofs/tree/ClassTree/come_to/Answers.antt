@@ -1,4 +1,4 @@
-use Rattle.std.proofs.Common.{◌≡◌, ap, refl, sym, subst, ◌∙◌, Option, Some, IsSome}
+use Rattle.std.proofs.Common.{ap, refl, sym, subst, ◌∙◌, Option, Some, IsSome}
 use Rattle.tree_terms.specs.Trees.{SearchTree, node_at}
 use Rattle.edge_state.specs.Edges.{PlainEdges}
 use Rattle.class_search.specs.Rooted.{IsArrival}
