@@ -140,3 +140,8 @@ behind_end w s u v block start end f g h k text (Err x) p q front t same none co
       count = omega (arith, q, count, t.count);
       cause = omega (arith, q, t.count, risen);
     }
+
+-- a text that was written from the same start
+pub same_start : {E : Type 0} (s w u : Option (List ℕ)) (f g h : ℕ) (text : List ℕ) (r : Result (Unit {0}) E) → s ≡ w → f ≡ g
+    → Writes {E = E} s u f h text r → Writes {E = E} w u g h text r
+same_start s w u f g h text r p q wrote = subst (λ z. Writes z u g h text r) p (subst (λ n. Writes s u n h text r) q wrote)

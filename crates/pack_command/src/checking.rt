@@ -8,13 +8,13 @@ ghost use Rattle.pack_command.specs.Stops.{status_of};
 ghost use Rattle.pack_command.specs.Checks.{plain_verdict, IsVerdict, IsVerdictStatus, IsJudged, IsUnjudged, IsExactly, IsClaimed};
 ghost use Rattle.pack_command.specs.declared.stop.Stop.{Stop as PlainStop};
 
-use crate::front::{Behind, Done, Front};
+use crate::front::{Behind, Done, Front, front_before, hand_back};
 use crate::stop::Stop;
 use crate::verdict::{Verdict, write_verdict};
 use document_check::{CheckEnd, check_document};
 use pack_streams::{Sink, Source, WriteFault};
 use std::alloc::Global;
-use std::marker::{Brand, PhantomData};
+use std::marker::Brand;
 
 // The verdict on the document that a source gives.
 fn read_verdict<S: Source>(alloc: Global, input: &mut S) -> Result<Verdict, Stop>
@@ -39,39 +39,9 @@ fn write_line_through<'a, K: Sink, B: Behind>(out: &'a mut K, verdict: Verdict) 
     ensures written { Writes (K.written out.entry.now) (K.written result.out.now) (K.faults out.entry.now) (K.faults result.out.now)
         (verdict_line (plain_verdict verdict)) result.result }
 {
-    let mut front: Front<'a, K, B> = Front {
-        out,
-        block: [0u8; 4096],
-        start: 0,
-        end: 0,
-        behind: PhantomData,
-    };
-    match write_verdict(&mut front, verdict) {
-        Ok(()) => {
-            let result = front.empty();
-            let Front {
-                out,
-                block: _,
-                start: _,
-                end: _,
-                behind: _,
-            } = front;
-            Done { out, result }
-        }
-        Err(fault) => {
-            let Front {
-                out,
-                block: _,
-                start: _,
-                end: _,
-                behind: _,
-            } = front;
-            Done {
-                out,
-                result: Err(fault),
-            }
-        }
-    }
+    let mut front: Front<'a, K, B> = front_before(out);
+    let written = write_verdict(&mut front, verdict);
+    hand_back(front, written)
 }
 
 // Gives the line of a verdict to the sink in one piece. Where the sink takes only a part of it, the rest is offered next.

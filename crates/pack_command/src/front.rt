@@ -1,7 +1,8 @@
 // A sink that stands before another one and holds back up to 4,096 bytes.
-ghost use Rattle.std.specs.Prelude.{◌≡◌, ◌<◌, ◌≤◌, ◌+◌, ◌-◌, ◌++◌, min, length, take, OnOk, OnErr};
+ghost use Rattle.std.specs.Prelude.{◌≡◌, ◌<◌, ◌≤◌, ◌+◌, ◌-◌, ◌++◌, ℕ, List, min, length, take, OnOk, OnErr};
 ghost use Rattle.pack_streams.specs.Faults.{Rose};
 ghost use Rattle.pack_streams.specs.Moves.{Gains};
+ghost use Rattle.pack_streams.specs.Writing.{Writes};
 ghost use Rattle.pack_command.specs.Fronts.{IsFront, part_of, shown};
 ghost use Rattle.std.proofs.Props.{props};
 
@@ -125,6 +126,64 @@ impl<'a, K: Sink, B: Behind> Front<'a, K, B> {
         self.start = 0;
         self.end = 0;
         Ok(())
+    }
+}
+
+/// A front before the sink, which is named by the ghost name of the reference to it. Nothing is held back yet.
+pub fn front_before<'a, K: Sink, B: Behind>(out: &'a mut K) -> Front<'a, K, B>
+    requires name { out.ghost_name ≡ B.name }
+    requires begun { K.written out.now ≡ B.begun }
+    ensures shown { shown (K.written result.out.now) result.block result.start result.end ≡ K.written out.entry.now }
+    ensures faults { K.faults result.out.now ≡ K.faults out.entry.now }
+    ensures same { result.out.ghost_name ≡ out.entry.ghost_name }
+{
+    Front {
+        out,
+        block: [0u8; 4096],
+        start: 0,
+        end: 0,
+        behind: PhantomData,
+    }
+}
+
+// The sink behind a front, with what became of the text.
+fn sink_behind<'a, K: Sink, B: Behind>(
+    front: Front<'a, K, B>,
+    written: Result<(), WriteFault>,
+) -> Done<'a, K>
+    ensures same { result.out.ghost_name ≡ front.entry.out.ghost_name }
+    ensures out { result.out.now ≡ front.entry.out.now }
+    ensures result { result.result ≡ written }
+{
+    let Front {
+        out,
+        block: _,
+        start: _,
+        end: _,
+        behind: _,
+    } = front;
+    Done {
+        out,
+        result: written,
+    }
+}
+
+/// Hands back the sink behind a front to which a text was written. Where all of it was, what is held back is given on first.
+pub fn hand_back<'a, K: Sink, B: Behind>(
+    mut front: Front<'a, K, B>,
+    written: Result<(), WriteFault>,
+) -> Done<'a, K>
+    ensures same { result.out.ghost_name ≡ front.entry.out.ghost_name }
+    ensures written { (before : ℕ) (text : List ℕ)
+        → Writes B.begun (shown (K.written front.entry.out.now) front.entry.block front.entry.start front.entry.end) before (K.faults front.entry.out.now) text written
+        → Writes B.begun (K.written result.out.now) before (K.faults result.out.now) text result.result }
+{
+    match written {
+        Ok(()) => {
+            let result = front.empty();
+            sink_behind(front, result)
+        }
+        Err(fault) => sink_behind(front, Err(fault)),
     }
 }
 

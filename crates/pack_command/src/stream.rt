@@ -6,12 +6,12 @@ ghost use Rattle.answer_terms.specs.Answers.{answer_text};
 ghost use Rattle.pack_command.specs.Solutions.{answer_found, IsPlacedSolution};
 
 use crate::documents::{Written, write_fit};
-use crate::front::{Behind, Done, Front};
+use crate::front::{Behind, Done, Front, front_before, hand_back};
 use crate::solution::Solution;
 use crate::strip_documents::write_strip;
 use box_instances::Instance;
 use pack_streams::{Sink, WriteFault};
-use std::marker::{Brand, PhantomData};
+use std::marker::Brand;
 
 // Writes the document of an answer.
 fn write_answer<K: Sink>(sink: &mut K, instance: &Instance, solution: &Solution) -> Written
@@ -40,39 +40,9 @@ fn write_through<'a, K: Sink, B: Behind>(
     ensures written { Writes (K.written out.entry.now) (K.written result.out.now) (K.faults out.entry.now) (K.faults result.out.now)
         (answer_text instance.now (answer_found solution.now)) result.result }
 {
-    let mut front: Front<'a, K, B> = Front {
-        out,
-        block: [0u8; 4096],
-        start: 0,
-        end: 0,
-        behind: PhantomData,
-    };
-    match write_answer(&mut front, instance, solution) {
-        Ok(()) => {
-            let result = front.empty();
-            let Front {
-                out,
-                block: _,
-                start: _,
-                end: _,
-                behind: _,
-            } = front;
-            Done { out, result }
-        }
-        Err(fault) => {
-            let Front {
-                out,
-                block: _,
-                start: _,
-                end: _,
-                behind: _,
-            } = front;
-            Done {
-                out,
-                result: Err(fault),
-            }
-        }
-    }
+    let mut front: Front<'a, K, B> = front_before(out);
+    let written = write_answer(&mut front, instance, solution);
+    hand_back(front, written)
 }
 
 /// Writes the document of an answer in pieces of 4,096 bytes, of which the last may be shorter. Where the sink takes only a
