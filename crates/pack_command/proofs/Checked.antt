@@ -18,7 +18,7 @@ use Rattle.pack_command.specs.declared.stop.Stop.TheVariants.{WriteFault}
 use Rattle.pack_command.specs.declared.words.Asked.{Asked}
 use Rattle.pack_command.specs.declared.words.Asked.TheVariants.{Solving}
 use Rattle.pack_command.specs.Asked.{solving_job, AsksToSolve, AsksCheck, IsAsked}
-use Rattle.pack_command.specs.Checks.{verdict_status, IsReached, IsFound, IsJudged, IsExactly, IsClaimed, IsDone, IsLeft}
+use Rattle.pack_command.specs.Checks.{verdict_status, IsReached, IsFound, IsJudged, IsExactly, IsClaimed, IsDone, IsUndone}
 use Rattle.pack_command.specs.Run.{IsWritten, IsStopped, IsCutShort}
 use Rattle.pack_command.proofs.Written.{some_same, taken_all}
 
@@ -31,9 +31,9 @@ pub written_done : (words : List (String Global)) (old new sunk_old sunk_new : O
     → IsWritten words old new sunk_old sunk_new status → IsDone words old new sunk_old sunk_new status
 written_done words old new sunk_old sunk_new status w = inl w
 
-pub cut_left : (words : List (String Global)) (old new sunk_old sunk_new : Option (List ℕ))
-    → IsCutShort words old new sunk_old sunk_new → IsLeft words old new sunk_old sunk_new WriteFault
-cut_left words old new sunk_old sunk_new cut = inl cut
+pub cut_undone : (words : List (String Global)) (old new sunk_old sunk_new : Option (List ℕ))
+    → IsCutShort words old new sunk_old sunk_new → IsUndone words old new sunk_old sunk_new WriteFault
+cut_undone words old new sunk_old sunk_new cut = inl cut
 
 -- no words ask for a solving job and for a check
 pub one_job : (words : List (String Global)) (job : SolvingJob) (settings : Settings) → AsksToSolve words job settings → AsksCheck words → ⊥
@@ -48,10 +48,10 @@ pub solved_done : (words : List (String Global)) (old new sunk_old sunk_new : Op
 solved_done words old new sunk_old sunk_new status job settings asks (inl w) = w
 solved_done words old new sunk_old sunk_new status job settings asks (inr c) = absurd (one_job words job settings asks c.0)
 
-pub solved_left : (words : List (String Global)) (old new sunk_old sunk_new : Option (List ℕ)) (stop : Stop) (job : SolvingJob) (settings : Settings)
-    → AsksToSolve words job settings → IsLeft words old new sunk_old sunk_new stop → IsStopped words old new sunk_old sunk_new stop
-solved_left words old new sunk_old sunk_new stop job settings asks (inl s) = s
-solved_left words old new sunk_old sunk_new stop job settings asks (inr c) = absurd (one_job words job settings asks c.0)
+pub solved_undone : (words : List (String Global)) (old new sunk_old sunk_new : Option (List ℕ)) (stop : Stop) (job : SolvingJob) (settings : Settings)
+    → AsksToSolve words job settings → IsUndone words old new sunk_old sunk_new stop → IsStopped words old new sunk_old sunk_new stop
+solved_undone words old new sunk_old sunk_new stop job settings asks (inl s) = s
+solved_undone words old new sunk_old sunk_new stop job settings asks (inr c) = absurd (one_job words job settings asks c.0)
 
 pub judged_done : (words : List (String Global)) (old new sunk_old sunk_new : Option (List ℕ)) (status : ℕ) → AsksCheck words
     → IsDone words old new sunk_old sunk_new status → IsJudged old new sunk_old sunk_new status

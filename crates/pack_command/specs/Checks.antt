@@ -111,6 +111,6 @@ IsDone words old new sunk_old sunk_new status =
     IsWritten words old new sunk_old sunk_new status ⊎ (AsksCheck words × IsJudged old new sunk_old sunk_new status)
 
 -- why a job ended without
-abbrev pub IsLeft : List (String Global) → (old new sunk_old sunk_new : Option (List ℕ)) → Stop → Type 0
-IsLeft words old new sunk_old sunk_new stop =
+abbrev pub IsUndone : List (String Global) → (old new sunk_old sunk_new : Option (List ℕ)) → Stop → Type 0
+IsUndone words old new sunk_old sunk_new stop =
     IsStopped words old new sunk_old sunk_new stop ⊎ (AsksCheck words × IsUnjudged old new sunk_old sunk_new stop)

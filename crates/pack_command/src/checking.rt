@@ -91,7 +91,8 @@ pub fn check_stream<S: Source, K: Sink>(alloc: Global, input: &mut S, out: &mut 
         → IsExactly bytes (K.written out.old) (K.written out.new) result }
 
     // Where more bytes come, and no line that is whole within the limit is refused, it is too long.
-    ensures too_long { (bytes : List ℕ) → S.left input.old ≡ Some bytes → 1099511627776 < length bytes → NoneRefused (take 1099511627776 bytes)
+    ensures too_long { (bytes : List ℕ) → S.left input.old ≡ Some bytes → 1099511627776 < length bytes
+        → NoneRefused (take 1099511627776 bytes)
         → (Rose (S.faults input.old) (S.faults input.new) → ⊥) → (Rose (K.faults out.old) (K.faults out.new) → ⊥) → result ≢ 6
         → result ≡ 2 }
 

@@ -175,7 +175,8 @@ pub fn hand_back<'a, K: Sink, B: Behind>(
 ) -> Done<'a, K>
     ensures same { result.out.ghost_name ≡ front.entry.out.ghost_name }
     ensures written { (before : ℕ) (text : List ℕ)
-        → Writes B.begun (shown (K.written front.entry.out.now) front.entry.block front.entry.start front.entry.end) before (K.faults front.entry.out.now) text written
+        → Writes B.begun (shown (K.written front.entry.out.now) front.entry.block front.entry.start front.entry.end)
+        before (K.faults front.entry.out.now) text written
         → Writes B.begun (K.written result.out.now) before (K.faults result.out.now) text result.result }
 {
     match written {

@@ -9,7 +9,7 @@ ghost use Rattle.document_terms.specs.declared.claim.SolvingJob.TheVariants.{Fit
 ghost use Rattle.verdict_terms.specs.Fed.{NoneRefused};
 ghost use Rattle.pack_command.specs.Answered.{answer_for, IsAnswerStatus, IsDecided, IsEnough};
 ghost use Rattle.pack_command.specs.Asked.{AsksToSolve, AsksCheck};
-ghost use Rattle.pack_command.specs.Checks.{IsDone, IsLeft, IsExactly, IsClaimed};
+ghost use Rattle.pack_command.specs.Checks.{IsDone, IsUndone, IsExactly, IsClaimed};
 ghost use Rattle.pack_command.specs.Strips.{IsStripDecided};
 ghost use Rattle.pack_command.specs.Stops.{status_of, message_of};
 ghost use Rattle.pack_command.specs.Run.{IsTold};
@@ -88,7 +88,7 @@ pub fn run<R, S: Source, K: Sink, E: Sink>(
 
     // Without one, the cause holds, and it was told.
     ensures stopped { ¬ IsAnswerStatus result → (stop : PlainStop) × (result ≡ status_of stop)
-        × IsLeft words.now (S.left input.old) (S.left input.new) (K.written out.old) (K.written out.new) stop
+        × IsUndone words.now (S.left input.old) (S.left input.new) (K.written out.old) (K.written out.new) stop
         × IsTold (E.written err.old) (E.written err.new) (E.faults err.old) (E.faults err.new) (message_of stop) }
     ensures read_fault { result ≡ 4 → Rose (S.faults input.old) (S.faults input.new) }
     ensures write_fault { result ≡ 5 → Rose (K.faults out.old) (K.faults out.new) }
@@ -113,7 +113,7 @@ fn job<R, S: Source, K: Sink>(
 ) -> Result<u8, Stop>
     ensures answered { IfOk result (IsDone words.now (S.left input.old) (S.left input.new) (K.written out.old) (K.written out.new)) }
     ensures status { IfOk result IsAnswerStatus }
-    ensures stopped { IfErr result (IsLeft words.now (S.left input.old) (S.left input.new) (K.written out.old) (K.written out.new)) }
+    ensures stopped { IfErr result (IsUndone words.now (S.left input.old) (S.left input.new) (K.written out.old) (K.written out.new)) }
     ensures read_fault { result ≡ Err Stop.ReadFault → Rose (S.faults input.old) (S.faults input.new) }
     ensures write_fault { result ≡ Err Stop.WriteFault → Rose (K.faults out.old) (K.faults out.new) }
     ensures counts { (S.faults input.old ≤ S.faults input.new) × (K.faults out.old ≤ K.faults out.new) }

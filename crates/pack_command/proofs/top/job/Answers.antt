@@ -1,5 +1,5 @@
 use Rattle.pack_command.proofs.Answering.{answer_written, answer_cut, one_worker, asked_built}
-use Rattle.pack_command.proofs.Checked.{asks_solving, written_done, cut_left}
+use Rattle.pack_command.proofs.Checked.{asks_solving, written_done, cut_undone}
 use Rattle.pack_command.proofs.top.job.Goals as goal
 
 pub solve-requires-clause-alone : goal.solve-requires-clause-alone
@@ -13,5 +13,5 @@ returns-in-Ok-stream_answer-clause-answered g c = written_done _ _ _ _ _ _ (answ
     c.in_ok-instance.ensures.moves c.in_ok-instance.ensures.limits c.in-Ok.ensures _ c.status.ensures c.in-Ok-stream_answer.ensures.whole)
 
 pub returns-clause-stopped : goal.returns-clause-stopped
-returns-clause-stopped g c = cut_left _ _ _ _ _ (answer_cut _ _ _ _ _ _ _ _ _ (asks_solving _ _ _ _ c.in_ok-asked.ensures c.in-Solving.is)
+returns-clause-stopped g c = cut_undone _ _ _ _ _ (answer_cut _ _ _ _ _ _ _ _ _ (asks_solving _ _ _ _ c.in_ok-asked.ensures c.in-Solving.is)
     c.in_ok-instance.ensures.moves c.in_ok-instance.ensures.limits c.in-Ok.ensures c.stream_answer.ensures.part)

@@ -3,7 +3,7 @@ use Rattle.document_terms.specs.declared.claim.SolvingJob.TheVariants.{Fit, Stri
 use Rattle.pack_command.specs.Stops.{status_of}
 use Rattle.pack_command.proofs.Stopped.{never_stops}
 use Rattle.pack_command.proofs.Written.{written_answers, written_decides, written_least, written_enough}
-use Rattle.pack_command.proofs.Checked.{solved_done, solved_left, judged_done, judged_exactly, judged_within, judged_claimed}
+use Rattle.pack_command.proofs.Checked.{solved_done, solved_undone, judged_done, judged_exactly, judged_within, judged_claimed}
 use Rattle.pack_command.proofs.top.run.Goals as goal
 
 pub returns-in-Ok-clause-answers : goal.returns-in-Ok-clause-answers
@@ -24,17 +24,17 @@ returns-in-Ok-clause-enough g c = λ job settings bytes instance asks told read 
 
 pub returns-in-Err-clause-answers : goal.returns-in-Err-clause-answers
 returns-in-Err-clause-answers g c = λ job settings bytes instance asks told within read in_stood out_stood some.
-    absurd (never_stops _ _ _ _ _ job settings bytes instance asks told within read c.in-Err.stop (solved_left _ _ _ _ _ _ job settings asks c.in-Err.ensures.stopped)
+    absurd (never_stops _ _ _ _ _ job settings bytes instance asks told within read c.in-Err.stop (solved_undone _ _ _ _ _ _ job settings asks c.in-Err.ensures.stopped)
     (λ e. in_stood (c.in-Err.ensures.read_fault (ap Err e))) (λ e. out_stood (c.in-Err.ensures.write_fault (ap Err e))) (λ e. some (c.status.ensures ∙ ap status_of e)))
 
 pub returns-in-Err-clause-decides : goal.returns-in-Err-clause-decides
 returns-in-Err-clause-decides g c = λ settings bytes instance asks told within read in_stood out_stood some.
-    absurd (never_stops _ _ _ _ _ Fit settings bytes instance asks told within read c.in-Err.stop (solved_left _ _ _ _ _ _ Fit settings asks c.in-Err.ensures.stopped)
+    absurd (never_stops _ _ _ _ _ Fit settings bytes instance asks told within read c.in-Err.stop (solved_undone _ _ _ _ _ _ Fit settings asks c.in-Err.ensures.stopped)
     (λ e. in_stood (c.in-Err.ensures.read_fault (ap Err e))) (λ e. out_stood (c.in-Err.ensures.write_fault (ap Err e))) (λ e. some (c.status.ensures ∙ ap status_of e)))
 
 pub returns-in-Err-clause-least : goal.returns-in-Err-clause-least
 returns-in-Err-clause-least g c = λ settings bytes instance asks told within read in_stood out_stood some.
-    absurd (never_stops _ _ _ _ _ Strip settings bytes instance asks told within read c.in-Err.stop (solved_left _ _ _ _ _ _ Strip settings asks c.in-Err.ensures.stopped)
+    absurd (never_stops _ _ _ _ _ Strip settings bytes instance asks told within read c.in-Err.stop (solved_undone _ _ _ _ _ _ Strip settings asks c.in-Err.ensures.stopped)
     (λ e. in_stood (c.in-Err.ensures.read_fault (ap Err e))) (λ e. out_stood (c.in-Err.ensures.write_fault (ap Err e))) (λ e. some (c.status.ensures ∙ ap status_of e)))
 
 pub returns-in-Ok-clause-checks : goal.returns-in-Ok-clause-checks
