@@ -7,3 +7,4 @@ pub mod Answering
 mod Blocks
 pub mod Written
 pub mod Stopped
+pub mod OwnWritten

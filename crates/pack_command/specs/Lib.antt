@@ -7,3 +7,4 @@ pub mod Solutions
 pub mod Strips
 pub mod Inputs
 pub mod Run
+pub mod Own

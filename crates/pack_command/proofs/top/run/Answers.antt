@@ -1,6 +1,7 @@
 use Rattle.std.proofs.Common.{◌∙◌, ap, Err}
 use Rattle.document_terms.specs.declared.claim.SolvingJob.TheVariants.{Fit, Strip}
 use Rattle.pack_command.specs.Stops.{status_of}
+use Rattle.pack_command.proofs.OwnWritten.{own_written}
 use Rattle.pack_command.proofs.Stopped.{never_stops}
 use Rattle.pack_command.proofs.Written.{written_answers, written_decides, written_least, written_enough}
 use Rattle.pack_command.proofs.top.run.Goals as goal
@@ -35,3 +36,6 @@ pub returns-in-Err-clause-least : goal.returns-in-Err-clause-least
 returns-in-Err-clause-least g c = λ settings bytes instance asks told within read in_stood out_stood some.
     absurd (never_stops _ _ _ _ _ Strip settings bytes instance asks told within read c.in-Err.stop c.in-Err.ensures.stopped
     (λ e. in_stood (c.in-Err.ensures.read_fault (ap Err e))) (λ e. out_stood (c.in-Err.ensures.write_fault (ap Err e))) (λ e. some (c.status.ensures ∙ ap status_of e)))
+
+pub returns-in-Ok-clause-verified : goal.returns-in-Ok-clause-verified
+returns-in-Ok-clause-verified g c = λ job settings asks answer. own_written _ _ _ _ _ _ c.in-Ok.ensures.answered
