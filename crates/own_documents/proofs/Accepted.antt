@@ -1,5 +1,5 @@
 -- A claim that is shown has a document.
-use Rattle.std.proofs.Common.{◌≡◌, ℕ, pred, ◌-◌, ◌^◌, ◌<◌, ◌≤◌, ◌≢◌, ◌⊎◌, inl, inr, refl, ap, sym, subst, arith, List, [], ◌∷◌, ◌++◌, get_or, codes}
+use Rattle.std.proofs.Common.{◌≡◌, ℕ, suc, pred, ◌-◌, ◌^◌, ◌<◌, ◌≤◌, ◌≢◌, ◌⊎◌, inl, inr, refl, ap, sym, subst, arith, List, [], ◌∷◌, ◌++◌, get_or, codes}
 use Rattle.std.specs.Fmt.{decimal}
 use Rattle.std.proofs.Math.ListN.{length-set}
 use Rattle.std.proofs.lemmas.Bool.{cases_eq}
@@ -20,16 +20,19 @@ use Rattle.document_terms.specs.declared.claim.SolvingJob.TheVariants.{Fit, Stri
 use Rattle.document_terms.specs.declared.claim.Claim.{Claim}
 use Rattle.document_terms.specs.Claims.{job_of, job_word, result_words}
 use Rattle.document_terms.specs.declared.claim.Claim.TheVariants.{Fitting, NotFitting, LeastHeight, HeightBetween, NoHeight, LeastBins, BinsBetween, NoBins, GreatestValue, ValueBetween}
-use Rattle.verdict_terms.specs.Trees.{ToFit}
-use Rattle.verdict_terms.specs.Form.{IsDocument, IsResult, Backs, AreProved, AreRefuting, ArePlaced, IsExceedingLine}
-use Rattle.answer_terms.specs.Answers.{Lines, answer_text, answer_lines, document_lines, backing_lines, place_lines, token_lines, proved_lines}
+use Rattle.verdict_terms.specs.Trees.{ToFit, ToFitIn, ToReach}
+use Rattle.verdict_terms.specs.Form.{IsDocument, IsResult, Backs, AreProved, AreRefuting, ArePlaced, AreShared, AreTaken, IsExceedingLine}
+use Rattle.answer_terms.specs.Answers.{Lines, answer_text, answer_lines, document_lines, backing_lines, place_lines, bin_lines, take_lines, token_lines, proved_lines}
 use Rattle.answer_terms.specs.Answers.Answer.{Claimed}
-use Rattle.answer_terms.specs.Shown.{Shows, ShowsHeight, ShowsNone}
-use Rattle.own_documents.specs.Own.{IsCovered, ShownClaimsHaveDocuments, OwnDocumentsAreVerified}
+use Rattle.answer_terms.specs.Shown.{Shows, ShowsHeight, ShowsBins, ShowsValue, ShowsNone}
+use Rattle.own_documents.specs.Own.{ShownClaimsHaveDocuments, OwnDocumentsAreVerified}
 use Rattle.answer_terms.proofs.Shown.{answers_shown}
 use Rattle.verdict_terms.proofs.FormGiven.{documents_have_form}
 use Rattle.own_documents.proofs.Filled.{AreFilled, word_decimal, filled_append, clean_text, filled_text, filled_instance, instance_form}
 use Rattle.own_documents.proofs.Written.{IsBounded, internal_bounded, HaveLines, tokens_filled, tokens_are_lines, refuted_written, large_written}
+use Rattle.own_documents.proofs.OuterWritten.{bins_written, value_written}
+use Rattle.own_documents.proofs.Numbered.{bins_filled, bins_shared, taken_filled, taken_taken}
+use Rattle.document_terms.specs.Claims.{most_worth}
 use Rattle.own_documents.proofs.Placed.{packing_filled, packing_placed, rows_words}
 
 job_plain : (job : SolvingJob) → AreWords (job_word job ∷ [])
@@ -125,7 +128,7 @@ fit_no instance numbers tokens limits h =
 level_bounded : (instance : PlainInstance) (h : ℕ) → IsInstance instance → h ≤ most_height → IsBounded (with_last_side instance h)
 level_bounded instance h limits l = record {
   dimensions = (let d = limits.dimensions.1 in omega (arith, d, same));
-  boxes = limits.boxes.count.1;
+  boxes = (let n = limits.boxes.count.1 in omega (arith, n));
   sides = λ i m. (let k = kerf_small i (omega (arith, m, same)) in let w = written_small i (omega (arith, m, same)) (cases_eq i (dims instance - 1)) in omega (arith, k, w));
 }
   where
@@ -245,26 +248,147 @@ no_height_backed instance numbers tokens limits shown =
     let line = none_backed instance (dims instance - 1) tokens limits shown in
     record { words = (omega arith, refl, tt); result = refl; filled = line.filled; backs = line.backs }
 
+no_bins_backed : (instance : PlainInstance) (numbers : List ℕ) (tokens : List PlainToken) → IsInstance instance
+    → ShowsNone instance (dims instance) tokens → IsBacked instance NoBins numbers tokens
+no_bins_backed instance numbers tokens limits shown =
+    let line = none_backed instance (dims instance) tokens limits shown in
+    record { words = (omega arith, refl, tt); result = refl; filled = line.filled; backs = line.backs }
+
+-- ---- bins
+
+record AreBins (instance : PlainInstance) (a b : ℕ) (numbers : List ℕ) (tokens : List PlainToken) : Type 0 where
+  pub filled : AreFilled (proved_lines (bin_lines instance numbers) tokens)
+  pub backs : AreProved (AreShared instance b) (AreRefuting (ToFitIn instance a)) (proved_lines (bin_lines instance numbers) tokens)
+
+bins_backed : (instance : PlainInstance) (a b : ℕ) (numbers : List ℕ) (tokens : List PlainToken) → IsInstance instance → ShowsBins instance a b numbers tokens
+    → AreBins instance a b numbers tokens
+bins_backed instance a b numbers tokens limits shown =
+    let bounded : IsBounded instance = internal_bounded instance (written_internal instance limits) in
+    let written : HaveLines (dims instance) tokens = bins_written instance bounded limits.boxes.count.1 a tokens shown.refutation in
+    record {
+      filled = proved_filled (bin_lines instance numbers) tokens (bins_filled instance b numbers bounded shown.most shown.packing)
+          (tokens_filled (dims instance) tokens written);
+      backs = record {
+        front = bin_lines instance numbers;
+        back = token_lines tokens;
+        are = refl;
+        is_front = bins_shared instance b numbers bounded shown.most shown.packing;
+        is_back = record { tokens = tokens; are_lines = tokens_are_lines (dims instance) tokens written; refute = shown.refutation };
+      };
+    }
+
+least_bins_backed : (instance : PlainInstance) (k : ℕ) (numbers : List ℕ) (tokens : List PlainToken) → IsInstance instance
+    → ShowsBins instance (pred k) k numbers tokens → IsBacked instance (LeastBins k) numbers tokens
+least_bins_backed instance k numbers tokens limits shown =
+    let bins = bins_backed instance (pred k) k numbers tokens limits shown in
+    let m = shown.most in
+    let r = shown.rising in
+    let n = limits.boxes.count.1 in
+    record {
+      words = (omega arith, refl, number_plain k (omega (arith, m, n)));
+      result = record { number = decimal k; are = refl; is_number = decimal_number 1 (box_count instance) k (omega (arith, r)) m (omega (arith, n)) };
+      filled = bins.filled;
+      backs = bins.backs;
+    }
+
+between_bins_backed : (instance : PlainInstance) (a b : ℕ) (numbers : List ℕ) (tokens : List PlainToken) → IsInstance instance
+    → ShowsBins instance a b numbers tokens → IsBacked instance (BinsBetween a b) numbers tokens
+between_bins_backed instance a b numbers tokens limits shown =
+    let bins = bins_backed instance a b numbers tokens limits shown in
+    let m = shown.most in
+    let r = shown.rising in
+    let n = limits.boxes.count.1 in
+    record {
+      words = (omega arith, refl, numbers_plain a b (omega (arith, m, r, n)) (omega (arith, m, n)));
+      result = record {
+        first = decimal a;
+        second = decimal b;
+        are = refl;
+        is_first = number_decimal a (omega (arith, m, r, n));
+        is_second = number_decimal b (omega (arith, m, n));
+        rising = r;
+        most = m;
+      };
+      filled = bins.filled;
+      backs = bins.backs;
+    }
+
+-- ---- knapsack
+
+record AreValues (instance : PlainInstance) (a b : ℕ) (numbers : List ℕ) (tokens : List PlainToken) : Type 0 where
+  pub filled : AreFilled (proved_lines (take_lines instance numbers) tokens)
+  pub backs : AreProved (AreTaken instance a) (AreRefuting (ToReach instance b)) (proved_lines (take_lines instance numbers) tokens)
+
+values_backed : (instance : PlainInstance) (a b : ℕ) (numbers : List ℕ) (tokens : List PlainToken) → IsInstance instance → ShowsValue instance a b numbers tokens
+    → AreValues instance a b numbers tokens
+values_backed instance a b numbers tokens limits shown =
+    let bounded : IsBounded instance = internal_bounded instance (written_internal instance limits) in
+    let written : HaveLines (dims instance) tokens = value_written instance bounded limits.boxes.count.1 b tokens shown.refutation in
+    let d = limits.dimensions.0 in
+    record {
+      filled = proved_filled (take_lines instance numbers) tokens (taken_filled instance a numbers bounded shown.packing)
+          (tokens_filled (dims instance) tokens written);
+      backs = record {
+        front = take_lines instance numbers;
+        back = token_lines tokens;
+        are = refl;
+        is_front = taken_taken instance a numbers (omega (arith, d)) bounded shown.packing;
+        is_back = record { tokens = tokens; are_lines = tokens_are_lines (dims instance) tokens written; refute = shown.refutation };
+      };
+    }
+
+greatest_value_backed : (instance : PlainInstance) (v : ℕ) (numbers : List ℕ) (tokens : List PlainToken) → IsInstance instance
+    → ShowsValue instance v (suc v) numbers tokens → IsBacked instance (GreatestValue v) numbers tokens
+greatest_value_backed instance v numbers tokens limits shown =
+    let values = values_backed instance v (suc v) numbers tokens limits shown in
+    let m = shown.most in
+    record {
+      words = (omega arith, refl, number_plain v (omega (arith, m)));
+      result = record { number = decimal v; are = refl; is_number = decimal_number 0 most_worth v (omega arith) (omega (arith, m)) (omega arith) };
+      filled = values.filled;
+      backs = values.backs;
+    }
+
+between_values_backed : (instance : PlainInstance) (a b : ℕ) (numbers : List ℕ) (tokens : List PlainToken) → IsInstance instance
+    → ShowsValue instance a b numbers tokens → IsBacked instance (ValueBetween a b) numbers tokens
+between_values_backed instance a b numbers tokens limits shown =
+    let values = values_backed instance a b numbers tokens limits shown in
+    let m = shown.most in
+    let r = shown.rising in
+    record {
+      words = (omega arith, refl, numbers_plain a b (omega (arith, m, r)) (omega (arith, m)));
+      result = record {
+        first = decimal a;
+        second = decimal b;
+        are = refl;
+        is_first = number_decimal a (omega (arith, m, r));
+        is_second = number_decimal b (omega (arith, m));
+        rising = r;
+        most = m;
+      };
+      filled = values.filled;
+      backs = values.backs;
+    }
+
 -- ---- all claims
 
-backed : (instance : PlainInstance) (claim : Claim) (numbers : List ℕ) (tokens : List PlainToken) → IsInstance instance → IsCovered (job_of claim)
-    → Shows instance claim numbers tokens → IsBacked instance claim numbers tokens
-backed instance Fitting numbers tokens limits c h = fit_yes instance numbers tokens limits h
-backed instance NotFitting numbers tokens limits c h = fit_no instance numbers tokens limits h
-backed instance (LeastHeight n) numbers tokens limits c h = least_height_backed instance n numbers tokens limits h
-backed instance (HeightBetween a b) numbers tokens limits c h = between_heights_backed instance a b numbers tokens limits h
-backed instance NoHeight numbers tokens limits c h = no_height_backed instance numbers tokens limits h
-backed instance (LeastBins k) numbers tokens limits c h = absurd c
-backed instance (BinsBetween a b) numbers tokens limits c h = absurd c
-backed instance NoBins numbers tokens limits c h = absurd c
-backed instance (GreatestValue v) numbers tokens limits c h = absurd c
-backed instance (ValueBetween a b) numbers tokens limits c h = absurd c
+backed : (instance : PlainInstance) (claim : Claim) (numbers : List ℕ) (tokens : List PlainToken) → IsInstance instance → Shows instance claim numbers tokens → IsBacked instance claim numbers tokens
+backed instance Fitting numbers tokens limits h = fit_yes instance numbers tokens limits h
+backed instance NotFitting numbers tokens limits h = fit_no instance numbers tokens limits h
+backed instance (LeastHeight n) numbers tokens limits h = least_height_backed instance n numbers tokens limits h
+backed instance (HeightBetween a b) numbers tokens limits h = between_heights_backed instance a b numbers tokens limits h
+backed instance NoHeight numbers tokens limits h = no_height_backed instance numbers tokens limits h
+backed instance (LeastBins k) numbers tokens limits h = least_bins_backed instance k numbers tokens limits h
+backed instance (BinsBetween a b) numbers tokens limits h = between_bins_backed instance a b numbers tokens limits h
+backed instance NoBins numbers tokens limits h = no_bins_backed instance numbers tokens limits h
+backed instance (GreatestValue v) numbers tokens limits h = greatest_value_backed instance v numbers tokens limits h
+backed instance (ValueBetween a b) numbers tokens limits h = between_values_backed instance a b numbers tokens limits h
 
 pub shown_documents : ShownClaimsHaveDocuments
-shown_documents instance claim numbers tokens limits c h = backed_document instance claim numbers tokens limits (backed instance claim numbers tokens limits c h)
+shown_documents instance claim numbers tokens limits h = backed_document instance claim numbers tokens limits (backed instance claim numbers tokens limits h)
 
 pub own_verified : OwnDocumentsAreVerified
-own_verified job budget scales instance claim numbers tokens limits c e =
+own_verified job budget scales instance claim numbers tokens limits e =
     let shown = answers_shown job budget scales instance claim numbers tokens limits e in
     (documents_have_form (answer_text instance (Claimed claim numbers tokens)) claim).1
-    (shown_documents instance claim numbers tokens limits (subst IsCovered (sym shown.of_job) c) shown.shown)
+    (shown_documents instance claim numbers tokens limits shown.shown)

@@ -1,12 +1,12 @@
 -- The tokens of a refutation have lines.
-use Rattle.std.proofs.Common.{◌≡◌, ℕ, zero, suc, ◌+◌, ◌<◌, ◌≤◌, refl, sym, subst, arith, false, List, [], ◌∷◌, ◌++◌, length, Some, None}
+use Rattle.std.proofs.Common.{◌≡◌, ℕ, zero, suc, ◌+◌, ◌*◌, ◌<◌, ◌≤◌, refl, sym, subst, arith, false, List, [], ◌∷◌, ◌++◌, length, Some, None}
 use Rattle.std.specs.List.{flat_map}
 use Rattle.std.specs.Fmt.{decimal}
 use Rattle.packing_terms.specs.declared.Exclusion.{Exclusion}
 use Rattle.packing_terms.specs.declared.ScaleFn.{ScaleFn}
 use Rattle.packing_terms.specs.declared.ScaleFn.TheVariants.{Id, Step, Cut, Count}
 use Rattle.packing_terms.specs.Packing.{PlainInstance, dims, box_count, container_side}
-use Rattle.packing_terms.specs.Limits.{IsInternalInstance, most_height}
+use Rattle.packing_terms.specs.Limits.{IsInternalInstance, most_boxes, most_height}
 use Rattle.packing_terms.proofs.Internal.{container_small}
 use Rattle.packing_terms.specs.Scales.{IsLegalScale, function_at, IsTuple}
 use Rattle.packing_terms.specs.Tokens.{PlainToken}
@@ -73,10 +73,10 @@ tokens_are_lines d (t ∷ ts) h = (tokens_are_read_back d t h.0, tokens_are_line
 
 -- ---- refutations
 
--- few dimensions, few boxes, and no long container side
+-- Few dimensions, few boxes, and no long container side. A set is told to have at most twice as many boxes as there are, which is few enough.
 pub record IsBounded (instance : PlainInstance) : Type 0 where
   pub dimensions : dims instance ≤ 4
-  pub boxes : box_count instance ≤ 128
+  pub boxes : box_count instance ≤ 2 * most_boxes
   pub sides : (i : ℕ) → i < dims instance → container_side instance i ≤ most_height + 100000
 
 pub internal_bounded : (instance : PlainInstance) → IsInternalInstance instance → IsBounded instance

@@ -4,9 +4,7 @@ use Rattle.packing_terms.specs.Packing.{PlainInstance}
 use Rattle.packing_terms.specs.Limits.{IsInstance}
 use Rattle.packing_terms.specs.Tokens.{PlainToken}
 use Rattle.document_terms.specs.declared.claim.SolvingJob.{SolvingJob}
-use Rattle.document_terms.specs.declared.claim.SolvingJob.TheVariants.{Fit, Strip, Bins, Knapsack}
 use Rattle.document_terms.specs.declared.claim.Claim.{Claim}
-use Rattle.document_terms.specs.Claims.{job_of}
 use Rattle.verdict_terms.specs.Documents.{document_verdict}
 use Rattle.verdict_terms.specs.Form.{IsDocument}
 use Rattle.answer_terms.specs.Answers.{answer_text}
@@ -14,22 +12,15 @@ use Rattle.answer_terms.specs.Answers.Answer.{Undecided, Claimed}
 use Rattle.answer_terms.specs.Solved.{solved}
 use Rattle.answer_terms.specs.Shown.{Shows}
 
--- the jobs of which the laws below speak
-abbrev pub IsCovered : SolvingJob → Type 0
-IsCovered Fit = Unit {0}
-IsCovered Strip = Unit {0}
-IsCovered Bins = ⊥
-IsCovered Knapsack = ⊥
-
 -- whoever found the numbers and the tokens, the text is a document of the claim
 abbrev pub ShownClaimsHaveDocuments : Type 0
 ShownClaimsHaveDocuments = (instance : PlainInstance) (claim : Claim) (numbers : List ℕ) (tokens : List PlainToken) → IsInstance instance
-    → IsCovered (job_of claim) → Shows instance claim numbers tokens → IsDocument (answer_text instance (Claimed claim numbers tokens)) claim
+    → Shows instance claim numbers tokens → IsDocument (answer_text instance (Claimed claim numbers tokens)) claim
 
 -- the document that answers with a claim is verified with it
 abbrev pub OwnDocumentsAreVerified : Type 0
 OwnDocumentsAreVerified = (job : SolvingJob) (budget : ℕ) (scales : Bool) (instance : PlainInstance) (claim : Claim) (numbers : List ℕ) (tokens : List PlainToken)
-    → IsInstance instance → IsCovered job → solved job budget scales instance ≡ Claimed claim numbers tokens
+    → IsInstance instance → solved job budget scales instance ≡ Claimed claim numbers tokens
     → document_verdict (answer_text instance (Claimed claim numbers tokens)) ≡ Ok claim
 
 -- the document that says undecided is verified with no claim

@@ -3,35 +3,24 @@ use Rattle.std.proofs.Common.{ℕ, ◌≡◌, ◌⊎◌, inl, inr, refl, sym, ap
 use Rattle.packing_terms.specs.Packing.{PlainInstance}
 use Rattle.packing_terms.specs.Limits.{IsInstance}
 use Rattle.document_terms.specs.declared.claim.SolvingJob.{SolvingJob}
-use Rattle.document_terms.specs.declared.claim.SolvingJob.TheVariants.{Fit, Strip, Bins, Knapsack}
 use Rattle.answer_terms.specs.Answers.{Answer, answer_text, status_of}
 use Rattle.answer_terms.specs.Answers.Answer.{Undecided, Claimed}
 use Rattle.answer_terms.specs.Solved.{solved}
-use Rattle.own_documents.specs.Own.{IsCovered}
 use Rattle.own_documents.proofs.Accepted.{own_verified}
 use Rattle.own_documents.proofs.Undecided.{undecided_refused}
 use Rattle.work_share.specs.declared.settings.Settings.{Settings}
-use Rattle.pack_command.specs.Asked.{IsBuiltJob}
 use Rattle.pack_command.specs.Run.{IsWritten}
 use Rattle.pack_command.specs.Own.{IsVerified, IsUnverified, IsOwnDocument}
-use Rattle.pack_command.proofs.Answering.{asked_built}
 
--- what is built is covered
-covered : (job : SolvingJob) → IsBuiltJob job → IsCovered job
-covered Fit h = tt
-covered Strip h = tt
-covered Bins h = absurd h
-covered Knapsack h = absurd h
-
-own_answer : (job : SolvingJob) (settings : Settings) (instance : PlainInstance) → IsInstance instance → IsBuiltJob job → (a : Answer)
+own_answer : (job : SolvingJob) (settings : Settings) (instance : PlainInstance) → IsInstance instance → (a : Answer)
     → solved job settings.budget settings.scales instance ≡ a
     → IsVerified (answer_text instance a) (status_of a) ⊎ IsUnverified (answer_text instance a) (status_of a)
-own_answer job settings instance limits built Undecided e =
+own_answer job settings instance limits Undecided e =
     inr (record { undecided = refl; refused = (λ claim v. undecided_refused instance claim limits v) })
-own_answer job settings instance limits built (Claimed claim numbers tokens) e =
+own_answer job settings instance limits (Claimed claim numbers tokens) e =
     inl (record {
       claim = claim;
-      verified = own_verified job settings.budget settings.scales instance claim numbers tokens limits (covered job built) e;
+      verified = own_verified job settings.budget settings.scales instance claim numbers tokens limits e;
       status_is = refl;
     })
 
@@ -50,5 +39,5 @@ own_written words old new sunk_old sunk_new status w =
       document = w.document;
       written = w.written;
       own = same_own w.document (answer_text a.instance answer) status (status_of answer) a.document_is a.status_is
-          (own_answer a.job a.settings a.instance a.limits (asked_built words a.job a.settings a.asked) answer refl);
+          (own_answer a.job a.settings a.instance a.limits answer refl);
     }
