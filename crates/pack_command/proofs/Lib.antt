@@ -9,3 +9,4 @@ pub mod Checked
 mod Blocks
 pub mod Written
 pub mod Stopped
+pub mod OwnWritten

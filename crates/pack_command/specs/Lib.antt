@@ -9,3 +9,4 @@ pub mod Inputs
 pub mod Run
 pub mod Lines
 pub mod Checks
+pub mod Own

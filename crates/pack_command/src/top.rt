@@ -10,6 +10,7 @@ ghost use Rattle.verdict_terms.specs.Fed.{NoneRefused};
 ghost use Rattle.pack_command.specs.Answered.{answer_for, IsAnswerStatus, IsDecided, IsEnough};
 ghost use Rattle.pack_command.specs.Asked.{AsksToSolve, AsksCheck};
 ghost use Rattle.pack_command.specs.Checks.{IsDone, IsUndone, IsExactly, IsClaimed};
+ghost use Rattle.pack_command.specs.Own.{IsOwnDocument};
 ghost use Rattle.pack_command.specs.Strips.{IsStripDecided};
 ghost use Rattle.pack_command.specs.Stops.{status_of, message_of};
 ghost use Rattle.pack_command.specs.Run.{IsTold};
@@ -85,6 +86,10 @@ pub fn run<R, S: Source, K: Sink, E: Sink>(
     ensures answered { IsAnswerStatus result
         → IsDone words.now (S.left input.old) (S.left input.new) (K.written out.old) (K.written out.new) result
         × (E.written err.new ≡ E.written err.old) }
+
+    // The document is verified with a claim, which is then true of the instance in it, or it says undecided and is verified with none.
+    ensures verified { (job : PlainJob) (settings : PlainSettings) → AsksToSolve words.now job settings → IsAnswerStatus result
+        → IsOwnDocument (K.written out.old) (K.written out.new) result }
 
     // Without one, the cause holds, and it was told.
     ensures stopped { ¬ IsAnswerStatus result → (stop : PlainStop) × (result ≡ status_of stop)

@@ -1,6 +1,7 @@
 use Rattle.std.proofs.Common.{◌∙◌, ap, Err}
 use Rattle.document_terms.specs.declared.claim.SolvingJob.TheVariants.{Fit, Strip}
 use Rattle.pack_command.specs.Stops.{status_of}
+use Rattle.pack_command.proofs.OwnWritten.{own_written}
 use Rattle.pack_command.proofs.Stopped.{never_stops}
 use Rattle.pack_command.proofs.Written.{written_answers, written_decides, written_least, written_enough}
 use Rattle.pack_command.proofs.Checked.{solved_done, solved_undone, judged_done, judged_exactly, judged_within, judged_claimed}
@@ -48,3 +49,6 @@ returns-in-Ok-clause-claimed g c = λ asks zero.
 pub returns-in-Ok-clause-too_long : goal.returns-in-Ok-clause-too_long
 returns-in-Ok-clause-too_long g c = λ bytes asks told past none in_stood out_stood some.
     absurd (judged_within _ _ _ _ _ bytes told past none (judged_done _ _ _ _ _ _ asks c.in-Ok.ensures.answered))
+
+pub returns-in-Ok-clause-verified : goal.returns-in-Ok-clause-verified
+returns-in-Ok-clause-verified g c = λ job settings asks answer. own_written _ _ _ _ _ _ (solved_done _ _ _ _ _ _ job settings asks c.in-Ok.ensures.answered)

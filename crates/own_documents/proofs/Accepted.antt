@@ -1,0 +1,394 @@
+-- A claim that is shown has a document.
+use Rattle.std.proofs.Common.{◌≡◌, ℕ, suc, pred, ◌-◌, ◌^◌, ◌<◌, ◌≤◌, ◌≢◌, ◌⊎◌, inl, inr, refl, ap, sym, subst, arith, List, [], ◌∷◌, ◌++◌, get_or, codes}
+use Rattle.std.specs.Fmt.{decimal}
+use Rattle.std.proofs.Math.ListN.{length-set}
+use Rattle.std.proofs.lemmas.Bool.{cases_eq}
+use Rattle.std.proofs.lemmas.List.{get_or-set_same, get_or-set_other}
+use Rattle.packing_terms.specs.Packing.{PlainInstance, dims, box_count, kerf, written_container, IsPacking}
+use Rattle.packing_terms.specs.Goals.{with_last_side}
+use Rattle.packing_terms.specs.Limits.{IsInstance, IsInternalInstance, most_height}
+use Rattle.packing_terms.specs.Refutation.{Refutes}
+use Rattle.packing_terms.specs.Tokens.{PlainToken}
+use Rattle.packing_terms.specs.Tokens.PlainToken.{TooLarge}
+use Rattle.packing_terms.proofs.Internal.{written_internal}
+use Rattle.document_terms.specs.TokenLines.{token_words}
+use Rattle.text_terms.specs.Form.{IsNumber}
+use Rattle.text_terms.specs.Spelling.{instance_words}
+use Rattle.text_terms.proofs.Spelled.{AreWords, number_decimal}
+use Rattle.document_terms.specs.declared.claim.SolvingJob.{SolvingJob}
+use Rattle.document_terms.specs.declared.claim.SolvingJob.TheVariants.{Fit, Strip, Bins, Knapsack}
+use Rattle.document_terms.specs.declared.claim.Claim.{Claim}
+use Rattle.document_terms.specs.Claims.{job_of, job_word, result_words}
+use Rattle.document_terms.specs.declared.claim.Claim.TheVariants.{Fitting, NotFitting, LeastHeight, HeightBetween, NoHeight, LeastBins, BinsBetween, NoBins, GreatestValue, ValueBetween}
+use Rattle.verdict_terms.specs.Trees.{ToFit, ToFitIn, ToReach}
+use Rattle.verdict_terms.specs.Form.{IsDocument, IsResult, Backs, AreProved, AreRefuting, ArePlaced, AreShared, AreTaken, IsExceedingLine}
+use Rattle.answer_terms.specs.Answers.{Lines, answer_text, answer_lines, document_lines, backing_lines, place_lines, bin_lines, take_lines, token_lines, proved_lines}
+use Rattle.answer_terms.specs.Answers.Answer.{Claimed}
+use Rattle.answer_terms.specs.Shown.{Shows, ShowsHeight, ShowsBins, ShowsValue, ShowsNone}
+use Rattle.own_documents.specs.Own.{ShownClaimsHaveDocuments, OwnDocumentsAreVerified}
+use Rattle.answer_terms.proofs.Shown.{answers_shown}
+use Rattle.verdict_terms.proofs.FormGiven.{documents_have_form}
+use Rattle.own_documents.proofs.Filled.{AreFilled, word_decimal, filled_append, clean_text, filled_text, filled_instance, instance_form}
+use Rattle.own_documents.proofs.Written.{IsBounded, internal_bounded, HaveLines, tokens_filled, tokens_are_lines, refuted_written, large_written}
+use Rattle.own_documents.proofs.OuterWritten.{bins_written, value_written}
+use Rattle.own_documents.proofs.Numbered.{bins_filled, bins_shared, taken_filled, taken_taken}
+use Rattle.document_terms.specs.Claims.{most_worth}
+use Rattle.own_documents.proofs.Placed.{packing_filled, packing_placed, rows_words}
+
+job_plain : (job : SolvingJob) → AreWords (job_word job ∷ [])
+job_plain Fit = (omega arith, refl, tt)
+job_plain Strip = (omega arith, refl, tt)
+job_plain Bins = (omega arith, refl, tt)
+job_plain Knapsack = (omega arith, refl, tt)
+
+-- ---- whole documents
+
+pub record IsBacked (instance : PlainInstance) (claim : Claim) (numbers : List ℕ) (tokens : List PlainToken) : Type 0 where
+  pub words : AreWords (result_words claim)
+  pub result : IsResult instance claim (result_words claim)
+  pub filled : AreFilled (backing_lines instance claim numbers tokens)
+  pub backs : Backs instance claim (backing_lines instance claim numbers tokens)
+
+pub filled_document : (instance : PlainInstance) (job : SolvingJob) (result : List (List ℕ)) (backing : Lines) → IsInstance instance → AreWords result → AreFilled backing
+    → AreFilled (document_lines instance job result backing)
+filled_document instance job result backing limits words lines =
+    let last : AreFilled ((codes "end" ∷ []) ∷ []) = ((omega arith, refl, tt), refl, tt) in
+    let after : AreFilled ((codes "result" ∷ result) ∷ (backing ++ (codes "end" ∷ []) ∷ [])) =
+    ((omega arith, refl, words), refl, filled_append backing ((codes "end" ∷ []) ∷ []) lines last) in (
+      (omega arith, refl, job_plain job),
+      refl,
+      filled_append (instance_words instance) ((codes "result" ∷ result) ∷ (backing ++ (codes "end" ∷ []) ∷ [])) (filled_instance instance limits) after,
+    )
+
+pub backed_document : (instance : PlainInstance) (claim : Claim) (numbers : List ℕ) (tokens : List PlainToken) → IsInstance instance
+    → IsBacked instance claim numbers tokens → IsDocument (answer_text instance (Claimed claim numbers tokens)) claim
+unfolding answer_text
+backed_document instance claim numbers tokens limits backed =
+    let filled : AreFilled (answer_lines instance (Claimed claim numbers tokens)) =
+    filled_document instance (job_of claim) (result_words claim) (backing_lines instance claim numbers tokens) limits backed.words backed.filled in
+    record {
+      instance = instance;
+      written = instance_words instance;
+      result = result_words claim;
+      backing = backing_lines instance claim numbers tokens;
+      clean = clean_text (answer_lines instance (Claimed claim numbers tokens)) filled;
+      are = filled_text (answer_lines instance (Claimed claim numbers tokens)) filled;
+      is_instance = instance_form instance limits;
+      is_result = backed.result;
+      backed = backed.backs;
+    }
+
+-- ---- the parts
+
+pub tokens_refuting : (instance : PlainInstance) (tokens : List PlainToken) → IsBounded instance → Refutes instance [] tokens → AreRefuting (ToFit instance) (token_lines tokens)
+tokens_refuting instance tokens b h = record {
+  tokens = tokens;
+  are_lines = tokens_are_lines (dims instance) tokens (refuted_written instance b h);
+  refute = h;
+}
+
+pub refuting_filled : (instance : PlainInstance) (tokens : List PlainToken) → IsBounded instance → Refutes instance [] tokens → AreFilled (token_lines tokens)
+refuting_filled instance tokens b h = tokens_filled (dims instance) tokens (refuted_written instance b h)
+
+pub proved_filled : (front : Lines) (tokens : List PlainToken) → AreFilled front → AreFilled (token_lines tokens) → AreFilled (proved_lines front tokens)
+proved_filled front tokens h k =
+    let back : AreFilled ((codes "proof" ∷ []) ∷ token_lines tokens) = ((omega arith, refl, tt), refl, k) in
+    filled_append front ((codes "proof" ∷ []) ∷ token_lines tokens) h back
+
+pub decimal_number : (low high n : ℕ) → low ≤ n → n ≤ high → high < 10 ^ 19 → IsNumber low high (decimal n) n
+decimal_number low high n l h small = record { number = number_decimal n (omega arith); least = l; most = h }
+
+-- ---- fit
+
+fit_yes : (instance : PlainInstance) (numbers : List ℕ) (tokens : List PlainToken) → IsInstance instance → IsPacking instance numbers → IsBacked instance Fitting numbers tokens
+fit_yes instance numbers tokens limits p =
+    let internal : IsInternalInstance instance = written_internal instance limits in
+    let b : IsBounded instance = internal_bounded instance internal in
+    let d = limits.dimensions.0 in
+    record {
+      words = (omega arith, refl, tt);
+      result = refl;
+      filled = packing_filled instance numbers b p;
+      backs = packing_placed instance numbers (omega (arith, d)) b p;
+    }
+
+fit_no : (instance : PlainInstance) (numbers : List ℕ) (tokens : List PlainToken) → IsInstance instance → Refutes instance [] tokens → IsBacked instance NotFitting numbers tokens
+fit_no instance numbers tokens limits h =
+    let b : IsBounded instance = internal_bounded instance (written_internal instance limits) in
+    record {
+      words = (omega arith, refl, tt);
+      result = refl;
+      filled = refuting_filled instance tokens b h;
+      backs = tokens_refuting instance tokens b h;
+    }
+
+-- ---- strip
+
+-- a level of a strip
+level_bounded : (instance : PlainInstance) (h : ℕ) → IsInstance instance → h ≤ most_height → IsBounded (with_last_side instance h)
+level_bounded instance h limits l = record {
+  dimensions = (let d = limits.dimensions.1 in omega (arith, d, same));
+  boxes = (let n = limits.boxes.count.1 in omega (arith, n));
+  sides = λ i m. (let k = kerf_small i (omega (arith, m, same)) in let w = written_small i (omega (arith, m, same)) (cases_eq i (dims instance - 1)) in omega (arith, k, w));
+}
+  where
+    same : dims (with_last_side instance h) ≡ dims instance
+    same = length-set instance.container (dims instance - 1) h
+
+    kerf_small : (i : ℕ) → i < dims instance → kerf instance i ≤ 100000
+    kerf_small i m = limits.kerf.each i m
+
+    written_small : (i : ℕ) → i < dims instance → (i ≡ dims instance - 1) ⊎ (i ≢ dims instance - 1) → written_container (with_last_side instance h) i ≤ most_height
+    written_small i m (inl e) =
+        let d = limits.dimensions.0 in
+        let a : get_or (with_last_side instance h).container (dims instance - 1) 0 ≡ h = get_or-set_same instance.container (dims instance - 1) h 0 (omega (arith, d)) in
+        subst (λ (x : ℕ). get_or (with_last_side instance h).container x 0 ≤ most_height) (sym e) (omega (arith, a, l))
+    written_small i m (inr n) =
+        let a : get_or (with_last_side instance h).container i 0 ≡ get_or instance.container i 0 = get_or-set_other instance.container (dims instance - 1) i h 0 n in
+        let s = limits.container i m in
+        omega (arith, a, s)
+
+-- its place lines are those of the instance
+level_lines : (instance : PlainInstance) (h : ℕ) (numbers : List ℕ) → place_lines (with_last_side instance h) numbers ≡ place_lines instance numbers
+level_lines instance h numbers = ap (λ d. rows_words d (box_count instance) numbers) (length-set instance.container (dims instance - 1) h)
+
+record AreLevels (instance : PlainInstance) (a b : ℕ) (numbers : List ℕ) (tokens : List PlainToken) : Type 0 where
+  pub filled : AreFilled (proved_lines (place_lines instance numbers) tokens)
+  pub backs : AreProved (ArePlaced (with_last_side instance b)) (AreRefuting (ToFit (with_last_side instance a))) (proved_lines (place_lines instance numbers) tokens)
+
+heights_backed : (instance : PlainInstance) (a b : ℕ) (numbers : List ℕ) (tokens : List PlainToken) → IsInstance instance → ShowsHeight instance a b numbers tokens
+    → AreLevels instance a b numbers tokens
+heights_backed instance a b numbers tokens limits h =
+    let most = h.most in
+    let rising = h.rising in
+    let high : IsBounded (with_last_side instance b) = level_bounded instance b limits most in
+    let low : IsBounded (with_last_side instance a) = level_bounded instance a limits (omega (arith, most, rising)) in
+    let d = limits.dimensions.0 in
+    let same : dims (with_last_side instance b) ≡ dims instance = length-set instance.container (dims instance - 1) b in
+    record {
+      filled = proved_filled (place_lines instance numbers) tokens
+          (subst AreFilled (level_lines instance b numbers) (packing_filled (with_last_side instance b) numbers high h.packing))
+          (refuting_filled (with_last_side instance a) tokens low h.refutation);
+      backs = record {
+        front = place_lines instance numbers;
+        back = token_lines tokens;
+        are = refl;
+        is_front = subst (ArePlaced (with_last_side instance b)) (level_lines instance b numbers)
+            (packing_placed (with_last_side instance b) numbers (omega (arith, d, same)) high h.packing);
+        is_back = tokens_refuting (with_last_side instance a) tokens low h.refutation;
+      };
+    }
+
+pub number_plain : (n : ℕ) → n < 2 ^ 64 → AreWords (decimal n ∷ [])
+number_plain n small = word_decimal n small [] tt
+
+pub numbers_plain : (a b : ℕ) → a < 2 ^ 64 → b < 2 ^ 64 → AreWords (decimal a ∷ decimal b ∷ [])
+numbers_plain a b small less = word_decimal a small (decimal b ∷ []) (number_plain b less)
+
+least_height_backed : (instance : PlainInstance) (h : ℕ) (numbers : List ℕ) (tokens : List PlainToken) → IsInstance instance
+    → ShowsHeight instance (pred h) h numbers tokens → IsBacked instance (LeastHeight h) numbers tokens
+least_height_backed instance h numbers tokens limits shown =
+    let levels = heights_backed instance (pred h) h numbers tokens limits shown in
+    let m = shown.most in
+    let r = shown.rising in
+    record {
+      words = (omega arith, refl, number_plain h (omega (arith, m)));
+      result = record { number = decimal h; are = refl; is_number = decimal_number 1 most_height h (omega (arith, r)) m (omega arith) };
+      filled = levels.filled;
+      backs = levels.backs;
+    }
+
+between_heights_backed : (instance : PlainInstance) (a b : ℕ) (numbers : List ℕ) (tokens : List PlainToken) → IsInstance instance
+    → ShowsHeight instance a b numbers tokens → IsBacked instance (HeightBetween a b) numbers tokens
+between_heights_backed instance a b numbers tokens limits shown =
+    let levels = heights_backed instance a b numbers tokens limits shown in
+    let m = shown.most in
+    let r = shown.rising in
+    record {
+      words = (omega arith, refl, numbers_plain a b (omega (arith, m, r)) (omega (arith, m)));
+      result = record {
+        first = decimal a;
+        second = decimal b;
+        are = refl;
+        is_first = number_decimal a (omega (arith, m, r));
+        is_second = number_decimal b (omega (arith, m));
+        rising = r;
+        most = m;
+      };
+      filled = levels.filled;
+      backs = levels.backs;
+    }
+
+-- ---- none
+
+record IsNamedLarge (instance : PlainInstance) (m : ℕ) (tokens : List PlainToken) : Type 0 where
+  pub filled : AreFilled (token_lines tokens)
+  pub backs : IsExceedingLine instance m (token_lines tokens)
+
+none_backed : (instance : PlainInstance) (m : ℕ) (tokens : List PlainToken) → IsInstance instance → ShowsNone instance m tokens → IsNamedLarge instance m tokens
+none_backed instance m tokens limits shown =
+    let b : IsBounded instance = internal_bounded instance (written_internal instance limits) in
+    let one : HaveLines (dims instance) (TooLarge shown.box_no shown.dim ∷ []) = (large_written instance shown.box_no shown.dim b shown.large, tt) in
+    subst (IsNamedLarge instance m) (sym shown.are) (record {
+      filled = tokens_filled (dims instance) (TooLarge shown.box_no shown.dim ∷ []) one;
+      backs = record {
+        words = token_words (TooLarge shown.box_no shown.dim);
+        box_no = shown.box_no;
+        dim = shown.dim;
+        are = refl;
+        is_token = (tokens_are_lines (dims instance) (TooLarge shown.box_no shown.dim ∷ []) one).0;
+        large = shown.large;
+        among = shown.among;
+      };
+    })
+
+no_height_backed : (instance : PlainInstance) (numbers : List ℕ) (tokens : List PlainToken) → IsInstance instance
+    → ShowsNone instance (dims instance - 1) tokens → IsBacked instance NoHeight numbers tokens
+no_height_backed instance numbers tokens limits shown =
+    let line = none_backed instance (dims instance - 1) tokens limits shown in
+    record { words = (omega arith, refl, tt); result = refl; filled = line.filled; backs = line.backs }
+
+no_bins_backed : (instance : PlainInstance) (numbers : List ℕ) (tokens : List PlainToken) → IsInstance instance
+    → ShowsNone instance (dims instance) tokens → IsBacked instance NoBins numbers tokens
+no_bins_backed instance numbers tokens limits shown =
+    let line = none_backed instance (dims instance) tokens limits shown in
+    record { words = (omega arith, refl, tt); result = refl; filled = line.filled; backs = line.backs }
+
+-- ---- bins
+
+record AreBins (instance : PlainInstance) (a b : ℕ) (numbers : List ℕ) (tokens : List PlainToken) : Type 0 where
+  pub filled : AreFilled (proved_lines (bin_lines instance numbers) tokens)
+  pub backs : AreProved (AreShared instance b) (AreRefuting (ToFitIn instance a)) (proved_lines (bin_lines instance numbers) tokens)
+
+bins_backed : (instance : PlainInstance) (a b : ℕ) (numbers : List ℕ) (tokens : List PlainToken) → IsInstance instance → ShowsBins instance a b numbers tokens
+    → AreBins instance a b numbers tokens
+bins_backed instance a b numbers tokens limits shown =
+    let bounded : IsBounded instance = internal_bounded instance (written_internal instance limits) in
+    let written : HaveLines (dims instance) tokens = bins_written instance bounded limits.boxes.count.1 a tokens shown.refutation in
+    record {
+      filled = proved_filled (bin_lines instance numbers) tokens (bins_filled instance b numbers bounded shown.most shown.packing)
+          (tokens_filled (dims instance) tokens written);
+      backs = record {
+        front = bin_lines instance numbers;
+        back = token_lines tokens;
+        are = refl;
+        is_front = bins_shared instance b numbers bounded shown.most shown.packing;
+        is_back = record { tokens = tokens; are_lines = tokens_are_lines (dims instance) tokens written; refute = shown.refutation };
+      };
+    }
+
+least_bins_backed : (instance : PlainInstance) (k : ℕ) (numbers : List ℕ) (tokens : List PlainToken) → IsInstance instance
+    → ShowsBins instance (pred k) k numbers tokens → IsBacked instance (LeastBins k) numbers tokens
+least_bins_backed instance k numbers tokens limits shown =
+    let bins = bins_backed instance (pred k) k numbers tokens limits shown in
+    let m = shown.most in
+    let r = shown.rising in
+    let n = limits.boxes.count.1 in
+    record {
+      words = (omega arith, refl, number_plain k (omega (arith, m, n)));
+      result = record { number = decimal k; are = refl; is_number = decimal_number 1 (box_count instance) k (omega (arith, r)) m (omega (arith, n)) };
+      filled = bins.filled;
+      backs = bins.backs;
+    }
+
+between_bins_backed : (instance : PlainInstance) (a b : ℕ) (numbers : List ℕ) (tokens : List PlainToken) → IsInstance instance
+    → ShowsBins instance a b numbers tokens → IsBacked instance (BinsBetween a b) numbers tokens
+between_bins_backed instance a b numbers tokens limits shown =
+    let bins = bins_backed instance a b numbers tokens limits shown in
+    let m = shown.most in
+    let r = shown.rising in
+    let n = limits.boxes.count.1 in
+    record {
+      words = (omega arith, refl, numbers_plain a b (omega (arith, m, r, n)) (omega (arith, m, n)));
+      result = record {
+        first = decimal a;
+        second = decimal b;
+        are = refl;
+        is_first = number_decimal a (omega (arith, m, r, n));
+        is_second = number_decimal b (omega (arith, m, n));
+        rising = r;
+        most = m;
+      };
+      filled = bins.filled;
+      backs = bins.backs;
+    }
+
+-- ---- knapsack
+
+record AreValues (instance : PlainInstance) (a b : ℕ) (numbers : List ℕ) (tokens : List PlainToken) : Type 0 where
+  pub filled : AreFilled (proved_lines (take_lines instance numbers) tokens)
+  pub backs : AreProved (AreTaken instance a) (AreRefuting (ToReach instance b)) (proved_lines (take_lines instance numbers) tokens)
+
+values_backed : (instance : PlainInstance) (a b : ℕ) (numbers : List ℕ) (tokens : List PlainToken) → IsInstance instance → ShowsValue instance a b numbers tokens
+    → AreValues instance a b numbers tokens
+values_backed instance a b numbers tokens limits shown =
+    let bounded : IsBounded instance = internal_bounded instance (written_internal instance limits) in
+    let written : HaveLines (dims instance) tokens = value_written instance bounded limits.boxes.count.1 b tokens shown.refutation in
+    let d = limits.dimensions.0 in
+    record {
+      filled = proved_filled (take_lines instance numbers) tokens (taken_filled instance a numbers bounded shown.packing)
+          (tokens_filled (dims instance) tokens written);
+      backs = record {
+        front = take_lines instance numbers;
+        back = token_lines tokens;
+        are = refl;
+        is_front = taken_taken instance a numbers (omega (arith, d)) bounded shown.packing;
+        is_back = record { tokens = tokens; are_lines = tokens_are_lines (dims instance) tokens written; refute = shown.refutation };
+      };
+    }
+
+greatest_value_backed : (instance : PlainInstance) (v : ℕ) (numbers : List ℕ) (tokens : List PlainToken) → IsInstance instance
+    → ShowsValue instance v (suc v) numbers tokens → IsBacked instance (GreatestValue v) numbers tokens
+greatest_value_backed instance v numbers tokens limits shown =
+    let values = values_backed instance v (suc v) numbers tokens limits shown in
+    let m = shown.most in
+    record {
+      words = (omega arith, refl, number_plain v (omega (arith, m)));
+      result = record { number = decimal v; are = refl; is_number = decimal_number 0 most_worth v (omega arith) (omega (arith, m)) (omega arith) };
+      filled = values.filled;
+      backs = values.backs;
+    }
+
+between_values_backed : (instance : PlainInstance) (a b : ℕ) (numbers : List ℕ) (tokens : List PlainToken) → IsInstance instance
+    → ShowsValue instance a b numbers tokens → IsBacked instance (ValueBetween a b) numbers tokens
+between_values_backed instance a b numbers tokens limits shown =
+    let values = values_backed instance a b numbers tokens limits shown in
+    let m = shown.most in
+    let r = shown.rising in
+    record {
+      words = (omega arith, refl, numbers_plain a b (omega (arith, m, r)) (omega (arith, m)));
+      result = record {
+        first = decimal a;
+        second = decimal b;
+        are = refl;
+        is_first = number_decimal a (omega (arith, m, r));
+        is_second = number_decimal b (omega (arith, m));
+        rising = r;
+        most = m;
+      };
+      filled = values.filled;
+      backs = values.backs;
+    }
+
+-- ---- all claims
+
+backed : (instance : PlainInstance) (claim : Claim) (numbers : List ℕ) (tokens : List PlainToken) → IsInstance instance → Shows instance claim numbers tokens → IsBacked instance claim numbers tokens
+backed instance Fitting numbers tokens limits h = fit_yes instance numbers tokens limits h
+backed instance NotFitting numbers tokens limits h = fit_no instance numbers tokens limits h
+backed instance (LeastHeight n) numbers tokens limits h = least_height_backed instance n numbers tokens limits h
+backed instance (HeightBetween a b) numbers tokens limits h = between_heights_backed instance a b numbers tokens limits h
+backed instance NoHeight numbers tokens limits h = no_height_backed instance numbers tokens limits h
+backed instance (LeastBins k) numbers tokens limits h = least_bins_backed instance k numbers tokens limits h
+backed instance (BinsBetween a b) numbers tokens limits h = between_bins_backed instance a b numbers tokens limits h
+backed instance NoBins numbers tokens limits h = no_bins_backed instance numbers tokens limits h
+backed instance (GreatestValue v) numbers tokens limits h = greatest_value_backed instance v numbers tokens limits h
+backed instance (ValueBetween a b) numbers tokens limits h = between_values_backed instance a b numbers tokens limits h
+
+pub shown_documents : ShownClaimsHaveDocuments
+shown_documents instance claim numbers tokens limits h = backed_document instance claim numbers tokens limits (backed instance claim numbers tokens limits h)
+
+pub own_verified : OwnDocumentsAreVerified
+own_verified job budget scales instance claim numbers tokens limits e =
+    let shown = answers_shown job budget scales instance claim numbers tokens limits e in
+    (documents_have_form (answer_text instance (Claimed claim numbers tokens)) claim).1
+    (shown_documents instance claim numbers tokens limits shown.shown)

@@ -1,0 +1,6 @@
+//! The documents of `pack`'s own answers are verified with their claims.
+#![tactic(auto)]
+
+mod laws;
+
+pub use laws::{own_documents_are_verified, shown_claims_have_documents, undecided_is_refused};
