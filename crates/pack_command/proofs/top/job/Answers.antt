@@ -10,8 +10,8 @@ solve-requires-clause-built g c = asked_built _ _ _ (asks_solving _ _ _ _ c.in_o
 
 pub returns-in-Ok-stream_answer-clause-answered : goal.returns-in-Ok-stream_answer-clause-answered
 returns-in-Ok-stream_answer-clause-answered g c = written_done _ _ _ _ _ _ (answer_written _ _ _ _ _ _ _ _ _ (asks_solving _ _ _ _ c.in_ok-asked.ensures c.in-Solving.is)
-    c.in_ok-instance.ensures.moves c.in_ok-instance.ensures.limits c.in-Ok.ensures _ c.status.ensures c.in-Ok-stream_answer.ensures.whole)
+    c.in_ok-instance-in-Solving.ensures.moves c.in_ok-instance-in-Solving.ensures.limits c.in-Ok.ensures _ c.status.ensures c.in-Ok-stream_answer.ensures.whole)
 
 pub returns-clause-stopped : goal.returns-clause-stopped
 returns-clause-stopped g c = cut_undone _ _ _ _ _ (answer_cut _ _ _ _ _ _ _ _ _ (asks_solving _ _ _ _ c.in_ok-asked.ensures c.in-Solving.is)
-    c.in_ok-instance.ensures.moves c.in_ok-instance.ensures.limits c.in-Ok.ensures c.stream_answer.ensures.part)
+    c.in_ok-instance-in-Solving.ensures.moves c.in_ok-instance-in-Solving.ensures.limits c.in-Ok.ensures c.stream_answer.ensures.part)
