@@ -16,6 +16,7 @@ mod walk;
 
 pub use decision::{decide, decide_alone};
 pub use edge_state::Exclusion;
+pub use same::are_same_instances;
 pub use tree::ClassTree;
 
 #[cfg(test)]
