@@ -2,7 +2,7 @@
 use Rattle.std.proofs.Common.{◌≡◌, ◌≢◌, ℕ, zero, suc, ◌+◌, ◌<◌, refl, sym, ap, ap₂, ◌∙◌, List, ◌∷◌, length, drop, get_or}
 use Rattle.packing_terms.specs.OuterRefutation.{insert_box}
 use Rattle.choice_search.specs.Paths.{taken_along}
-use Rattle.choice_search.proofs.Children.{next_box}
+use Rattle.set_search.proofs.Reaching.{next_box}
 
 module _ (taken order path whole : List ℕ) (k : ℕ) (l : k < length path) (m : k < length order) (h : whole ≡ taken_along taken (drop k order) (drop k path)) where
   steps : whole ≡ taken_along taken (get_or order k 0 ∷ drop (k + 1) order) (get_or path k 0 ∷ drop (k + 1) path)

@@ -1,5 +1,5 @@
 -- The children of a node that is split: their first one by the verdict on its set.
-use Rattle.std.proofs.Common.{◌≡◌, ℕ, zero, suc, ◌+◌, ◌*◌, ◌<◌, ◌≤◌, refl, sym, ap, ◌∙◌, arith, Bool, true, false, List, [], ◌∷◌, length, drop, get_or, None}
+use Rattle.std.proofs.Common.{◌≡◌, ℕ, suc, ◌+◌, ◌*◌, ◌<◌, ◌≤◌, refl, sym, ap, ◌∙◌, arith, Bool, true, false, List, [], ◌∷◌, length, drop, None}
 use Rattle.std.proofs.lemmas.Bool.{lt-ltb}
 use Rattle.packing_terms.specs.Packing.{PlainInstance, dims}
 use Rattle.packing_terms.specs.Rules.{AreBoxes}
@@ -14,17 +14,11 @@ use Rattle.tree_terms.specs.Paths.{most_budget, Leaf, node_told}
 use Rattle.tree_terms.proofs.Told.{told_past}
 use Rattle.tree_terms.proofs.Joins.{count_join_no}
 use Rattle.set_search.proofs.Verdicts.{finished}
+use Rattle.set_search.proofs.Reaching.{next_box}
 use Rattle.choice_search.specs.Choices.{PlainChoiceTree, IsChosen}
 use Rattle.choice_search.specs.Paths.{answer_of, IsAbove, box_at, child_tree}
 use Rattle.choice_search.proofs.Choosing.{more_boxes, more_set, inside_chosen, outside_chosen}
 use Rattle.choice_search.proofs.NodeOutcomes.{own_first, inside_counts}
-
-pub next_box : (us : List ℕ) (k : ℕ) → k < length us → drop k us ≡ get_or us k 0 ∷ drop (k + 1) us
-next_box [] k l = absurd (omega (arith, l))
-next_box (u ∷ us) zero l = refl
-next_box (u ∷ us) (suc k) l =
-    let s : suc (k + 1) ≡ suc k + 1 = omega arith in
-    next_box us k (omega (arith, l)) ∙ ap (λ x. get_or us k 0 ∷ drop x (u ∷ us)) s
 
 -- a node whose own count is past every budget is told as a leaf
 past_told : (instance : PlainInstance) (scales : Bool) (goal : ℕ) (rest taken numbers : List ℕ) (own : ℕ) → most_budget < own

@@ -1,9 +1,7 @@
 -- The child at the end of a path, as a child of the node above it.
-use Rattle.std.proofs.Common.{◌≡◌, ◌≢◌, ℕ, zero, suc, ◌+◌, ◌<◌, ◌≤◌, refl, sym, ap, ap₂, subst, ◌∙◌, arith, Bool, true, false, List, [], ◌∷◌, ◌++◌, length, take, drop, get_or, ltb, if◌then◌else◌, Option, Some, None, IsSome}
-use Rattle.std.proofs.lemmas.Bool.{true≢false, ltb-true}
+use Rattle.std.proofs.Common.{◌≡◌, ◌≢◌, ℕ, zero, suc, ◌+◌, ◌<◌, ◌≤◌, refl, sym, ap, ap₂, subst, ◌∙◌, arith, Bool, true, false, List, [], ◌∷◌, ◌++◌, length, take, drop, get_or, Option, Some, None, IsSome}
 use Rattle.packing_terms.specs.Rules.{AreBoxes}
 use Rattle.packing_terms.specs.Limits.{IsInternalInstance}
-use Rattle.packing_terms.specs.Tokens.{PlainToken}
 use Rattle.packing_terms.specs.Tokens.PlainToken.{Choose, SetRefuted, ValueShort}
 use Rattle.packing_terms.specs.OuterRefutation.{insert_box}
 use Rattle.packing_terms.proofs.Internal.{internal_sides, some_dimension}
@@ -14,37 +12,12 @@ use Rattle.tree_terms.specs.Trees.{SearchTree, Refuted, Split, Verdict, Yes, No,
 use Rattle.tree_terms.specs.OuterTrees.{set_verdict, numbers_of, taken_child, choice_of, is_reached, is_short, choice_numbers, choice_node}
 use Rattle.tree_terms.specs.Paths.{most_budget, own_of, IsReachable}
 use Rattle.tree_terms.proofs.BinSearch.{set_right}
-use Rattle.tree_terms.proofs.PathNodes.{none_there}
 use Rattle.set_search.specs.Children.{IsFound}
 use Rattle.set_search.proofs.Sets.{inserted_some, places_count}
 use Rattle.choice_search.specs.Choices.{PlainChoiceTree, shape, IsChosen}
 use Rattle.choice_search.specs.Paths.{taken_along, answer_of, AreFitting, IsAbove, box_at, child_tree}
 use Rattle.choice_search.proofs.Choosing.{nothing_chosen, more_boxes, inside_chosen, outside_chosen}
-use Rattle.choice_search.proofs.Children.{next_box}
-
--- nothing is below a leaf
-past_leaf : {P : Type 0} (path : List ℕ) (k : ℕ) → IsSome (node_at None (path ++ k ∷ [])) → P
-past_leaf path k h = absurd (true≢false (sym (subst IsSome (none_there (path ++ k ∷ [])) h)))
-
--- into a child of a split, which its own path reaches
-pub reach_child : (token : PlainToken) (own n : ℕ) (child : ℕ → SearchTree) (j : ℕ) (path : List ℕ) → IsReachable (Split token own n child) (j ∷ path)
-    → (own ≤ most_budget) × (j < n) × (node_at (Some (Split token own n child)) (j ∷ path) ≡ node_at (Some (child j)) path) × IsReachable (child j) path
-reach_child token own n child j path r = go (ltb j n) refl
-  where
-    go : (b : Bool) → ltb j n ≡ b
-        → (own ≤ most_budget) × (j < n) × (node_at (Some (Split token own n child)) (j ∷ path) ≡ node_at (Some (child j)) path) × IsReachable (child j) path
-    go false e = absurd (true≢false (sym (subst IsSome (ap (λ b. node_at (if b then Some (child j) else None) path) e ∙ none_there path) r.there)))
-    go true e =
-        let same : node_at (Some (Split token own n child)) (j ∷ path) ≡ node_at (Some (child j)) path = ap (λ b. node_at (if b then Some (child j) else None) path) e in (
-          r.within [] path j refl (Split token own n child) refl,
-          ltb-true j n e,
-          same,
-          record {
-            there = subst IsSome same r.there;
-            within = λ front rest k f node g. r.within (j ∷ front) rest k (ap (λ (l : List ℕ). j ∷ l) f) node
-                (ap (λ b. node_at (if b then Some (child j) else None) front) e ∙ g);
-          },
-        )
+use Rattle.set_search.proofs.Reaching.{next_box, path_ends, past_leaf, refuted_leaf, own_within, reach_child}
 
 drop_next : (us : List ℕ) (k v : ℕ) (vs : List ℕ) → drop k us ≡ v ∷ vs → (k < length us) × (get_or us k 0 ≡ v) × (drop (k + 1) us ≡ vs)
 drop_next [] zero v vs e = absurd (cc (e))
@@ -104,16 +77,13 @@ module _ (t : PlainChoiceTree) (limits : IsInternalInstance t.instance) where
         → IsInto (drop decided (ranked t.instance)) taken numbers own decided j path
     into = go (drop decided (ranked t.instance)) refl
       where
-        leaf : {P : Type 0} → IsSome (node_at None path) → P
-        leaf h = absurd (true≢false (sym (subst IsSome (none_there path) h)))
-
         go : (us : List ℕ) → drop decided (ranked t.instance) ≡ us → IsReachable (choice_node t.instance t.scales t.goal us taken numbers own) (j ∷ path)
             → IsInto us taken numbers own decided j path
         go [] e r = none (is_reached t.instance t.goal taken) r.there
           where
             none : {P : Type 0} (b : Bool) → IsSome (node_at (Some (choice_of b true (choice_numbers t.instance taken numbers) own (Refuted (ValueShort ∷ []) own))) (j ∷ path)) → P
-            none true h = leaf h
-            none false h = leaf h
+            none true h = past_leaf path h
+            none false h = past_leaf path h
         go (v ∷ vs) e r = split (is_reached t.instance t.goal taken) refl (is_short t.instance t.goal taken (v ∷ vs)) refl r
           where
             next : (decided < length (ranked t.instance)) × (get_or (ranked t.instance) decided 0 ≡ v) × (drop (decided + 1) (ranked t.instance) ≡ vs)
@@ -125,8 +95,8 @@ module _ (t : PlainChoiceTree) (limits : IsInternalInstance t.instance) where
                       (λ ns count. choice_node t.instance t.scales t.goal vs (insert_box v taken) ns count)
                   | suc _ ↦ choice_node t.instance t.scales t.goal vs taken numbers 1
                 ]))) (j ∷ path) → IsInto (v ∷ vs) taken numbers own decided j path
-            split true f s g h = leaf h.there
-            split false f true g h = leaf h.there
+            split true f s g h = past_leaf path h.there
+            split false f true g h = past_leaf path h.there
             split false f false g h =
                 let k = reach_child (Choose (suc v)) own 2 _ j path h in
                 let same = same_child v vs next.1 next.2 j in
@@ -149,15 +119,6 @@ module _ (t : PlainChoiceTree) (limits : IsInternalInstance t.instance) where
       go true s f = refl
       go false true f = refl
       go false false f = refl
-
-  -- the node from which a path leads on counts within the greatest budget
-  own_within : (tree : SearchTree) (above : List ℕ) (k : ℕ) → IsReachable tree (above ++ k ∷ []) → own_of tree ≤ most_budget
-  own_within tree [] k r = r.within [] [] k refl tree refl
-  own_within tree (j ∷ above) k r = r.within [] (above ++ k ∷ []) j refl tree refl
-
-  refuted_leaf : {P : Type 0} (tokens : List PlainToken) (own : ℕ) (above : List ℕ) (k : ℕ) → IsReachable (Refuted tokens own) (above ++ k ∷ []) → P
-  refuted_leaf tokens own [] k r = absurd (true≢false (sym r.there))
-  refuted_leaf tokens own (j ∷ above) k r = past_leaf above k r.there
 
   come : (above : List ℕ) (k decided : ℕ) (taken numbers : List ℕ) (own : ℕ) → IsChosen t.instance decided taken numbers
       → numbers ≡ answer_of t.instance t.scales taken → AreFitting t.instance t.scales taken
@@ -224,19 +185,11 @@ module _ (t : PlainChoiceTree) (limits : IsInternalInstance t.instance) where
       → IsChild (length above) (taken_along [] (ranked t.instance) above) k (node_at (Some (shape t)) (above ++ k ∷ []))
   child_is above k r = come above k 0 [] [] 0 (nothing_chosen t.instance) refl tt r (length above) (omega arith)
 
-  -- a path that isn't empty ends with its last step
-  parts : (path : List ℕ) (last : ℕ) → last + 1 ≡ length path → path ≡ take last path ++ get_or path last 0 ∷ []
-  parts [] last e = absurd (omega (arith, e))
-  parts (k ∷ []) zero e = refl
-  parts (k ∷ []) (suc last) e = absurd (omega (arith, e))
-  parts (k ∷ j ∷ path) zero e = absurd (omega (arith, e))
-  parts (k ∷ j ∷ path) (suc last) e = ap (λ (l : List ℕ). k ∷ l) (parts (j ∷ path) last (omega (arith, e)))
-
   -- the child at the end of a path, by its last step
   pub end_is : (path : List ℕ) (last : ℕ) → last + 1 ≡ length path → IsReachable (shape t) path
       → IsChild (length (take last path)) (taken_along [] (ranked t.instance) (take last path)) (get_or path last 0) (node_at (Some (shape t)) path)
   end_is path last e r =
-      let p = parts path last e in
+      let p = path_ends path last e in
       subst (λ (l : List ℕ). IsChild (length (take last path)) (taken_along [] (ranked t.instance) (take last path)) (get_or path last 0) (node_at (Some (shape t)) l)) (sym p)
       (child_is (take last path) (get_or path last 0) (subst (λ (l : List ℕ). IsReachable (shape t) l) p r))
 

@@ -54,14 +54,7 @@ fn answer_of(alloc: Global, search: &mut SetSearch<'_>, taken: &[u32]) -> Result
     if taken.is_empty() {
         return Ok(Vec::new(alloc));
     }
-    match search.decide(alloc, taken, MOST_BUDGET)? {
-        Outcome::Yes { numbers, count: _ } => Ok(numbers),
-        Outcome::No {
-            tokens: _tokens,
-            count: _,
-        } => unreachable!(),
-        Outcome::Past => unreachable!(),
-    }
+    search.answer_of(alloc, taken)
 }
 
 // What the tree below a node's first child gives under a cap.

@@ -1,7 +1,7 @@
 -- A child of an outer tree whose set grew, by the verdict on the set.
-use Rattle.std.specs.Prelude.{ℕ, ◌+◌, ◌≤◌, ◌≡◌, List, map, Bool}
+use Rattle.std.specs.Prelude.{ℕ, ◌+◌, ◌≤◌, ◌≡◌, List, map, length, Bool}
 use Rattle.packing_terms.specs.Packing.{PlainInstance, IsPacking}
-use Rattle.packing_terms.specs.Goals.{subset}
+use Rattle.packing_terms.specs.Goals.{subset, IsBoxSet}
 use Rattle.packing_terms.specs.Tokens.{PlainToken}
 use Rattle.tree_terms.specs.Trees.{Verdict, Yes, No, count_of}
 use Rattle.tree_terms.specs.OuterTrees.{set_verdict}
@@ -35,3 +35,9 @@ IsChild instance scales left set (Fits keep numbers own) = DoesFit instance (set
 abbrev pub IsFound : Verdict → Type 0
 IsFound (Yes numbers count) = count ≤ most_budget
 IsFound (No tokens count) = ⊥
+
+-- a set of boxes that is found to fit within the greatest budget
+pub record IsFoundSet (instance : PlainInstance) (scales : Bool) (set : List ℕ) : Type 0 where
+  pub some : 1 ≤ length set
+  pub boxes : IsBoxSet instance set
+  pub found : IsFound (set_verdict instance scales set)

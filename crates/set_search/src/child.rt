@@ -2,10 +2,11 @@
 ghost use Rattle.std.specs.Prelude.{◌≡◌, IfOk};
 ghost use Rattle.packing_terms.specs.Goals.{IsBoxSet};
 ghost use Rattle.packing_terms.specs.OuterRefutation.{insert_box};
-ghost use Rattle.set_search.specs.Children.{IsChild};
+ghost use Rattle.tree_terms.specs.OuterTrees.{set_verdict, numbers_of};
+ghost use Rattle.set_search.specs.Children.{IsChild, IsFoundSet};
 
 use crate::insert::with_box;
-use crate::search::SetSearch;
+use crate::search::{MOST_BUDGET, SetSearch};
 use box_instances::NoMemory;
 use proof_tree::{Outcome, Token};
 use std::alloc::Global;
@@ -56,6 +57,24 @@ impl<'a> SetSearch<'a> {
                 let own = 1 + count;
                 Ok(Child::Fits { set, numbers, own })
             }
+        }
+    }
+
+    /// The places of a set that fits. Its class tree is known to have a count within the greatest
+    /// budget.
+    pub fn answer_of(&mut self, alloc: Global, keep: &[u32]) -> Result<Vec<u32>, NoMemory>
+        requires { IsFoundSet self.old.instance self.old.scales keep.now }
+        ensures same { self.new ≡ self.old }
+        ensures answer { IfOk result (λ numbers. numbers.items
+            ≡ numbers_of (set_verdict self.old.instance self.old.scales keep.now)) }
+    {
+        match self.decide(alloc, keep, MOST_BUDGET)? {
+            Outcome::Yes { numbers, count: _ } => Ok(numbers),
+            Outcome::No {
+                tokens: _tokens,
+                count: _,
+            } => unreachable!(),
+            Outcome::Past => unreachable!(),
         }
     }
 }
