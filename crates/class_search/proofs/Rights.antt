@@ -67,3 +67,7 @@ pub told_at : (t : PlainClassTree) → IsInternalInstance t.instance → (path :
     → 3 ^ (dims t.instance * box_count t.instance * (box_count t.instance - 1) / 2) ≤ cap + 1 → IsDecided r
 told_at t limits [] cap r f p l = class_told t.instance limits t.start t.scales cap r f l
 told_at t limits (k ∷ path) cap r f p l = absurd (cc (p))
+
+pub class_right : (instance : PlainInstance) → IsInternalInstance instance → (scales : Bool) (budget : ℕ) (r : PlainOutcome)
+    → r ≡ told budget (outcome (class_tree instance [] scales)) → IsRight instance [] r
+class_right instance limits scales budget r h = right_at (record { instance = instance; start = []; scales = scales }) limits tt [] budget r refl h

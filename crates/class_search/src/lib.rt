@@ -14,7 +14,7 @@ mod tree;
 mod visit;
 mod walk;
 
-pub use decision::{decide, decide_alone};
+pub use decision::{decide, decide_alone, decide_in};
 pub use edge_state::Exclusion;
 pub use same::are_same_instances;
 pub use tree::ClassTree;

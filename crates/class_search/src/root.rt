@@ -1,19 +1,21 @@
 // What the root alone is tested for.
-ghost use Rattle.std.specs.Prelude.{◌≡◌, ◌<◌, Some, None, MatchOption, IfSome};
+ghost use Rattle.std.specs.Prelude.{◌≡◌, ◌<◌, ◌∷◌, [], Some, None, MatchOption, IfSome, IfOk};
 ghost use Rattle.std.specs.List.{find};
 ghost use Rattle.packing_terms.specs.Packing.{dims, box_count, container_side, side};
 ghost use Rattle.packing_terms.specs.Limits.{IsInternalInstance};
 ghost use Rattle.packing_terms.specs.Scales.{SidesFit};
 ghost use Rattle.rule_terms.specs.Rounds.{below};
+ghost use Rattle.tree_terms.specs.Trees.{Decided, No};
+ghost use Rattle.proof_tree.specs.Plain.{plain_outcome, plain_token};
 ghost use Rattle.tree_terms.specs.Rank.{ranked_pairs};
 ghost use Rattle.tree_terms.specs.ClassTree.{first_large, excess_where, class_tree};
 ghost use Rattle.class_search.specs.Rooted.{is_larger, IsExcessToken, IsArrival};
 
 use crate::visit::{NodeKind, next_kind};
-use box_instances::Instance;
+use box_instances::{Instance, NoMemory};
 use conservative_scales::first_exceeding;
 use edge_state::EdgeState;
-use proof_tree::Token;
+use proof_tree::{Outcome, Token};
 use rule_closure::{Closed, Closer};
 use std::alloc::Global;
 
@@ -128,4 +130,15 @@ pub fn visit_class_root(
         }),
         None => visit_fitting_root(alloc, instance, pairs, scales, state, closer),
     }
+}
+
+// The outcome of a root that one of its own tests refutes.
+pub fn refuted_root(alloc: Global, token: Token) -> Result<Outcome, NoMemory>
+    ensures { IfOk result (λ r. plain_outcome r ≡ Decided (No (plain_token token ∷ []) 0)) }
+{
+    let mut tokens = Vec::new(alloc);
+    let Ok(()) = tokens.push(token) else {
+        return Err(NoMemory);
+    };
+    Ok(Outcome::No { tokens, count: 0 })
 }

@@ -12,7 +12,7 @@ ghost use Rattle.class_search.specs.Rooted.{IsArrival};
 ghost use Rattle.class_search.specs.Tree.{shape, same_trees};
 
 use crate::rank::ranked_pairs;
-use crate::root::{Arrival, visit_class_root};
+use crate::root::{Arrival, refuted_root, visit_class_root};
 use crate::same::{are_same_exclusions, are_same_instances};
 use crate::visit::visit_root;
 use crate::walk::{descend, told, walk};
@@ -135,13 +135,7 @@ impl<'a> ClassTree<'a> {
         let mut state = self.start_state(alloc)?;
         let mut closer = Closer::new(alloc, self.instance.dims(), self.instance.len())?;
         match self.come_to(alloc, &mut state, &mut closer, path) {
-            Arrival::RefutedRoot(token) => {
-                let mut tokens = Vec::new(alloc);
-                let Ok(()) = tokens.push(token) else {
-                    return Err(NoMemory);
-                };
-                Ok(Outcome::No { tokens, count: 0 })
-            }
+            Arrival::RefutedRoot(token) => refuted_root(alloc, token),
             Arrival::Inner(node) => walk(
                 alloc,
                 self.instance,

@@ -46,7 +46,9 @@ pub fn walk(
     requires pairs { pairs.now ≡ ranked_pairs instance.now }
     requires fit { SidesFit instance.now }
     requires known { IsKind instance.now state.old.trail node }
-    ensures { IfOk result (λ r. plain_outcome r ≡ told cap (outcome (kind_tree instance.now state.old.trail node))) }
+    ensures sizes { state.new ≡ record state.old { trail = state.new.trail } }
+    ensures closer { closer.new ≡ closer.old }
+    ensures outcome { IfOk result (λ r. plain_outcome r ≡ told cap (outcome (kind_tree instance.now state.old.trail node))) }
 {
     let mut stack: Vec<Waiting> = Vec::new(alloc);
     let mut tokens = Vec::new(alloc);

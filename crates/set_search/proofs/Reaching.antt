@@ -1,8 +1,8 @@
 -- Paths into the children of outer trees, and lists by their places.
-use Rattle.std.proofs.Common.{◌≡◌, ℕ, zero, suc, ◌+◌, ◌<◌, ◌≤◌, refl, sym, ap, subst, ◌∙◌, arith, Bool, true, false, List, [], ◌∷◌, ◌++◌, length, take, drop, get_or, ltb, if◌then◌else◌, Option, Some, None, IsSome}
+use Rattle.std.proofs.Common.{◌≡◌, ℕ, zero, suc, ◌+◌, ◌<◌, ◌≤◌, refl, sym, ap, subst, ◌∙◌, arith, Bool, true, false, List, [], ◌∷◌, ◌++◌, length, take, drop, get_or, ltb, if◌then◌else◌, Some, None, IsSome}
 use Rattle.std.proofs.lemmas.Bool.{true≢false, ltb-true}
 use Rattle.packing_terms.specs.Tokens.{PlainToken}
-use Rattle.tree_terms.specs.Trees.{SearchTree, Settled, Refuted, Split, node_at}
+use Rattle.tree_terms.specs.Trees.{SearchTree, Refuted, Split, node_at}
 use Rattle.tree_terms.specs.Paths.{most_budget, own_of, IsReachable}
 use Rattle.tree_terms.proofs.PathNodes.{none_there}
 

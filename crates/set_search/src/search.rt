@@ -1,14 +1,18 @@
 // The decision of sets of the boxes of one instance.
 ghost use Rattle.std.specs.Prelude.{◌≡◌, ◌≤◌, length, IfOk, []};
 ghost use Rattle.packing_terms.specs.Goals.{subset, IsBoxSet};
+ghost use Rattle.packing_terms.specs.Limits.{IsDimCount, most_boxes};
+ghost use Rattle.set_search.specs.Searches.{AreClosers};
 ghost use Rattle.tree_terms.specs.Trees.{told};
 ghost use Rattle.tree_terms.specs.OuterTrees.{set_verdict};
 ghost use Rattle.proof_tree.specs.Plain.{plain_outcome};
 ghost use Rattle.class_search.specs.Right.{IsRight};
 
 use box_instances::{BoxSet, Instance, NoMemory};
-use class_search::decide_alone;
+use class_search::decide_in;
+use edge_state::EdgeState;
 use proof_tree::Outcome;
+use rule_closure::Closer;
 use std::alloc::Global;
 use std::marker::Model;
 
@@ -18,23 +22,41 @@ pub const MOST_BUDGET: u64 = 10_000_000;
 /// Decides sets of the boxes of one instance, one after another, each by its class tree.
 ///
 /// It is seen as the instance and the choice of scales. An outer search makes thousands of small
-/// decisions; so the instance of a set is made in place.
+/// decisions; so the instance of a set, its state and the room of a closing are taken once, for all
+/// of them.
 #[derive(Drop)]
 pub struct SetSearch<'a> {
     whole: &'a Instance,
     scales: bool,
     set: BoxSet<'a>,
+    state: EdgeState,
+    closers: Vec<Closer>,
 }
 
 impl<'a> Model for SetSearch<'a> {
-    ghost use Rattle.std.specs.Prelude.{◌≡◌};
-    ghost use Rattle.set_search.specs.Searches.{PlainSetSearch};
+    ghost use Rattle.set_search.specs.Searches.{PlainSetSearch, HasRoom};
 
     ghost Value = { PlainSetSearch };
 
     ghost view = { λ s. record { instance = s.whole.now; scales = s.scales } };
 
-    ghost invariant = { λ s. s.set.whole ≡ s.whole.now };
+    ghost invariant = { λ s. HasRoom s.whole.now s.set.whole s.state s.closers.items };
+}
+
+// The room of a closing, for each number of boxes up to this one.
+fn closers_up_to(alloc: Global, dims: u32, boxes: u32) -> Result<Vec<Closer>, NoMemory>
+    requires dims { IsDimCount dims }
+    requires few { boxes ≤ most_boxes }
+    ensures { IfOk result (λ closers. AreClosers dims boxes closers.items) }
+{
+    let mut closers = Vec::new(alloc);
+    for last in 0..boxes {
+        let closer = Closer::new(alloc, dims, last + 1)?;
+        let Ok(()) = closers.push(closer) else {
+            return Err(NoMemory);
+        };
+    }
+    Ok(closers)
 }
 
 impl<'a> SetSearch<'a> {
@@ -47,10 +69,14 @@ impl<'a> SetSearch<'a> {
         ensures { IfOk result (λ s. s ≡ record { instance = instance.now; scales = scales }) }
     {
         let set = BoxSet::all(alloc, instance)?;
+        let state = EdgeState::new(alloc, instance.dims(), instance.len())?;
+        let closers = closers_up_to(alloc, instance.dims(), instance.len())?;
         Ok(SetSearch {
             whole: instance,
             scales,
             set,
+            state,
+            closers,
         })
     }
 
@@ -66,8 +92,18 @@ impl<'a> SetSearch<'a> {
         ensures right { IfOk result (λ r.
             IsRight (subset self.old.instance keep.now) [] (plain_outcome r)) }
     {
-        let _whole = self.whole;
+        let _limits = self.whole.len();
         self.set.set_to(keep);
-        decide_alone(alloc, self.set.instance(), budget, self.scales)
+        self.state.resize(keep.len() as u32);
+        let closer = &mut self.closers[keep.len() - 1];
+        let instance = self.set.instance();
+        decide_in(
+            alloc,
+            instance,
+            &mut self.state,
+            closer,
+            budget,
+            self.scales,
+        )
     }
 }

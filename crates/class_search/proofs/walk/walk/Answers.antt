@@ -21,6 +21,7 @@ loop-node-preserved-in-Some c =
       within = c.loop-node.invariant.within;
       same_dims = ap (λ (s : PlainEdges). s.dims) c.visit_child-node.ensures.sizes ∙ (ap (λ (s : PlainEdges). s.dims) c.undo.ensures ∙ c.loop-node.invariant.same_dims);
       same_boxes = ap (λ (s : PlainEdges). s.boxes) c.visit_child-node.ensures.sizes ∙ (ap (λ (s : PlainEdges). s.boxes) c.undo.ensures ∙ c.loop-node.invariant.same_boxes);
+      same_room = ap (λ (s : PlainEdges). s.room) c.visit_child-node.ensures.sizes ∙ (ap (λ (s : PlainEdges). s.room) c.undo.ensures ∙ c.loop-node.invariant.same_room);
       same_closer = c.visit_child-node.ensures.closer ∙ c.loop-node.invariant.same_closer;
     })
 
@@ -45,5 +46,6 @@ loop-node-preserved c =
       within = omega (arith, c.loop-node.invariant.within, c.if-count-cap.false);
       same_dims = ap (λ (s : PlainEdges). s.dims) c.visit_child-node-in-Divided.ensures.sizes ∙ c.loop-node.invariant.same_dims;
       same_boxes = ap (λ (s : PlainEdges). s.boxes) c.visit_child-node-in-Divided.ensures.sizes ∙ c.loop-node.invariant.same_boxes;
+      same_room = ap (λ (s : PlainEdges). s.room) c.visit_child-node-in-Divided.ensures.sizes ∙ c.loop-node.invariant.same_room;
       same_closer = c.visit_child-node-in-Divided.ensures.closer ∙ c.loop-node.invariant.same_closer;
     })

@@ -11,6 +11,7 @@ invariant-loop-node l = record {
   within : l.count ≤ l.cap;
   same_dims : l.state.dims ≡ l.fn.state.dims;
   same_boxes : l.state.boxes ≡ l.fn.state.boxes;
+  same_room : l.state.room ≡ l.fn.state.room;
   same_closer : l.closer ≡ l.fn.closer;
 }
 
