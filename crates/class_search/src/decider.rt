@@ -7,9 +7,8 @@ ghost use Rattle.proof_tree.specs.Plain.{plain_outcome};
 ghost use Rattle.class_search.specs.Deciders.{decider_of};
 ghost use Rattle.class_search.specs.Right.{IsRight, Decides, IsDecided};
 
-use crate::exploring::explored;
+use crate::exploring::searched;
 use crate::rank::ranked_pairs;
-use crate::root::visit_class_root;
 use box_instances::{Instance, NoMemory};
 use edge_state::EdgeState;
 use proof_tree::Outcome;
@@ -75,7 +74,6 @@ impl Decider {
         let pairs = self.pairs.as_slice();
         let (state, closer) = (&mut self.state, &mut self.closer);
         state.reset();
-        let arrival = visit_class_root(alloc, instance, pairs, scales, state, closer);
-        explored(alloc, instance, pairs, state, closer, arrival, budget)
+        searched(alloc, instance, pairs, state, closer, budget, scales)
     }
 }

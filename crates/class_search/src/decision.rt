@@ -7,8 +7,12 @@ ghost use Rattle.proof_tree.specs.Plain.{plain_outcome};
 ghost use Rattle.class_search.specs.Right.{IsRight, Decides, IsDecided};
 
 use crate::Decider;
+use crate::exploring::searched;
+use crate::rank::ranked_pairs;
 use box_instances::{Instance, NoMemory};
+use edge_state::EdgeState;
 use proof_tree::Outcome;
+use rule_closure::Closer;
 use std::alloc::Global;
 use work_share::Settings;
 
@@ -30,6 +34,39 @@ pub fn decide_alone(
 {
     let mut decider = Decider::new(alloc, instance)?;
     decider.decide(alloc, instance, budget, scales)
+}
+
+/// Whether an instance fits, as `decide_alone` answers it, with a state and the room of a closing
+/// that are handed in, so that many decisions use the same. The state is one for as many dimensions
+/// and boxes, with all masks full, and so is the room; afterwards the state holds any exclusions.
+pub fn decide_in(
+    alloc: Global,
+    instance: &Instance,
+    state: &mut EdgeState,
+    closer: &mut Closer,
+    budget: u64,
+    scales: bool,
+) -> Result<Outcome, NoMemory>
+    requires dims { state.old.dims ≡ dims instance.now }
+    requires boxes { state.old.boxes ≡ box_count instance.now }
+    requires full { state.old.trail ≡ [] }
+    requires room { closer.old ≡ record { dims = state.old.dims; boxes = state.old.boxes } }
+    ensures sizes { state.new ≡ record state.old { trail = state.new.trail } }
+    ensures closer { closer.new ≡ closer.old }
+    ensures outcome { IfOk result (λ r. plain_outcome r ≡ told budget (outcome (class_tree instance.now [] scales))) }
+    ensures right { IfOk result (λ r. IsRight instance.now [] (plain_outcome r)) }
+{
+    let _limits = instance.len();
+    let pairs = ranked_pairs(alloc, instance)?;
+    searched(
+        alloc,
+        instance,
+        pairs.as_slice(),
+        state,
+        closer,
+        budget,
+        scales,
+    )
 }
 
 /// Whether an instance fits, decided by its class tree under the budget of the settings. The workers are 1.

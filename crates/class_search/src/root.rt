@@ -47,8 +47,8 @@ fn large_dim(instance: &Instance, v: u32) -> Option<u32>
     None
 }
 
-// The first box that is longer than the container, and its first such dimension.
-fn large_side(instance: &Instance) -> Option<(u32, u32)>
+/// The first box that is longer than the container, and its first such dimension.
+pub fn first_too_large(instance: &Instance) -> Option<(u32, u32)>
     ensures value { result ≡ first_large instance.now }
     ensures there { IfSome result (λ p. (p.0 < 128) × (p.1 < 4)) }
 {
@@ -121,7 +121,7 @@ pub fn visit_class_root(
     ensures closer { closer.new ≡ closer.old }
     ensures root { IsArrival instance.now (Some (class_tree instance.now state.old.trail scales)) state.new.trail result }
 {
-    match large_side(instance) {
+    match first_too_large(instance) {
         Some((v, dim)) => Arrival::RefutedRoot(Token::TooLarge {
             box_no: v + 1,
             dim: dim + 1,

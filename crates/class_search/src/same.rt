@@ -43,7 +43,7 @@ fn are_same_boxes(first: &Instance, second: &Instance, v: u32) -> bool
     true
 }
 
-// Whether the instances are the same.
+/// Whether the instances are the same.
 pub fn are_same_instances(first: &Instance, second: &Instance) -> bool
     ensures { MatchBool result (first.now ≡ second.now) (¬ (first.now ≡ second.now)) }
 {

@@ -1,0 +1,99 @@
+// The greatest value.
+ghost use Rattle.std.specs.Prelude.{◌≡◌, ◌<◌, ◌≤◌, ◌+◌, ◌-◌, ◌*◌, ◌/◌, ◌^◌, suc, false, IfOk};
+ghost use Rattle.packing_terms.specs.Packing.{dims, box_count};
+ghost use Rattle.packing_terms.specs.Goals.{worth};
+ghost use Rattle.rule_terms.specs.Rounds.{below};
+ghost use Rattle.tree_terms.specs.Levels.{first_values, value_run};
+ghost use Rattle.proof_tree.specs.Plain.{plain_tokens};
+ghost use Rattle.level_search.specs.Ladders.{plain_reached};
+ghost use Rattle.bin_knapsack.specs.Choices.{Tells, IsAnswer, IsTrueChoice, IsSpentExactly, IsFinal};
+
+use crate::Choice;
+use crate::values::ValueLadder;
+use box_instances::{Instance, NoMemory};
+use level_search::{Reached, bisect};
+use proof_tree::Token;
+use std::alloc::Global;
+use work_share::Settings;
+
+// What all boxes together are worth.
+fn whole_worth(instance: &Instance) -> u64
+    ensures value { result ≡ worth instance.now (below (box_count instance.now)) }
+    ensures to { result ≤ 128000000000 }
+{
+    let mut sum = 0;
+    for v in 0..instance.len() {
+        sum += instance.value(v);
+    }
+    sum
+}
+
+// The refutation of a value above what all boxes are worth.
+fn value_short(alloc: Global, instance: &Instance) -> Result<Vec<Token>, NoMemory>
+    ensures { IfOk result (λ tokens. plain_tokens tokens.items ≡ (first_values instance.now).tokens) }
+{
+    let mut tokens = Vec::new(alloc);
+    let Ok(()) = tokens.push(Token::ValueShort) else {
+        return Err(NoMemory);
+    };
+    Ok(tokens)
+}
+
+// The run of values.
+fn bisect_values<R>(
+    rt: &R,
+    alloc: Global,
+    instance: &Instance,
+    settings: &Settings,
+) -> Result<Reached, NoMemory>
+    ensures { IfOk result (λ r. plain_reached r ≡ value_run instance.now settings.now.budget settings.now.scales) }
+{
+    let _limits = instance.len();
+    let above = whole_worth(instance) + 1;
+    let tokens = value_short(alloc, instance)?;
+    let mut ladder = ValueLadder::new(alloc, instance, settings);
+    bisect(rt, &mut ladder, above, tokens, 0, Vec::new(alloc))
+}
+
+// The answer where a run of values ended.
+fn told(reached: Reached) -> Choice
+    requires { reached.spent ≡ false → suc reached.placed ≡ reached.refuted }
+    ensures { Tells (plain_reached reached) result }
+{
+    if reached.spent {
+        return Choice::Between {
+            placed: reached.placed,
+            numbers: reached.numbers,
+            refuted: reached.refuted,
+            tokens: reached.tokens,
+        };
+    }
+    Choice::Greatest {
+        value: reached.placed,
+        numbers: reached.numbers,
+        tokens: reached.tokens,
+    }
+}
+
+/// The greatest value of a set of boxes that fits, with both certificates: the taken boxes with coordinates that are a packing of them,
+/// and tokens that refute one more.
+///
+/// It follows the run of values from 0 and one more than all boxes are worth, each decided by its choice tree under the budget. `Between`
+/// comes exactly where a value on the run has a tree with more branchings than the budget; never where, with n boxes and m pairs of boxes
+/// in all dimensions, the budget is at least 3 to the m times 2^(n + 1) - 2.
+pub fn greatest_value<R>(
+    rt: &R,
+    alloc: Global,
+    instance: &Instance,
+    settings: &Settings,
+) -> Result<Choice, NoMemory>
+    ensures answer { IfOk result (λ c. IsAnswer instance.now settings.now.budget settings.now.scales c) }
+    ensures right { IfOk result (λ c. IsTrueChoice instance.now c) }
+    ensures spent { IfOk result (λ c. IsSpentExactly instance.now settings.now.budget settings.now.scales c) }
+    ensures enough { 3 ^ (dims instance.now * box_count instance.now * (box_count instance.now - 1) / 2)
+        * (2 ^ (box_count instance.now + 1) - 2) ≤ settings.now.budget → IfOk result (λ c. IsFinal c) }
+{
+    let _limits = instance.len();
+    let reached = bisect_values(rt, alloc, instance, settings)?;
+    Ok(told(reached))
+}

@@ -1,0 +1,115 @@
+// The least number of bins.
+ghost use Rattle.std.specs.Prelude.{◌≡◌, ◌<◌, ◌≤◌, ◌+◌, ◌-◌, ◌*◌, ◌/◌, ◌^◌, suc, false, None, IfOk};
+ghost use Rattle.packing_terms.specs.Packing.{dims, box_count};
+ghost use Rattle.packing_terms.specs.Goals.{HasTooLargeBox};
+ghost use Rattle.packing_terms.specs.Limits.{most_boxes};
+ghost use Rattle.packing_terms.specs.Scales.{SidesFit, sum_below};
+ghost use Rattle.tree_terms.specs.ClassTree.{first_large};
+ghost use Rattle.tree_terms.specs.Levels.{first_bins, bin_run};
+ghost use Rattle.proof_tree.specs.Plain.{plain_tokens};
+ghost use Rattle.level_search.specs.Ladders.{plain_reached};
+ghost use Rattle.bin_knapsack.specs.BinAnswers.{Tells, IsAnswer, AreTrueBins, IsSpentExactly, IsFinal};
+
+use crate::Bins;
+use crate::counts::BinLadder;
+use crate::spread::spread_all;
+use bin_search::BinTree;
+use box_instances::{Instance, NoMemory};
+use class_search::first_too_large;
+use level_search::{Reached, bisect};
+use proof_tree::{Outcome, Token};
+use std::alloc::Global;
+use work_share::{Settings, Tree};
+
+// The refutation of no bins at all.
+fn no_bins(alloc: Global, instance: &Instance, scales: bool) -> Result<Vec<Token>, NoMemory>
+    requires { SidesFit instance.now }
+    ensures { IfOk result (λ tokens. plain_tokens tokens.items ≡ (first_bins instance.now scales).tokens) }
+{
+    let _limits = instance.len();
+    let tree = BinTree::new(alloc, instance, 0, scales)?;
+    match tree.explore(alloc, &[], 0)? {
+        Outcome::No { tokens, count: _ } => Ok(tokens),
+        Outcome::Yes {
+            numbers: _numbers,
+            count: _,
+        } => unreachable!(),
+        Outcome::Past => unreachable!(),
+    }
+}
+
+// The run of numbers of bins of an instance none of whose boxes is too large.
+fn bisect_bins<R>(
+    rt: &R,
+    alloc: Global,
+    instance: &Instance,
+    settings: &Settings,
+) -> Result<Reached, NoMemory>
+    requires { first_large instance.now ≡ None }
+    ensures { IfOk result (λ r. plain_reached r ≡ bin_run instance.now settings.now.budget settings.now.scales) }
+{
+    let _limits = instance.len();
+    let numbers = spread_all(alloc, instance)?;
+    let tokens = no_bins(alloc, instance, settings.scales)?;
+    let mut ladder = BinLadder::new(alloc, instance, settings);
+    bisect(
+        rt,
+        &mut ladder,
+        0,
+        tokens,
+        u64::from(instance.len()),
+        numbers,
+    )
+}
+
+// The answer where a run of numbers of bins ended.
+fn told(reached: Reached) -> Bins
+    requires rising { reached.refuted < reached.placed }
+    requires beside { reached.spent ≡ false → suc reached.refuted ≡ reached.placed }
+    requires limit { reached.placed ≤ most_boxes }
+    ensures { Tells (plain_reached reached) result }
+{
+    if reached.spent {
+        return Bins::Between {
+            refuted: reached.refuted as u32,
+            tokens: reached.tokens,
+            bins: reached.placed as u32,
+            numbers: reached.numbers,
+        };
+    }
+    Bins::Least {
+        bins: reached.placed as u32,
+        numbers: reached.numbers,
+        tokens: reached.tokens,
+    }
+}
+
+/// The least number of bins in which the boxes fit, with both certificates: each box's bin and coordinates, such that the boxes of each
+/// bin are a packing, and tokens that refute one bin less.
+///
+/// It follows the run of numbers from 0 and a bin for each box, each decided by its bin tree under the budget. `NoneFits` comes exactly
+/// where a box is longer than the container, and names the first. `Between` comes exactly where a number on the run has a tree with more
+/// branchings than the budget; never where, with n boxes and m pairs of boxes in all dimensions, the budget is at least 3 to the m times
+/// (n - 1) + (n - 1)^2 + .. + (n - 1)^n.
+pub fn least_bins<R>(
+    rt: &R,
+    alloc: Global,
+    instance: &Instance,
+    settings: &Settings,
+) -> Result<Bins, NoMemory>
+    ensures answer { IfOk result (λ b. IsAnswer instance.now settings.now.budget settings.now.scales b) }
+    ensures right { IfOk result (λ b. AreTrueBins instance.now b) }
+    ensures spent { IfOk result (λ b. IsSpentExactly instance.now settings.now.budget settings.now.scales b) }
+    ensures enough { 3 ^ (dims instance.now * box_count instance.now * (box_count instance.now - 1) / 2)
+        * sum_below (box_count instance.now) (λ j. (box_count instance.now - 1) ^ (j + 1)) ≤ settings.now.budget
+        → IfOk result (λ b. IsFinal b) }
+{
+    let _limits = instance.len();
+    match first_too_large(instance) {
+        Some((box_no, dim)) => Ok(Bins::NoneFits { box_no, dim }),
+        None => {
+            let reached = bisect_bins(rt, alloc, instance, settings)?;
+            Ok(told(reached))
+        }
+    }
+}

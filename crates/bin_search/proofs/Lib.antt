@@ -1,0 +1,9 @@
+pub mod Placements
+pub mod ListsOf
+pub mod Placing
+pub mod Walking
+pub mod Fitting
+pub mod Answering
+pub mod Children
+pub mod Rights
+pub mod PathNodes

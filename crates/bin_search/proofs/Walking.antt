@@ -1,0 +1,167 @@
+-- Each turn of the walk through a bin tree leaves what is still to be given.
+use Rattle.std.proofs.Common.{◌≡◌, ℕ, suc, ◌+◌, ◌-◌, ◌<◌, ◌≤◌, sym, ap, ◌∙◌, arith, Bool, List, [], ◌∷◌, ◌++◌, length, get_or, drop, Some}
+use Rattle.packing_terms.specs.Packing.{PlainInstance}
+use Rattle.packing_terms.specs.Limits.{IsInternalInstance}
+use Rattle.packing_terms.specs.Tokens.{PlainToken}
+use Rattle.packing_terms.specs.Tokens.PlainToken.{Assign, SetRefuted}
+use Rattle.packing_terms.specs.OuterRefutation.{Bins, placements}
+use Rattle.tree_terms.specs.Rank.{ranked}
+use Rattle.tree_terms.specs.Trees.{SearchTree, Verdict, Yes, No, nothing, join, join_from, outcome, count_of}
+use Rattle.tree_terms.specs.OuterTrees.{set_verdict, with_answer, bin_numbers, bin_child, bin_node}
+use Rattle.tree_terms.proofs.Joins.{join_assoc, join_nothing, nothing_join, join_next, count_join_no}
+use Rattle.set_search.specs.Children.{IsRefuted}
+use Rattle.set_search.proofs.Reaching.{next_box}
+use Rattle.set_search.proofs.Verdicts.{advance, advance_leaf, count_left}
+use Rattle.bin_search.specs.declared.node.Placed.{Placed}
+use Rattle.bin_search.specs.Lists.{lists_of}
+use Rattle.bin_search.specs.Nodes.{IsPlaced, box_of, grown_bin, IsEntered}
+use Rattle.bin_search.specs.Trees.{PlainBinTree}
+use Rattle.bin_search.specs.Walks.{later_boxes, next_bins, child_of, width, rest_verdict, waiting_verdict, IsSplit, IsLeft}
+use Rattle.bin_search.proofs.Placements.{placed_at, changed_at}
+use Rattle.bin_search.proofs.Placing.{next_placed}
+
+-- a node counts no less than its own count
+pub node_counts : (instance : PlainInstance) (scales : Bool) (k : ℕ) (rest : List ℕ) (bins : Bins) (answers : List (List ℕ)) (own : ℕ)
+    → own ≤ count_of (outcome (bin_node instance scales k rest bins answers own))
+node_counts instance scales k [] bins answers own = omega arith
+node_counts instance scales k (v ∷ vs) bins answers own =
+    count_left (No (Assign (suc v) ∷ []) own) (join_from 0 (length (placements k bins v)) (λ b. outcome (
+    let next = get_or (placements k bins v) b [] in
+    bin_child b (set_verdict instance scales (get_or next b []))
+    (λ numbers count. bin_node instance scales k vs next (with_answer answers b numbers) count))))
+
+-- a child counts no less than 1 and what the decision of its changed bin cost
+pub child_counts : (instance : PlainInstance) (scales : Bool) (k : ℕ) (rest : List ℕ) (bins : Bins) (answers : List (List ℕ)) (b : ℕ) (set : Verdict)
+    → 1 + count_of set ≤ count_of (outcome (bin_child b set (λ numbers n. bin_node instance scales k rest bins (with_answer answers b numbers) n)))
+child_counts instance scales k rest bins answers b (Yes ns n) = node_counts instance scales k rest bins (with_answer answers b ns) (1 + n)
+child_counts instance scales k rest bins answers b (No ts n) = omega arith
+
+module _ (t : PlainBinTree) where
+  -- the node with one child more visited
+  abbrev pub visited_next : Placed → Placed
+  visited_next c = record c { visited = c.visited + 1 }
+
+  -- the verdict on the set of the child that comes next
+  abbrev pub next_set : Placed → Verdict
+  next_set c = set_verdict t.instance t.scales (grown_bin t.instance c)
+
+  -- a node that is entered, with its token and its own count, joined with its children
+  pub entered_all : (d : Placed) (own : ℕ) → d.placed < length (ranked t.instance) → d.visited ≡ 0
+      → join (No (Assign (suc (box_of t.instance d)) ∷ []) own) (rest_verdict t d)
+      ≡ outcome (bin_node t.instance t.scales t.bins (drop d.placed (ranked t.instance)) (lists_of d.bins.items) (lists_of d.answers.items) own)
+  entered_all d own there none =
+      ap (λ x. join (No (Assign (suc (box_of t.instance d)) ∷ []) own) x) rest_all
+      ∙ ap (λ us. outcome (bin_node t.instance t.scales t.bins us (lists_of d.bins.items) (lists_of d.answers.items) own)) (sym (next_box (ranked t.instance) d.placed there))
+    where
+      rest_all : rest_verdict t d ≡ join_from 0 (width t d) (λ b. outcome (child_of t d b))
+      rest_all = ap (λ k. join_from k (width t d - k) (λ b. outcome (child_of t d b))) none
+          ∙ ap (λ n. join_from 0 n (λ b. outcome (child_of t d b))) (let z : width t d - 0 ≡ width t d = omega arith in z)
+
+  -- the start
+  pub starts : (d : Placed) (own : ℕ) → d.placed < length (ranked t.instance) → d.visited ≡ 0 → IsPlaced t.instance t.bins d.placed (lists_of d.bins.items) (lists_of d.answers.items)
+      → IsLeft t (outcome (bin_node t.instance t.scales t.bins (drop d.placed (ranked t.instance)) (lists_of d.bins.items) (lists_of d.answers.items) own))
+      (Assign (suc (box_of t.instance d)) ∷ []) own d []
+  starts d own there none h = record {
+    joined = ap (λ x. join (No (Assign (suc (box_of t.instance d)) ∷ []) own) x) (join_nothing (rest_verdict t d)) ∙ entered_all d own there none;
+    node = record { there = there; node = h; visited = omega (arith, none) };
+    waits = tt;
+  }
+
+  module _ (whole : Verdict) (tokens : List PlainToken) (count : ℕ) (c : Placed) where
+    -- all children are visited
+    module _ (all : c.visited ≡ width t c) where
+      none_left : rest_verdict t c ≡ nothing
+      none_left =
+          let e : width t c - c.visited ≡ 0 = omega (arith, all) in
+          ap (λ n. join_from c.visited n (λ b. outcome (child_of t c b))) e
+
+      pub pop_last : IsLeft t whole tokens count c [] → No tokens count ≡ whole
+      pop_last h = sym (join_nothing (No tokens count)) ∙ (ap (λ x. join (No tokens count) x) (sym (ap (λ x. join x nothing) none_left)) ∙ h.joined)
+
+      pub pop_next : (w : Placed) (ws : List Placed) → IsLeft t whole tokens count c (w ∷ ws) → IsLeft t whole tokens count w ws
+      pop_next w ws h = record {
+        joined = ap (λ x. join (No tokens count) x) (sym (nothing_join (join (rest_verdict t w) (waiting_verdict t ws)))
+            ∙ ap (λ x. join x (join (rest_verdict t w) (waiting_verdict t ws))) (sym none_left)) ∙ h.joined;
+        node = h.waits.0;
+        waits = h.waits.1;
+      }
+
+    -- a child comes next
+    module _ (ws : List Placed) (h : IsLeft t whole tokens count c ws) (more : c.visited < width t c) where
+      rest_is : rest_verdict t c ≡ join (outcome (child_of t c c.visited)) (rest_verdict t (visited_next c))
+      rest_is =
+          let e : width t c - c.visited ≡ suc (width t c - (c.visited + 1)) = omega (arith, more) in
+          ap (λ n. join_from c.visited n (λ b. outcome (child_of t c b))) e
+          ∙ join_next c.visited (width t c - (c.visited + 1)) (λ b. outcome (child_of t c b))
+
+      -- the child by the verdict on its changed bin
+      abbrev child : Verdict → SearchTree
+      child set = bin_child c.visited set (λ numbers n. bin_node t.instance t.scales t.bins (later_boxes t c) (next_bins t c c.visited) (with_answer (lists_of c.answers.items) c.visited numbers) n)
+
+      child_is : child_of t c c.visited ≡ child (next_set c)
+      child_is = ap (λ us. child (set_verdict t.instance t.scales us)) (changed_at t.bins (lists_of c.bins.items) (box_of t.instance c) c.visited more)
+
+      child_joined : join (No tokens count) (join (outcome (child (next_set c))) (join (rest_verdict t (visited_next c)) (waiting_verdict t ws))) ≡ whole
+      child_joined =
+          ap (λ x. join (No tokens count) (join (outcome x) (join (rest_verdict t (visited_next c)) (waiting_verdict t ws)))) (sym child_is)
+          ∙ (ap (λ x. join (No tokens count) x)
+          (sym (join_assoc (outcome (child_of t c c.visited)) (rest_verdict t (visited_next c)) (waiting_verdict t ws)) ∙ ap (λ x. join x (waiting_verdict t ws)) (sym rest_is)) ∙ h.joined)
+
+      visited_split : IsSplit t (visited_next c)
+      visited_split = let n = h.node in record { there = n.there; node = n.node; visited = omega (arith, more) }
+
+      pub child_past : count + 1 + count_of (next_set c) ≤ count_of whole
+      child_past =
+          let k = child_counts t.instance t.scales t.bins (later_boxes t c) (next_bins t c c.visited) (lists_of c.answers.items) c.visited (next_set c) in
+          let l = count_left (outcome (child (next_set c))) (join (rest_verdict t (visited_next c)) (waiting_verdict t ws)) in
+          let m = ap count_of child_joined in
+          let n = count_join_no tokens count (join (outcome (child (next_set c))) (join (rest_verdict t (visited_next c)) (waiting_verdict t ws))) in
+          omega (arith, k, l, m, n)
+
+      -- the changed bin doesn't fit
+      pub refuted_next : (left : ℕ) (us : List PlainToken) (own : ℕ) → IsRefuted (next_set c) left us own
+          → IsLeft t whole (tokens ++ SetRefuted (Some (suc c.visited)) ∷ us) (count + own) (visited_next c) ws
+      refuted_next left us own r = record {
+        joined =
+            sym (advance_leaf tokens (SetRefuted (Some (suc c.visited)) ∷ us) count own (join (rest_verdict t (visited_next c)) (waiting_verdict t ws)))
+            ∙ (ap (λ x. join (No tokens count) (join x (join (rest_verdict t (visited_next c)) (waiting_verdict t ws))))
+            (ap (λ n. No (SetRefuted (Some (suc c.visited)) ∷ us) n) r.counted ∙ sym (ap (λ s. outcome (child s)) r.is)) ∙ child_joined);
+        node = visited_split;
+        waits = h.waits;
+      }
+
+      -- it fits
+      module _ (left : ℕ) (d : Placed) (own : ℕ) (i : IsEntered t.instance t.scales c left d own) where
+        child_node : child (next_set c) ≡ bin_node t.instance t.scales t.bins (drop d.placed (ranked t.instance)) (lists_of d.bins.items) (lists_of d.answers.items) own
+        child_node =
+            ap child i.is
+            ∙ (ap (λ n. bin_node t.instance t.scales t.bins (later_boxes t c) (next_bins t c c.visited) (with_answer (lists_of c.answers.items) c.visited i.numbers) n) (sym i.counted)
+            ∙ (ap (λ bs. bin_node t.instance t.scales t.bins (later_boxes t c) bs (with_answer (lists_of c.answers.items) c.visited i.numbers) own)
+            (placed_at t.bins (lists_of c.bins.items) (box_of t.instance c) c.visited more ∙ sym i.bins)
+            ∙ (ap (λ ns. bin_node t.instance t.scales t.bins (later_boxes t c) (lists_of d.bins.items) ns own) (sym i.answers)
+            ∙ ap (λ k. bin_node t.instance t.scales t.bins (drop k (ranked t.instance)) (lists_of d.bins.items) (lists_of d.answers.items) own) (sym i.placed))))
+
+        entered : join (No tokens count) (join (outcome (bin_node t.instance t.scales t.bins (drop d.placed (ranked t.instance)) (lists_of d.bins.items) (lists_of d.answers.items) own))
+            (join (rest_verdict t (visited_next c)) (waiting_verdict t ws))) ≡ whole
+        entered = ap (λ x. join (No tokens count) (join (outcome x) (join (rest_verdict t (visited_next c)) (waiting_verdict t ws)))) (sym child_node) ∙ child_joined
+
+        pub entered_placed : IsInternalInstance t.instance → IsPlaced t.instance t.bins d.placed (lists_of d.bins.items) (lists_of d.answers.items)
+        entered_placed limits =
+            rw (i.placed, i.bins, i.answers) (next_placed t.instance limits t.bins c.placed (lists_of c.bins.items) (lists_of c.answers.items) h.node.node h.node.there c.visited more
+            i.numbers i.packing)
+
+        pub entered_last : drop d.placed (ranked t.instance) ≡ []
+            → Yes (bin_numbers t.instance (lists_of d.bins.items) (lists_of d.answers.items)) (count + own) ≡ whole
+        entered_last e =
+            ap (λ us. join (No tokens count) (join (outcome (bin_node t.instance t.scales t.bins us (lists_of d.bins.items) (lists_of d.answers.items) own))
+            (join (rest_verdict t (visited_next c)) (waiting_verdict t ws)))) (sym e) ∙ entered
+
+        pub entered_next : IsInternalInstance t.instance → d.placed < length (ranked t.instance)
+            → IsLeft t whole (tokens ++ Assign (suc (box_of t.instance d)) ∷ []) (count + own) d (visited_next c ∷ ws)
+        entered_next limits there = record {
+          joined =
+              sym (advance tokens (Assign (suc (box_of t.instance d)) ∷ []) count own (rest_verdict t d) (join (rest_verdict t (visited_next c)) (waiting_verdict t ws)))
+              ∙ (ap (λ x. join (No tokens count) (join x (join (rest_verdict t (visited_next c)) (waiting_verdict t ws)))) (entered_all d own there i.fresh) ∙ entered);
+          node = record { there = there; node = entered_placed limits; visited = (let f = i.fresh in omega (arith, f)) };
+          waits = (visited_split, h.waits);
+        }

@@ -1,0 +1,13 @@
+use Rattle.std.proofs.Common.{◌≡◌, sym, subst, Option, IfSome}
+use Rattle.std.proofs.lemmas.Result.{IfOk-weaker}
+use Rattle.tree_terms.specs.Trees.{SearchTree}
+use Rattle.tree_terms.specs.Paths.{node_told}
+use Rattle.work_share.specs.Nodes.{plain_node}
+use Rattle.bin_search.proofs.tree.BinTree.tell_child.Goals as goal
+
+pub returns : goal.returns
+returns c =
+    let e = c.self.view_is in
+    let h = rw (← e) at c.in_ok-step.ensures in
+    let q = rw c.in_ok-search.ensures at c.tell_step.ensures in
+    rw (← e) (IfOk-weaker c.tell_step.result _ _ (λ r g. subst (λ (x : Option SearchTree). IfSome x (λ node. plain_node r ≡ node_told node)) (sym h.is) g) q)

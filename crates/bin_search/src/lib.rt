@@ -1,0 +1,13 @@
+//! The bin tree, which looks for a packing in so many bins, and its exploration with a stack of its
+//! own.
+#![tactic(auto)]
+
+mod lists;
+mod node;
+mod numbers;
+mod path;
+mod root;
+mod tree;
+mod walk;
+
+pub use tree::BinTree;

@@ -1,0 +1,91 @@
+// The walk through the bin tree below a node, depth first, with a stack of the nodes above.
+ghost use Rattle.std.specs.Prelude.{◌≡◌, ◌≤◌, ◌<◌, ◌∷◌, ◌++◌, [], suc, length, drop, map, slice_index_or, IfOk, OnOk};
+ghost use Rattle.packing_terms.specs.Packing.{box_count};
+ghost use Rattle.packing_terms.specs.Limits.{IsInternalInstance};
+ghost use Rattle.packing_terms.specs.Tokens.PlainToken.{Assign};
+ghost use Rattle.tree_terms.specs.Rank.{ranked};
+ghost use Rattle.tree_terms.specs.Trees.{outcome, told};
+ghost use Rattle.tree_terms.specs.OuterTrees.{bin_node};
+ghost use Rattle.proof_tree.specs.Plain.{plain_outcome, plain_token};
+ghost use Rattle.bin_search.specs.Lists.{lists_of};
+ghost use Rattle.bin_search.specs.Nodes.{IsPlaced};
+
+use crate::node::{Opened, Placed, children, open_next};
+use crate::numbers::bin_numbers;
+use box_instances::{Instance, NoMemory};
+use proof_tree::{Outcome, Token};
+use set_search::{SetSearch, push_refuted, push_token};
+use std::alloc::Global;
+use std::mem;
+
+// The token of a node at which so many boxes have bins.
+pub fn assign(instance: &Instance, order: &[u32], placed: usize) -> Token
+    requires order { order.now ≡ ranked instance.now }
+    requires there { placed < length order.now }
+    ensures { plain_token result ≡ Assign (suc (slice_index_or (ranked instance.now) placed 0)) }
+{
+    let _limits = instance.len();
+    Token::Assign {
+        box_no: order[placed] + 1,
+    }
+}
+
+// What the tree below a node with a box left gives under a cap, with the node's own count.
+pub fn walk(
+    alloc: Global,
+    search: &mut SetSearch<'_>,
+    instance: &Instance,
+    order: &[u32],
+    most: u32,
+    node: Placed,
+    own: u64,
+    cap: u64,
+) -> Result<Outcome, NoMemory>
+    requires limits { IsInternalInstance instance.now }
+    requires search { search.old.instance ≡ instance.now }
+    requires order { order.now ≡ ranked instance.now }
+    requires few { most ≤ box_count instance.now }
+    requires there { node.placed < length order.now }
+    requires node { IsPlaced instance.now most node.placed (lists_of node.bins.items)
+        (lists_of node.answers.items) }
+    requires fresh { node.visited ≡ 0 }
+    requires within { own ≤ cap }
+    ensures { IfOk result (λ r. plain_outcome r ≡ told cap (outcome
+        (bin_node instance.now search.old.scales most (drop node.placed (ranked instance.now))
+        (lists_of node.bins.items) (lists_of node.answers.items) own))) }
+{
+    let mut stack: Vec<Placed> = Vec::new(alloc);
+    let mut tokens = Vec::new(alloc);
+    let mut count = own;
+    let mut node = node;
+    push_token(&mut tokens, assign(instance, order, node.placed))?;
+    loop {
+        if node.visited == children(&node.bins, most) {
+            match stack.pop() {
+                None => return Ok(Outcome::No { tokens, count }),
+                Some(above) => node = above,
+            }
+        } else {
+            match open_next(alloc, search, order, &node, cap - count)? {
+                Opened::Past => return Ok(Outcome::Past),
+                Opened::Refuted { tokens: inner, own } => {
+                    node.visited += 1;
+                    push_refuted(&mut tokens, Some(node.visited as u32), inner)?;
+                    count += own;
+                }
+                Opened::Entered { node: child, own } => {
+                    count += own;
+                    if child.placed == order.len() {
+                        let numbers = bin_numbers(alloc, instance, &child.bins, &child.answers)?;
+                        return Ok(Outcome::Yes { numbers, count });
+                    }
+                    push_token(&mut tokens, assign(instance, order, child.placed))?;
+                    node.visited += 1;
+                    let Ok(()) = stack.push(mem::replace(&mut node, child)) else {
+                        return Err(NoMemory);
+                    };
+                }
+            }
+        }
+    }
+}

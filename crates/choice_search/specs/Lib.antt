@@ -1,0 +1,4 @@
+pub mod Choices
+pub mod Walks
+pub mod Paths
+pub mod Rights

@@ -1,0 +1,99 @@
+// The nodes of a choice tree.
+ghost use Rattle.std.specs.Prelude.{◌≡◌, ◌≤◌, ◌+◌, ℕ, Bool, List, drop, length};
+ghost use Rattle.packing_terms.specs.Rules.{AreBoxes};
+ghost use Rattle.packing_terms.specs.Goals.{worth};
+ghost use Rattle.tree_terms.specs.Rank.{ranked};
+ghost use Rattle.tree_terms.specs.OuterTrees.{choice_node};
+ghost use Rattle.tree_terms.specs.Paths.{node_told, most_budget};
+ghost use Rattle.work_share.specs.Nodes.{plain_node};
+ghost use Rattle.choice_search.specs.Choices.{IsMet};
+
+use box_instances::Instance;
+use proof_tree::Token;
+use work_share::Node;
+
+// A node that its set of boxes doesn't refute: so many boxes by rank are decided, these of them are
+// in, with the answer of their class tree.
+#[derive(Drop)]
+pub struct Chosen {
+    pub decided: usize,
+    pub taken: Vec<u32>,
+    pub numbers: Vec<u32>,
+}
+
+// What a node is: one that reaches the value, one that falls short of it, or one that is split by
+// the box that comes next.
+#[derive(Clone, Copy)]
+pub enum NodeKind {
+    Reached,
+    Short,
+    Divided(u32),
+}
+
+// The total value of some boxes.
+fn worth_of(instance: &Instance, keep: &[u32]) -> u64
+    requires { AreBoxes instance.now keep.now }
+    ensures value { result ≡ worth instance.now keep.now }
+    ensures bound { result ≤ 128000000000 }
+{
+    let _limits = instance.len();
+    let mut sum = 0;
+    for v in keep {
+        sum += instance.value(*v);
+    }
+    sum
+}
+
+// Tells what a node is.
+pub fn meet(
+    instance: &Instance,
+    order: &[u32],
+    value: u64,
+    decided: usize,
+    taken: &[u32],
+) -> NodeKind
+    requires order { order.now ≡ ranked instance.now }
+    requires there { decided ≤ length order.now }
+    requires rest { AreBoxes instance.now (drop decided (ranked instance.now)) }
+    requires taken { AreBoxes instance.now taken.now }
+    ensures { IsMet instance.now value decided taken.now result }
+{
+    let worth = worth_of(instance, taken);
+    if value <= worth {
+        return NodeKind::Reached;
+    }
+    if worth + worth_of(instance, &order[decided..]) < value {
+        return NodeKind::Short;
+    }
+    if decided == order.len() {
+        unreachable!();
+    }
+    NodeKind::Divided(order[decided])
+}
+
+// What is told of a node of this kind, whose own count is within the greatest budget.
+pub fn tell(
+    instance: &Instance,
+    value: u64,
+    decided: usize,
+    taken: &[u32],
+    kind: NodeKind,
+    own: u64,
+) -> Node
+    requires met { IsMet instance.now value decided taken.now kind }
+    requires boxes { AreBoxes instance.now (drop decided (ranked instance.now)) }
+    requires within { own ≤ most_budget }
+    ensures { (scales : Bool) (numbers : List ℕ) → plain_node result ≡ node_told
+        (choice_node instance.now scales value (drop decided (ranked instance.now)) taken.now numbers own) }
+{
+    let _limits = instance.len();
+    match kind {
+        NodeKind::Reached => Node::Leaf,
+        NodeKind::Short => Node::Leaf,
+        NodeKind::Divided(v) => Node::Split {
+            token: Token::Choose { box_no: v + 1 },
+            own,
+            children: 2,
+        },
+    }
+}

@@ -1,0 +1,174 @@
+// Nodes by their paths.
+ghost use Rattle.std.specs.Prelude.{◌≡◌, ◌≤◌, ◌<◌, ◌+◌, [], IfOk, Bool, length, drop};
+ghost use Rattle.packing_terms.specs.Limits.{IsInternalInstance};
+ghost use Rattle.packing_terms.specs.Rules.{AreBoxes};
+ghost use Rattle.packing_terms.specs.Goals.{IsBoxSet};
+ghost use Rattle.tree_terms.specs.Rank.{ranked};
+ghost use Rattle.tree_terms.specs.Trees.{outcome, told};
+ghost use Rattle.tree_terms.specs.Paths.{node_told};
+ghost use Rattle.proof_tree.specs.Plain.{plain_outcome};
+ghost use Rattle.work_share.specs.Nodes.{plain_node};
+ghost use Rattle.choice_search.specs.Paths.{taken_along, answer_of, AreFitting, IsAbove, child_tree};
+
+use crate::node::{Chosen, meet, tell};
+use crate::walk::walk;
+use box_instances::{Instance, NoMemory};
+use proof_tree::Outcome;
+use set_search::{Child, MOST_BUDGET, SetSearch, push_refuted, put_box};
+use std::alloc::Global;
+use work_share::Node;
+
+// A node with a box left: so many boxes by rank are decided, and these of them are in.
+#[derive(Drop)]
+pub struct Above {
+    pub decided: usize,
+    pub taken: Vec<u32>,
+}
+
+// The node at a path. At each step into a first child a box is taken in.
+pub fn come_to(alloc: Global, order: &[u32], path: &[u32]) -> Result<Above, NoMemory>
+    requires { length path.now ≤ length order.now }
+    ensures decided { IfOk result (λ above. above.decided ≡ length path.now) }
+    ensures taken { IfOk result (λ above. above.taken.items ≡ taken_along [] order.now path.now) }
+{
+    let mut taken = Vec::new(alloc);
+    for k in 0..path.len() {
+        if path[k] == 0 {
+            put_box(&mut taken, order[k])?;
+        }
+    }
+    Ok(Above {
+        decided: path.len(),
+        taken,
+    })
+}
+
+// The answer of the class tree of the boxes that are in. It was found within the greatest budget.
+fn answer_of(alloc: Global, search: &mut SetSearch<'_>, taken: &[u32]) -> Result<Vec<u32>, NoMemory>
+    requires set { IsBoxSet search.old.instance taken.now }
+    requires fitting { AreFitting search.old.instance search.old.scales taken.now }
+    ensures same { search.new ≡ search.old }
+    ensures value { IfOk result (λ numbers. numbers.items
+        ≡ answer_of search.old.instance search.old.scales taken.now) }
+{
+    if taken.is_empty() {
+        return Ok(Vec::new(alloc));
+    }
+    search.answer_of(alloc, taken)
+}
+
+// What the tree below a node's first child gives under a cap.
+pub fn explore_first(
+    alloc: Global,
+    search: &mut SetSearch<'_>,
+    instance: &Instance,
+    order: &[u32],
+    value: u64,
+    above: Above,
+    cap: u64,
+) -> Result<Outcome, NoMemory>
+    requires limits { IsInternalInstance instance.now }
+    requires search { search.old.instance ≡ instance.now }
+    requires order { order.now ≡ ranked instance.now }
+    requires above { IsAbove instance.now search.old.scales above.decided above.taken.items }
+    ensures { IfOk result (λ r. plain_outcome r ≡ told cap (outcome (child_tree
+        (record { instance = instance.now; goal = value; scales = search.old.scales })
+        above.decided above.taken.items 0))) }
+{
+    match search.grow(alloc, &above.taken, order[above.decided], cap)? {
+        Child::Past => Ok(Outcome::Past),
+        Child::Refuted { tokens: inner, own } => {
+            let mut tokens = Vec::new(alloc);
+            push_refuted(&mut tokens, None, inner)?;
+            Ok(Outcome::No { tokens, count: own })
+        }
+        Child::Fits { set, numbers, own } => {
+            let node = Chosen {
+                decided: above.decided + 1,
+                taken: set,
+                numbers,
+            };
+            walk(alloc, search, instance, order, value, node, own, cap)
+        }
+    }
+}
+
+// What the tree below a node's second child gives under a cap.
+pub fn explore_second(
+    alloc: Global,
+    search: &mut SetSearch<'_>,
+    instance: &Instance,
+    order: &[u32],
+    value: u64,
+    above: Above,
+    cap: u64,
+) -> Result<Outcome, NoMemory>
+    requires limits { IsInternalInstance instance.now }
+    requires search { search.old.instance ≡ instance.now }
+    requires order { order.now ≡ ranked instance.now }
+    requires above { IsAbove instance.now search.old.scales above.decided above.taken.items }
+    ensures { IfOk result (λ r. plain_outcome r ≡ told cap (outcome (child_tree
+        (record { instance = instance.now; goal = value; scales = search.old.scales })
+        above.decided above.taken.items 1))) }
+{
+    if cap == 0 {
+        return Ok(Outcome::Past);
+    }
+    let numbers = answer_of(alloc, search, &above.taken)?;
+    let node = Chosen {
+        decided: above.decided + 1,
+        taken: above.taken,
+        numbers,
+    };
+    walk(alloc, search, instance, order, value, node, 1, cap)
+}
+
+// What is told of a node's first child.
+pub fn tell_first(
+    alloc: Global,
+    search: &mut SetSearch<'_>,
+    instance: &Instance,
+    order: &[u32],
+    value: u64,
+    above: Above,
+) -> Result<Node, NoMemory>
+    requires limits { IsInternalInstance instance.now }
+    requires search { search.old.instance ≡ instance.now }
+    requires order { order.now ≡ ranked instance.now }
+    requires above { IsAbove instance.now search.old.scales above.decided above.taken.items }
+    ensures { IfOk result (λ r. plain_node r ≡ node_told (child_tree
+        (record { instance = instance.now; goal = value; scales = search.old.scales })
+        above.decided above.taken.items 0)) }
+{
+    match search.grow(alloc, &above.taken, order[above.decided], MOST_BUDGET)? {
+        Child::Past => Ok(Node::Leaf),
+        Child::Refuted {
+            tokens: _tokens,
+            own: _,
+        } => Ok(Node::Leaf),
+        Child::Fits {
+            set,
+            numbers: _numbers,
+            own,
+        } => {
+            let decided = above.decided + 1;
+            let kind = meet(instance, order, value, decided, &set);
+            Ok(tell(instance, value, decided, &set, kind, own))
+        }
+    }
+}
+
+// What is told of a node's second child.
+pub fn tell_second(instance: &Instance, order: &[u32], value: u64, above: Above) -> Node
+    requires order { order.now ≡ ranked instance.now }
+    requires there { above.decided < length order.now }
+    requires rest { AreBoxes instance.now (drop (above.decided + 1) (ranked instance.now)) }
+    requires taken { AreBoxes instance.now above.taken.items }
+    ensures { (scales : Bool) → plain_node result ≡ node_told (child_tree
+        (record { instance = instance.now; goal = value; scales = scales })
+        above.decided above.taken.items 1) }
+{
+    let decided = above.decided + 1;
+    let kind = meet(instance, order, value, decided, &above.taken);
+    tell(instance, value, decided, &above.taken, kind, 1)
+}

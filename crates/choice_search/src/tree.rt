@@ -1,0 +1,225 @@
+// The choice tree.
+ghost use Rattle.std.specs.Prelude.{◌≡◌, ◌+◌, ◌-◌, ◌*◌, ◌/◌, ◌^◌, ◌≤◌, IfOk, IfSome, MatchBool, Some, [], length};
+ghost use Rattle.packing_terms.specs.Packing.{dims, box_count};
+ghost use Rattle.packing_terms.specs.OuterRefutation.{no_choice};
+ghost use Rattle.tree_terms.specs.Trees.{outcome, told, node_at};
+ghost use Rattle.tree_terms.specs.Paths.{choice_at, node_told, outcome_at, IsReachable};
+ghost use Rattle.proof_tree.specs.Plain.{plain_outcome};
+ghost use Rattle.work_share.specs.Nodes.{plain_node};
+ghost use Rattle.class_search.specs.Right.{IsDecided};
+ghost use Rattle.choice_search.specs.Choices.{shape, same_trees};
+ghost use Rattle.choice_search.specs.Rights.{IsRight, Decides};
+
+use crate::node::{Chosen, meet, tell};
+use crate::path::{come_to, explore_first, explore_second, tell_first, tell_second};
+use crate::walk::walk;
+use box_instances::{Instance, NoMemory};
+use class_search::are_same_instances;
+use proof_tree::Outcome;
+use set_search::SetSearch;
+use std::alloc::Global;
+use std::marker::Model;
+use work_share::{Node, Tree};
+
+/// The search tree for a set of boxes of at least a value that fits: the boxes are taken in or left
+/// out by falling volume, and the boxes that are in are decided by their class tree wherever one
+/// more is taken in. It is seen as these parts, and stands for the tree of the definition.
+#[derive(Drop)]
+pub struct ChoiceTree<'a> {
+    instance: &'a Instance,
+    value: u64,
+    scales: bool,
+    order: Vec<u32>,
+}
+
+impl<'a> Model for ChoiceTree<'a> {
+    ghost use Rattle.std.specs.Prelude.{◌≡◌};
+    ghost use Rattle.tree_terms.specs.Rank.{ranked};
+    ghost use Rattle.choice_search.specs.Choices.{PlainChoiceTree};
+
+    ghost Value = { PlainChoiceTree };
+
+    ghost view = { λ t. record { instance = t.instance.now; goal = t.value; scales = t.scales } };
+
+    ghost invariant = { λ t. t.order.items ≡ ranked t.instance.now };
+}
+
+impl<'a> ChoiceTree<'a> {
+    /// The tree for a value, with conservative scales or without.
+    pub fn new(
+        alloc: Global,
+        instance: &'a Instance,
+        value: u64,
+        scales: bool,
+    ) -> Result<ChoiceTree<'a>, NoMemory>
+        ensures { IfOk result (λ t. t ≡ record {
+          instance = instance.now;
+          goal = value;
+          scales = scales;
+        }) }
+    {
+        let order = instance.rank_order(alloc)?;
+        Ok(ChoiceTree {
+            instance,
+            value,
+            scales,
+            order,
+        })
+    }
+
+    // What the tree gives under a cap.
+    fn explore_root(&self, alloc: Global, cap: u64) -> Result<Outcome, NoMemory>
+        ensures { IfOk result (λ r. plain_outcome r ≡ told cap (outcome (shape self.now))) }
+    {
+        let _limits = self.instance.len();
+        let mut search = SetSearch::new(alloc, self.instance, self.scales)?;
+        let root = Chosen {
+            decided: 0,
+            taken: Vec::new(alloc),
+            numbers: Vec::new(alloc),
+        };
+        let order = self.order.as_slice();
+        walk(
+            alloc,
+            &mut search,
+            self.instance,
+            order,
+            self.value,
+            root,
+            0,
+            cap,
+        )
+    }
+
+    // What the tree below the child at the end of a path gives under a cap.
+    fn explore_child(&self, alloc: Global, path: &[u32], cap: u64) -> Result<Outcome, NoMemory>
+        requires path { 1 ≤ length path.now }
+        requires reached { IsReachable (shape self.now) path.now }
+        ensures { IfOk result (λ r. IfSome (node_at (Some (shape self.now)) path.now)
+            (λ node. plain_outcome r ≡ told cap (outcome node))) }
+    {
+        let _limits = self.instance.len();
+        let last = path.len() - 1;
+        let order = self.order.as_slice();
+        let above = come_to(alloc, order, &path[..last])?;
+        let mut search = SetSearch::new(alloc, self.instance, self.scales)?;
+        if path[last] == 0 {
+            explore_first(
+                alloc,
+                &mut search,
+                self.instance,
+                order,
+                self.value,
+                above,
+                cap,
+            )
+        } else {
+            explore_second(
+                alloc,
+                &mut search,
+                self.instance,
+                order,
+                self.value,
+                above,
+                cap,
+            )
+        }
+    }
+
+    // What the tree below the node at a path gives under a cap.
+    fn explore_node(&self, alloc: Global, path: &[u32], cap: u64) -> Result<Outcome, NoMemory>
+        requires { IsReachable (shape self.now) path.now }
+        ensures { IfOk result (λ r. IfSome (node_at (Some (shape self.now)) path.now)
+            (λ node. plain_outcome r ≡ told cap (outcome node))) }
+    {
+        if path.is_empty() {
+            self.explore_root(alloc, cap)
+        } else {
+            self.explore_child(alloc, path, cap)
+        }
+    }
+
+    // What is told of the root.
+    fn tell_root(&self) -> Node
+        ensures { plain_node result ≡ node_told (shape self.now) }
+    {
+        let _limits = self.instance.len();
+        let order = self.order.as_slice();
+        let kind = meet(self.instance, order, self.value, 0, &[]);
+        tell(self.instance, self.value, 0, &[], kind, 0)
+    }
+
+    // What is told of the child at the end of a path.
+    fn tell_child(&self, alloc: Global, path: &[u32]) -> Result<Node, NoMemory>
+        requires path { 1 ≤ length path.now }
+        requires reached { IsReachable (shape self.now) path.now }
+        ensures { IfOk result (λ r. IfSome (node_at (Some (shape self.now)) path.now)
+            (λ node. plain_node r ≡ node_told node)) }
+    {
+        let _limits = self.instance.len();
+        let last = path.len() - 1;
+        let order = self.order.as_slice();
+        let above = come_to(alloc, order, &path[..last])?;
+        if path[last] == 0 {
+            let mut search = SetSearch::new(alloc, self.instance, self.scales)?;
+            tell_first(alloc, &mut search, self.instance, order, self.value, above)
+        } else {
+            Ok(tell_second(self.instance, order, self.value, above))
+        }
+    }
+}
+
+impl<'a> Tree for ChoiceTree<'a> {
+    ghost shape = { shape };
+
+    ghost AreSame = { λ t u. t ≡ u };
+
+    /// What the tree below the node at a path gives under a cap: its outcome where that has a count
+    /// of at most `cap`, and `Past` exactly where its count is greater.
+    ///
+    /// A yes has the numbers and places of a set of boxes of at least the value that fits, and a no
+    /// refutes the value for the sets that hold the boxes that are in at the path and miss those
+    /// that are out. At the root a yes comes only where the instance reaches the value, and a no
+    /// only where it doesn't; and with m the number of pairs in all dimensions, the count is within
+    /// a cap of at least 3 to the m times 2^(n + 1) - 2.
+    fn explore(&self, alloc: Global, path: &[u32], cap: u64) -> Result<Outcome, NoMemory>
+        requires { IsReachable (shape self.now) path.now }
+        ensures outcome { IfOk result (λ r. IfSome (outcome_at (shape self.now) path.now)
+            (λ v. plain_outcome r ≡ told cap v)) }
+        ensures right { IfOk result (λ r. IsRight self.now
+            (choice_at no_choice (shape self.now) path.now) (plain_outcome r)) }
+        ensures decides { path.now ≡ [] → IfOk result (λ r. Decides self.now (plain_outcome r)) }
+        ensures enough { path.now ≡ [] → 3 ^ (dims self.now.instance
+            * box_count self.now.instance * (box_count self.now.instance - 1) / 2)
+            * (2 ^ (box_count self.now.instance + 1) - 2) ≤ cap
+            → IfOk result (λ r. IsDecided (plain_outcome r)) }
+    {
+        let _limits = self.instance.len();
+        self.explore_node(alloc, path, cap)
+    }
+
+    /// Whether the node at a path is a split, with its token, its own count and its 2 children; or
+    /// a leaf.
+    fn node(&self, alloc: Global, path: &[u32]) -> Result<Node, NoMemory>
+        requires { IsReachable (shape self.now) path.now }
+        ensures { IfOk result (λ r. IfSome (node_at (Some (shape self.now)) path.now)
+            (λ node. plain_node r ≡ node_told node)) }
+    {
+        if path.is_empty() {
+            Ok(self.tell_root())
+        } else {
+            self.tell_child(alloc, path)
+        }
+    }
+
+    /// Whether both trees have the same instance, the same value and the same choice of scales.
+    fn same(&self, other: &Self) -> bool
+        ensures { MatchBool result (self.now ≡ other.now) (¬ (self.now ≡ other.now)) }
+    {
+        self.value == other.value
+            && self.scales == other.scales
+            && are_same_instances(self.instance, other.instance)
+    }
+
+    ghost same_shape = { same_trees };
+}

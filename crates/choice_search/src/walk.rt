@@ -1,0 +1,91 @@
+// The walk through the choice tree below a node, depth first, with a stack of the second children
+// that wait.
+ghost use Rattle.std.specs.Prelude.{◌≡◌, ◌≤◌, IfOk, drop};
+ghost use Rattle.packing_terms.specs.Limits.{IsInternalInstance};
+ghost use Rattle.tree_terms.specs.Rank.{ranked};
+ghost use Rattle.tree_terms.specs.Trees.{outcome, told};
+ghost use Rattle.tree_terms.specs.OuterTrees.{choice_node};
+ghost use Rattle.proof_tree.specs.Plain.{plain_outcome};
+ghost use Rattle.choice_search.specs.Choices.{IsChosen};
+
+use crate::node::{Chosen, NodeKind, meet};
+use crate::numbers::choice_numbers;
+use box_instances::{Instance, NoMemory};
+use proof_tree::{Outcome, Token};
+use set_search::{Child, SetSearch, push_refuted, push_token};
+use std::alloc::Global;
+use std::mem;
+
+// What the tree below a node gives under a cap, with the node's own count.
+pub fn walk(
+    alloc: Global,
+    search: &mut SetSearch<'_>,
+    instance: &Instance,
+    order: &[u32],
+    value: u64,
+    node: Chosen,
+    own: u64,
+    cap: u64,
+) -> Result<Outcome, NoMemory>
+    requires limits { IsInternalInstance instance.now }
+    requires search { search.old.instance ≡ instance.now }
+    requires order { order.now ≡ ranked instance.now }
+    requires node { IsChosen instance.now node.decided node.taken.items node.numbers.items }
+    requires within { own ≤ cap }
+    ensures { IfOk result (λ r. plain_outcome r ≡ told cap (outcome
+        (choice_node instance.now search.old.scales value (drop node.decided (ranked instance.now))
+        node.taken.items node.numbers.items own))) }
+{
+    let mut stack: Vec<Chosen> = Vec::new(alloc);
+    let mut tokens = Vec::new(alloc);
+    let mut count = own;
+    let mut node = node;
+    loop {
+        match meet(instance, order, value, node.decided, &node.taken) {
+            NodeKind::Reached => {
+                let numbers = choice_numbers(alloc, instance, &node.taken, &node.numbers)?;
+                return Ok(Outcome::Yes { numbers, count });
+            }
+            NodeKind::Short => {
+                push_token(&mut tokens, Token::ValueShort)?;
+                match stack.pop() {
+                    None => return Ok(Outcome::No { tokens, count }),
+                    Some(waiting) => {
+                        if count == cap {
+                            return Ok(Outcome::Past);
+                        }
+                        count += 1;
+                        node = waiting;
+                    }
+                }
+            }
+            NodeKind::Divided(v) => {
+                push_token(&mut tokens, Token::Choose { box_no: v + 1 })?;
+                match search.grow(alloc, &node.taken, v, cap - count)? {
+                    Child::Past => return Ok(Outcome::Past),
+                    Child::Refuted { tokens: inner, own } => {
+                        push_refuted(&mut tokens, None, inner)?;
+                        count += own;
+                        if count == cap {
+                            return Ok(Outcome::Past);
+                        }
+                        count += 1;
+                        node.decided += 1;
+                    }
+                    Child::Fits { set, numbers, own } => {
+                        count += own;
+                        node.decided += 1;
+                        let inside = Chosen {
+                            decided: node.decided,
+                            taken: set,
+                            numbers,
+                        };
+                        let Ok(()) = stack.push(mem::replace(&mut node, inside)) else {
+                            return Err(NoMemory);
+                        };
+                    }
+                }
+            }
+        }
+    }
+}

@@ -1,0 +1,10 @@
+use Rattle.std.proofs.Common.{◌+◌, ◌*◌, ◌∷◌, [], ◌++◌, List, sym, ap, ◌∙◌, get_or, append_assoc}
+use Rattle.set_search.proofs.Ranges.{map_last_below}
+use Rattle.set_search.proofs.answer.push_coordinates.Goals as goal
+
+pub loop-i-preserved : goal.loop-i-preserved
+loop-i-preserved c =
+    c.in-Ok.ensures.items
+    ∙ (ap (λ (l : List _). l ++ get_or c.args.numbers.now (c.args.k * c.dims-dims.result + c.loop-i.i) 0 ∷ []) c.loop-i.invariant
+    ∙ (append_assoc c.args.into.now.items _ _
+    ∙ ap (λ (l : List _). c.args.into.now.items ++ l) (sym (map_last_below (λ i. get_or c.args.numbers.now (c.args.k * c.dims-dims.result + i) 0) c.loop-i.i))))

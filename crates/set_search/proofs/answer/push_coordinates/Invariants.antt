@@ -1,0 +1,6 @@
+use Rattle.std.proofs.Common.{◌≡◌, ◌+◌, ◌*◌, ◌++◌, map, get_or}
+use Rattle.rule_terms.specs.Rounds.{below}
+use Rattle.set_search.proofs.answer.push_coordinates.Given as goal
+
+abbrev pub invariant-loop-i : goal.invariant-loop-i
+invariant-loop-i l = l.into.items ≡ l.fn.into.items ++ map (λ i. get_or l.numbers (l.k * l.dims + i) 0) (below l.i)

@@ -1,0 +1,80 @@
+// A child of an outer tree whose set grew by one box.
+ghost use Rattle.std.specs.Prelude.{◌≡◌, IfOk};
+ghost use Rattle.packing_terms.specs.Goals.{IsBoxSet};
+ghost use Rattle.packing_terms.specs.OuterRefutation.{insert_box};
+ghost use Rattle.tree_terms.specs.OuterTrees.{set_verdict, numbers_of};
+ghost use Rattle.set_search.specs.Children.{IsChild, IsFoundSet};
+
+use crate::insert::with_box;
+use crate::search::{MOST_BUDGET, SetSearch};
+use box_instances::NoMemory;
+use proof_tree::{Outcome, Token};
+use std::alloc::Global;
+
+/// What a child of an outer tree comes to whose set grew by one box: its own count, which is 1 and
+/// what the decision of the set cost, is past what is left; or the set is refuted; or it fits, and
+/// `numbers` are its places.
+#[derive(Drop)]
+pub enum Child {
+    Past,
+    Refuted {
+        tokens: Vec<Token>,
+        own: u64,
+    },
+    Fits {
+        set: Vec<u32>,
+        numbers: Vec<u32>,
+        own: u64,
+    },
+}
+
+impl<'a> SetSearch<'a> {
+    /// Decides a set with one box more, once, under what is left of a cap. `Past` comes exactly
+    /// where the child's own count is greater than that. The boxes of a set stand by rising number.
+    pub fn grow(
+        &mut self,
+        alloc: Global,
+        keep: &[u32],
+        v: u32,
+        left: u64,
+    ) -> Result<Child, NoMemory>
+        requires { IsBoxSet self.old.instance (insert_box v keep.now) }
+        ensures same { self.new ≡ self.old }
+        ensures child { IfOk result (λ child.
+            IsChild self.old.instance self.old.scales left (insert_box v keep.now) child) }
+    {
+        if left == 0 {
+            return Ok(Child::Past);
+        }
+        let set = with_box(alloc, keep, v)?;
+        match self.decide(alloc, set.as_slice(), left - 1)? {
+            Outcome::Past => Ok(Child::Past),
+            Outcome::No { tokens, count } => {
+                let own = 1 + count;
+                Ok(Child::Refuted { tokens, own })
+            }
+            Outcome::Yes { numbers, count } => {
+                let own = 1 + count;
+                Ok(Child::Fits { set, numbers, own })
+            }
+        }
+    }
+
+    /// The places of a set that fits. Its class tree is known to have a count within the greatest
+    /// budget.
+    pub fn answer_of(&mut self, alloc: Global, keep: &[u32]) -> Result<Vec<u32>, NoMemory>
+        requires { IsFoundSet self.old.instance self.old.scales keep.now }
+        ensures same { self.new ≡ self.old }
+        ensures answer { IfOk result (λ numbers. numbers.items
+            ≡ numbers_of (set_verdict self.old.instance self.old.scales keep.now)) }
+    {
+        match self.decide(alloc, keep, MOST_BUDGET)? {
+            Outcome::Yes { numbers, count: _ } => Ok(numbers),
+            Outcome::No {
+                tokens: _tokens,
+                count: _,
+            } => unreachable!(),
+            Outcome::Past => unreachable!(),
+        }
+    }
+}

@@ -1,0 +1,15 @@
+//! Decisions of sets of the boxes of one instance, and what the outer search trees share beside
+//! them.
+#![tactic(auto)]
+
+mod answer;
+mod child;
+mod insert;
+mod search;
+mod tokens;
+
+pub use answer::push_coordinates;
+pub use child::Child;
+pub use insert::{put_box, with_box};
+pub use search::{MOST_BUDGET, SetSearch};
+pub use tokens::{push_refuted, push_token};
