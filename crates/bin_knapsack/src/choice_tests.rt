@@ -11,7 +11,7 @@ const BOTH: Case = Case {
 };
 
 // A case, a value, whether there are scales, a cap, and what the tree gives.
-const ROWS: [(Case, u64, bool, u64, Wanted); 15] = [
+const ROWS: [(Case, u64, bool, u64, Wanted); 16] = [
     (THREE, 9, true, 4, NINE),
     (THREE, 9, true, 3, Wanted::Past),
     (THREE, 8, true, 6, Wanted::Yes(&[0, 0, 0, 2, 6, 0], 6)),
@@ -26,12 +26,13 @@ const ROWS: [(Case, u64, bool, u64, Wanted); 15] = [
     (BOARDS, 2, false, 3, Wanted::Yes(&[0, 0, 0, 1, 0, 5], 3)),
     (BLOCKS, 9, true, 4, NINE_OF_BLOCKS),
     (BLOCKS, 9, true, 3, Wanted::Past),
+    (BLOCKS, 8, true, 6, Wanted::Past),
     (
         BLOCKS,
         8,
         true,
-        9,
-        Wanted::Yes(&[0, 0, 0, 0, 2, 0, 0, 2], 9),
+        7,
+        Wanted::Yes(&[0, 0, 0, 0, 2, 0, 0, 2], 7),
     ),
 ];
 
