@@ -3,3 +3,4 @@ pub mod FirstCounts
 pub mod Summing
 pub mod BinsAnswered
 pub mod ChoicesAnswered
+pub mod Reached
