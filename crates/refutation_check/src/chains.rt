@@ -4,16 +4,17 @@ ghost use Rattle.packing_terms.specs.Packing.{dims, box_count, container_side};
 ghost use Rattle.packing_terms.specs.Exclusions.{excludes, IsSurelyBefore};
 ghost use Rattle.rule_terms.specs.Places.{HasNoEmptyMask};
 ghost use Rattle.rule_terms.specs.Runs.{AreHeads, AreTails, IsTransitive};
+ghost use Rattle.edge_state.specs.BitRows.{HoldsBoxes};
 ghost use Rattle.closure_terms.specs.States.{IsSized};
 ghost use Rattle.closure_terms.specs.Work.{IsChainIn, IsWorked};
 ghost use Rattle.closure_terms.specs.Passes.{IsPass, IsShut};
 
 use box_instances::Instance;
 use edge_state::{EdgeState, Rel};
-use orientation_rules::{apply_chain, heads, tails};
+use orientation_rules::{apply_chain, heads_and_tails};
 
 // CHAIN at a box and each one that it may be before.
-fn shut_from(
+fn shut_from<const K: usize>(
     instance: &Instance,
     state: &mut EdgeState,
     dim: u32,
@@ -21,6 +22,7 @@ fn shut_from(
     head: &[u64],
     tail: &[u64],
 )
+    requires words { HoldsBoxes K (box_count instance.now) }
     requires sizes { IsSized instance.now state.old dim }
     requires u { u < box_count instance.now }
     requires head_count { length head.now ≡ box_count instance.now }
@@ -30,7 +32,7 @@ fn shut_from(
     ensures { IsPass instance.now state.old state.new (λ es. (v : ℕ)
         → v < box_count instance.now → IsShut instance.now dim head.now tail.now u v es) }
 {
-    let mut rest = state.row(dim, u, Rel::Before);
+    let mut rest = state.row_in::<K>(dim, u, Rel::Before);
     while let Some(v) = rest.first() {
         rest = rest.without(v);
         apply_chain(instance, state, dim, u, v, head, tail);
@@ -38,7 +40,14 @@ fn shut_from(
 }
 
 // The same for each first box.
-fn shut_all(instance: &Instance, state: &mut EdgeState, dim: u32, head: &[u64], tail: &[u64])
+fn shut_all<const K: usize>(
+    instance: &Instance,
+    state: &mut EdgeState,
+    dim: u32,
+    head: &[u64],
+    tail: &[u64],
+)
+    requires words { HoldsBoxes K (box_count instance.now) }
     requires sizes { IsSized instance.now state.old dim }
     requires head_count { length head.now ≡ box_count instance.now }
     requires tail_count { length tail.now ≡ box_count instance.now }
@@ -49,18 +58,19 @@ fn shut_all(instance: &Instance, state: &mut EdgeState, dim: u32, head: &[u64], 
         → IsShut instance.now dim head.now tail.now u v es) }
 {
     for u in 0..instance.len() {
-        shut_from(instance, state, dim, u, head, tail);
+        shut_from::<K>(instance, state, dim, u, head, tail);
     }
 }
 
 /// CHAIN in one dimension, at all pairs. Surely before is transitive there, and no mask is empty.
-pub fn cover_chains(
+pub fn cover_chains<const K: usize>(
     instance: &Instance,
     state: &mut EdgeState,
     dim: u32,
     head: &mut [u64],
     tail: &mut [u64],
 )
+    requires words { HoldsBoxes K (box_count instance.now) }
     requires sizes { IsSized instance.now state.old dim }
     requires head_count { length head.old ≡ box_count instance.now }
     requires tail_count { length tail.old ≡ box_count instance.now }
@@ -71,7 +81,6 @@ pub fn cover_chains(
     ensures tail_count { length tail.new ≡ box_count instance.now }
     ensures worked { IsWorked instance.now state.old state.new false (IsChainIn dim) }
 {
-    heads(instance, state, dim, head);
-    tails(instance, state, dim, tail);
-    shut_all(instance, state, dim, head, tail);
+    heads_and_tails(instance, state, dim, head, tail);
+    shut_all::<K>(instance, state, dim, head, tail);
 }

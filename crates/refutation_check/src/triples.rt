@@ -2,6 +2,7 @@
 ghost use Rattle.std.specs.Prelude.{◌≡◌, ◌≢◌, ◌<◌, ◌⊎◌};
 ghost use Rattle.packing_terms.specs.Packing.{dims, box_count};
 ghost use Rattle.packing_terms.specs.Rules.{Apart};
+ghost use Rattle.edge_state.specs.BitRows.{HoldsBoxes};
 ghost use Rattle.closure_terms.specs.States.{IsSized};
 ghost use Rattle.closure_terms.specs.Work.{IsWorked};
 ghost use Rattle.closure_terms.specs.Instances.{Composes, Triples, Aparts};
@@ -73,14 +74,21 @@ impl RuleStep for ComposeStep {
     }
 }
 
-fn composes(instance: &Instance, state: &mut EdgeState, dim: u32, u: u32, v: u32) -> bool
+fn composes<const K: usize>(
+    instance: &Instance,
+    state: &mut EdgeState,
+    dim: u32,
+    u: u32,
+    v: u32,
+) -> bool
+    requires words { HoldsBoxes K (box_count instance.now) }
     requires sizes { IsSized instance.now state.old dim }
     requires u { u < box_count instance.now }
     requires v { v < box_count instance.now }
     requires distinct { u ≡ v → ⊥ }
     ensures { IsWorked instance.now state.old state.new result (Composes instance.now dim u v) }
 {
-    let row = beyond_compositions(instance, state, dim, u, v);
+    let row = beyond_compositions::<K>(instance, state, dim, u, v);
     at_each(&ComposeStep { dim, u, v }, instance, state, row)
 }
 
@@ -112,7 +120,14 @@ impl RuleStep for TripleStep {
     }
 }
 
-fn triples(instance: &Instance, state: &mut EdgeState, dim: u32, u: u32, x: u32) -> bool
+fn triples<const K: usize>(
+    instance: &Instance,
+    state: &mut EdgeState,
+    dim: u32,
+    u: u32,
+    x: u32,
+) -> bool
+    requires words { HoldsBoxes K (box_count instance.now) }
     requires sizes { IsSized instance.now state.old dim }
     requires u { u < box_count instance.now }
     requires x { x < box_count instance.now }
@@ -122,14 +137,21 @@ fn triples(instance: &Instance, state: &mut EdgeState, dim: u32, u: u32, x: u32)
     if state.mask(dim, u, x).has(Rel::Overlap) {
         return false;
     }
-    let free = some_left(instance, state, dim, u, Rel::Before, Rel::After);
-    let row = free.minus(state.row(dim, x, Rel::Overlap));
+    let free = some_left::<K>(instance, state, dim, u, Rel::Before, Rel::After);
+    let row = free.minus(state.row_in(dim, x, Rel::Overlap));
     at_each(&TripleStep { dim, u, x }, instance, state, row)
 }
 
 /// The instances of the three rules that read the mask of two boxes in this order, up to those that
 /// add the same. True is a lost mask.
-pub fn spread_triples(instance: &Instance, state: &mut EdgeState, dim: u32, p: u32, q: u32) -> bool
+pub fn spread_triples<const K: usize>(
+    instance: &Instance,
+    state: &mut EdgeState,
+    dim: u32,
+    p: u32,
+    q: u32,
+) -> bool
+    requires words { HoldsBoxes K (box_count instance.now) }
     requires sizes { IsSized instance.now state.old dim }
     requires p { p < box_count instance.now }
     requires q { q < box_count instance.now }
@@ -138,10 +160,10 @@ pub fn spread_triples(instance: &Instance, state: &mut EdgeState, dim: u32, p: u
         (λ rule. (Composes instance.now dim p q rule ⊎ Triples instance.now dim p q rule)
         ⊎ Aparts instance.now dim p q rule) }
 {
-    if composes(instance, state, dim, p, q) {
+    if composes::<K>(instance, state, dim, p, q) {
         return true;
     }
-    if triples(instance, state, dim, p, q) {
+    if triples::<K>(instance, state, dim, p, q) {
         return true;
     }
     aparts(instance, state, dim, p, q)

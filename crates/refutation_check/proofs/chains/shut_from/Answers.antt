@@ -1,4 +1,4 @@
-use Rattle.std.proofs.Common.{◌≡◌, ◌<◌, ◌∙◌, ℕ, sym, false, arith}
+use Rattle.std.proofs.Common.{◌*◌, ◌≡◌, ◌<◌, ◌∙◌, ℕ, sym, false, arith}
 use Rattle.std.proofs.lemmas.Bool.{and_parts}
 use Rattle.packing_terms.specs.declared.Rel.TheVariants.{Before}
 use Rattle.packing_terms.specs.Packing.{box_count}
@@ -14,25 +14,25 @@ use Rattle.refutation_check.proofs.Bools.{row_other}
 use Rattle.refutation_check.proofs.chains.shut_from.Goals as goal
 
 pub loop-v-init : goal.loop-v-init
-loop-v-init c = record {
-  pass = pass_none _ _ (λ es. (v : ℕ) → v < box_count c.args.instance.now → row_has c.row-rest.result v ≡ false
+loop-v-init g c = record {
+  pass = pass_none _ _ (λ es. (v : ℕ) → v < box_count c.args.instance.now → row_has c.row_in-rest.result v ≡ false
       → IsShut c.args.instance.now c.args.dim c.args.head.now c.args.tail.now c.args.u v es)
       (λ v small off. record {
-        shut = λ ne wide. row_shut c.args.state.now.boxes c.args.dim c.args.u v (excludes c.args.state.now.trail) Before (row_has c.row-rest.result v)
-            (rw c.requires.sizes.same_boxes small) ne (c.row-rest.ensures v) off;
+        shut = λ ne wide. row_shut c.args.state.now.boxes c.args.dim c.args.u v (excludes c.args.state.now.trail) Before (row_has c.row_in-rest.result v)
+            (rw c.requires.sizes.same_boxes small) ne (c.row_in-rest.ensures v) off;
       });
-  within = λ v on. rw (← c.requires.sizes.same_boxes) (row_within c.args.state.now.boxes c.args.u v _ (row_has c.row-rest.result v) (c.row-rest.ensures v) on);
-  other = λ v on. row_other c.args.state.now.boxes c.args.u v _ (row_has c.row-rest.result v) (c.row-rest.ensures v) on;
+  within = λ v on. rw (← c.requires.sizes.same_boxes) (row_within c.args.state.now.boxes c.args.u v _ (row_has c.row_in-rest.result v) (c.row_in-rest.ensures v) on);
+  other = λ v on. row_other c.args.state.now.boxes c.args.u v _ (row_has c.row_in-rest.result v) (c.row_in-rest.ensures v) on;
 }
 
 pub apply_chain-requires-clause-dims : goal.apply_chain-requires-clause-dims
-apply_chain-requires-clause-dims c = (sizes_passed _ _ _ _ _ c.loop-v.invariant.pass c.requires.sizes).same_dims
+apply_chain-requires-clause-dims g c = (sizes_passed _ _ _ _ _ c.loop-v.invariant.pass c.requires.sizes).same_dims
 
 pub apply_chain-requires-clause-boxes : goal.apply_chain-requires-clause-boxes
-apply_chain-requires-clause-boxes c = (sizes_passed _ _ _ _ _ c.loop-v.invariant.pass c.requires.sizes).same_boxes
+apply_chain-requires-clause-boxes g c = (sizes_passed _ _ _ _ _ c.loop-v.invariant.pass c.requires.sizes).same_boxes
 
 pub apply_chain-requires-clause-place : goal.apply_chain-requires-clause-place
-apply_chain-requires-clause-place c =
+apply_chain-requires-clause-place g c =
     let sizes = sizes_passed _ _ _ _ _ c.loop-v.invariant.pass c.requires.sizes in
     let there = c.in-Some.ensures.least.there in
     record {
@@ -43,17 +43,17 @@ apply_chain-requires-clause-place c =
     }
 
 pub apply_chain-requires-clause-heads : goal.apply_chain-requires-clause-heads
-apply_chain-requires-clause-heads c = heads_more _ _ _ _ _ c.loop-v.invariant.pass.extends.kept c.requires.heads
+apply_chain-requires-clause-heads g c = heads_more _ _ _ _ _ c.loop-v.invariant.pass.extends.kept c.requires.heads
 
 pub apply_chain-requires-clause-tails : goal.apply_chain-requires-clause-tails
-apply_chain-requires-clause-tails c = tails_more _ _ _ _ _ c.loop-v.invariant.pass.extends.kept c.requires.tails
+apply_chain-requires-clause-tails g c = tails_more _ _ _ _ _ c.loop-v.invariant.pass.extends.kept c.requires.tails
 
 pub loop-v-smaller : goal.loop-v-smaller
-loop-v-smaller c =
-    members_fewer (row_has c.loop-v.rest) (row_has c.without-rest.result) c.in-Some.v 128 c.without-rest.ensures c.in-Some.ensures.least.there c.in-Some.ensures.limit
+loop-v-smaller g c =
+    members_fewer (row_has c.loop-v.rest) (row_has c.without-rest.result) c.in-Some.v (64 * g.row.K) c.without-rest.ensures c.in-Some.ensures.least.there c.in-Some.ensures.limit
 
 pub loop-v-preserved : goal.loop-v-preserved
-loop-v-preserved c = record {
+loop-v-preserved g c = record {
   pass = pass_row _ _ _ _ (box_count c.args.instance.now) c.in-Some.v (row_has c.loop-v.rest) (row_has c.without-rest.result)
       (λ v es. IsShut c.args.instance.now c.args.dim c.args.head.now c.args.tail.now c.args.u v es) c.without-rest.ensures
       (λ v. shut_kept c.args.instance.now c.args.dim c.args.head.now c.args.tail.now c.args.u v) c.loop-v.invariant.pass
@@ -63,6 +63,6 @@ loop-v-preserved c = record {
 }
 
 pub returns : goal.returns
-returns c =
+returns g c =
     pass_all _ _ _ (box_count c.args.instance.now) (row_has c.loop-v.rest) (λ v es. IsShut c.args.instance.now c.args.dim c.args.head.now c.args.tail.now c.args.u v es)
     c.in_default.ensures.least c.loop-v.invariant.pass
