@@ -14,6 +14,32 @@ use box_instances::Instance;
 use cycle_rules::apply_cycle;
 use edge_state::{BitRow, EdgeState, Rel};
 
+// CYCLE at four boxes.
+fn cycle_at(
+    instance: &Instance,
+    state: &mut EdgeState,
+    dim: u32,
+    a: u32,
+    b: u32,
+    c: u32,
+    d: u32,
+) -> bool
+    requires sizes { IsSized instance.now state.old dim }
+    requires a { a < box_count instance.now }
+    requires b { b < box_count instance.now }
+    requires c { c < box_count instance.now }
+    requires d { d < box_count instance.now }
+    ensures { IsWorked instance.now state.old state.new result (λ rule. rule ≡ Cycle dim a b c d) }
+{
+    if a == b || a == c || a == d {
+        return false;
+    }
+    if b == c || b == d || c == d {
+        return false;
+    }
+    apply_cycle(state, dim, a, b, c, d) && is_lost(instance, state, dim, b, d)
+}
+
 // CYCLE at its first three boxes, at the fourth.
 #[derive(Clone, Copy)]
 struct FourthStep {
@@ -24,25 +50,25 @@ struct FourthStep {
 }
 
 impl RuleStep for FourthStep {
-    ghost use Rattle.std.specs.Prelude.{◌≡◌, [], ◌∷◌};
-    ghost use Rattle.packing_terms.specs.Rules.{Cycle, AreBoxes};
+    ghost use Rattle.std.specs.Prelude.{◌≡◌, ◌<◌};
+    ghost use Rattle.packing_terms.specs.Packing.{box_count};
+    ghost use Rattle.packing_terms.specs.Rules.{Cycle};
 
     ghost dim_of = { λ s. s.dim };
 
-    ghost AreThere = { λ instance s. AreBoxes instance (s.a ∷ s.b ∷ s.c ∷ []) };
+    ghost AreThere = { λ instance s. (s.a < box_count instance) × (s.b < box_count instance)
+        × (s.c < box_count instance) };
 
     ghost Rules = { λ instance s d rule. rule ≡ Cycle s.dim s.a s.b s.c d };
 
     fn at(&self, instance: &Instance, state: &mut EdgeState, d: u32) -> bool {
-        let FourthStep { dim, a, b, c } = *self;
-        if d == a || d == b || d == c {
-            return false;
-        }
-        apply_cycle(state, dim, a, b, c, d) && is_lost(instance, state, dim, b, d)
+        cycle_at(instance, state, self.dim, self.a, self.b, self.c, d)
     }
 }
 
-// CYCLE at its first three boxes, where they are part of one.
+// CYCLE at its first three boxes: the fourth may be apart from the second, and is joined with the
+// other two.
+#[inline]
 fn cycles_over<const K: usize>(
     instance: &Instance,
     state: &mut EdgeState,
@@ -59,15 +85,6 @@ fn cycles_over<const K: usize>(
     ensures { IsWorked instance.now state.old state.new result
         (λ rule. (d : ℕ) × (d < box_count instance.now) × (rule ≡ Cycle dim a b c d)) }
 {
-    if a == b || a == c || b == c {
-        return false;
-    }
-    if !state.joined(dim, a, b)
-        || !state.joined(dim, b, c)
-        || state.mask(dim, a, c).has(Rel::Overlap)
-    {
-        return false;
-    }
     let free = some_left::<K>(instance, state, dim, b, Rel::Before, Rel::After);
     let apart_of_c = some_left(instance, state, dim, c, Rel::Before, Rel::After);
     let apart_of_a = some_left(instance, state, dim, a, Rel::Before, Rel::After);
@@ -124,7 +141,8 @@ fn cycles<const K: usize>(
         return false;
     }
     let joined = none_left(instance, state, all, dim, b, Rel::Before, Rel::After);
-    let row = joined.minus(state.row_in(dim, a, Rel::Overlap));
+    let near = state.row_in::<K>(dim, a, Rel::Overlap);
+    let row = joined.minus(near).without(a);
     at_each(&ThirdStep::<K> { dim, a, b }, instance, state, row)
 }
 

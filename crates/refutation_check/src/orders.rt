@@ -50,12 +50,14 @@ struct ThirdStep {
 }
 
 impl RuleStep for ThirdStep {
-    ghost use Rattle.std.specs.Prelude.{◌≡◌, [], ◌∷◌};
-    ghost use Rattle.packing_terms.specs.Rules.{Order, AreBoxes};
+    ghost use Rattle.std.specs.Prelude.{◌≡◌, ◌<◌};
+    ghost use Rattle.packing_terms.specs.Packing.{box_count};
+    ghost use Rattle.packing_terms.specs.Rules.{Order};
 
     ghost dim_of = { λ s. s.dim };
 
-    ghost AreThere = { λ instance s. AreBoxes instance (s.a ∷ s.b ∷ s.d ∷ []) };
+    ghost AreThere = { λ instance s. (s.a < box_count instance) × (s.b < box_count instance)
+        × (s.d < box_count instance) };
 
     ghost Rules = { λ instance s c rule. rule ≡ Order s.dim s.a s.b c s.d };
 
@@ -64,7 +66,9 @@ impl RuleStep for ThirdStep {
     }
 }
 
-// ORDER at its first pair, which is ordered, and its last box.
+// ORDER at its first pair and its last box: the third box may be before the second, and the last is
+// surely before it.
+#[inline]
 fn orders_from<const K: usize>(
     instance: &Instance,
     state: &mut EdgeState,
@@ -81,14 +85,9 @@ fn orders_from<const K: usize>(
     ensures { IsWorked instance.now state.old state.new result
         (λ rule. (c : ℕ) × (c < box_count instance.now) × (rule ≡ Order dim a b c d)) }
 {
-    if a == b || a == d || b == d {
-        return false;
-    }
-    if !state.sure_before(dim, a, b) || state.mask(dim, a, d).has(Rel::Before) {
-        return false;
-    }
     let free = some_left::<K>(instance, state, dim, b, Rel::Overlap, Rel::Before);
-    let row = free.minus(some_left(instance, state, dim, d, Rel::Overlap, Rel::Before));
+    let last = some_left::<K>(instance, state, dim, d, Rel::Overlap, Rel::Before);
+    let row = free.minus(last).without(d);
     at_each(&ThirdStep { dim, a, b, d }, instance, state, row)
 }
 
@@ -102,12 +101,14 @@ struct SecondStep {
 }
 
 impl RuleStep for SecondStep {
-    ghost use Rattle.std.specs.Prelude.{◌≡◌, [], ◌∷◌};
-    ghost use Rattle.packing_terms.specs.Rules.{Order, AreBoxes};
+    ghost use Rattle.std.specs.Prelude.{◌≡◌, ◌<◌};
+    ghost use Rattle.packing_terms.specs.Packing.{box_count};
+    ghost use Rattle.packing_terms.specs.Rules.{Order};
 
     ghost dim_of = { λ s. s.dim };
 
-    ghost AreThere = { λ instance s. AreBoxes instance (s.a ∷ s.c ∷ s.d ∷ []) };
+    ghost AreThere = { λ instance s. (s.a < box_count instance) × (s.c < box_count instance)
+        × (s.d < box_count instance) };
 
     ghost Rules = { λ instance s b rule. rule ≡ Order s.dim s.a b s.c s.d };
 
@@ -116,7 +117,8 @@ impl RuleStep for SecondStep {
     }
 }
 
-// ORDER at its second pair, which is ordered, and its first box.
+// ORDER at its second pair and its first box: the second box may be behind the third.
+#[inline]
 fn orders_to<const K: usize>(
     instance: &Instance,
     state: &mut EdgeState,
@@ -133,14 +135,9 @@ fn orders_to<const K: usize>(
     ensures { IsWorked instance.now state.old state.new result
         (λ rule. (b : ℕ) × (b < box_count instance.now) × (rule ≡ Order dim a b c d)) }
 {
-    if a == c || a == d || c == d {
-        return false;
-    }
-    if !state.sure_before(dim, c, d) || state.mask(dim, a, d).has(Rel::Before) {
-        return false;
-    }
     let free = some_left::<K>(instance, state, dim, c, Rel::Overlap, Rel::After);
-    let row = free.minus(some_left(instance, state, dim, a, Rel::Overlap, Rel::After));
+    let first = some_left::<K>(instance, state, dim, a, Rel::Overlap, Rel::After);
+    let row = free.minus(first).without(a);
     at_each(&SecondStep { dim, a, c, d }, instance, state, row)
 }
 

@@ -55,7 +55,7 @@ pub fn some_left<const K: usize>(
     one.or(other)
 }
 
-/// The boxes for which neither of two relations to `u` is left, and perhaps `u` itself.
+/// The other boxes for which neither of two relations to `u` is left.
 #[inline]
 pub fn none_left<const K: usize>(
     instance: &Instance,
@@ -71,11 +71,12 @@ pub fn none_left<const K: usize>(
     requires u { u < box_count instance.now }
     requires all { (x : ℕ) → row_has all x ≡ nat_lt x (box_count instance.now) }
     ensures within { (v : ℕ) → row_has result v ≡ true → v < box_count instance.now }
-    ensures others { (v : ℕ) → v < box_count instance.now → row_has result v ≡ false
+    ensures others { (v : ℕ) → v < box_count instance.now → (u ≡ v → ⊥) → row_has result v ≡ false
         → IsTrue (excludes state.now.trail dim u v first)
         → IsTrue (excludes state.now.trail dim u v second) → ⊥ }
 {
-    all.minus(some_left(instance, state, dim, u, first, second))
+    let left = some_left::<K>(instance, state, dim, u, first, second);
+    all.minus(left).without(u)
 }
 
 // The row where it is wanted, and else the empty one.

@@ -83,6 +83,7 @@ fn behind(state: &EdgeState, mark: Mark, change: Exclusion) -> Mark
 }
 
 // Whether one of the two boxes of a change is surely before the other now.
+#[inline]
 fn is_ordered(state: &EdgeState, change: Exclusion) -> bool
     requires { IsPlaceAmong state.now.dims state.now.boxes change.dim change.u change.v }
     ensures { result ≡ false → IsUnordered (excludes state.now.trail) change }
@@ -92,6 +93,7 @@ fn is_ordered(state: &EdgeState, change: Exclusion) -> bool
 }
 
 // The dimensions in which CHAIN is to be looked at, with that of a change that orders its boxes.
+#[inline]
 fn with_ordered(state: &EdgeState, ordered: BitRow<1>, change: Exclusion) -> BitRow<1>
     requires place { IsPlaceAmong state.now.dims state.now.boxes change.dim change.u change.v }
     requires dim { change.dim < 4 }

@@ -31,6 +31,7 @@ pub trait RuleStep {
 
 /// The step at each box of a row, up to where a mask is lost. At boxes that aren't in the row its
 /// instances add nothing.
+#[inline]
 pub fn at_each<S: RuleStep, const K: usize>(
     step: &S,
     instance: &Instance,

@@ -8,7 +8,6 @@ abbrev pub invariant-loop-v : goal.invariant-loop-v
 invariant-loop-v g l = record {
   pass : IsPass l.instance l.fn.state l.state (λ es. (v : ℕ) → v < box_count l.instance → row_has l.rest v ≡ false → IsShut l.instance l.dim l.head l.tail l.u v es);
   within : (v : ℕ) → row_has l.rest v ≡ true → v < box_count l.instance;
-  other : (v : ℕ) → row_has l.rest v ≡ true → l.u ≡ v → ⊥;
 }
 
 abbrev pub decreases-loop-v : goal.decreases-loop-v

@@ -13,7 +13,7 @@ at_each-requires g c = (
     (
       c.requires.sizes,
       (
-        (c.requires.a, (c.if-a-b.false, (c.if-a-c.false, tt)), (c.requires.b, (c.if-b-c.false, tt), (c.requires.c, tt, tt))),
+        (c.requires.a, c.requires.b, c.requires.c),
         (
           λ d on. c.some_left-free.ensures.within d (and_parts _ _ (sym (c.minus.ensures d) ∙ (and_parts _ _ (sym (c.minus-row.ensures d) ∙ on)).0)).0,
           λ d small off rule e. covered_named _ _ rule (Cycle c.args.dim c.args.a c.args.b c.args.c d) e (covered_cycle c.args.instance.now c.args.state.now.trail c.args.dim c.args.a c.args.b c.args.c d _ _ _ (rw (← c.minus.ensures d) (sym (c.minus-row.ensures d) ∙ off)) (λ ne f. c.some_left-free.ensures.others d small ne f) (λ on. c.some_left-apart_of_c.ensures.left d on) (λ on. c.some_left-apart_of_a.ensures.left d on)),
