@@ -5,7 +5,7 @@ ghost use Rattle.packing_terms.specs.Exclusions.{Exclusions, excludes};
 ghost use Rattle.packing_terms.specs.Closure.{Derives, IsStable};
 ghost use Rattle.rule_terms.specs.Applied.{Extends};
 ghost use Rattle.rule_terms.specs.Places.{HasNoEmptyMask};
-ghost use Rattle.edge_state.specs.BitRows.{row_has};
+ghost use Rattle.edge_state.specs.BitRows.{HoldsBoxes, row_has};
 ghost use Rattle.closure_terms.specs.States.{HasEmptyMask};
 ghost use Rattle.closure_terms.specs.Work.{IsSettled, IsChained};
 ghost use Rattle.refutation_check.specs.Ended.{IsEnded};
@@ -19,14 +19,15 @@ use edge_state::{BitRow, EdgeState, Mark};
 
 // Goes along what changed after a place of the list; then over CHAIN in a dimension where two boxes
 // became ordered, and along what that excluded, until nothing is left. True is a lost mask.
-fn close_with(
+fn close_with<const K: usize>(
     instance: &Instance,
     state: &mut EdgeState,
-    all: BitRow<2>,
+    all: BitRow<K>,
     head: &mut [u64],
     tail: &mut [u64],
     closed: Mark,
 ) -> bool
+    requires words { HoldsBoxes K (box_count instance.now) }
     requires dims { state.old.dims ≡ dims instance.now }
     requires boxes { state.old.boxes ≡ box_count instance.now }
     requires all { (x : ℕ) → row_has all x ≡ nat_lt x (box_count instance.now) }
@@ -51,7 +52,7 @@ fn close_with(
     let mut ordered = first;
     while let Some(dim) = ordered.first() {
         let next = state.mark();
-        cover_chains(instance, state, dim, head, tail);
+        cover_chains::<K>(instance, state, dim, head, tail);
         let Some(more) = settle(instance, state, all, next, ordered.without(dim)) else {
             return true;
         };
@@ -62,6 +63,32 @@ fn close_with(
 }
 
 impl Room {
+    // Closes the state from a place of its list, by rows of one word where it holds all boxes.
+    fn close_from(&mut self, instance: &Instance, state: &mut EdgeState, closed: Mark) -> bool
+        requires dims { state.old.dims ≡ dims instance.now }
+        requires boxes { state.old.boxes ≡ box_count instance.now }
+        requires room { self.old.boxes ≡ box_count instance.now }
+        requires mark { closed ≤ length state.old.trail }
+        requires settled { IsSettled instance.now
+            (drop (length state.old.trail - closed) state.old.trail) state.old.trail }
+        requires chained { (i : ℕ) → i < dims instance.now → IsChained instance.now i
+            (drop (length state.old.trail - closed) state.old.trail) state.old.trail }
+        ensures room { self.new ≡ self.old }
+        ensures sizes { state.new ≡ record state.old { trail = state.new.trail } }
+        ensures extends { Extends instance.now state.old.trail state.new.trail }
+        ensures ended { MatchBool result (HasEmptyMask instance.now (excludes state.new.trail))
+            (IsStable instance.now (excludes state.new.trail)
+            × HasNoEmptyMask instance.now (excludes state.new.trail)) }
+    {
+        let _sizes = state.dims();
+        let head = self.head.as_mut_slice();
+        let tail = self.tail.as_mut_slice();
+        if self.boxes <= 64 {
+            return close_with(instance, state, self.narrow, head, tail, closed);
+        }
+        close_with(instance, state, self.wide, head, tail, closed)
+    }
+
     /// Excludes what follows from the exclusions of the state, from PAIR at all pairs on. True is a
     /// conflict.
     pub fn close_all(&mut self, instance: &Instance, state: &mut EdgeState) -> bool
@@ -76,17 +103,10 @@ impl Room {
             → IsEnded instance.now E state.new.trail result }
     {
         let _sizes = state.dims();
-        if pass_pairs(instance, state, self.all) {
+        if pass_pairs(instance, state, self.wide) {
             return true;
         }
-        close_with(
-            instance,
-            state,
-            self.all,
-            self.head.as_mut_slice(),
-            self.tail.as_mut_slice(),
-            Mark::first(),
-        )
+        self.close_from(instance, state, Mark::first())
     }
 
     /// The same for a state that was closed, without an empty mask, at a place of its list. It looks
@@ -107,13 +127,6 @@ impl Room {
             → Derives instance.now E (excludes state.old.trail)
             → IsEnded instance.now E state.new.trail result }
     {
-        close_with(
-            instance,
-            state,
-            self.all,
-            self.head.as_mut_slice(),
-            self.tail.as_mut_slice(),
-            closed,
-        )
+        self.close_from(instance, state, closed)
     }
 }

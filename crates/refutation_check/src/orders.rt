@@ -2,7 +2,7 @@
 ghost use Rattle.std.specs.Prelude.{◌≡◌, ◌<◌, ◌⊎◌, ℕ, nat_lt};
 ghost use Rattle.packing_terms.specs.Packing.{box_count};
 ghost use Rattle.packing_terms.specs.Rules.{Order};
-ghost use Rattle.edge_state.specs.BitRows.{row_has};
+ghost use Rattle.edge_state.specs.BitRows.{HoldsBoxes, row_has};
 ghost use Rattle.closure_terms.specs.States.{IsSized};
 ghost use Rattle.closure_terms.specs.Work.{IsWorked};
 ghost use Rattle.closure_terms.specs.Instances.{OrdersFirst, OrdersSecond, OrdersCrossed};
@@ -50,12 +50,14 @@ struct ThirdStep {
 }
 
 impl RuleStep for ThirdStep {
-    ghost use Rattle.std.specs.Prelude.{◌≡◌, [], ◌∷◌};
-    ghost use Rattle.packing_terms.specs.Rules.{Order, AreBoxes};
+    ghost use Rattle.std.specs.Prelude.{◌≡◌, ◌<◌};
+    ghost use Rattle.packing_terms.specs.Packing.{box_count};
+    ghost use Rattle.packing_terms.specs.Rules.{Order};
 
     ghost dim_of = { λ s. s.dim };
 
-    ghost AreThere = { λ instance s. AreBoxes instance (s.a ∷ s.b ∷ s.d ∷ []) };
+    ghost AreThere = { λ instance s. (s.a < box_count instance) × (s.b < box_count instance)
+        × (s.d < box_count instance) };
 
     ghost Rules = { λ instance s c rule. rule ≡ Order s.dim s.a s.b c s.d };
 
@@ -64,8 +66,18 @@ impl RuleStep for ThirdStep {
     }
 }
 
-// ORDER at its first pair, which is ordered, and its last box.
-fn orders_from(instance: &Instance, state: &mut EdgeState, dim: u32, a: u32, b: u32, d: u32) -> bool
+// ORDER at its first pair and its last box: the third box may be before the second, and the last is
+// surely before it.
+#[inline]
+fn orders_from<const K: usize>(
+    instance: &Instance,
+    state: &mut EdgeState,
+    dim: u32,
+    a: u32,
+    b: u32,
+    d: u32,
+) -> bool
+    requires words { HoldsBoxes K (box_count instance.now) }
     requires sizes { IsSized instance.now state.old dim }
     requires a { a < box_count instance.now }
     requires b { b < box_count instance.now }
@@ -73,14 +85,9 @@ fn orders_from(instance: &Instance, state: &mut EdgeState, dim: u32, a: u32, b: 
     ensures { IsWorked instance.now state.old state.new result
         (λ rule. (c : ℕ) × (c < box_count instance.now) × (rule ≡ Order dim a b c d)) }
 {
-    if a == b || a == d || b == d {
-        return false;
-    }
-    if !state.sure_before(dim, a, b) || state.mask(dim, a, d).has(Rel::Before) {
-        return false;
-    }
-    let free = some_left(instance, state, dim, b, Rel::Overlap, Rel::Before);
-    let row = free.minus(some_left(instance, state, dim, d, Rel::Overlap, Rel::Before));
+    let free = some_left::<K>(instance, state, dim, b, Rel::Overlap, Rel::Before);
+    let last = some_left::<K>(instance, state, dim, d, Rel::Overlap, Rel::Before);
+    let row = free.minus(last).without(d);
     at_each(&ThirdStep { dim, a, b, d }, instance, state, row)
 }
 
@@ -94,12 +101,14 @@ struct SecondStep {
 }
 
 impl RuleStep for SecondStep {
-    ghost use Rattle.std.specs.Prelude.{◌≡◌, [], ◌∷◌};
-    ghost use Rattle.packing_terms.specs.Rules.{Order, AreBoxes};
+    ghost use Rattle.std.specs.Prelude.{◌≡◌, ◌<◌};
+    ghost use Rattle.packing_terms.specs.Packing.{box_count};
+    ghost use Rattle.packing_terms.specs.Rules.{Order};
 
     ghost dim_of = { λ s. s.dim };
 
-    ghost AreThere = { λ instance s. AreBoxes instance (s.a ∷ s.c ∷ s.d ∷ []) };
+    ghost AreThere = { λ instance s. (s.a < box_count instance) × (s.c < box_count instance)
+        × (s.d < box_count instance) };
 
     ghost Rules = { λ instance s b rule. rule ≡ Order s.dim s.a b s.c s.d };
 
@@ -108,8 +117,17 @@ impl RuleStep for SecondStep {
     }
 }
 
-// ORDER at its second pair, which is ordered, and its first box.
-fn orders_to(instance: &Instance, state: &mut EdgeState, dim: u32, a: u32, c: u32, d: u32) -> bool
+// ORDER at its second pair and its first box: the second box may be behind the third.
+#[inline]
+fn orders_to<const K: usize>(
+    instance: &Instance,
+    state: &mut EdgeState,
+    dim: u32,
+    a: u32,
+    c: u32,
+    d: u32,
+) -> bool
+    requires words { HoldsBoxes K (box_count instance.now) }
     requires sizes { IsSized instance.now state.old dim }
     requires a { a < box_count instance.now }
     requires c { c < box_count instance.now }
@@ -117,51 +135,49 @@ fn orders_to(instance: &Instance, state: &mut EdgeState, dim: u32, a: u32, c: u3
     ensures { IsWorked instance.now state.old state.new result
         (λ rule. (b : ℕ) × (b < box_count instance.now) × (rule ≡ Order dim a b c d)) }
 {
-    if a == c || a == d || c == d {
-        return false;
-    }
-    if !state.sure_before(dim, c, d) || state.mask(dim, a, d).has(Rel::Before) {
-        return false;
-    }
-    let free = some_left(instance, state, dim, c, Rel::Overlap, Rel::After);
-    let row = free.minus(some_left(instance, state, dim, a, Rel::Overlap, Rel::After));
+    let free = some_left::<K>(instance, state, dim, c, Rel::Overlap, Rel::After);
+    let first = some_left::<K>(instance, state, dim, a, Rel::Overlap, Rel::After);
+    let row = free.minus(first).without(a);
     at_each(&SecondStep { dim, a, c, d }, instance, state, row)
 }
 
 // ORDER with its first pair given, at the last box.
 #[derive(Clone, Copy)]
-struct LastStep {
+struct LastStep<const K: usize> {
     dim: u32,
     a: u32,
     b: u32,
 }
 
-impl RuleStep for LastStep {
+impl<const K: usize> RuleStep for LastStep<K> {
     ghost use Rattle.std.specs.Prelude.{◌≡◌, ◌<◌, ℕ};
     ghost use Rattle.packing_terms.specs.Packing.{box_count};
+    ghost use Rattle.edge_state.specs.BitRows.{HoldsBoxes};
     ghost use Rattle.packing_terms.specs.Rules.{Order};
 
     ghost dim_of = { λ s. s.dim };
 
-    ghost AreThere = { λ instance s. (s.a < box_count instance) × (s.b < box_count instance) };
+    ghost AreThere = { λ instance s. HoldsBoxes K (box_count instance)
+        × (s.a < box_count instance) × (s.b < box_count instance) };
 
     ghost Rules = { λ instance s d rule. (c : ℕ) × (c < box_count instance)
         × (rule ≡ Order s.dim s.a s.b c d) };
 
     fn at(&self, instance: &Instance, state: &mut EdgeState, d: u32) -> bool {
-        orders_from(instance, state, self.dim, self.a, self.b, d)
+        orders_from::<K>(instance, state, self.dim, self.a, self.b, d)
     }
 }
 
 // ORDER with its first pair ordered: the first box isn't before the last.
-fn orders_first(
+fn orders_first<const K: usize>(
     instance: &Instance,
     state: &mut EdgeState,
-    all: BitRow<2>,
+    all: BitRow<K>,
     dim: u32,
     a: u32,
     b: u32,
 ) -> bool
+    requires words { HoldsBoxes K (box_count instance.now) }
     requires sizes { IsSized instance.now state.old dim }
     requires a { a < box_count instance.now }
     requires b { b < box_count instance.now }
@@ -173,43 +189,46 @@ fn orders_first(
         return false;
     }
     let row = none_left(instance, state, all, dim, a, Rel::Before, Rel::Before);
-    at_each(&LastStep { dim, a, b }, instance, state, row)
+    at_each(&LastStep::<K> { dim, a, b }, instance, state, row)
 }
 
 // ORDER with its second pair given, at the first box.
 #[derive(Clone, Copy)]
-struct FirstStep {
+struct FirstStep<const K: usize> {
     dim: u32,
     c: u32,
     d: u32,
 }
 
-impl RuleStep for FirstStep {
+impl<const K: usize> RuleStep for FirstStep<K> {
     ghost use Rattle.std.specs.Prelude.{◌≡◌, ◌<◌, ℕ};
     ghost use Rattle.packing_terms.specs.Packing.{box_count};
+    ghost use Rattle.edge_state.specs.BitRows.{HoldsBoxes};
     ghost use Rattle.packing_terms.specs.Rules.{Order};
 
     ghost dim_of = { λ s. s.dim };
 
-    ghost AreThere = { λ instance s. (s.c < box_count instance) × (s.d < box_count instance) };
+    ghost AreThere = { λ instance s. HoldsBoxes K (box_count instance)
+        × (s.c < box_count instance) × (s.d < box_count instance) };
 
     ghost Rules = { λ instance s a rule. (b : ℕ) × (b < box_count instance)
         × (rule ≡ Order s.dim a b s.c s.d) };
 
     fn at(&self, instance: &Instance, state: &mut EdgeState, a: u32) -> bool {
-        orders_to(instance, state, self.dim, a, self.c, self.d)
+        orders_to::<K>(instance, state, self.dim, a, self.c, self.d)
     }
 }
 
 // ORDER with its second pair ordered: the last box isn't behind the first.
-fn orders_second(
+fn orders_second<const K: usize>(
     instance: &Instance,
     state: &mut EdgeState,
-    all: BitRow<2>,
+    all: BitRow<K>,
     dim: u32,
     c: u32,
     d: u32,
 ) -> bool
+    requires words { HoldsBoxes K (box_count instance.now) }
     requires sizes { IsSized instance.now state.old dim }
     requires c { c < box_count instance.now }
     requires d { d < box_count instance.now }
@@ -221,43 +240,46 @@ fn orders_second(
         return false;
     }
     let row = none_left(instance, state, all, dim, d, Rel::After, Rel::After);
-    at_each(&FirstStep { dim, c, d }, instance, state, row)
+    at_each(&FirstStep::<K> { dim, c, d }, instance, state, row)
 }
 
 // ORDER with its first and its last box given, at the second.
 #[derive(Clone, Copy)]
-struct CrossedStep {
+struct CrossedStep<const K: usize> {
     dim: u32,
     a: u32,
     d: u32,
 }
 
-impl RuleStep for CrossedStep {
+impl<const K: usize> RuleStep for CrossedStep<K> {
     ghost use Rattle.std.specs.Prelude.{◌≡◌, ◌<◌, ℕ};
     ghost use Rattle.packing_terms.specs.Packing.{box_count};
+    ghost use Rattle.edge_state.specs.BitRows.{HoldsBoxes};
     ghost use Rattle.packing_terms.specs.Rules.{Order};
 
     ghost dim_of = { λ s. s.dim };
 
-    ghost AreThere = { λ instance s. (s.a < box_count instance) × (s.d < box_count instance) };
+    ghost AreThere = { λ instance s. HoldsBoxes K (box_count instance)
+        × (s.a < box_count instance) × (s.d < box_count instance) };
 
     ghost Rules = { λ instance s b rule. (c : ℕ) × (c < box_count instance)
         × (rule ≡ Order s.dim s.a b c s.d) };
 
     fn at(&self, instance: &Instance, state: &mut EdgeState, b: u32) -> bool {
-        orders_from(instance, state, self.dim, self.a, b, self.d)
+        orders_from::<K>(instance, state, self.dim, self.a, b, self.d)
     }
 }
 
 // ORDER with its first box not before its last: the second is behind the first.
-fn orders_crossed(
+fn orders_crossed<const K: usize>(
     instance: &Instance,
     state: &mut EdgeState,
-    all: BitRow<2>,
+    all: BitRow<K>,
     dim: u32,
     a: u32,
     d: u32,
 ) -> bool
+    requires words { HoldsBoxes K (box_count instance.now) }
     requires sizes { IsSized instance.now state.old dim }
     requires a { a < box_count instance.now }
     requires d { d < box_count instance.now }
@@ -269,18 +291,19 @@ fn orders_crossed(
         return false;
     }
     let row = none_left(instance, state, all, dim, a, Rel::Overlap, Rel::After);
-    at_each(&CrossedStep { dim, a, d }, instance, state, row)
+    at_each(&CrossedStep::<K> { dim, a, d }, instance, state, row)
 }
 
 /// The instances of ORDER that read the mask of two boxes in this order. True is a lost mask.
-pub fn spread_orders(
+pub fn spread_orders<const K: usize>(
     instance: &Instance,
     state: &mut EdgeState,
-    all: BitRow<2>,
+    all: BitRow<K>,
     dim: u32,
     p: u32,
     q: u32,
 ) -> bool
+    requires words { HoldsBoxes K (box_count instance.now) }
     requires sizes { IsSized instance.now state.old dim }
     requires p { p < box_count instance.now }
     requires q { q < box_count instance.now }

@@ -2,7 +2,7 @@
 ghost use Rattle.std.specs.Prelude.{◌≡◌, ◌<◌, ℕ, nat_lt};
 ghost use Rattle.packing_terms.specs.Packing.{dims, box_count};
 ghost use Rattle.packing_terms.specs.Rules.{Pair};
-ghost use Rattle.edge_state.specs.BitRows.{row_has};
+ghost use Rattle.edge_state.specs.BitRows.{HoldsBoxes, row_has};
 ghost use Rattle.closure_terms.specs.States.{IsSized};
 ghost use Rattle.closure_terms.specs.Work.{IsWorked};
 
@@ -45,7 +45,13 @@ impl RuleStep for PairStep {
 }
 
 // PAIR in one dimension: it adds the same with its boxes swapped.
-fn pairs_in(instance: &Instance, state: &mut EdgeState, all: BitRow<2>, dim: u32) -> bool
+fn pairs_in<const K: usize>(
+    instance: &Instance,
+    state: &mut EdgeState,
+    all: BitRow<K>,
+    dim: u32,
+) -> bool
+    requires words { HoldsBoxes K (box_count instance.now) }
     requires sizes { IsSized instance.now state.old dim }
     requires all { (x : ℕ) → row_has all x ≡ nat_lt x (box_count instance.now) }
     ensures { IsWorked instance.now state.old state.new result
@@ -64,7 +70,12 @@ fn pairs_in(instance: &Instance, state: &mut EdgeState, all: BitRow<2>, dim: u32
 }
 
 /// PAIR in each dimension at all pairs, each once. True is a lost mask.
-pub fn pass_pairs(instance: &Instance, state: &mut EdgeState, all: BitRow<2>) -> bool
+pub fn pass_pairs<const K: usize>(
+    instance: &Instance,
+    state: &mut EdgeState,
+    all: BitRow<K>,
+) -> bool
+    requires words { HoldsBoxes K (box_count instance.now) }
     requires dims { state.old.dims ≡ dims instance.now }
     requires boxes { state.old.boxes ≡ box_count instance.now }
     requires all { (x : ℕ) → row_has all x ≡ nat_lt x (box_count instance.now) }

@@ -14,7 +14,8 @@ use std::marker::Model;
 pub struct Room {
     pub boxes: u32,
     pub most: u32,
-    pub all: BitRow<2>,
+    pub narrow: BitRow<1>,
+    pub wide: BitRow<2>,
     pub head: Vec<u64>,
     pub tail: Vec<u64>,
 }
@@ -27,7 +28,7 @@ impl Model for Room {
 
     ghost view = { λ r. record { boxes = r.boxes; most = r.most } };
 
-    ghost invariant = { λ r. HasRoom r.boxes r.most r.head.items r.tail.items r.all
+    ghost invariant = { λ r. HasRoom r.boxes r.most r.head.items r.tail.items r.narrow r.wide
         (vec_capacity r.head) (vec_capacity r.tail) };
 }
 
@@ -65,7 +66,8 @@ impl Room {
         Ok(Room {
             boxes,
             most: boxes,
-            all: all_boxes(boxes),
+            narrow: all_boxes(boxes.min(64)),
+            wide: all_boxes(boxes),
             head,
             tail,
         })
@@ -78,7 +80,8 @@ impl Room {
         ensures { self.new ≡ record self.old { boxes = boxes } }
     {
         self.boxes = boxes;
-        self.all = all_boxes(boxes);
+        self.narrow = all_boxes(boxes.min(64));
+        self.wide = all_boxes(boxes);
         refill(&mut self.head, boxes);
         refill(&mut self.tail, boxes);
     }

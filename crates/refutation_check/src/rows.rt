@@ -7,7 +7,7 @@ ghost use Rattle.packing_terms.specs.Exclusions.{excludes};
 ghost use Rattle.packing_terms.specs.Limits.{IsBoxCount};
 ghost use Rattle.packing_terms.specs.Rules.{Compose};
 ghost use Rattle.relation_table.specs.Masks.{mask_has};
-ghost use Rattle.edge_state.specs.BitRows.{row_has};
+ghost use Rattle.edge_state.specs.BitRows.{IsRowWidth, HoldsBoxes, row_has};
 ghost use Rattle.edge_state.specs.Edges.{is_other};
 ghost use Rattle.closure_terms.specs.States.{IsSized};
 ghost use Rattle.closure_terms.specs.Work.{IsCovered};
@@ -17,11 +17,12 @@ use box_instances::Instance;
 use edge_state::{BitRow, EdgeState, Mask, Rel};
 
 /// The row of all boxes.
-pub fn all_boxes(boxes: u32) -> BitRow<2>
-    requires { IsBoxCount boxes }
+pub fn all_boxes<const K: usize>(boxes: u32) -> BitRow<K>
+    requires words { HoldsBoxes K boxes }
+    requires count { IsBoxCount boxes }
     ensures { (x : ℕ) → row_has result x ≡ nat_lt x boxes }
 {
-    let mut all = BitRow::empty();
+    let mut all: BitRow<K> = BitRow::empty();
     for v in 0..boxes {
         all = all.with(v);
     }
@@ -30,14 +31,15 @@ pub fn all_boxes(boxes: u32) -> BitRow<2>
 
 /// The boxes for which one of two relations to `u` is left.
 #[inline]
-pub fn some_left(
+pub fn some_left<const K: usize>(
     instance: &Instance,
     state: &EdgeState,
     dim: u32,
     u: u32,
     first: Rel,
     second: Rel,
-) -> BitRow<2>
+) -> BitRow<K>
+    requires words { HoldsBoxes K (box_count instance.now) }
     requires sizes { IsSized instance.now state.now dim }
     requires u { u < box_count instance.now }
     ensures within { (v : ℕ) → row_has result v ≡ true → v < box_count instance.now }
@@ -48,52 +50,56 @@ pub fn some_left(
         → IsTrue (excludes state.now.trail dim u v first)
         → IsTrue (excludes state.now.trail dim u v second) → ⊥ }
 {
-    let one = state.row(dim, u, first);
-    let other = state.row(dim, u, second);
+    let one = state.row_in(dim, u, first);
+    let other = state.row_in(dim, u, second);
     one.or(other)
 }
 
-/// The boxes for which neither of two relations to `u` is left, and perhaps `u` itself.
+/// The other boxes for which neither of two relations to `u` is left.
 #[inline]
-pub fn none_left(
+pub fn none_left<const K: usize>(
     instance: &Instance,
     state: &EdgeState,
-    all: BitRow<2>,
+    all: BitRow<K>,
     dim: u32,
     u: u32,
     first: Rel,
     second: Rel,
-) -> BitRow<2>
+) -> BitRow<K>
+    requires words { HoldsBoxes K (box_count instance.now) }
     requires sizes { IsSized instance.now state.now dim }
     requires u { u < box_count instance.now }
     requires all { (x : ℕ) → row_has all x ≡ nat_lt x (box_count instance.now) }
     ensures within { (v : ℕ) → row_has result v ≡ true → v < box_count instance.now }
-    ensures others { (v : ℕ) → v < box_count instance.now → row_has result v ≡ false
+    ensures others { (v : ℕ) → v < box_count instance.now → (u ≡ v → ⊥) → row_has result v ≡ false
         → IsTrue (excludes state.now.trail dim u v first)
         → IsTrue (excludes state.now.trail dim u v second) → ⊥ }
 {
-    all.minus(some_left(instance, state, dim, u, first, second))
+    let left = some_left::<K>(instance, state, dim, u, first, second);
+    all.minus(left).without(u)
 }
 
 // The row where it is wanted, and else the empty one.
 #[inline]
-fn only_if(wanted: bool, row: BitRow<2>) -> BitRow<2>
-    ensures { (x : ℕ) → row_has result x ≡ row_has row x && wanted }
+fn only_if<const K: usize>(wanted: bool, row: BitRow<K>) -> BitRow<K>
+    requires { IsRowWidth K }
+    ensures { (x : ℕ) → row_has result x ≡ row_has row.entry x && wanted }
 {
     if wanted { row } else { BitRow::empty() }
 }
 
 // The boxes x for which a relation of the mask and one that is left to x allow this relation.
 #[inline]
-fn allowed(
+fn allowed<const K: usize>(
     mask: Mask,
-    overlap: BitRow<2>,
-    before: BitRow<2>,
-    after: BitRow<2>,
+    overlap: BitRow<K>,
+    before: BitRow<K>,
+    after: BitRow<K>,
     rel: Rel,
-) -> BitRow<2>
+) -> BitRow<K>
+    requires { IsRowWidth K }
     ensures { (x : ℕ) → row_has result x ≡ may rel (mask_has mask)
-        (of_three (row_has overlap x) (row_has before x) (row_has after x)) }
+        (of_three (row_has overlap.entry x) (row_has before.entry x) (row_has after.entry x)) }
 {
     let any = overlap.or(before).or(after);
     let through_overlap = match rel {
@@ -117,13 +123,14 @@ fn allowed(
 }
 
 /// The boxes x at which COMPOSE at `u`, `v`, x may exclude something.
-pub fn beyond_compositions(
+pub fn beyond_compositions<const K: usize>(
     instance: &Instance,
     state: &EdgeState,
     dim: u32,
     u: u32,
     v: u32,
-) -> BitRow<2>
+) -> BitRow<K>
+    requires words { HoldsBoxes K (box_count instance.now) }
     requires sizes { IsSized instance.now state.now dim }
     requires u { u < box_count instance.now }
     requires v { v < box_count instance.now }
@@ -134,12 +141,12 @@ pub fn beyond_compositions(
 {
     let _boxes = state.boxes();
     let mask = state.mask(dim, u, v);
-    let overlap = state.row(dim, v, Rel::Overlap);
-    let before = state.row(dim, v, Rel::Before);
-    let after = state.row(dim, v, Rel::After);
-    let here_overlap = state.row(dim, u, Rel::Overlap);
-    let here_before = state.row(dim, u, Rel::Before);
-    let here_after = state.row(dim, u, Rel::After);
+    let overlap = state.row_in(dim, v, Rel::Overlap);
+    let before = state.row_in(dim, v, Rel::Before);
+    let after = state.row_in(dim, v, Rel::After);
+    let here_overlap = state.row_in(dim, u, Rel::Overlap);
+    let here_before = state.row_in(dim, u, Rel::Before);
+    let here_after = state.row_in(dim, u, Rel::After);
     let beyond_overlap = here_overlap.minus(allowed(mask, overlap, before, after, Rel::Overlap));
     let beyond_before = here_before.minus(allowed(mask, overlap, before, after, Rel::Before));
     let beyond_after = here_after.minus(allowed(mask, overlap, before, after, Rel::After));

@@ -3,7 +3,7 @@ ghost use Rattle.std.specs.Prelude.{◌≡◌, ◌<◌, ◌≤◌, ◌+◌, ◌-
 ghost use Rattle.packing_terms.specs.Packing.{dims, box_count};
 ghost use Rattle.packing_terms.specs.Exclusions.{excludes, IsPlaceAmong};
 ghost use Rattle.rule_terms.specs.Applied.{Extends};
-ghost use Rattle.edge_state.specs.BitRows.{row_has};
+ghost use Rattle.edge_state.specs.BitRows.{HoldsBoxes, row_has};
 ghost use Rattle.edge_state.specs.Answers.{IsChangeAfter};
 ghost use Rattle.closure_terms.specs.States.{IsSized, HasEmptyMask};
 ghost use Rattle.closure_terms.specs.Work.{IsWorked, IsReached, IsUnordered, IsBehind, IsLookedThrough};
@@ -17,14 +17,15 @@ use edge_state::{BitRow, EdgeState, Exclusion, Mark, Rel};
 
 // All instances that read the mask of a place in one order of its boxes, up to those that add the
 // same.
-fn spread_from(
+fn spread_from<const K: usize>(
     instance: &Instance,
     state: &mut EdgeState,
-    all: BitRow<2>,
+    all: BitRow<K>,
     dim: u32,
     p: u32,
     q: u32,
 ) -> bool
+    requires words { HoldsBoxes K (box_count instance.now) }
     requires sizes { IsSized instance.now state.old dim }
     requires p { p < box_count instance.now }
     requires q { q < box_count instance.now }
@@ -32,7 +33,7 @@ fn spread_from(
     requires all { (x : ℕ) → row_has all x ≡ nat_lt x (box_count instance.now) }
     ensures { IsWorked instance.now state.old state.new result (IsReached dim p q) }
 {
-    if spread_triples(instance, state, dim, p, q) {
+    if spread_triples::<K>(instance, state, dim, p, q) {
         return true;
     }
     if spread_cycles(instance, state, all, dim, p, q) {
@@ -42,14 +43,15 @@ fn spread_from(
 }
 
 // All that read it in either order. True is a lost mask.
-fn spread(
+fn spread<const K: usize>(
     instance: &Instance,
     state: &mut EdgeState,
-    all: BitRow<2>,
+    all: BitRow<K>,
     dim: u32,
     u: u32,
     v: u32,
 ) -> bool
+    requires words { HoldsBoxes K (box_count instance.now) }
     requires sizes { IsSized instance.now state.old dim }
     requires u { u < box_count instance.now }
     requires v { v < box_count instance.now }
@@ -81,6 +83,7 @@ fn behind(state: &EdgeState, mark: Mark, change: Exclusion) -> Mark
 }
 
 // Whether one of the two boxes of a change is surely before the other now.
+#[inline]
 fn is_ordered(state: &EdgeState, change: Exclusion) -> bool
     requires { IsPlaceAmong state.now.dims state.now.boxes change.dim change.u change.v }
     ensures { result ≡ false → IsUnordered (excludes state.now.trail) change }
@@ -90,6 +93,7 @@ fn is_ordered(state: &EdgeState, change: Exclusion) -> bool
 }
 
 // The dimensions in which CHAIN is to be looked at, with that of a change that orders its boxes.
+#[inline]
 fn with_ordered(state: &EdgeState, ordered: BitRow<1>, change: Exclusion) -> BitRow<1>
     requires place { IsPlaceAmong state.now.dims state.now.boxes change.dim change.u change.v }
     requires dim { change.dim < 4 }
@@ -108,13 +112,14 @@ fn with_ordered(state: &EdgeState, ordered: BitRow<1>, change: Exclusion) -> Bit
 /// oldest first. Afterwards no rule but CHAIN adds anything, and CHAIN only in the dimensions of
 /// the answer: those that were given, and those in which two boxes became ordered. `None` is a lost
 /// mask.
-pub fn settle(
+pub fn settle<const K: usize>(
     instance: &Instance,
     state: &mut EdgeState,
-    all: BitRow<2>,
+    all: BitRow<K>,
     closed: Mark,
     ordered: BitRow<1>,
 ) -> Option<BitRow<1>>
+    requires words { HoldsBoxes K (box_count instance.now) }
     requires dims { state.old.dims ≡ dims instance.now }
     requires boxes { state.old.boxes ≡ box_count instance.now }
     requires all { (x : ℕ) → row_has all x ≡ nat_lt x (box_count instance.now) }

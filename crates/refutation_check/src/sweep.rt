@@ -3,7 +3,7 @@ ghost use Rattle.std.specs.Prelude.{◌≡◌, ◌<◌, ℕ, true, false};
 ghost use Rattle.packing_terms.specs.Packing.{PlainInstance, box_count};
 ghost use Rattle.packing_terms.specs.Exclusions.{excludes};
 ghost use Rattle.packing_terms.specs.Rules.{Rule};
-ghost use Rattle.edge_state.specs.BitRows.{row_has};
+ghost use Rattle.edge_state.specs.BitRows.{HoldsBoxes, row_has};
 ghost use Rattle.closure_terms.specs.States.{IsSized};
 ghost use Rattle.closure_terms.specs.Work.{IsCovered, IsWorked};
 
@@ -31,12 +31,14 @@ pub trait RuleStep {
 
 /// The step at each box of a row, up to where a mask is lost. At boxes that aren't in the row its
 /// instances add nothing.
-pub fn at_each<S: RuleStep>(
+#[inline]
+pub fn at_each<S: RuleStep, const K: usize>(
     step: &S,
     instance: &Instance,
     state: &mut EdgeState,
-    row: BitRow<2>,
+    row: BitRow<K>,
 ) -> bool
+    requires words { HoldsBoxes K (box_count instance.now) }
     requires sizes { IsSized instance.now state.old (S.dim_of step.now) }
     requires there { S.AreThere instance.now step.now }
     requires within { (x : ℕ) → row_has row x ≡ true → x < box_count instance.now }

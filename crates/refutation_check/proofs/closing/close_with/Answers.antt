@@ -1,26 +1,43 @@
-use Rattle.std.proofs.Common.{◌≤◌, ◌-◌, ◌*◌, ◌/◌, ◌∙◌, ap, length}
+use Rattle.std.proofs.Common.{◌≤◌, ◌-◌, ◌*◌, ◌/◌, ◌∙◌, ap, length, arith}
 use Rattle.rule_terms.proofs.Applied.{extends_trans}
 use Rattle.edge_state.specs.Edges.{PlainEdges}
 use Rattle.edge_state.specs.BitRows.{row_has}
 use Rattle.edge_state.proofs.RowBits.{members_few}
 use Rattle.closure_terms.proofs.Settled.{trail_short, settled_transitive, stable_settled}
-use Rattle.closure_terms.proofs.Looked.{looked_after, less_to_do}
+use Rattle.closure_terms.proofs.Looked.{looked_after, less_to_do, marked}
 use Rattle.refutation_check.proofs.closing.close_with.Goals as goal
 
 pub cover_chains-requires-clause-transitive : goal.cover_chains-requires-clause-transitive
-cover_chains-requires-clause-transitive c =
+cover_chains-requires-clause-transitive g c =
     let looked = c.loop-dim.invariant.looked in settled_transitive _ _ _ (looked.within _ c.in-Some-first.ensures.least.there) looked.settled
 
-pub settle-requires-in-Some-first-clause-looked : goal.settle-requires-in-Some-first-clause-looked
-settle-requires-in-Some-first-clause-looked c =
-    looked_after _ _ _ _ _ _ _ c.loop-dim.invariant.looked c.cover_chains.ensures.worked c.mark-next.ensures c.without.ensures
+pub settle-requires-in-Some-first : goal.settle-requires-in-Some-first
+settle-requires-in-Some-first g c = (
+  omega (arith, c.requires.words.0.1),
+  (
+    c.requires.words,
+    (
+      c.cover_chains.ensures.worked.same_dims ∙ (c.loop-dim.invariant.same_dims ∙ c.requires.dims),
+      (
+        c.cover_chains.ensures.worked.same_boxes ∙ (c.loop-dim.invariant.same_boxes ∙ c.requires.boxes),
+        (
+          c.requires.all,
+          (
+            marked _ _ _ _ c.mark-next.ensures c.cover_chains.ensures.worked.extends,
+            looked_after _ _ _ _ _ _ _ c.loop-dim.invariant.looked c.cover_chains.ensures.worked c.mark-next.ensures c.without.ensures,
+          ),
+        ),
+      ),
+    ),
+  ),
+)
 
 pub returns-in_default-settle-clause-extends : goal.returns-in_default-settle-clause-extends
-returns-in_default-settle-clause-extends c =
+returns-in_default-settle-clause-extends g c =
     extends_trans _ _ _ _ c.loop-dim.invariant.extends (extends_trans _ _ _ _ c.cover_chains.ensures.worked.extends c.settle-in-Some-first.ensures.extends)
 
 pub loop-dim-smaller : goal.loop-dim-smaller
-loop-dim-smaller c =
+loop-dim-smaller g c =
     let s = c.settle-in-Some-first.new.state in
     let room = 3 * c.args.state.now.dims * c.args.state.now.boxes * (c.args.state.now.boxes - 1) / 2 in
     let same_dims = ap (λ (z : PlainEdges). z.dims) c.settle-in-Some-first.ensures.sizes ∙ (c.cover_chains.ensures.worked.same_dims ∙ c.loop-dim.invariant.same_dims) in
@@ -31,7 +48,7 @@ loop-dim-smaller c =
     c.in-Some-settle.ensures.still c.without.ensures c.in-Some-first.ensures.least.there c.in-Some-first.ensures.limit
 
 pub loop-dim-preserved : goal.loop-dim-preserved
-loop-dim-preserved c = record {
+loop-dim-preserved g c = record {
   same_dims = ap (λ (z : PlainEdges). z.dims) c.settle-in-Some-first.ensures.sizes ∙ (c.cover_chains.ensures.worked.same_dims ∙ c.loop-dim.invariant.same_dims);
   same_boxes = ap (λ (z : PlainEdges). z.boxes) c.settle-in-Some-first.ensures.sizes ∙ (c.cover_chains.ensures.worked.same_boxes ∙ c.loop-dim.invariant.same_boxes);
   same_room = ap (λ (z : PlainEdges). z.room) c.settle-in-Some-first.ensures.sizes ∙ (c.cover_chains.ensures.worked.same_room ∙ c.loop-dim.invariant.same_room);
@@ -42,6 +59,6 @@ loop-dim-preserved c = record {
 }
 
 pub returns-clause-ended : goal.returns-clause-ended
-returns-clause-ended c =
+returns-clause-ended g c =
     let looked = c.loop-dim.invariant.looked in
     (stable_settled _ _ looked.settled (λ i h. looked.chained i h (c.in_default-first.ensures.least i)), looked.settled.full)

@@ -6,7 +6,7 @@ use Rattle.closure_terms.specs.Work.{IsLookedThrough}
 use Rattle.refutation_check.proofs.closing.close_with.Given as goal
 
 abbrev pub invariant-loop-dim : goal.invariant-loop-dim
-invariant-loop-dim l = record {
+invariant-loop-dim g l = record {
   same_dims : l.state.dims ≡ l.fn.state.dims;
   same_boxes : l.state.boxes ≡ l.fn.state.boxes;
   same_room : l.state.room ≡ l.fn.state.room;
@@ -17,4 +17,4 @@ invariant-loop-dim l = record {
 }
 
 abbrev pub decreases-loop-dim : goal.decreases-loop-dim
-decreases-loop-dim l = 65 * (3 * l.fn.state.dims * l.fn.state.boxes * (l.fn.state.boxes - 1) / 2 - length l.state.trail) + members_below (row_has l.ordered) 64
+decreases-loop-dim g l = 65 * (3 * l.fn.state.dims * l.fn.state.boxes * (l.fn.state.boxes - 1) / 2 - length l.state.trail) + members_below (row_has l.ordered) 64

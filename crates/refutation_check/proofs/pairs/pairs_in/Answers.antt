@@ -7,10 +7,10 @@ use Rattle.refutation_check.proofs.Bools.{not_one_of}
 use Rattle.refutation_check.proofs.pairs.pairs_in.Goals as goal
 
 pub returns-then-at_each : goal.returns-then-at_each
-returns-then-at_each c = worked_lost _ _ _ _ _ _ _ _ c.if-at_each.true c.loop-u.invariant.work c.at_each.ensures
+returns-then-at_each g c = worked_lost _ _ _ _ _ _ _ _ c.if-at_each.true c.loop-u.invariant.work c.at_each.ensures
 
 pub loop-u-preserved : goal.loop-u-preserved
-loop-u-preserved c = record {
+loop-u-preserved g c = record {
   work = worked_next _ _ _ _ _ _ (λ u rule. (v : ℕ) × (v < box_count c.args.instance.now) × ((u < v) × (rule ≡ Pair c.args.dim u v))) c.loop-u.invariant.work
       (worked_kept _ _ _ _ _ c.if-at_each.false c.at_each.ensures);
   later = λ x. c.without-later.ensures x

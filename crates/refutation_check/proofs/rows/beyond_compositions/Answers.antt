@@ -12,16 +12,16 @@ use Rattle.closure_terms.proofs.Beyond.{covered_beyond, within_beyond}
 use Rattle.refutation_check.proofs.rows.beyond_compositions.Goals as goal
 
 pub returns-clause-within : goal.returns-clause-within
-returns-clause-within c x on =
+returns-clause-within g c x on =
     let instance = c.args.instance.now in
     let es = c.args.state.now.trail in
     let u = c.args.u in
     let q = mask_has c.mask-mask.result in
-    let s = of_three (row_has c.row-overlap.result x) (row_has c.row-before.result x) (row_has c.row-after.result x) in
-    let t = of_three (row_has c.row-here_overlap.result x) (row_has c.row-here_before.result x) (row_has c.row-here_after.result x) in
-    let to = rw c.requires.sizes.same_boxes at c.row-here_overlap.ensures in
-    let tb = rw c.requires.sizes.same_boxes at c.row-here_before.ensures in
-    let ta = rw c.requires.sizes.same_boxes at c.row-here_after.ensures in
+    let s = of_three (row_has c.row_in-overlap.result x) (row_has c.row_in-before.result x) (row_has c.row_in-after.result x) in
+    let t = of_three (row_has c.row_in-here_overlap.result x) (row_has c.row_in-here_before.result x) (row_has c.row_in-here_after.result x) in
+    let to = rw c.requires.sizes.same_boxes at c.row_in-here_overlap.ensures in
+    let tb = rw c.requires.sizes.same_boxes at c.row_in-here_before.ensures in
+    let ta = rw c.requires.sizes.same_boxes at c.row_in-here_after.ensures in
     let ht : (r : Rel) → t r ≡ is_other (box_count instance) u x && not (excludes es c.args.dim u x r) = by_rel t _ (to x) (tb x) (ta x) in
     let e : row_has c.without.result x ≡ (((t Overlap && not (may Overlap q s)) || (t Before && not (may Before q s))) || (t After && not (may After q s))) && not (eqb x c.args.v)
     = rw (
@@ -38,22 +38,22 @@ returns-clause-within c x on =
     within_beyond (box_count instance) u c.args.v x es c.args.dim _ q s t ht e on
 
 pub returns-clause-others : goal.returns-clause-others
-returns-clause-others c x small off =
+returns-clause-others g c x small off =
     let instance = c.args.instance.now in
     let es = c.args.state.now.trail in
     let j = c.args.dim in
     let u = c.args.u in
     let v = c.args.v in
     let q = mask_has c.mask-mask.result in
-    let s = of_three (row_has c.row-overlap.result x) (row_has c.row-before.result x) (row_has c.row-after.result x) in
-    let t = of_three (row_has c.row-here_overlap.result x) (row_has c.row-here_before.result x) (row_has c.row-here_after.result x) in
-    let to = rw c.requires.sizes.same_boxes at c.row-here_overlap.ensures in
-    let tb = rw c.requires.sizes.same_boxes at c.row-here_before.ensures in
-    let ta = rw c.requires.sizes.same_boxes at c.row-here_after.ensures in
+    let s = of_three (row_has c.row_in-overlap.result x) (row_has c.row_in-before.result x) (row_has c.row_in-after.result x) in
+    let t = of_three (row_has c.row_in-here_overlap.result x) (row_has c.row_in-here_before.result x) (row_has c.row_in-here_after.result x) in
+    let to = rw c.requires.sizes.same_boxes at c.row_in-here_overlap.ensures in
+    let tb = rw c.requires.sizes.same_boxes at c.row_in-here_before.ensures in
+    let ta = rw c.requires.sizes.same_boxes at c.row_in-here_after.ensures in
     let ht : (r : Rel) → t r ≡ is_other (box_count instance) u x && not (excludes es j u x r) = by_rel t _ (to x) (tb x) (ta x) in
-    let so = rw c.requires.sizes.same_boxes at c.row-overlap.ensures in
-    let sb = rw c.requires.sizes.same_boxes at c.row-before.ensures in
-    let sa = rw c.requires.sizes.same_boxes at c.row-after.ensures in
+    let so = rw c.requires.sizes.same_boxes at c.row_in-overlap.ensures in
+    let sb = rw c.requires.sizes.same_boxes at c.row_in-before.ensures in
+    let sa = rw c.requires.sizes.same_boxes at c.row_in-after.ensures in
     let hs : (r : Rel) → s r ≡ is_other (box_count instance) v x && not (excludes es j v x r) = by_rel s _ (so x) (sb x) (sa x) in
     let e : row_has c.without.result x ≡ (((t Overlap && not (may Overlap q s)) || (t Before && not (may Before q s))) || (t After && not (may After q s))) && not (eqb x v)
     = rw (

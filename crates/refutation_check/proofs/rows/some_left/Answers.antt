@@ -4,13 +4,13 @@ use Rattle.closure_terms.proofs.Filters.{either_within, either_shut, either_some
 use Rattle.refutation_check.proofs.rows.some_left.Goals as goal
 
 pub returns-clause-within : goal.returns-clause-within
-returns-clause-within c v on =
-    either_within (box_count c.args.instance.now) c.args.u v _ _ _ _ _ ((rw c.requires.sizes.same_boxes at c.row-one.ensures) v) ((rw c.requires.sizes.same_boxes at c.row-other.ensures) v) (c.or.ensures v) on
+returns-clause-within g c v on =
+    either_within (box_count c.args.instance.now) c.args.u v _ _ _ _ _ ((rw c.requires.sizes.same_boxes at c.row_in-one.ensures) v) ((rw c.requires.sizes.same_boxes at c.row_in-other.ensures) v) (c.or.ensures v) on
 
 pub returns-clause-others : goal.returns-clause-others
-returns-clause-others c v small ne off =
-    either_shut (box_count c.args.instance.now) c.args.dim c.args.u v (excludes c.args.state.now.trail) c.args.first c.args.second _ _ _ small ne ((rw c.requires.sizes.same_boxes at c.row-one.ensures) v) ((rw c.requires.sizes.same_boxes at c.row-other.ensures) v) (c.or.ensures v) off
+returns-clause-others g c v small ne off =
+    either_shut (box_count c.args.instance.now) c.args.dim c.args.u v (excludes c.args.state.now.trail) c.args.first c.args.second _ _ _ small ne ((rw c.requires.sizes.same_boxes at c.row_in-one.ensures) v) ((rw c.requires.sizes.same_boxes at c.row_in-other.ensures) v) (c.or.ensures v) off
 
 pub returns-clause-left : goal.returns-clause-left
-returns-clause-left c v on f g =
-    either_some (box_count c.args.instance.now) c.args.dim c.args.u v (excludes c.args.state.now.trail) c.args.first c.args.second _ _ _ ((rw c.requires.sizes.same_boxes at c.row-one.ensures) v) ((rw c.requires.sizes.same_boxes at c.row-other.ensures) v) (c.or.ensures v) on f g
+returns-clause-left g c v on one other =
+    either_some (box_count c.args.instance.now) c.args.dim c.args.u v (excludes c.args.state.now.trail) c.args.first c.args.second _ _ _ ((rw c.requires.sizes.same_boxes at c.row_in-one.ensures) v) ((rw c.requires.sizes.same_boxes at c.row_in-other.ensures) v) (c.or.ensures v) on one other

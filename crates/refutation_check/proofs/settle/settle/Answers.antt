@@ -7,7 +7,7 @@ use Rattle.closure_terms.proofs.Looked.{looked_step}
 use Rattle.refutation_check.proofs.settle.settle.Goals as goal
 
 pub loop-change-init : goal.loop-change-init
-loop-change-init c = record {
+loop-change-init g c = record {
   same_dims = refl;
   same_boxes = refl;
   same_room = refl;
@@ -19,7 +19,7 @@ loop-change-init c = record {
 }
 
 pub is_lost-requires : goal.is_lost-requires
-is_lost-requires c =
+is_lost-requires g c =
     let s = c.loop-change.state in
     let place = change_place s.dims s.boxes s.trail c.loop-change.next _ c.in-Some.change c.dims-sizes.ensures.limits.trail c.in-Some.ensures in
     record {
@@ -33,34 +33,45 @@ is_lost-requires c =
     }
 
 pub with_ordered-more-requires-clause-place : goal.with_ordered-more-requires-clause-place
-with_ordered-more-requires-clause-place c =
+with_ordered-more-requires-clause-place g c =
     let s = c.loop-change.state in
     change_place s.dims s.boxes s.trail c.loop-change.next _ c.in-Some.change c.dims-sizes.ensures.limits.trail c.in-Some.ensures
 
 pub with_ordered-more-requires-clause-dim : goal.with_ordered-more-requires-clause-dim
-with_ordered-more-requires-clause-dim c =
+with_ordered-more-requires-clause-dim g c =
     let s = c.loop-change.state in
     let place = change_place s.dims s.boxes s.trail c.loop-change.next _ c.in-Some.change c.dims-sizes.ensures.limits.trail c.in-Some.ensures in
     omega (arith, place.dim, c.dims-sizes.ensures.limits.dimensions.1)
 
 pub spread-requires : goal.spread-requires
-spread-requires c =
+spread-requires g c =
     let s = c.loop-change.state in
-    let place = change_place s.dims s.boxes s.trail c.loop-change.next _ c.in-Some.change c.dims-sizes.ensures.limits.trail c.in-Some.ensures in
-    record {
-      sizes = record {
-        same_dims = c.loop-change.invariant.same_dims ∙ c.requires.dims;
-        same_boxes = c.loop-change.invariant.same_boxes ∙ c.requires.boxes;
-        there = omega (arith, place.dim, c.loop-change.invariant.same_dims, c.requires.dims);
-      };
-      u = omega (arith, place.first, c.loop-change.invariant.same_boxes, c.requires.boxes);
-      v = omega (arith, place.second, c.loop-change.invariant.same_boxes, c.requires.boxes);
-      distinct = place.distinct;
-      all = c.requires.all;
-    }
+    let place = change_place s.dims s.boxes s.trail c.loop-change.next _ c.in-Some.change c.dims-sizes.ensures.limits.trail c.in-Some.ensures in (
+      omega (arith, c.requires.words.0.1),
+      (
+        c.requires.words,
+        (
+          record {
+            same_dims = c.loop-change.invariant.same_dims ∙ c.requires.dims;
+            same_boxes = c.loop-change.invariant.same_boxes ∙ c.requires.boxes;
+            there = omega (arith, place.dim, c.loop-change.invariant.same_dims, c.requires.dims);
+          },
+          (
+            omega (arith, place.first, c.loop-change.invariant.same_boxes, c.requires.boxes),
+            (
+              omega (arith, place.second, c.loop-change.invariant.same_boxes, c.requires.boxes),
+              (
+                place.distinct,
+                c.requires.all,
+              ),
+            ),
+          ),
+        ),
+      ),
+    )
 
 pub loop-change-smaller : goal.loop-change-smaller
-loop-change-smaller c =
+loop-change-smaller g c =
     let s = c.loop-change.state in
     let short : length s.trail ≤ 3 * c.args.state.now.dims * c.args.state.now.boxes * (c.args.state.now.boxes - 1) / 2
     = rw (← c.loop-change.invariant.same_dims, ← c.loop-change.invariant.same_boxes) (trail_short s.dims s.boxes s.trail c.dims-sizes.ensures.limits.trail) in
@@ -70,7 +81,7 @@ loop-change-smaller c =
     omega (arith, short, before_last, past.0)
 
 pub loop-change-preserved : goal.loop-change-preserved
-loop-change-preserved c =
+loop-change-preserved g c =
     let s = c.loop-change.state in
     let change = c.in-Some.ensures in
     let place = change_place s.dims s.boxes s.trail c.loop-change.next _ c.in-Some.change c.dims-sizes.ensures.limits.trail change in
@@ -91,10 +102,10 @@ loop-change-preserved c =
     }
 
 pub returns-then-spread-clause-extends : goal.returns-then-spread-clause-extends
-returns-then-spread-clause-extends c = extends_trans _ _ _ _ c.loop-change.invariant.extends c.spread.ensures.extends
+returns-then-spread-clause-extends g c = extends_trans _ _ _ _ c.loop-change.invariant.extends c.spread.ensures.extends
 
 pub returns-clause-looked : goal.returns-clause-looked
-returns-clause-looked c =
+returns-clause-looked g c =
     let looked = c.loop-change.invariant.looked in record {
       settled = settled_all _ _ _ c.in_default.ensures looked.settled;
       chained = λ i h off. chained_all _ i _ _ c.in_default.ensures (looked.chained i h off);

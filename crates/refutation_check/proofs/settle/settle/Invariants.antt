@@ -4,7 +4,7 @@ use Rattle.closure_terms.specs.Work.{IsLookedThrough}
 use Rattle.refutation_check.proofs.settle.settle.Given as goal
 
 abbrev pub invariant-loop-change : goal.invariant-loop-change
-invariant-loop-change l = record {
+invariant-loop-change g l = record {
   same_dims : l.state.dims ≡ l.fn.state.dims;
   same_boxes : l.state.boxes ≡ l.fn.state.boxes;
   same_room : l.state.room ≡ l.fn.state.room;
@@ -16,4 +16,4 @@ invariant-loop-change l = record {
 }
 
 abbrev pub decreases-loop-change : goal.decreases-loop-change
-decreases-loop-change l = 3 * l.fn.state.dims * l.fn.state.boxes * (l.fn.state.boxes - 1) / 2 - l.next
+decreases-loop-change g l = 3 * l.fn.state.dims * l.fn.state.boxes * (l.fn.state.boxes - 1) / 2 - l.next

@@ -1,16 +1,35 @@
+use Rattle.std.proofs.Common.{arith, sym}
 use Rattle.packing_terms.specs.Rules.{Rule}
 use Rattle.closure_terms.specs.Work.{IsReached}
 use Rattle.closure_terms.proofs.Worked.{worked_then, worked_lost_first, worked_kept, sizes_worked}
 use Rattle.refutation_check.proofs.settle.spread.Goals as goal
 
 pub returns-then-spread_from : goal.returns-then-spread_from
-returns-then-spread_from c = worked_lost_first _ _ _ _ _ _ c.if-spread_from.true c.spread_from.ensures
+returns-then-spread_from g c = worked_lost_first _ _ _ _ _ _ c.if-spread_from.true c.spread_from.ensures
 
-pub spread_from-requires-2-clause-sizes : goal.spread_from-requires-2-clause-sizes
-spread_from-requires-2-clause-sizes c = sizes_worked _ _ _ _ _ _ c.spread_from.ensures c.requires.sizes
+pub spread_from-requires-2 : goal.spread_from-requires-2
+spread_from-requires-2 g c = (
+  omega (arith, c.requires.words.0.1),
+  (
+    c.requires.words,
+    (
+      sizes_worked _ _ _ _ _ _ c.spread_from.ensures c.requires.sizes,
+      (
+        c.requires.v,
+        (
+          c.requires.u,
+          (
+            λ e. c.requires.distinct (sym e),
+            c.requires.all,
+          ),
+        ),
+      ),
+    ),
+  ),
+)
 
 pub returns : goal.returns
-returns c =
+returns g c =
     let j = c.args.dim in
     let u = c.args.u in
     let v = c.args.v in

@@ -1,4 +1,4 @@
-use Rattle.std.proofs.Common.{◌∙◌, sym}
+use Rattle.std.proofs.Common.{◌*◌, ◌∙◌, sym}
 use Rattle.std.proofs.lemmas.Bool.{and_parts}
 use Rattle.packing_terms.specs.Packing.{box_count}
 use Rattle.edge_state.specs.BitRows.{row_has}
@@ -15,7 +15,7 @@ loop-x-init g c = record {
 
 pub loop-x-smaller : goal.loop-x-smaller
 loop-x-smaller g c =
-    members_fewer (row_has c.loop-x.rest) (row_has c.without-rest.result) c.in-Some.x 128 c.without-rest.ensures c.in-Some.ensures.least.there c.in-Some.ensures.limit
+    members_fewer (row_has c.loop-x.rest) (row_has c.without-rest.result) c.in-Some.x (64 * g.row.K) c.without-rest.ensures c.in-Some.ensures.least.there c.in-Some.ensures.limit
 
 pub loop-x-preserved : goal.loop-x-preserved
 loop-x-preserved g c = record {

@@ -1,4 +1,4 @@
-use Rattle.std.proofs.Common.{◌≡◌, ◌<◌, ℕ, true, false}
+use Rattle.std.proofs.Common.{◌*◌, ◌≡◌, ◌<◌, ℕ, true, false}
 use Rattle.packing_terms.specs.Packing.{box_count}
 use Rattle.edge_state.specs.BitRows.{row_has, members_below}
 use Rattle.closure_terms.specs.Work.{IsWorked}
@@ -12,4 +12,4 @@ invariant-loop-x g l = record {
 }
 
 abbrev pub decreases-loop-x : goal.decreases-loop-x
-decreases-loop-x g l = members_below (row_has l.rest) 128
+decreases-loop-x g l = members_below (row_has l.rest) (64 * g.row.K)

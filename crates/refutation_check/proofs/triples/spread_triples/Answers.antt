@@ -5,22 +5,22 @@ use Rattle.closure_terms.proofs.Worked.{worked_then, worked_lost, worked_lost_fi
 use Rattle.refutation_check.proofs.triples.spread_triples.Goals as goal
 
 pub returns-then-composes : goal.returns-then-composes
-returns-then-composes c = worked_lost_first _ _ _ _ _ _ c.if-composes.true c.composes.ensures
+returns-then-composes g c = worked_lost_first _ _ _ _ _ _ c.if-composes.true c.composes.ensures
 
 pub triples-requires-clause-sizes : goal.triples-requires-clause-sizes
-triples-requires-clause-sizes c = sizes_worked _ _ _ _ _ _ c.composes.ensures c.requires.sizes
+triples-requires-clause-sizes g c = sizes_worked _ _ _ _ _ _ c.composes.ensures c.requires.sizes
 
 pub returns-then-triples : goal.returns-then-triples
-returns-then-triples c =
+returns-then-triples g c =
     let instance = c.args.instance.now in
     let first = worked_kept instance _ _ _ (λ (rule : Rule). Composes instance c.args.dim c.args.p c.args.q rule) c.if-composes.false c.composes.ensures in
     worked_lost _ _ _ _ _ _ _ _ c.if-triples.true first c.triples.ensures
 
 pub aparts-requires-clause-sizes : goal.aparts-requires-clause-sizes
-aparts-requires-clause-sizes c = sizes_worked _ _ _ _ _ _ c.triples.ensures (sizes_worked _ _ _ _ _ _ c.composes.ensures c.requires.sizes)
+aparts-requires-clause-sizes g c = sizes_worked _ _ _ _ _ _ c.triples.ensures (sizes_worked _ _ _ _ _ _ c.composes.ensures c.requires.sizes)
 
 pub returns : goal.returns
-returns c =
+returns g c =
     let instance = c.args.instance.now in
     let one = λ (rule : Rule). Composes instance c.args.dim c.args.p c.args.q rule in
     let two = λ (rule : Rule). Triples instance c.args.dim c.args.p c.args.q rule in

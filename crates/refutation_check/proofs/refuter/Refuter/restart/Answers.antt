@@ -1,11 +1,9 @@
-use Rattle.std.proofs.Common.{◌≡◌, ◌≤◌, ◌∙◌, ◌++◌, ◌∷◌, [], List, ap, sym, refl, arith}
+use Rattle.std.proofs.Common.{◌∙◌, ◌++◌, ◌∷◌, [], List, ap, refl, arith}
 use Rattle.packing_terms.specs.Packing.{box_count}
-use Rattle.packing_terms.specs.Goals.{subset, IsBoxSet}
+use Rattle.packing_terms.specs.Goals.{subset}
 use Rattle.box_instances.specs.Sets.{PlainBoxSet}
-use Rattle.box_instances.proofs.BoxSets.{set_few}
 use Rattle.refutation_check.specs.declared.node.OpenNode.{OpenNode}
-use Rattle.refutation_check.specs.Refuters.{PlainRefuter}
-use Rattle.refutation_check.proofs.Begun.{begun_again, set_count, set_kept, part_count}
+use Rattle.refutation_check.proofs.Begun.{begun_again, set_kept, part_count}
 use Rattle.refutation_check.proofs.refuter.Refuter.restart.Goals as goal
 
 pub resize-requires-clause-room : goal.resize-requires-clause-room

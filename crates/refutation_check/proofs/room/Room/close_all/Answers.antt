@@ -8,19 +8,19 @@ use Rattle.refutation_check.proofs.room.Room.close_all.Goals as goal
 pub returns-then-pass_pairs-clause-ended : goal.returns-then-pass_pairs-clause-ended
 returns-then-pass_pairs-clause-ended c E there back = ended _ E _ _ true c.pass_pairs.ensures.extends there back (c.pass_pairs.ensures.empty c.if-pass_pairs.true)
 
-pub close_with-requires-clause-settled : goal.close_with-requires-clause-settled
-close_with-requires-clause-settled c =
+pub close_from-requires-clause-settled : goal.close_from-requires-clause-settled
+close_from-requires-clause-settled c =
     settled_pairs c.args.instance.now _ _ _ c.first.ensures (omega (arith, c.requires.dims, c.dims-sizes.ensures.limits.dimensions.0))
     (pairs_both c.args.instance.now _ _ (λ i u v less is. c.pass_pairs.ensures.done c.if-pass_pairs.false (Pair i u v) (i, is.0, (u, is.1.0, (v, is.1.2.0, (less, refl))))))
 
-pub close_with-requires-clause-chained : goal.close_with-requires-clause-chained
-close_with-requires-clause-chained c i h =
+pub close_from-requires-clause-chained : goal.close_from-requires-clause-chained
+close_from-requires-clause-chained c i h =
     chained_pairs c.args.instance.now i _ _ _ c.first.ensures
     (pairs_both c.args.instance.now _ _ (λ j u v less is. c.pass_pairs.ensures.done c.if-pass_pairs.false (Pair j u v) (j, is.0, (u, is.1.0, (v, is.1.2.0, (less, refl))))))
 
 pub returns-clause-extends : goal.returns-clause-extends
-returns-clause-extends c = extends_trans _ _ _ _ c.pass_pairs.ensures.extends c.close_with.ensures.extends
+returns-clause-extends c = extends_trans _ _ _ _ c.pass_pairs.ensures.extends c.close_from.ensures.extends
 
 pub returns-clause-ended : goal.returns-clause-ended
 returns-clause-ended c E there back =
-    ended _ E _ _ _ (extends_trans _ _ _ _ c.pass_pairs.ensures.extends c.close_with.ensures.extends) there back c.close_with.ensures.ended
+    ended _ E _ _ _ (extends_trans _ _ _ _ c.pass_pairs.ensures.extends c.close_from.ensures.extends) there back c.close_from.ensures.ended
