@@ -1,45 +1,22 @@
 -- What was read and found is an answer of the instance.
-use Rattle.std.proofs.Common.{ℕ, ◌≡◌, List, ap, sym, ◌∙◌, Some, Ok, String, Global}
+use Rattle.std.proofs.Common.{ℕ, ◌≡◌, List, ap, sym, ◌∙◌, Ok, String, Global}
 use Rattle.std.specs.declared.option.Option.{Option}
 use Rattle.packing_terms.specs.Packing.{PlainInstance}
 use Rattle.packing_terms.specs.Limits.{IsInstance}
 use Rattle.document_terms.specs.declared.claim.SolvingJob.{SolvingJob}
-use Rattle.document_terms.specs.declared.claim.SolvingJob.TheVariants.{Fit as SolvesFit, Strip as SolvesStrip, Bins as SolvesBins, Knapsack as SolvesKnapsack}
 use Rattle.answer_terms.specs.Answers.{Answer, answer_text, status_of}
 use Rattle.pack_streams.specs.Moves.{Gains}
 use Rattle.pack_streams.specs.Writing.{GainsPart}
-use Rattle.pack_words.specs.declared.job.Job.{Job}
-use Rattle.pack_words.specs.declared.job.Job.TheVariants.{Fit, Strip, Bins, Knapsack, Check, Make}
 use Rattle.work_share.specs.declared.settings.Settings.{Settings}
 use Rattle.pack_command.specs.declared.solution.Solution.{Solution}
 use Rattle.pack_command.specs.Solutions.{answer_found, IsSolution}
-use Rattle.pack_command.specs.Asked.{solving_job, AsksToSolve, IsBuiltJob}
+use Rattle.pack_command.specs.Asked.{AsksToSolve}
 use Rattle.pack_command.specs.Inputs.{IsRead}
 use Rattle.pack_command.specs.Run.{IsAnswered, IsWritten, IsCutShort}
 
 -- what is built has one worker
 pub one_worker : (words : List (String Global)) (job : SolvingJob) (settings : Settings) → AsksToSolve words job settings → settings.workers ≡ 1
 one_worker words job settings asks = ap (λ (s : Settings). s.workers) (sym asks.with_settings) ∙ asks.built.workers
-
-job_built : (asked : Job) (job : SolvingJob) → solving_job asked ≡ Some job → IsBuiltJob job
-job_built asked SolvesFit e = tt
-job_built asked SolvesStrip e = tt
-job_built Fit SolvesBins e = absurd (cc (e))
-job_built Strip SolvesBins e = absurd (cc (e))
-job_built Bins SolvesBins e = absurd (cc (e))
-job_built Knapsack SolvesBins e = absurd (cc (e))
-job_built Check SolvesBins e = absurd (cc (e))
-job_built Make SolvesBins e = absurd (cc (e))
-job_built Fit SolvesKnapsack e = absurd (cc (e))
-job_built Strip SolvesKnapsack e = absurd (cc (e))
-job_built Bins SolvesKnapsack e = absurd (cc (e))
-job_built Knapsack SolvesKnapsack e = absurd (cc (e))
-job_built Check SolvesKnapsack e = absurd (cc (e))
-job_built Make SolvesKnapsack e = absurd (cc (e))
-
--- and is one of the jobs that are built
-pub asked_built : (words : List (String Global)) (job : SolvingJob) (settings : Settings) → AsksToSolve words job settings → IsBuiltJob job
-asked_built words job settings asks = job_built _ job asks.built.job_is
 
 module _ (words : List (String Global)) (old new sunk_old sunk_new : Option (List ℕ)) (job : SolvingJob) (settings : Settings) (instance : PlainInstance)
     (solution : Solution) (asks : AsksToSolve words job settings) (read : IsRead old new (Ok instance)) (limits : IsInstance instance)

@@ -1,7 +1,13 @@
 pub mod Joined
+pub mod ResultTexts
+pub mod NumberedTexts
 pub mod StripTexts
+pub mod BinsTexts
+pub mod KnapsackTexts
 pub mod Decided
 pub mod StripDecided
+pub mod BinsDecided
+pub mod ValueDecided
 pub mod Solving
 pub mod Answering
 pub mod Lined

@@ -4,21 +4,27 @@ use Rattle.std.proofs.Math.ListN.{length-set}
 use Rattle.packing_terms.specs.Packing.{PlainInstance, dims, box_count}
 use Rattle.packing_terms.specs.Goals.{with_last_side}
 use Rattle.tree_terms.specs.Trees.{PlainOutcome, Decided, Past, Yes, No, outcome, told}
-use Rattle.tree_terms.specs.ClassTree.{class_tree, first_too_wide}
-use Rattle.tree_terms.specs.Levels.{PlainReached, height_run}
-use Rattle.tree_terms.proofs.FirstFound.{first_too_wide_is, none_too_wide_is}
-use Rattle.document_terms.specs.declared.claim.SolvingJob.TheVariants.{Fit as SolvesFit, Strip as SolvesStrip}
-use Rattle.answer_terms.specs.Solved.{solved, fit_answer, strip_answer}
+use Rattle.tree_terms.specs.ClassTree.{class_tree, first_large, first_too_wide}
+use Rattle.tree_terms.specs.Levels.{PlainReached, height_run, bin_run, value_run}
+use Rattle.tree_terms.proofs.FirstFound.{first_large_is, none_large_is, first_too_wide_is, none_too_wide_is}
+use Rattle.document_terms.specs.declared.claim.SolvingJob.TheVariants.{Fit as SolvesFit, Strip as SolvesStrip, Bins as SolvesBins, Knapsack as SolvesKnapsack}
+use Rattle.answer_terms.specs.Solved.{solved, fit_answer, strip_answer, bins_answer, knapsack_answer}
 use Rattle.proof_tree.specs.declared.outcome.Outcome.{Outcome}
 use Rattle.proof_tree.specs.Plain.{plain_outcome}
 use Rattle.class_search.specs.Right.{IsRight}
 use Rattle.strip_solver.specs.declared.strip.Strip.{Strip as FoundStrip}
 use Rattle.strip_solver.specs.declared.strip.Strip.TheVariants.{Least, Between, NoneFits}
 use Rattle.strip_solver.specs.Strips.{IsAnswer, IsTrueStrip}
+use Rattle.bin_knapsack.specs.declared.bins.Bins.{Bins as FoundBins}
+use Rattle.bin_knapsack.specs.declared.bins.Bins.TheVariants.{Least as LeastCount, Between as CountBetween, NoneFits as NoBin}
+use Rattle.bin_knapsack.specs.declared.choice.Choice.{Choice as FoundChoice}
+use Rattle.bin_knapsack.specs.declared.choice.Choice.TheVariants.{Greatest, Between as WorthBetween}
+use Rattle.bin_knapsack.specs.BinAnswers.{IsAnswer as IsBinsAnswer, AreTrueBins}
+use Rattle.bin_knapsack.specs.Choices.{IsAnswer as IsChoiceAnswer}
 use Rattle.work_share.specs.declared.settings.Settings.{Settings}
 use Rattle.pack_command.specs.Placed.{IsPlaced}
-use Rattle.pack_command.specs.declared.solution.Solution.TheVariants.{Fit, Strip}
-use Rattle.pack_command.specs.Solutions.{strip_found, IsPlacedStrip, IsSolution}
+use Rattle.pack_command.specs.declared.solution.Solution.TheVariants.{Fit, Strip, Bins, Knapsack}
+use Rattle.pack_command.specs.Solutions.{strip_found, bins_found, choice_found, IsPlacedStrip, ArePlacedBins, IsSolution}
 
 right_placed : (instance : PlainInstance) (o : PlainOutcome) → IsRight instance [] o → IsPlaced instance o
 right_placed instance (Decided (Yes numbers count)) h = h.count
@@ -58,3 +64,38 @@ strip_solution settings instance strip a t = record {
   answer = strip_answered instance strip settings.budget settings.scales a;
   placed = strip_placed instance strip settings.budget settings.scales a t;
 }
+
+module _ (instance : PlainInstance) where
+  bins_placed : (bins : FoundBins) (budget : ℕ) (scales : Bool) → IsBinsAnswer instance budget scales bins → AreTrueBins instance bins → ArePlacedBins instance bins
+  bins_placed (LeastCount bins numbers tokens) budget scales a t = (t.packed).count
+  bins_placed (CountBetween refuted tokens bins numbers) budget scales a t = (t.packed).count
+  bins_placed (NoBin v i) budget scales a t = (a.there, a.in_range)
+
+  bins_answered : (bins : FoundBins) (budget : ℕ) (scales : Bool) → IsBinsAnswer instance budget scales bins
+      → bins_found bins ≡ bins_answer (first_large instance) (bin_run instance budget scales)
+  bins_answered (LeastCount bins numbers tokens) budget scales a =
+      sym (ap (λ (p : Option (ℕ × ℕ)). bins_answer p (bin_run instance budget scales)) ((none_large_is instance).1 a.0)
+      ∙ ap (λ (r : PlainReached). bins_answer None r) a.1)
+  bins_answered (CountBetween refuted tokens bins numbers) budget scales a =
+      sym (ap (λ (p : Option (ℕ × ℕ)). bins_answer p (bin_run instance budget scales)) ((none_large_is instance).1 a.0)
+      ∙ ap (λ (r : PlainReached). bins_answer None r) a.1)
+  bins_answered (NoBin v i) budget scales a =
+      sym (ap (λ (p : Option (ℕ × ℕ)). bins_answer p (bin_run instance budget scales)) ((first_large_is instance v i).1 a))
+
+pub bins_solution : (settings : Settings) (instance : PlainInstance) (bins : FoundBins) → IsBinsAnswer instance settings.budget settings.scales bins
+    → AreTrueBins instance bins → IsSolution SolvesBins settings instance (Bins bins)
+unfolding solved
+bins_solution settings instance bins a t = record {
+  answer = bins_answered instance bins settings.budget settings.scales a;
+  placed = bins_placed instance bins settings.budget settings.scales a t;
+}
+
+choice_answered : (instance : PlainInstance) (choice : FoundChoice) (budget : ℕ) (scales : Bool) → IsChoiceAnswer instance budget scales choice
+    → choice_found choice ≡ knapsack_answer (value_run instance budget scales)
+choice_answered instance (Greatest value numbers tokens) budget scales a = sym (ap knapsack_answer a)
+choice_answered instance (WorthBetween placed numbers refuted tokens) budget scales a = sym (ap knapsack_answer a)
+
+pub choice_solution : (settings : Settings) (instance : PlainInstance) (choice : FoundChoice) → IsChoiceAnswer instance settings.budget settings.scales choice
+    → IsSolution SolvesKnapsack settings instance (Knapsack choice)
+unfolding solved
+choice_solution settings instance choice a = record { answer = choice_answered instance choice settings.budget settings.scales a; placed = tt }

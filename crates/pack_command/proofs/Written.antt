@@ -6,7 +6,7 @@ use Rattle.packing_terms.specs.Packing.{PlainInstance}
 use Rattle.packing_terms.specs.Limits.{IsInstance}
 use Rattle.packing_terms.proofs.Internal.{written_internal, some_dimension}
 use Rattle.tree_terms.proofs.Counts.{class_count}
-use Rattle.tree_terms.proofs.SpentRuns.{height_spent, height_enough}
+use Rattle.tree_terms.proofs.SpentRuns.{height_spent, height_enough, bins_spent, bins_enough, value_spent, value_enough}
 use Rattle.text_terms.specs.Texts.{text_instance}
 use Rattle.document_terms.specs.declared.claim.SolvingJob.{SolvingJob}
 use Rattle.document_terms.specs.declared.claim.SolvingJob.TheVariants.{Fit, Strip, Bins, Knapsack}
@@ -14,13 +14,16 @@ use Rattle.answer_terms.specs.Solved.{JobAnswer}
 use Rattle.pack_streams.specs.Moves.{Gives, Gains}
 use Rattle.pack_words.specs.declared.job.JobWords.{JobWords}
 use Rattle.work_share.specs.declared.settings.Settings.{Settings}
-use Rattle.pack_command.specs.Asked.{solving_job, AsksToSolve, IsBuiltJob}
+use Rattle.pack_command.specs.Asked.{solving_job, AsksToSolve}
 use Rattle.pack_command.specs.Answered.{answer_for, IsDecided, IsEnough}
 use Rattle.pack_command.specs.Strips.{IsStripDecided}
+use Rattle.pack_command.specs.FewestBins.{AreBinsDecided}
+use Rattle.pack_command.specs.GreatestValues.{IsValueDecided}
 use Rattle.pack_command.specs.Run.{IsWritten}
-use Rattle.pack_command.proofs.Answering.{asked_built}
 use Rattle.pack_command.proofs.Decided.{fit_decided}
 use Rattle.pack_command.proofs.StripDecided.{strip_decided}
+use Rattle.pack_command.proofs.BinsDecided.{bins_decided}
+use Rattle.pack_command.proofs.ValueDecided.{value_decided}
 
 pub some_same : {A : Type 0} (x y : A) → Some x ≡ Some y → x ≡ y
 some_same x y e = cc
@@ -94,7 +97,17 @@ module _ (words : List (String Global)) (old new sunk_old sunk_new : Option (Lis
       let a = written_answers Strip asks in
       subst (λ s. IsStripDecided instance settings sunk_old sunk_new s) (sym a.0) (strip_decided settings instance limits sunk_old sunk_new a.1)
 
-  fit_enough : IsEnough instance settings.budget → IsDecided instance settings sunk_old sunk_new status → ¬ (status ≡ 3)
+  pub written_fewest : AsksToSolve words Bins settings → AreBinsDecided instance settings sunk_old sunk_new status
+  written_fewest asks =
+      let a = written_answers Bins asks in
+      subst (λ s. AreBinsDecided instance settings sunk_old sunk_new s) (sym a.0) (bins_decided settings instance limits sunk_old sunk_new a.1)
+
+  pub written_greatest : AsksToSolve words Knapsack settings → IsValueDecided instance settings sunk_old sunk_new status
+  written_greatest asks =
+      let a = written_answers Knapsack asks in
+      subst (λ s. IsValueDecided instance settings sunk_old sunk_new s) (sym a.0) (value_decided settings instance limits sunk_old sunk_new a.1)
+
+  fit_enough : IsEnough Fit instance settings.budget → IsDecided instance settings sunk_old sunk_new status → ¬ (status ≡ 3)
   fit_enough enough (inl y) three = let e = y.status_is in omega (arith, e, three)
   fit_enough enough (inr (inl n)) three = let e = n.status_is in omega (arith, e, three)
   fit_enough enough (inr (inr u)) three =
@@ -102,19 +115,29 @@ module _ (words : List (String Global)) (old new sunk_old sunk_new : Option (Lis
       let b = class_count instance (some_dimension instance (written_internal instance limits)) [] settings.scales in
       omega (arith, p, b, enough)
 
-  strip_enough : IsEnough instance settings.budget → IsStripDecided instance settings sunk_old sunk_new status → ¬ (status ≡ 3)
+  strip_enough : IsEnough Strip instance settings.budget → IsStripDecided instance settings sunk_old sunk_new status → ¬ (status ≡ 3)
   strip_enough enough (inl l) three = let e = l.status_is in omega (arith, e, three)
   strip_enough enough (inr (inl b)) three =
       true≢false (sym ((height_spent instance settings.budget settings.scales).1 b.past)
       ∙ height_enough instance (written_internal instance limits) settings.budget settings.scales enough)
   strip_enough enough (inr (inr n)) three = let e = n.status_is in omega (arith, e, three)
 
+  fewest_enough : IsEnough Bins instance settings.budget → AreBinsDecided instance settings sunk_old sunk_new status → ¬ (status ≡ 3)
+  fewest_enough enough (inl l) three = let e = l.status_is in omega (arith, e, three)
+  fewest_enough enough (inr (inl b)) three =
+      true≢false (sym ((bins_spent instance settings.budget settings.scales).1 b.past)
+      ∙ bins_enough instance (written_internal instance limits) settings.budget settings.scales enough)
+  fewest_enough enough (inr (inr n)) three = let e = n.status_is in omega (arith, e, three)
+
+  greatest_enough : IsEnough Knapsack instance settings.budget → IsValueDecided instance settings sunk_old sunk_new status → ¬ (status ≡ 3)
+  greatest_enough enough (inl l) three = let e = l.status_is in omega (arith, e, three)
+  greatest_enough enough (inr b) three =
+      true≢false (sym ((value_spent instance settings.budget settings.scales).1 b.past)
+      ∙ value_enough instance (written_internal instance limits) settings.budget settings.scales enough)
+
   -- a budget that bounds every count is enough
-  pub written_enough : (job : SolvingJob) → AsksToSolve words job settings → IsEnough instance settings.budget → ¬ (status ≡ 3)
-  written_enough job asks enough = go job (asked_built words job settings asks) asks
-    where
-      go : (j : SolvingJob) → IsBuiltJob j → AsksToSolve words j settings → ¬ (status ≡ 3)
-      go Fit b a = fit_enough enough (written_decides a)
-      go Strip b a = strip_enough enough (written_least a)
-      go Bins b a = absurd b
-      go Knapsack b a = absurd b
+  pub written_enough : (job : SolvingJob) → AsksToSolve words job settings → IsEnough job instance settings.budget → ¬ (status ≡ 3)
+  written_enough Fit asks enough = fit_enough enough (written_decides asks)
+  written_enough Strip asks enough = strip_enough enough (written_least asks)
+  written_enough Bins asks enough = fewest_enough enough (written_fewest asks)
+  written_enough Knapsack asks enough = greatest_enough enough (written_greatest asks)

@@ -2,11 +2,13 @@
 use Rattle.std.specs.Prelude.{ℕ, ◌+◌, ◌-◌, ◌*◌, ◌/◌, ◌^◌, ◌<◌, ◌≤◌, ◌≡◌, ◌⊎◌, List, []}
 use Rattle.std.specs.declared.option.Option.{Option}
 use Rattle.packing_terms.specs.Packing.{PlainInstance, dims, box_count, IsPacking, Fits}
+use Rattle.packing_terms.specs.Scales.{sum_below}
 use Rattle.packing_terms.specs.Tokens.{PlainToken}
 use Rattle.packing_terms.specs.Refutation.{Refutes}
 use Rattle.tree_terms.specs.Trees.{outcome, count_of}
 use Rattle.tree_terms.specs.ClassTree.{class_tree}
 use Rattle.document_terms.specs.declared.claim.SolvingJob.{SolvingJob}
+use Rattle.document_terms.specs.declared.claim.SolvingJob.TheVariants.{Fit, Strip, Bins, Knapsack}
 use Rattle.document_terms.specs.declared.claim.Claim.TheVariants.{Fitting, NotFitting}
 use Rattle.answer_terms.specs.Answers.{answer_text}
 use Rattle.answer_terms.specs.Answers.Answer.{Undecided, Claimed}
@@ -55,6 +57,15 @@ IsDecided instance settings sunk_old sunk_new status =
     IsYes instance settings sunk_old sunk_new status
     ⊎ (IsNo instance settings sunk_old sunk_new status ⊎ IsUndecided instance settings sunk_old sunk_new status)
 
--- a budget that is enough for every tree of the instance, and for that of each height
-abbrev pub IsEnough : PlainInstance → ℕ → Type 0
-IsEnough instance budget = 3 ^ (dims instance * box_count instance * (box_count instance - 1) / 2) ≤ budget + 1
+-- the bound of every class tree: 3 to the number of pairs of boxes in all dimensions
+abbrev pub class_bound : PlainInstance → ℕ
+class_bound instance = 3 ^ (dims instance * box_count instance * (box_count instance - 1) / 2)
+
+-- A budget that is enough for every tree that the job decides for the instance: for `fit` and each height of a strip its class tree, for each number of
+-- bins its bin tree, for each value its choice tree.
+abbrev pub IsEnough : SolvingJob → PlainInstance → ℕ → Type 0
+IsEnough Fit instance budget = class_bound instance ≤ budget + 1
+IsEnough Strip instance budget = class_bound instance ≤ budget + 1
+IsEnough Bins instance budget =
+    class_bound instance * sum_below (box_count instance) (λ j. (box_count instance - 1) ^ (j + 1)) ≤ budget
+IsEnough Knapsack instance budget = class_bound instance * (2 ^ (box_count instance + 1) - 2) ≤ budget

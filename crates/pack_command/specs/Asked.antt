@@ -13,26 +13,19 @@ use Rattle.pack_command.specs.declared.words.Asked.TheVariants.{Solving, Checkin
 use Rattle.pack_command.specs.declared.stop.Stop.{Stop}
 use Rattle.pack_command.specs.declared.stop.Stop.TheVariants.{Words, Unbuilt, TooLong, Text, ReadFault, WriteFault, NoMemory}
 
--- the solving jobs that are built
+-- the solving jobs
 abbrev pub solving_job : Job → Option SolvingJob
 solving_job Fit = Some SolvesFit
 solving_job Strip = Some SolvesStrip
-solving_job Bins = None
-solving_job Knapsack = None
+solving_job Bins = Some SolvesBins
+solving_job Knapsack = Some SolvesKnapsack
 solving_job Check = None
 solving_job Make = None
 
--- what is built of the solving jobs: `fit` and `strip`, with one worker
+-- what is built of the solving jobs: each, with one worker
 pub record IsBuilt (asked : JobWords) (job : SolvingJob) : Type 0 where
   pub job_is : solving_job asked.job ≡ Some job
   pub workers : asked.settings.workers ≡ 1
-
--- the solving job is built
-abbrev pub IsBuiltJob : SolvingJob → Type 0
-IsBuiltJob SolvesFit = Unit {0}
-IsBuiltJob SolvesStrip = Unit {0}
-IsBuiltJob SolvesBins = ⊥
-IsBuiltJob SolvesKnapsack = ⊥
 
 -- the job of the words, if they are one
 abbrev pub asked_job : List (String Global) → Option JobWords

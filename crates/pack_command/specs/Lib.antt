@@ -5,6 +5,8 @@ pub mod Answered
 pub mod Asked
 pub mod Solutions
 pub mod Strips
+pub mod FewestBins
+pub mod GreatestValues
 pub mod Inputs
 pub mod Run
 pub mod Lines

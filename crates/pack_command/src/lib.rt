@@ -1,10 +1,14 @@
 //! The jobs of `pack`, from bytes to bytes.
 #![tactic(auto)]
 
+mod bins_documents;
 mod checking;
 mod documents;
 mod front;
 mod input;
+mod knapsack_documents;
+mod numbered;
+mod results;
 mod solution;
 mod stop;
 mod stream;

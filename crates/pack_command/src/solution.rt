@@ -2,9 +2,9 @@
 ghost use Rattle.std.specs.Prelude.{◌≡◌, IfOk};
 ghost use Rattle.packing_terms.specs.Limits.{IsInstance};
 ghost use Rattle.answer_terms.specs.Answers.{status_of};
-ghost use Rattle.pack_command.specs.Asked.{IsBuiltJob};
 ghost use Rattle.pack_command.specs.Solutions.{answer_found, IsSolution};
 
+use bin_knapsack::{Bins, Choice, greatest_value, least_bins};
 use box_instances::{Instance, NoMemory};
 use class_search::decide;
 use document_terms::SolvingJob;
@@ -18,16 +18,20 @@ use work_share::Settings;
 pub enum Solution {
     Fit(Outcome),
     Strip(Strip),
+    Bins(Bins),
+    Knapsack(Choice),
 }
 
 impl Solution {
-    /// The status of the answer: 0 for yes and least, 1 for no and none, 3 for undecided and between.
+    /// The status of the answer: 0 for yes, least and greatest, 1 for no and none, 3 for undecided and between.
     pub fn status(&self) -> u8
         ensures { result ≡ status_of (answer_found self.now) }
     {
         match self {
             Solution::Fit(outcome) => fit_status(outcome),
             Solution::Strip(strip) => strip_status(strip),
+            Solution::Bins(bins) => bins_status(bins),
+            Solution::Knapsack(choice) => choice_status(choice),
         }
     }
 }
@@ -69,6 +73,45 @@ fn strip_status(strip: &Strip) -> u8
     }
 }
 
+// The status of an answer of `bins`.
+fn bins_status(bins: &Bins) -> u8
+    ensures { result ≡ status_of (answer_found (Solution.Bins bins.now)) }
+{
+    match bins {
+        Bins::Least {
+            bins: _,
+            numbers: _,
+            tokens: _,
+        } => 0,
+        Bins::NoneFits { box_no: _, dim: _ } => 1,
+        Bins::Between {
+            refuted: _,
+            tokens: _,
+            bins: _,
+            numbers: _,
+        } => 3,
+    }
+}
+
+// The status of an answer of `knapsack`.
+fn choice_status(choice: &Choice) -> u8
+    ensures { result ≡ status_of (answer_found (Solution.Knapsack choice.now)) }
+{
+    match choice {
+        Choice::Greatest {
+            value: _,
+            numbers: _,
+            tokens: _,
+        } => 0,
+        Choice::Between {
+            placed: _,
+            numbers: _,
+            refuted: _,
+            tokens: _,
+        } => 3,
+    }
+}
+
 /// What a job finds for an instance under these settings.
 pub fn solve<R>(
     rt: &R,
@@ -78,14 +121,15 @@ pub fn solve<R>(
     settings: Settings,
 ) -> Result<Solution, NoMemory>
     requires limits { IsInstance instance.now }
-    requires built { IsBuiltJob job }
     requires alone { settings.workers ≡ 1 }
     ensures { IfOk result (λ s. IsSolution job settings instance.now s) }
 {
     match job {
         SolvingJob::Fit => Ok(Solution::Fit(decide(rt, alloc, instance, &settings)?)),
         SolvingJob::Strip => Ok(Solution::Strip(least_height(rt, alloc, instance, &settings)?)),
-        SolvingJob::Bins => unreachable!(),
-        SolvingJob::Knapsack => unreachable!(),
+        SolvingJob::Bins => Ok(Solution::Bins(least_bins(rt, alloc, instance, &settings)?)),
+        SolvingJob::Knapsack => {
+            Ok(Solution::Knapsack(greatest_value(rt, alloc, instance, &settings)?))
+        }
     }
 }

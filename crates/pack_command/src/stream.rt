@@ -5,8 +5,10 @@ ghost use Rattle.pack_streams.specs.Writing.{Writes};
 ghost use Rattle.answer_terms.specs.Answers.{answer_text};
 ghost use Rattle.pack_command.specs.Solutions.{answer_found, IsPlacedSolution};
 
+use crate::bins_documents::write_bins;
 use crate::documents::{Written, write_fit};
 use crate::front::{Behind, Done, Front, front_before, hand_back};
+use crate::knapsack_documents::write_choice;
 use crate::solution::Solution;
 use crate::strip_documents::write_strip;
 use box_instances::Instance;
@@ -23,6 +25,8 @@ fn write_answer<K: Sink>(sink: &mut K, instance: &Instance, solution: &Solution)
     match solution {
         Solution::Fit(outcome) => write_fit(sink, instance, outcome),
         Solution::Strip(strip) => write_strip(sink, instance, strip),
+        Solution::Bins(bins) => write_bins(sink, instance, bins),
+        Solution::Knapsack(choice) => write_choice(sink, instance, choice),
     }
 }
 

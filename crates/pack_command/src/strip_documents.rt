@@ -1,10 +1,9 @@
 // The documents that answer `strip`, in their one written spelling. Writing takes no memory.
-ghost use Rattle.std.specs.Prelude.{◌≡◌, ◌<◌, ◌*◌, ◌++◌, ◌∷◌, [], length, codes};
-ghost use Rattle.std.specs.Fmt.{decimal};
+ghost use Rattle.std.specs.Prelude.{◌≡◌, ◌<◌, ◌*◌, length};
 ghost use Rattle.packing_terms.specs.Packing.{dims, box_count};
 ghost use Rattle.packing_terms.specs.Limits.{IsInstance};
 ghost use Rattle.pack_streams.specs.Writing.{Continues, Writes};
-ghost use Rattle.text_terms.specs.Spelling.{instance_text, lines_text};
+ghost use Rattle.text_terms.specs.Spelling.{lines_text};
 ghost use Rattle.document_terms.specs.declared.claim.Claim.TheVariants.{LeastHeight, HeightBetween, NoHeight};
 ghost use Rattle.proof_tree.specs.Plain.{plain_tokens};
 ghost use Rattle.answer_terms.specs.Answers.{place_lines, proved_lines, answer_text};
@@ -12,43 +11,14 @@ ghost use Rattle.answer_terms.specs.Answers.Answer.{Claimed};
 ghost use Rattle.answer_terms.specs.Solved.{none_answer};
 ghost use Rattle.pack_command.specs.Solutions.{AreAllPlaced, IsPlacedStrip, strip_found};
 
-use crate::documents::{Written, write_instance_on, write_places};
+use crate::documents::{Written, write_places};
+use crate::results::{
+    write_between_line, write_least_line, write_none_line, write_opening, write_proof,
+};
 use box_instances::Instance;
-use pack_streams::{Sink, write_number, write_on};
-use proof_tree::{Token, write_token_on, write_tokens_on};
+use pack_streams::{Sink, write_on};
+use proof_tree::Token;
 use strip_solver::Strip;
-
-// Writes the first line and the lines of the instance.
-fn write_opening<K: Sink>(sink: &mut K, instance: &Instance) -> Written
-    requires { IsInstance instance.now }
-    ensures { Writes (K.written sink.old) (K.written sink.new) (K.faults sink.old) (K.faults sink.new)
-        (codes "answer strip\n" ++ instance_text instance.now) result }
-{
-    let named = write_on(sink, Ok(()), b"answer strip\n");
-    write_instance_on(sink, named, instance)
-}
-
-// Writes the result line of a least height.
-fn write_least_line<K: Sink>(sink: &mut K, so_far: Written, height: u32) -> Written
-    ensures { Continues (K.written sink.old) (K.written sink.new) (K.faults sink.old) (K.faults sink.new)
-        (lines_text ((codes "result" ∷ codes "least" ∷ decimal height ∷ []) ∷ [])) so_far result }
-{
-    let named = write_on(sink, so_far, b"result least ");
-    let said = write_number(sink, named, height as u64);
-    write_on(sink, said, b"\n")
-}
-
-// Writes the result line of two heights between which the least one lies.
-fn write_between_line<K: Sink>(sink: &mut K, so_far: Written, refuted: u32, placed: u32) -> Written
-    ensures { Continues (K.written sink.old) (K.written sink.new) (K.faults sink.old) (K.faults sink.new)
-        (lines_text ((codes "result" ∷ codes "between" ∷ decimal refuted ∷ decimal placed ∷ []) ∷ [])) so_far result }
-{
-    let named = write_on(sink, so_far, b"result between ");
-    let first = write_number(sink, named, refuted as u64);
-    let spaced = write_on(sink, first, b" ");
-    let second = write_number(sink, spaced, placed as u64);
-    write_on(sink, second, b"\n")
-}
 
 // Writes the places of the placed height, and the refutation of the refuted one.
 fn write_certificates<K: Sink>(
@@ -63,8 +33,7 @@ fn write_certificates<K: Sink>(
         (lines_text (proved_lines (place_lines instance.now places.now) (plain_tokens tokens.now))) so_far result }
 {
     let placed = write_places(sink, so_far, instance, places);
-    let split = write_on(sink, placed, b"proof\n");
-    write_tokens_on(sink, split, tokens)
+    write_proof(sink, placed, tokens)
 }
 
 // Writes the document of a least height.
@@ -80,8 +49,8 @@ fn write_least<K: Sink>(
     ensures { Writes (K.written sink.old) (K.written sink.new) (K.faults sink.old) (K.faults sink.new)
         (answer_text instance.now (Claimed (LeastHeight height) places.now (plain_tokens tokens.now))) result }
 {
-    let begun = write_opening(sink, instance);
-    let said = write_least_line(sink, begun, height);
+    let begun = write_opening(sink, b"answer strip\n", instance);
+    let said = write_least_line(sink, begun, height as u64);
     let shown = write_certificates(sink, said, instance, places, tokens);
     write_on(sink, shown, b"end\n")
 }
@@ -100,8 +69,8 @@ fn write_between<K: Sink>(
     ensures { Writes (K.written sink.old) (K.written sink.new) (K.faults sink.old) (K.faults sink.new)
         (answer_text instance.now (Claimed (HeightBetween refuted placed) places.now (plain_tokens tokens.now))) result }
 {
-    let begun = write_opening(sink, instance);
-    let said = write_between_line(sink, begun, refuted, placed);
+    let begun = write_opening(sink, b"answer strip\n", instance);
+    let said = write_between_line(sink, begun, refuted as u64, placed as u64);
     let shown = write_certificates(sink, said, instance, places, tokens);
     write_on(sink, shown, b"end\n")
 }
@@ -114,15 +83,9 @@ fn write_none<K: Sink>(sink: &mut K, instance: &Instance, box_no: u32, dim: u32)
     ensures { Writes (K.written sink.old) (K.written sink.new) (K.faults sink.old) (K.faults sink.new)
         (answer_text instance.now (none_answer NoHeight (box_no, dim))) result }
 {
-    let _boxes = instance.len();
-    let begun = write_opening(sink, instance);
-    let said = write_on(sink, begun, b"result none\n");
-    let token = Token::TooLarge {
-        box_no: box_no + 1,
-        dim: dim + 1,
-    };
-    let named = write_token_on(sink, said, &token);
-    write_on(sink, named, b"end\n")
+    let begun = write_opening(sink, b"answer strip\n", instance);
+    let said = write_none_line(sink, begun, instance, box_no, dim);
+    write_on(sink, said, b"end\n")
 }
 
 /// Writes the document of an answer of `strip`: the least height or two between which it lies, with both certificates, or the box that

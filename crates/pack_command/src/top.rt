@@ -5,13 +5,15 @@ ghost use Rattle.text_terms.specs.Texts.{text_instance};
 ghost use Rattle.pack_streams.specs.Faults.{Rose};
 ghost use Rattle.pack_streams.specs.Moves.{Gains};
 ghost use Rattle.document_terms.specs.declared.claim.SolvingJob.{SolvingJob as PlainJob};
-ghost use Rattle.document_terms.specs.declared.claim.SolvingJob.TheVariants.{Fit, Strip};
+ghost use Rattle.document_terms.specs.declared.claim.SolvingJob.TheVariants.{Fit, Strip, Bins, Knapsack};
 ghost use Rattle.verdict_terms.specs.Fed.{NoneRefused};
 ghost use Rattle.pack_command.specs.Answered.{answer_for, IsAnswerStatus, IsDecided, IsEnough};
 ghost use Rattle.pack_command.specs.Asked.{AsksToSolve, AsksCheck};
 ghost use Rattle.pack_command.specs.Checks.{IsDone, IsUndone, IsExactly, IsClaimed};
 ghost use Rattle.pack_command.specs.Own.{IsOwnDocument};
 ghost use Rattle.pack_command.specs.Strips.{IsStripDecided};
+ghost use Rattle.pack_command.specs.FewestBins.{AreBinsDecided};
+ghost use Rattle.pack_command.specs.GreatestValues.{IsValueDecided};
 ghost use Rattle.pack_command.specs.Stops.{status_of, message_of};
 ghost use Rattle.pack_command.specs.Run.{IsTold};
 ghost use Rattle.pack_command.specs.declared.stop.Stop.{Stop as PlainStop};
@@ -28,7 +30,7 @@ use std::alloc::Global;
 
 /// Does the job that the words name, and answers the status that the program ends with.
 ///
-/// Status 0 is yes, least or verified, 1 is no, none or refused, and 3 is undecided or between: the answer is whole before its first
+/// Status 0 is yes, least, greatest or verified, 1 is no, none or refused, and 3 is undecided or between: the answer is whole before its first
 /// byte goes to `out`, the document, or the one line of `check`, is written whole in pieces of 4,096 bytes, and nothing to `err`. With
 /// every other status one line on `err` names the cause: 2 the words, what isn't built yet, the length or the text of the input; 4 a
 /// failed read; 5 a failed write, after a part at the front of what was to be written; 6 want of memory. With 2, 4 and 6 nothing was
@@ -62,10 +64,24 @@ pub fn run<R, S: Source, K: Sink, E: Sink>(
         → (Rose (S.faults input.old) (S.faults input.new) → ⊥) → (Rose (K.faults out.old) (K.faults out.new) → ⊥) → result ≢ 6
         → IsStripDecided instance settings (K.written out.old) (K.written out.new) result }
 
-    // Neither is undecided or between where the budget is enough for every tree.
+    // And `bins` is the least number of bins over all packings with both certificates, or none exactly where there is none, or two numbers
+    // between which it lies, with both certificates, exactly where the tree of a number that is decided has more branchings than the budget.
+    ensures fewest { (settings : PlainSettings) (bytes : List ℕ) (instance : PlainInstance) → AsksToSolve words.now Bins settings
+        → S.left input.old ≡ Some bytes → length bytes ≤ 1048576 → text_instance bytes ≡ Ok instance
+        → (Rose (S.faults input.old) (S.faults input.new) → ⊥) → (Rose (K.faults out.old) (K.faults out.new) → ⊥) → result ≢ 6
+        → AreBinsDecided instance settings (K.written out.old) (K.written out.new) result }
+
+    // And `knapsack` is the greatest value over all sets of boxes that fit with both certificates, or two values between which it lies, with
+    // both certificates, exactly where the tree of a value that is decided has more branchings than the budget.
+    ensures greatest { (settings : PlainSettings) (bytes : List ℕ) (instance : PlainInstance) → AsksToSolve words.now Knapsack settings
+        → S.left input.old ≡ Some bytes → length bytes ≤ 1048576 → text_instance bytes ≡ Ok instance
+        → (Rose (S.faults input.old) (S.faults input.new) → ⊥) → (Rose (K.faults out.old) (K.faults out.new) → ⊥) → result ≢ 6
+        → IsValueDecided instance settings (K.written out.old) (K.written out.new) result }
+
+    // None is undecided or between where the budget is enough for every tree of the job.
     ensures enough { (job : PlainJob) (settings : PlainSettings) (bytes : List ℕ) (instance : PlainInstance)
         → AsksToSolve words.now job settings → S.left input.old ≡ Some bytes → text_instance bytes ≡ Ok instance
-        → IsEnough instance settings.budget → result ≢ 3 }
+        → IsEnough job instance settings.budget → result ≢ 3 }
 
     // Where the words ask for `check`, it is exactly the line of the verdict on the bytes, with its status.
     ensures checks { (bytes : List ℕ) → AsksCheck words.now → S.left input.old ≡ Some bytes → length bytes ≤ 1099511627776

@@ -18,7 +18,7 @@ pub enum Asked {
     Checking,
 }
 
-// The solving job that is asked for, where it and its settings are built: `fit` or `strip` with one worker.
+// The solving job that is asked for, where its settings are built: with one worker.
 fn built_job(asked: JobWords) -> Option<SolvingJob>
     ensures { MatchOption result ((job : PlainJob) → ¬ IsBuilt asked job) (λ job. IsBuilt asked job) }
 {
@@ -28,7 +28,9 @@ fn built_job(asked: JobWords) -> Option<SolvingJob>
     match asked.job {
         Job::Fit => Some(SolvingJob::Fit),
         Job::Strip => Some(SolvingJob::Strip),
-        Job::Bins | Job::Knapsack | Job::Check | Job::Make => None,
+        Job::Bins => Some(SolvingJob::Bins),
+        Job::Knapsack => Some(SolvingJob::Knapsack),
+        Job::Check | Job::Make => None,
     }
 }
 

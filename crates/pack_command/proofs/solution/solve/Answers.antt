@@ -1,8 +1,8 @@
 use Rattle.std.proofs.Common.{sym, subst}
 use Rattle.document_terms.specs.declared.claim.SolvingJob.{SolvingJob}
-use Rattle.pack_command.specs.declared.solution.Solution.TheVariants.{Fit, Strip}
+use Rattle.pack_command.specs.declared.solution.Solution.TheVariants.{Fit, Strip, Bins, Knapsack}
 use Rattle.pack_command.specs.Solutions.{IsSolution}
-use Rattle.pack_command.proofs.Solving.{fit_solution, strip_solution}
+use Rattle.pack_command.proofs.Solving.{fit_solution, strip_solution, bins_solution, choice_solution}
 use Rattle.pack_command.proofs.solution.solve.Goals as goal
 
 pub returns-in_ok-decide-in-Fit : goal.returns-in_ok-decide-in-Fit
@@ -15,3 +15,14 @@ returns-in_ok-least_height-in-Strip g c =
     subst (λ (job : SolvingJob). IsSolution job c.args.settings c.args.instance.now (Strip c.in_ok-least_height-in-Strip.field-0)) (sym c.in-Strip.is)
     (strip_solution c.args.settings c.args.instance.now c.in_ok-least_height-in-Strip.field-0 c.in_ok-least_height-in-Strip.ensures.answer
     c.in_ok-least_height-in-Strip.ensures.right)
+
+pub returns-in_ok-least_bins-in-Bins : goal.returns-in_ok-least_bins-in-Bins
+returns-in_ok-least_bins-in-Bins g c =
+    subst (λ (job : SolvingJob). IsSolution job c.args.settings c.args.instance.now (Bins c.in_ok-least_bins-in-Bins.field-0)) (sym c.in-Bins.is)
+    (bins_solution c.args.settings c.args.instance.now c.in_ok-least_bins-in-Bins.field-0 c.in_ok-least_bins-in-Bins.ensures.answer
+    c.in_ok-least_bins-in-Bins.ensures.right)
+
+pub returns-in_ok-greatest_value-in-Knapsack : goal.returns-in_ok-greatest_value-in-Knapsack
+returns-in_ok-greatest_value-in-Knapsack g c =
+    subst (λ (job : SolvingJob). IsSolution job c.args.settings c.args.instance.now (Knapsack c.in_ok-greatest_value-in-Knapsack.field-0)) (sym c.in-Knapsack.is)
+    (choice_solution c.args.settings c.args.instance.now c.in_ok-greatest_value-in-Knapsack.field-0 c.in_ok-greatest_value-in-Knapsack.ensures.answer)

@@ -1,12 +1,9 @@
-use Rattle.pack_command.proofs.Answering.{answer_written, answer_cut, one_worker, asked_built}
+use Rattle.pack_command.proofs.Answering.{answer_written, answer_cut, one_worker}
 use Rattle.pack_command.proofs.Checked.{asks_solving, written_done, cut_undone}
 use Rattle.pack_command.proofs.top.job.Goals as goal
 
 pub solve-requires-clause-alone : goal.solve-requires-clause-alone
 solve-requires-clause-alone g c = one_worker _ _ _ (asks_solving _ _ _ _ c.in_ok-asked.ensures c.in-Solving.is)
-
-pub solve-requires-clause-built : goal.solve-requires-clause-built
-solve-requires-clause-built g c = asked_built _ _ _ (asks_solving _ _ _ _ c.in_ok-asked.ensures c.in-Solving.is)
 
 pub returns-in-Ok-stream_answer-clause-answered : goal.returns-in-Ok-stream_answer-clause-answered
 returns-in-Ok-stream_answer-clause-answered g c = written_done _ _ _ _ _ _ (answer_written _ _ _ _ _ _ _ _ _ (asks_solving _ _ _ _ c.in_ok-asked.ensures c.in-Solving.is)

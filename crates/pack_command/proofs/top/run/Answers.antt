@@ -1,9 +1,9 @@
 use Rattle.std.proofs.Common.{◌∙◌, ap, Err}
-use Rattle.document_terms.specs.declared.claim.SolvingJob.TheVariants.{Fit, Strip}
+use Rattle.document_terms.specs.declared.claim.SolvingJob.TheVariants.{Fit, Strip, Bins, Knapsack}
 use Rattle.pack_command.specs.Stops.{status_of}
 use Rattle.pack_command.proofs.OwnWritten.{own_written}
 use Rattle.pack_command.proofs.Stopped.{never_stops}
-use Rattle.pack_command.proofs.Written.{written_answers, written_decides, written_least, written_enough}
+use Rattle.pack_command.proofs.Written.{written_answers, written_decides, written_least, written_fewest, written_greatest, written_enough}
 use Rattle.pack_command.proofs.Checked.{solved_done, solved_undone, judged_done, judged_exactly, judged_within, judged_claimed}
 use Rattle.pack_command.proofs.top.run.Goals as goal
 
@@ -18,6 +18,14 @@ returns-in-Ok-clause-decides g c = λ settings bytes instance asks told within r
 pub returns-in-Ok-clause-least : goal.returns-in-Ok-clause-least
 returns-in-Ok-clause-least g c = λ settings bytes instance asks told within read in_stood out_stood some.
     written_least _ _ _ _ _ _ settings bytes instance (solved_done _ _ _ _ _ _ Strip settings asks c.in-Ok.ensures.answered) told read asks
+
+pub returns-in-Ok-clause-fewest : goal.returns-in-Ok-clause-fewest
+returns-in-Ok-clause-fewest g c = λ settings bytes instance asks told within read in_stood out_stood some.
+    written_fewest _ _ _ _ _ _ settings bytes instance (solved_done _ _ _ _ _ _ Bins settings asks c.in-Ok.ensures.answered) told read asks
+
+pub returns-in-Ok-clause-greatest : goal.returns-in-Ok-clause-greatest
+returns-in-Ok-clause-greatest g c = λ settings bytes instance asks told within read in_stood out_stood some.
+    written_greatest _ _ _ _ _ _ settings bytes instance (solved_done _ _ _ _ _ _ Knapsack settings asks c.in-Ok.ensures.answered) told read asks
 
 pub returns-in-Ok-clause-enough : goal.returns-in-Ok-clause-enough
 returns-in-Ok-clause-enough g c = λ job settings bytes instance asks told read enough.
@@ -36,6 +44,16 @@ returns-in-Err-clause-decides g c = λ settings bytes instance asks told within 
 pub returns-in-Err-clause-least : goal.returns-in-Err-clause-least
 returns-in-Err-clause-least g c = λ settings bytes instance asks told within read in_stood out_stood some.
     absurd (never_stops _ _ _ _ _ Strip settings bytes instance asks told within read c.in-Err.stop (solved_undone _ _ _ _ _ _ Strip settings asks c.in-Err.ensures.stopped)
+    (λ e. in_stood (c.in-Err.ensures.read_fault (ap Err e))) (λ e. out_stood (c.in-Err.ensures.write_fault (ap Err e))) (λ e. some (c.status.ensures ∙ ap status_of e)))
+
+pub returns-in-Err-clause-fewest : goal.returns-in-Err-clause-fewest
+returns-in-Err-clause-fewest g c = λ settings bytes instance asks told within read in_stood out_stood some.
+    absurd (never_stops _ _ _ _ _ Bins settings bytes instance asks told within read c.in-Err.stop (solved_undone _ _ _ _ _ _ Bins settings asks c.in-Err.ensures.stopped)
+    (λ e. in_stood (c.in-Err.ensures.read_fault (ap Err e))) (λ e. out_stood (c.in-Err.ensures.write_fault (ap Err e))) (λ e. some (c.status.ensures ∙ ap status_of e)))
+
+pub returns-in-Err-clause-greatest : goal.returns-in-Err-clause-greatest
+returns-in-Err-clause-greatest g c = λ settings bytes instance asks told within read in_stood out_stood some.
+    absurd (never_stops _ _ _ _ _ Knapsack settings bytes instance asks told within read c.in-Err.stop (solved_undone _ _ _ _ _ _ Knapsack settings asks c.in-Err.ensures.stopped)
     (λ e. in_stood (c.in-Err.ensures.read_fault (ap Err e))) (λ e. out_stood (c.in-Err.ensures.write_fault (ap Err e))) (λ e. some (c.status.ensures ∙ ap status_of e)))
 
 pub returns-in-Ok-clause-checks : goal.returns-in-Ok-clause-checks
