@@ -2,9 +2,13 @@
 #![tactic(auto)]
 
 #[cfg(test)]
+mod bins;
+#[cfg(test)]
 mod faults;
 #[cfg(test)]
 mod fits;
+#[cfg(test)]
+mod knapsacks;
 #[cfg(test)]
 mod refusals;
 #[cfg(test)]
