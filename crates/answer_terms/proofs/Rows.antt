@@ -1,14 +1,19 @@
 -- Answers and their lines, computed from the definitions. `decimal` doesn't compute, so the numbers of a line stand as `decimal n`.
-use Rattle.std.proofs.Common.{◌≡◌, ℕ, refl, [], ◌∷◌, true, false, List, None, codes}
+use Rattle.std.proofs.Common.{◌≡◌, ℕ, refl, ap, ◌∙◌, arith, [], ◌∷◌, ◌++◌, true, false, List, None, codes}
 use Rattle.std.specs.Fmt.{decimal}
+use Rattle.std.proofs.lemmas.Fmt.{decimal_digit, decimal_step}
 use Rattle.packing_terms.specs.declared.ScaleFn.TheVariants.{Id, Step}
 use Rattle.packing_terms.specs.Packing.{PlainInstance, PlainBox}
+use Rattle.packing_terms.specs.Generator.{made_instance}
+use Rattle.tree_terms.specs.Trees.{Decided, Past, Yes, No}
 use Rattle.packing_terms.specs.Tokens.PlainToken.{Rules, TooLarge, Scales, Assign, Choose, SetRefuted, ValueShort, GlobalScales}
+use Rattle.text_terms.specs.Spelling.{lines_text}
 use Rattle.document_terms.specs.declared.claim.SolvingJob.TheVariants.{Fit, Strip, Bins, Knapsack}
 use Rattle.document_terms.specs.declared.claim.Claim.TheVariants.{Fitting, NotFitting, LeastHeight, HeightBetween, NoHeight, LeastBins, BinsBetween, NoBins, GreatestValue, ValueBetween}
 use Rattle.answer_terms.specs.Answers.{answer_lines, status_of, Lines}
 use Rattle.answer_terms.specs.Answers.Answer.{Undecided, Claimed}
 use Rattle.answer_terms.specs.Solved.{solved}
+use Rattle.answer_terms.specs.Made.{made_lines, made_text, made_answer}
 
 abbrev box : ℕ → ℕ → PlainBox
 box a b = record { sides = a ∷ b ∷ []; value = 1 }
@@ -131,3 +136,58 @@ sack_lines : answer_lines sack (Claimed (GreatestValue 8) (0 ∷ 0 ∷ 0 ∷ 2 �
     ∷ (codes "take" ∷ decimal 1 ∷ decimal 0 ∷ decimal 0 ∷ []) ∷ (codes "take" ∷ decimal 3 ∷ decimal 6 ∷ decimal 0 ∷ []) ∷ (codes "proof" ∷ [])
     ∷ (codes "c" ∷ decimal 1 ∷ []) ∷ (codes "s" ∷ []) ∷ (codes "w" ∷ []) ∷ (codes "end" ∷ []) ∷ []
 sack_lines = refl
+
+-- the made instance of number 0: one box
+abbrev made_front : Lines → Lines
+made_front lines =
+    (codes "made" ∷ decimal 0 ∷ codes "boxes" ∷ decimal 1 ∷ codes "volume" ∷ decimal 52341 ∷ []) ∷ lines
+
+made_yes : made_lines 0 (made_instance 0) 5 (Decided (Yes (0 ∷ 0 ∷ []) 0))
+    ≡ made_front ((codes "fit" ∷ codes "yes" ∷ []) ∷ (codes "branchings" ∷ decimal 0 ∷ []) ∷ [])
+unfolding made_instance
+made_yes = refl
+
+made_no : made_lines 0 (made_instance 0) 5 (Decided (No (Rules ∷ []) 3))
+    ≡ made_front ((codes "fit" ∷ codes "no" ∷ []) ∷ (codes "branchings" ∷ decimal 3 ∷ []) ∷ [])
+unfolding made_instance
+made_no = refl
+
+made_undecided : made_lines 0 (made_instance 0) 5 Past
+    ≡ made_front ((codes "fit" ∷ codes "undecided" ∷ []) ∷ (codes "branchings" ∷ codes "more" ∷ codes "than" ∷ decimal 5 ∷ []) ∷ [])
+unfolding made_instance
+made_undecided = refl
+
+-- its text
+volume_of_0 : decimal 52341 ≡ codes "52341"
+volume_of_0 =
+    let a = decimal_digit 5 (omega arith) in
+    let b = decimal_step 52 (omega arith) (omega arith) ∙ ap (λ ds. ds ++ 50 ∷ []) a in
+    let c = decimal_step 523 (omega arith) (omega arith) ∙ ap (λ ds. ds ++ 51 ∷ []) b in
+    let d = decimal_step 5234 (omega arith) (omega arith) ∙ ap (λ ds. ds ++ 52 ∷ []) c in
+    decimal_step 52341 (omega arith) (omega arith) ∙ ap (λ ds. ds ++ 49 ∷ []) d
+
+abbrev made_bytes : List ℕ → List ℕ → List ℕ → List ℕ
+made_bytes number count volume =
+    lines_text ((codes "made" ∷ number ∷ codes "boxes" ∷ count ∷ codes "volume" ∷ volume ∷ [])
+    ∷ (codes "fit" ∷ codes "yes" ∷ []) ∷ (codes "branchings" ∷ number ∷ []) ∷ [])
+
+made_text_of_0 : made_text 0 (made_instance 0) 5 (Decided (Yes (0 ∷ 0 ∷ []) 0))
+    ≡ codes "made 0 boxes 1 volume 52341" ++ 10 ∷ codes "fit yes" ++ 10 ∷ codes "branchings 0" ++ 10 ∷ []
+unfolding made_instance made_text
+made_text_of_0 =
+    ap (λ number. made_bytes number (decimal 1) (decimal 52341)) (decimal_digit 0 (omega arith))
+    ∙ (ap (λ count. made_bytes (codes "0") count (decimal 52341)) (decimal_digit 1 (omega arith))
+    ∙ ap (λ volume. made_bytes (codes "0") (codes "1") volume) volume_of_0)
+
+-- what is told of its class tree
+made_answer_of_0 : made_answer 0 0 true
+    ≡ record { status = 0; text = made_text 0 (made_instance 0) 0 (Decided (Yes (0 ∷ 0 ∷ []) 0)) }
+unfolding made_instance
+made_answer_of_0 = refl
+
+-- the made instance of number 1
+made_of_1 : made_lines 1 (made_instance 1) 1000000 (Decided (Yes [] 24))
+    ≡ (codes "made" ∷ decimal 1 ∷ codes "boxes" ∷ decimal 7 ∷ codes "volume" ∷ decimal 76542 ∷ [])
+    ∷ (codes "fit" ∷ codes "yes" ∷ []) ∷ (codes "branchings" ∷ decimal 24 ∷ []) ∷ []
+unfolding made_instance
+made_of_1 = refl

@@ -1,11 +1,10 @@
 -- Sets of boxes, and instances of which one box is replaced.
-use Rattle.std.proofs.Common.{◌≡◌, ℕ, ◌<◌, ◌⊎◌, inl, inr, List, ◌++◌, length, map, take, get_or, slice_set, arith, refl, sym, ap, ◌∙◌}
+use Rattle.std.proofs.Common.{◌≡◌, ℕ, ◌<◌, ◌⊎◌, inl, inr, List, ◌++◌, length, map, take, get_or, slice_set, arith, sym, ap, ◌∙◌}
 use Rattle.std.proofs.lemmas.Bool.{cases_eq}
 use Rattle.std.proofs.lemmas.List.{length-map, map-set, length-set, get_or-set_same, get_or-set_other, append-nil, take_all, drop_all}
 use Rattle.std.specs.List.{refill}
 use Rattle.smallvec.specs.SmallVec.{with_items}
 use Rattle.packing_terms.specs.Packing.{PlainInstance, PlainBox, no_box, dims, box_count}
-use Rattle.packing_terms.specs.Goals.{subset}
 use Rattle.packing_terms.specs.Limits.{IsBox, IsInternalInstance}
 use Rattle.box_instances.specs.declared.instance.BoxItem.{BoxItem}
 use Rattle.box_instances.specs.Plain.{plain_box}

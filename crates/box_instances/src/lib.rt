@@ -4,12 +4,14 @@
 mod copies;
 mod fault;
 mod instance;
+mod making;
 mod rank;
 mod sets;
 mod sides;
 
 pub use fault::{InstanceFault, NoMemory};
 pub use instance::{BoxItem, Instance, MOST_BOXES, MOST_KERF, MOST_SIDE, MOST_VALUE, Sides};
+pub use making::make;
 pub use sets::BoxSet;
 
 #[cfg(test)]

@@ -23,6 +23,7 @@ pub mod Listed
 pub mod Internal
 pub mod Renumbered
 pub mod KeptRules
+pub mod Made
 pub mod Rows
 pub mod RowsPackings
 pub mod Neighbours

@@ -17,3 +17,4 @@ pub mod OuterPaths
 pub mod Meanings
 pub mod Renumbering
 pub mod ExcessLaw
+pub mod Generator

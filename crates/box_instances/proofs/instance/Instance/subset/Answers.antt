@@ -1,9 +1,9 @@
-use Rattle.std.proofs.Common.{◌≡◌, ◌≤◌, ℕ, List, length, map, take, get_or, sym, ap, ap₂, subst, ◌∙◌, arith}
+use Rattle.std.proofs.Common.{◌≡◌, ℕ, List, map, get_or, sym, ap, ap₂, subst, ◌∙◌}
 use Rattle.std.proofs.lemmas.List.{take_all}
 use Rattle.packing_terms.specs.Packing.{PlainInstance, PlainBox, no_box}
 use Rattle.packing_terms.specs.Goals.{subset}
 use Rattle.packing_terms.specs.Limits.{IsInternalInstance}
-use Rattle.box_instances.specs.Plain.{plain_box, plain_instance}
+use Rattle.box_instances.specs.Plain.{plain_instance}
 use Rattle.box_instances.proofs.Subsets.{subset_within}
 use Rattle.box_instances.proofs.instance.Instance.subset.Goals as goal
 
