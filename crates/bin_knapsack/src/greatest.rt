@@ -5,16 +5,18 @@ ghost use Rattle.packing_terms.specs.Goals.{worth};
 ghost use Rattle.rule_terms.specs.Rounds.{below};
 ghost use Rattle.tree_terms.specs.Levels.{first_values, value_run};
 ghost use Rattle.proof_tree.specs.Plain.{plain_tokens};
-ghost use Rattle.level_search.specs.Ladders.{plain_reached};
+ghost use Rattle.level_search.specs.Runs.{plain_reached};
 ghost use Rattle.bin_knapsack.specs.Choices.{Tells, IsAnswer, IsTrueChoice, IsSpentExactly, IsFinal};
 
 use crate::Choice;
-use crate::values::ValueLadder;
+use crate::values::decide_value;
 use box_instances::{Instance, NoMemory};
-use level_search::{Reached, bisect};
+use level_search::Reached;
 use proof_tree::Token;
 use std::alloc::Global;
-use work_share::Settings;
+use std::sync::Wait;
+use std::thread::Threads;
+use work_share::{Gate, Settings};
 
 // What all boxes together are worth.
 fn whole_worth(instance: &Instance) -> u64
@@ -40,19 +42,24 @@ fn value_short(alloc: Global, instance: &Instance) -> Result<Vec<Token>, NoMemor
 }
 
 // The run of values.
-fn bisect_values<R>(
+fn bisect_values<R: Threads + Wait + Sync, G: Gate + Sync>(
     rt: &R,
     alloc: Global,
     instance: &Instance,
     settings: &Settings,
+    gate: &G,
 ) -> Result<Reached, NoMemory>
     ensures { IfOk result (λ r. plain_reached r ≡ value_run instance.now settings.now.budget settings.now.scales) }
 {
     let _limits = instance.len();
     let above = whole_worth(instance) + 1;
     let tokens = value_short(alloc, instance)?;
-    let mut ladder = ValueLadder::new(alloc, instance, settings);
-    bisect(rt, &mut ladder, above, tokens, 0, Vec::new(alloc))
+    let mut reached = Reached::starting(above, tokens, 0, Vec::new(alloc));
+    while let Some(level) = reached.next_level() {
+        let answer = decide_value(rt, alloc, instance, level, settings, gate)?;
+        reached = reached.after(level, answer);
+    }
+    Ok(reached)
 }
 
 // The answer where a run of values ended.
@@ -81,11 +88,12 @@ fn told(reached: Reached) -> Choice
 /// It follows the run of values from 0 and one more than all boxes are worth, each decided by its choice tree under the budget. `Between`
 /// comes exactly where a value on the run has a tree with more branchings than the budget; never where, with n boxes and m pairs of boxes
 /// in all dimensions, the budget is at least 3 to the m times 2^(n + 1) - 2.
-pub fn greatest_value<R>(
+pub fn greatest_value<R: Threads + Wait + Sync, G: Gate + Sync>(
     rt: &R,
     alloc: Global,
     instance: &Instance,
     settings: &Settings,
+    gate: &G,
 ) -> Result<Choice, NoMemory>
     ensures answer { IfOk result (λ c. IsAnswer instance.now settings.now.budget settings.now.scales c) }
     ensures right { IfOk result (λ c. IsTrueChoice instance.now c) }
@@ -94,6 +102,6 @@ pub fn greatest_value<R>(
         * (2 ^ (box_count instance.now + 1) - 2) ≤ settings.now.budget → IfOk result (λ c. IsFinal c) }
 {
     let _limits = instance.len();
-    let reached = bisect_values(rt, alloc, instance, settings)?;
+    let reached = bisect_values(rt, alloc, instance, settings, gate)?;
     Ok(told(reached))
 }

@@ -7,19 +7,21 @@ ghost use Rattle.packing_terms.specs.Scales.{SidesFit, sum_below};
 ghost use Rattle.tree_terms.specs.ClassTree.{first_large};
 ghost use Rattle.tree_terms.specs.Levels.{first_bins, bin_run};
 ghost use Rattle.proof_tree.specs.Plain.{plain_tokens};
-ghost use Rattle.level_search.specs.Ladders.{plain_reached};
+ghost use Rattle.level_search.specs.Runs.{plain_reached};
 ghost use Rattle.bin_knapsack.specs.BinAnswers.{Tells, IsAnswer, AreTrueBins, IsSpentExactly, IsFinal};
 
 use crate::Bins;
-use crate::counts::BinLadder;
+use crate::counts::decide_bins;
 use crate::spread::spread_all;
 use bin_search::BinTree;
 use box_instances::{Instance, NoMemory};
 use class_search::first_too_large;
-use level_search::{Reached, bisect};
+use level_search::Reached;
 use proof_tree::{Outcome, Token};
 use std::alloc::Global;
-use work_share::{Settings, Tree};
+use std::sync::Wait;
+use std::thread::Threads;
+use work_share::{Gate, Settings, Tree};
 
 // The refutation of no bins at all.
 fn no_bins(alloc: Global, instance: &Instance, scales: bool) -> Result<Vec<Token>, NoMemory>
@@ -39,11 +41,12 @@ fn no_bins(alloc: Global, instance: &Instance, scales: bool) -> Result<Vec<Token
 }
 
 // The run of numbers of bins of an instance none of whose boxes is too large.
-fn bisect_bins<R>(
+fn bisect_bins<R: Threads + Wait + Sync, G: Gate + Sync>(
     rt: &R,
     alloc: Global,
     instance: &Instance,
     settings: &Settings,
+    gate: &G,
 ) -> Result<Reached, NoMemory>
     requires { first_large instance.now ≡ None }
     ensures { IfOk result (λ r. plain_reached r ≡ bin_run instance.now settings.now.budget settings.now.scales) }
@@ -51,15 +54,12 @@ fn bisect_bins<R>(
     let _limits = instance.len();
     let numbers = spread_all(alloc, instance)?;
     let tokens = no_bins(alloc, instance, settings.scales)?;
-    let mut ladder = BinLadder::new(alloc, instance, settings);
-    bisect(
-        rt,
-        &mut ladder,
-        0,
-        tokens,
-        u64::from(instance.len()),
-        numbers,
-    )
+    let mut reached = Reached::starting(0, tokens, u64::from(instance.len()), numbers);
+    while let Some(level) = reached.next_level() {
+        let answer = decide_bins(rt, alloc, instance, level as u32, settings, gate)?;
+        reached = reached.after(level, answer);
+    }
+    Ok(reached)
 }
 
 // The answer where a run of numbers of bins ended.
@@ -91,11 +91,12 @@ fn told(reached: Reached) -> Bins
 /// where a box is longer than the container, and names the first. `Between` comes exactly where a number on the run has a tree with more
 /// branchings than the budget; never where, with n boxes and m pairs of boxes in all dimensions, the budget is at least 3 to the m times
 /// (n - 1) + (n - 1)^2 + .. + (n - 1)^n.
-pub fn least_bins<R>(
+pub fn least_bins<R: Threads + Wait + Sync, G: Gate + Sync>(
     rt: &R,
     alloc: Global,
     instance: &Instance,
     settings: &Settings,
+    gate: &G,
 ) -> Result<Bins, NoMemory>
     ensures answer { IfOk result (λ b. IsAnswer instance.now settings.now.budget settings.now.scales b) }
     ensures right { IfOk result (λ b. AreTrueBins instance.now b) }
@@ -108,7 +109,7 @@ pub fn least_bins<R>(
     match first_too_large(instance) {
         Some((box_no, dim)) => Ok(Bins::NoneFits { box_no, dim }),
         None => {
-            let reached = bisect_bins(rt, alloc, instance, settings)?;
+            let reached = bisect_bins(rt, alloc, instance, settings, gate)?;
             Ok(told(reached))
         }
     }

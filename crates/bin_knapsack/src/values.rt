@@ -1,53 +1,29 @@
 // The values, each decided by its choice tree.
-ghost use Rattle.packing_terms.specs.Limits.{IsInternalInstance};
+ghost use Rattle.std.specs.Prelude.{◌≡◌, IfOk};
+ghost use Rattle.tree_terms.specs.RunEnds.{value_answer};
+ghost use Rattle.level_search.specs.Runs.{plain_level};
 
 use box_instances::{Instance, NoMemory};
 use choice_search::ChoiceTree;
-use level_search::{Ladder, Level, level_of};
+use level_search::{Level, level_of};
 use std::alloc::Global;
-use work_share::{Settings, Tree};
+use std::sync::Wait;
+use std::thread::Threads;
+use work_share::{Gate, Settings, solve_shared};
 
-// The ladder of the values of an instance.
-#[derive(Drop)]
-pub struct ValueLadder<'a> {
+/// The answer for a value.
+pub fn decide_value<R: Threads + Wait + Sync, G: Gate + Sync>(
+    rt: &R,
     alloc: Global,
-    instance: &'a Instance,
-    budget: u64,
-    scales: bool,
-    ghost internal: { IsInternalInstance instance.now },
-}
-
-impl<'a> ValueLadder<'a> {
-    ghost use Rattle.std.specs.Prelude.{◌≡◌};
-
-    pub fn new(alloc: Global, instance: &'a Instance, settings: &Settings) -> ValueLadder<'a>
-        ensures instance { result.instance.now ≡ instance.now }
-        ensures budget { result.budget ≡ settings.now.budget }
-        ensures scales { result.scales ≡ settings.now.scales }
-    {
-        let _limits = instance.len();
-        ValueLadder {
-            alloc,
-            instance,
-            budget: settings.budget,
-            scales: settings.scales,
-        }
-    }
-}
-
-impl<'a> Ladder for ValueLadder<'a> {
-    ghost use Rattle.bin_knapsack.specs.Worths.{worths};
-    ghost use Rattle.bin_knapsack.specs.TrueWorths.{placed_worths, refuted_worths};
-
-    ghost meaning = { λ l. worths l.instance.now l.budget l.scales };
-
-    ghost placed_levels_are_reached = { λ l level numbers inside e. placed_worths l.instance.now l.internal l.budget l.scales level numbers e };
-
-    ghost refuted_levels_are_not_reached = { λ l level tokens inside e. refuted_worths l.instance.now l.internal l.budget l.scales level tokens e };
-
-    fn decide<R>(&mut self, _rt: &R, level: u64) -> Result<Level, NoMemory> {
-        let tree = ChoiceTree::new(self.alloc, self.instance, level, self.scales)?;
-        let outcome = tree.explore(self.alloc, &[], self.budget)?;
-        Ok(level_of(outcome))
-    }
+    instance: &Instance,
+    value: u64,
+    settings: &Settings,
+    gate: &G,
+) -> Result<Level, NoMemory>
+    ensures { IfOk result (λ r. plain_level r
+        ≡ value_answer instance.now settings.now.budget settings.now.scales value) }
+{
+    let tree = ChoiceTree::new(alloc, instance, value, settings.scales)?;
+    let outcome = solve_shared(rt, alloc, &tree, settings, gate)?;
+    Ok(level_of(outcome))
 }

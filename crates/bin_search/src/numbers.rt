@@ -13,12 +13,7 @@ use std::alloc::Global;
 fn has_box(keep: &[u32], v: u32) -> bool
     ensures { result ≡ has_box v keep.now }
 {
-    for u in keep {
-        if *u == v {
-            return true;
-        }
-    }
-    false
+    keep.iter().any(|u| *u == v)
 }
 
 // The index of a box in a set, and its length where it isn't there.

@@ -1,5 +1,5 @@
 //! Tests of the work board over class trees: both scripts, a thousand random schedules, and a worker that is short of memory
-//! at each moment. Every board that is over gives the outcome of one thread.
+//! at each moment. Every board that is over gives the outcome of one thread, and so do several workers that share a tree.
 #![tactic(auto)]
 
 #[cfg(test)]
@@ -14,3 +14,5 @@ mod schedules;
 mod scripts;
 #[cfg(test)]
 mod shortage;
+#[cfg(test)]
+mod workers;

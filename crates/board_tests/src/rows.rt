@@ -4,6 +4,7 @@ use std::alloc::Global;
 use std::test::Fail;
 
 /// An instance in two dimensions, whether its tree has scales, and its budgets: spent, just enough, and ample.
+#[derive(Drop)]
 pub struct Row {
     pub container: [u32; 2],
     pub boxes: &'static [[u32; 2]],
@@ -53,6 +54,41 @@ pub const FOUR: Row = Row {
     boxes: &[[3, 6], [3, 6], [3, 6], [3, 6]],
     scales: false,
     budgets: [2, 4, 5, 1000],
+};
+
+/// Eight boxes that must stand in a row, where only seven have room: there are 5,039 branchings, more than the first cap.
+pub const EIGHT: Row = Row {
+    container: [23, 10],
+    boxes: &[
+        [3, 6],
+        [3, 6],
+        [3, 6],
+        [3, 6],
+        [3, 6],
+        [3, 6],
+        [3, 6],
+        [3, 6],
+    ],
+    scales: false,
+    budgets: [0, 1024, 5038, 5039],
+};
+
+/// Two boxes that must stand on one another, and six beside them: before that is tried, all eight are tried in a row, where they have
+/// no room. There are 5,062 branchings.
+pub const LATE: Row = Row {
+    container: [23, 10],
+    boxes: &[
+        [4, 5],
+        [4, 5],
+        [3, 6],
+        [3, 6],
+        [3, 6],
+        [3, 6],
+        [3, 6],
+        [3, 6],
+    ],
+    scales: false,
+    budgets: [0, 1024, 5061, 5062],
 };
 
 /// The instance of a row.

@@ -1,8 +1,11 @@
 // One check of a document over memory.
 use pack_command::run;
 use pack_streams::{MemorySink, MemorySource, ReadAnswer, ReadStep, Source, WriteStep};
-use std::alloc::{AllocError, Global};
+use std::alloc::{AllocError, AllocGlobal, Global};
+use std::sync::Wait;
 use std::test::Fail;
+use std::thread::Threads;
+use work_share::NoGate;
 
 /// What a check answered and wrote, and what it left of its input.
 #[derive(Drop)]
@@ -28,8 +31,8 @@ impl Told {
 }
 
 /// Checks a document, where the source and the sink follow these plans.
-pub fn told_with(
-    rt: &HostRuntime,
+pub fn told_with<R: AllocGlobal + Threads + Wait + Sync>(
+    rt: &R,
     document: &[u8],
     reads: &[ReadStep],
     writes: &[WriteStep],
@@ -40,7 +43,7 @@ pub fn told_with(
     let mut source = MemorySource::new(listed(alloc, document)?, listed(alloc, reads)?);
     let mut out = MemorySink::new(alloc, 256, listed(alloc, writes)?)?;
     let mut err = MemorySink::new(alloc, 256, Vec::new(alloc))?;
-    let status = run(rt, alloc, &words, &mut source, &mut out, &mut err);
+    let status = run(rt, alloc, &words, &mut source, &mut out, &mut err, &NoGate);
     Ok(Told {
         status,
         out: listed(alloc, out.written())?,
@@ -50,7 +53,10 @@ pub fn told_with(
 }
 
 /// Checks a document, where nothing fails.
-pub fn told_of(rt: &HostRuntime, document: &[u8]) -> Result<Told, Fail> {
+pub fn told_of<R: AllocGlobal + Threads + Wait + Sync>(
+    rt: &R,
+    document: &[u8],
+) -> Result<Told, Fail> {
     told_with(rt, document, &[], &[])
 }
 

@@ -6,15 +6,17 @@ ghost use Rattle.tree_terms.specs.ClassTree.{class_tree};
 ghost use Rattle.proof_tree.specs.Plain.{plain_outcome};
 ghost use Rattle.class_search.specs.Right.{IsRight, Decides, IsDecided};
 
-use crate::Decider;
 use crate::exploring::searched;
 use crate::rank::ranked_pairs;
+use crate::{ClassTree, Decider};
 use box_instances::{Instance, NoMemory};
 use edge_state::EdgeState;
 use proof_tree::Outcome;
 use rule_closure::Closer;
 use std::alloc::Global;
-use work_share::Settings;
+use std::sync::Wait;
+use std::thread::Threads;
+use work_share::{Gate, Settings, solve_shared};
 
 /// Whether an instance fits, decided by its class tree under a budget of branchings.
 ///
@@ -69,21 +71,23 @@ pub fn decide_in(
     )
 }
 
-/// Whether an instance fits, decided by its class tree under the budget of the settings. The workers are 1.
+/// Whether an instance fits, decided by its class tree under the budget of the settings, by as many workers as these say.
 ///
-/// It answers what `decide_alone` answers.
-pub fn decide<R>(
+/// It answers what `decide_alone` answers, for every number of workers and every gate.
+pub fn decide<R: Threads + Wait + Sync, G: Gate + Sync>(
     rt: &R,
     alloc: Global,
     instance: &Instance,
     settings: &Settings,
+    gate: &G,
 ) -> Result<Outcome, NoMemory>
-    requires alone { settings.now.workers ≡ 1 }
     ensures outcome { IfOk result (λ r. plain_outcome r ≡ told settings.now.budget (outcome (class_tree instance.now [] settings.now.scales))) }
     ensures right { IfOk result (λ r. IsRight instance.now [] (plain_outcome r)) }
     ensures decides { IfOk result (λ r. Decides instance.now (plain_outcome r)) }
     ensures enough { 3 ^ (dims instance.now * box_count instance.now * (box_count instance.now - 1) / 2) ≤ settings.now.budget + 1
         → IfOk result (λ r. IsDecided (plain_outcome r)) }
 {
-    decide_alone(alloc, instance, settings.budget, settings.scales)
+    let _limits = instance.len();
+    let tree = ClassTree::new(alloc, instance, settings.scales)?;
+    solve_shared(rt, alloc, &tree, settings, gate)
 }

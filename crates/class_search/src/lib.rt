@@ -19,7 +19,7 @@ mod walk;
 pub use decider::Decider;
 pub use decision::{decide, decide_alone, decide_in};
 pub use edge_state::Exclusion;
-pub use level_search::{Ladder, Level, Reached, bisect};
+pub use level_search::{Level, Reached};
 pub use root::first_too_large;
 pub use same::are_same_instances;
 pub use tree::ClassTree;

@@ -1,1 +1,1 @@
-mod OnRun
+pub mod OnRun

@@ -2,7 +2,7 @@
 ghost use Rattle.std.specs.Prelude.{◌≡◌};
 ghost use Rattle.tree_terms.specs.Levels.{level_by};
 ghost use Rattle.proof_tree.specs.Plain.{plain_outcome};
-ghost use Rattle.level_search.specs.Ladders.{plain_level};
+ghost use Rattle.level_search.specs.Runs.{plain_level};
 
 use proof_tree::{Outcome, Token};
 

@@ -1,10 +1,9 @@
-//! Runs of levels: the bisection between a level that is refuted and one that is placed, over whatever answers a level.
+//! Runs of levels: the bisection between a level that is refuted and one that is placed, whatever answers a level.
 #![tactic(auto)]
 
-mod bisection;
-mod ladder;
+mod laws;
 mod level;
+mod run;
 
-pub use bisection::bisect;
-pub use ladder::Ladder;
+pub use laws::followed_runs_are_runs;
 pub use level::{Level, Reached, level_of};

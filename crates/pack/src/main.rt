@@ -6,6 +6,7 @@ use pack_streams::{Sink, StdSink, StdSource, write_all};
 use std::io::BufReader;
 use std::process::ExitCode;
 use std::{env, io};
+use work_share::NoGate;
 
 fn main(rt: HostRuntime) -> ExitCode {
     let alloc = rt.alloc();
@@ -22,7 +23,7 @@ fn main(rt: HostRuntime) -> ExitCode {
         // A word that isn't UTF-8 is no job, as no words are.
         Err(_) => Vec::new(alloc),
     };
-    ExitCode::from(run(&rt, alloc, &words, &mut input, &mut out, &mut err))
+    ExitCode::from(run(&rt, alloc, &words, &mut input, &mut out, &mut err, &NoGate))
 }
 
 // The words after the program's name.

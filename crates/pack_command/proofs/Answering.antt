@@ -14,10 +14,6 @@ use Rattle.pack_command.specs.Asked.{AsksToSolve}
 use Rattle.pack_command.specs.Inputs.{IsRead}
 use Rattle.pack_command.specs.Run.{IsAnswered, IsWritten, IsCutShort}
 
--- what is built has one worker
-pub one_worker : (words : List (String Global)) (job : SolvingJob) (settings : Settings) → AsksToSolve words job settings → settings.workers ≡ 1
-one_worker words job settings asks = ap (λ (s : Settings). s.workers) (sym asks.with_settings) ∙ asks.built.workers
-
 module _ (words : List (String Global)) (old new sunk_old sunk_new : Option (List ℕ)) (job : SolvingJob) (settings : Settings) (instance : PlainInstance)
     (solution : Solution) (asks : AsksToSolve words job settings) (read : IsRead old new (Ok instance)) (limits : IsInstance instance)
     (found : IsSolution job settings instance solution) where

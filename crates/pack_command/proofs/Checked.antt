@@ -17,10 +17,13 @@ use Rattle.pack_command.specs.declared.stop.Stop.{Stop}
 use Rattle.pack_command.specs.declared.stop.Stop.TheVariants.{WriteFault}
 use Rattle.pack_command.specs.declared.words.Asked.{Asked}
 use Rattle.pack_command.specs.declared.words.Asked.TheVariants.{Solving}
-use Rattle.pack_command.specs.Asked.{solving_job, AsksToSolve, AsksCheck, IsAsked}
-use Rattle.pack_command.specs.Checks.{verdict_status, IsReached, IsFound, IsJudged, IsExactly, IsClaimed, IsDone, IsUndone}
+use Rattle.pack_command.specs.Asked.{solving_job, AsksToSolve, AsksCheck, AsksToMake, IsAsked}
+use Rattle.pack_command.specs.Checks.{verdict_status, IsReached, IsFound, IsJudged, IsUnjudged, IsExactly, IsClaimed}
+use Rattle.pack_command.specs.Ends.{IsDone, IsUndone}
+use Rattle.pack_command.specs.Generated.{made_for, IsMadeCut}
 use Rattle.pack_command.specs.Run.{IsWritten, IsStopped, IsCutShort}
 use Rattle.pack_command.proofs.Written.{some_same, taken_all}
+use Rattle.pack_command.proofs.Generating.{no_solve, no_check}
 
 -- what was asked is the solving job with these settings
 pub asks_solving : (words : List (String Global)) (asked : Asked) (job : SolvingJob) (settings : Settings) → IsAsked words (Ok asked) → asked ≡ Solving job settings
@@ -39,24 +42,27 @@ cut_undone words old new sunk_old sunk_new cut = inl cut
 pub one_job : (words : List (String Global)) (job : SolvingJob) (settings : Settings) → AsksToSolve words job settings → AsksCheck words → ⊥
 one_job words job settings solve check =
     let same : solve.asked ≡ check.asked = some_same _ _ (sym solve.is ∙ check.is) in
-    let none : None ≡ Some job = sym (ap (λ (w : JobWords). solving_job w.job) same ∙ ap solving_job check.job) ∙ solve.built.job_is in
+    let none : None ≡ Some job = sym (ap (λ (w : JobWords). solving_job w.job) same ∙ ap solving_job check.job) ∙ solve.job_is in
     absurd (cc (none))
 
 -- what was done for a solving job is a written answer, and for a check a written verdict
 pub solved_done : (words : List (String Global)) (old new sunk_old sunk_new : Option (List ℕ)) (status : ℕ) (job : SolvingJob) (settings : Settings)
     → AsksToSolve words job settings → IsDone words old new sunk_old sunk_new status → IsWritten words old new sunk_old sunk_new status
 solved_done words old new sunk_old sunk_new status job settings asks (inl w) = w
-solved_done words old new sunk_old sunk_new status job settings asks (inr c) = absurd (one_job words job settings asks c.0)
+solved_done words old new sunk_old sunk_new status job settings asks (inr (inl c)) = absurd (one_job words job settings asks c.0)
+solved_done words old new sunk_old sunk_new status job settings asks (inr (inr m)) = absurd (no_solve words m.number m.settings job settings m.asked asks)
 
 pub solved_undone : (words : List (String Global)) (old new sunk_old sunk_new : Option (List ℕ)) (stop : Stop) (job : SolvingJob) (settings : Settings)
     → AsksToSolve words job settings → IsUndone words old new sunk_old sunk_new stop → IsStopped words old new sunk_old sunk_new stop
 solved_undone words old new sunk_old sunk_new stop job settings asks (inl s) = s
-solved_undone words old new sunk_old sunk_new stop job settings asks (inr c) = absurd (one_job words job settings asks c.0)
+solved_undone words old new sunk_old sunk_new stop job settings asks (inr (inl c)) = absurd (one_job words job settings asks c.0)
+solved_undone words old new sunk_old sunk_new stop job settings asks (inr (inr u)) = absurd (no_solve words u.number u.settings job settings u.asked asks)
 
 pub judged_done : (words : List (String Global)) (old new sunk_old sunk_new : Option (List ℕ)) (status : ℕ) → AsksCheck words
     → IsDone words old new sunk_old sunk_new status → IsJudged old new sunk_old sunk_new status
 judged_done words old new sunk_old sunk_new status asks (inl w) = absurd (one_job words w.answered.job w.answered.settings w.answered.asked asks)
-judged_done words old new sunk_old sunk_new status asks (inr c) = c.1
+judged_done words old new sunk_old sunk_new status asks (inr (inl c)) = c.1
+judged_done words old new sunk_old sunk_new status asks (inr (inr m)) = absurd (no_check words m.number m.settings m.asked asks)
 
 -- what was taken, and the rest of the bytes
 told_rest : (old left : Option (List ℕ)) (taken bytes : List ℕ) → old ≡ Some bytes → Gives old left taken → (rest : List ℕ) × (bytes ≡ taken ++ rest)

@@ -16,3 +16,5 @@ mod Blocks
 pub mod Written
 pub mod Stopped
 pub mod OwnWritten
+pub mod Generating
+pub mod SummaryTexts

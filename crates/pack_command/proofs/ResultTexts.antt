@@ -11,7 +11,7 @@ use Rattle.answer_terms.specs.Answers.{Lines, token_lines, proved_lines}
 use Rattle.pack_command.proofs.Joined.{parts}
 
 -- the last word of a line, and the end of the line
-last_word : (word : List ℕ) → ((word ++ []) ++ 10 ∷ []) ++ [] ≡ word ++ 10 ∷ []
+pub last_word : (word : List ℕ) → ((word ++ []) ++ 10 ∷ []) ++ [] ≡ word ++ 10 ∷ []
 last_word word = append-nil ((word ++ []) ++ 10 ∷ []) ∙ ap (λ t. t ++ 10 ∷ []) (append-nil word)
 
 pub least_line : (level : ℕ)

@@ -1,24 +1,19 @@
 -- Within the limits, and without a fault or want of memory, a solving job doesn't stop without an answer.
-use Rattle.std.proofs.Common.{ℕ, ◌≡◌, ◌≤◌, List, length, arith, refl, sym, ◌∙◌, subst, Option, Some, Ok, String, Global}
+use Rattle.std.proofs.Common.{ℕ, ◌≡◌, ◌≤◌, List, length, arith, refl, Option, Some, Ok, String, Global}
 use Rattle.packing_terms.specs.Packing.{PlainInstance}
 use Rattle.text_terms.specs.Texts.{text_instance}
 use Rattle.document_terms.specs.declared.claim.SolvingJob.{SolvingJob}
-use Rattle.pack_words.specs.declared.job.JobWords.{JobWords}
 use Rattle.work_share.specs.declared.settings.Settings.{Settings}
-use Rattle.pack_command.specs.Asked.{IsBuilt, AsksToSolve}
+use Rattle.pack_command.specs.Asked.{AsksToSolve}
 use Rattle.pack_command.specs.Run.{IsStopped}
 use Rattle.pack_command.specs.declared.stop.Stop.{Stop}
-use Rattle.pack_command.specs.declared.stop.Stop.TheVariants.{Words, Unbuilt, TooLong, Text, ReadFault, WriteFault, NoMemory}
-use Rattle.pack_command.proofs.Written.{some_same, taken_all, taken_within}
+use Rattle.pack_command.specs.declared.stop.Stop.TheVariants.{Words, TooLong, Text, ReadFault, WriteFault, NoMemory}
+use Rattle.pack_command.proofs.Written.{taken_all, taken_within}
 
 module _ (words : List (String Global)) (old new sunk_old sunk_new : Option (List ℕ)) (job : SolvingJob) (settings : Settings) (told : List ℕ)
     (instance : PlainInstance) (asks : AsksToSolve words job settings) (is : old ≡ Some told) (few : length told ≤ 1048576) (read : text_instance told ≡ Ok instance) where
   pub never_stops : (stop : Stop) → IsStopped words old new sunk_old sunk_new stop → ¬ (stop ≡ ReadFault) → ¬ (stop ≡ WriteFault) → ¬ (stop ≡ NoMemory) → ⊥
   never_stops Words s r w m = absurd (cc (s.0, asks.is))
-  never_stops Unbuilt s r w m =
-      let other = s.0 in
-      let same : asks.asked ≡ other.asked = some_same _ _ (sym asks.is ∙ other.is) in
-      other.unbuilt job (subst (λ (x : JobWords). IsBuilt x job) same asks.built)
   never_stops TooLong s r w m =
       let (bytes, gives, past) = s.1 in
       let l = taken_within old new bytes told is gives in

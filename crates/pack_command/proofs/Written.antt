@@ -50,7 +50,7 @@ taken_within old (Some rest) bytes told is gives =
 job_same : (words : List (String Global)) (j k : SolvingJob) (a b : Settings) → AsksToSolve words j a → AsksToSolve words k b → j ≡ k
 job_same words j k a b x y =
     let same : x.asked ≡ y.asked = some_same _ _ (sym x.is ∙ y.is) in
-    some_same _ _ (sym x.built.job_is ∙ (ap (λ (w : JobWords). solving_job w.job) same ∙ y.built.job_is))
+    some_same _ _ (sym x.job_is ∙ (ap (λ (w : JobWords). solving_job w.job) same ∙ y.job_is))
 
 -- with one list of settings
 settings_same : (words : List (String Global)) (j k : SolvingJob) (a b : Settings) → AsksToSolve words j a → AsksToSolve words k b → a ≡ b

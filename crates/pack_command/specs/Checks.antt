@@ -1,7 +1,6 @@
 -- What the check of a document promises. `taken` are the bytes that were taken from the source.
-use Rattle.std.specs.Prelude.{ℕ, ◌<◌, ◌≤◌, ◌≡◌, ◌⊎◌, List, String, length, take, Result, Ok, Err}
+use Rattle.std.specs.Prelude.{ℕ, ◌<◌, ◌≤◌, ◌≡◌, ◌⊎◌, List, length, take, Result, Ok, Err}
 use Rattle.std.specs.declared.option.Option.{Option}
-use Rattle.std.specs.declared.alloc.Global.{Global}
 use Rattle.std.specs.Io.KnownBytes.{IsAtEnd}
 use Rattle.document_terms.specs.declared.claim.Claim.{Claim}
 use Rattle.document_terms.specs.Claims.{IsTrueOf}
@@ -11,10 +10,8 @@ use Rattle.verdict_terms.specs.Documents.{Refusal, document_verdict, verdict_lin
 use Rattle.verdict_terms.specs.Fed.{NoneRefused}
 use Rattle.verdict_terms.specs.Form.{IsDocument}
 use Rattle.document_check.specs.Checked.{most_bytes, IsEnough}
-use Rattle.pack_command.specs.Asked.{AsksCheck}
-use Rattle.pack_command.specs.Run.{IsWritten, IsStopped}
 use Rattle.pack_command.specs.declared.stop.Stop.{Stop}
-use Rattle.pack_command.specs.declared.stop.Stop.TheVariants.{Words, Unbuilt, TooLong, Text, ReadFault, WriteFault, NoMemory}
+use Rattle.pack_command.specs.declared.stop.Stop.TheVariants.{Words, TooLong, Text, ReadFault, WriteFault, NoMemory}
 use Rattle.pack_command.specs.declared.verdict.Verdict.{Verdict}
 use Rattle.pack_command.specs.declared.verdict.Verdict.TheVariants.{Verified, Refused}
 
@@ -59,7 +56,6 @@ IsVerdict old new (Err TooLong) = IsPastLimit old new
 IsVerdict old new (Err ReadFault) = IsBrokenOff old new
 IsVerdict old new (Err NoMemory) = (taken : List ℕ) × Gives old new taken
 IsVerdict old new (Err Words) = ⊥
-IsVerdict old new (Err Unbuilt) = ⊥
 IsVerdict old new (Err (Text fault)) = ⊥
 IsVerdict old new (Err WriteFault) = ⊥
 
@@ -83,7 +79,6 @@ IsUnjudged old new sunk_old sunk_new ReadFault = IsBrokenOff old new × (sunk_ne
 IsUnjudged old new sunk_old sunk_new WriteFault = IsLineCut old new sunk_old sunk_new
 IsUnjudged old new sunk_old sunk_new NoMemory = ((taken : List ℕ) × Gives old new taken) × (sunk_new ≡ sunk_old)
 IsUnjudged old new sunk_old sunk_new Words = ⊥
-IsUnjudged old new sunk_old sunk_new Unbuilt = ⊥
 IsUnjudged old new sunk_old sunk_new (Text fault) = ⊥
 
 -- verified or refused
@@ -104,13 +99,3 @@ pub record IsClaimed (old new sunk_old sunk_new : Option (List ℕ)) : Type 0 wh
   pub document : IsDocument bytes claim
   pub holds : IsTrueOf document.instance claim
   pub line : Gains sunk_old sunk_new (verdict_line (Ok claim))
-
--- a solving job's answer or a check's verdict, written whole
-abbrev pub IsDone : List (String Global) → (old new sunk_old sunk_new : Option (List ℕ)) → ℕ → Type 0
-IsDone words old new sunk_old sunk_new status =
-    IsWritten words old new sunk_old sunk_new status ⊎ (AsksCheck words × IsJudged old new sunk_old sunk_new status)
-
--- why a job ended without
-abbrev pub IsUndone : List (String Global) → (old new sunk_old sunk_new : Option (List ℕ)) → Stop → Type 0
-IsUndone words old new sunk_old sunk_new stop =
-    IsStopped words old new sunk_old sunk_new stop ⊎ (AsksCheck words × IsUnjudged old new sunk_old sunk_new stop)

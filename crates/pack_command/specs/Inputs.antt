@@ -6,7 +6,7 @@ use Rattle.packing_terms.specs.Packing.{PlainInstance}
 use Rattle.text_terms.specs.Texts.{text_instance}
 use Rattle.pack_streams.specs.Moves.{Gives}
 use Rattle.pack_command.specs.declared.stop.Stop.{Stop}
-use Rattle.pack_command.specs.declared.stop.Stop.TheVariants.{Words, Unbuilt, TooLong, Text, ReadFault, WriteFault, NoMemory}
+use Rattle.pack_command.specs.declared.stop.Stop.TheVariants.{Words, TooLong, Text, ReadFault, WriteFault, NoMemory}
 
 -- these bytes are all that the source had to give, and not too many
 pub record IsWholeInput (old new : Option (List ℕ)) (bytes : List ℕ) : Type 0 where
@@ -19,7 +19,6 @@ abbrev pub IsRead : Option (List ℕ) → Option (List ℕ) → Result PlainInst
 IsRead old new (Ok instance) =
     (bytes : List ℕ) × IsWholeInput old new bytes × (text_instance bytes ≡ Ok instance)
 IsRead old new (Err (Text fault)) = (bytes : List ℕ) × IsWholeInput old new bytes × (text_instance bytes ≡ Err fault)
-IsRead old new (Err Unbuilt) = ⊥
 IsRead old new (Err TooLong) = (bytes : List ℕ) × Gives old new bytes × (1048576 < length bytes)
 IsRead old new (Err ReadFault) = (bytes : List ℕ) × Gives old new bytes × (length bytes ≤ 1048576)
 IsRead old new (Err NoMemory) = (bytes : List ℕ) × Gives old new bytes

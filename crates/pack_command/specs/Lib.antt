@@ -11,4 +11,6 @@ pub mod Inputs
 pub mod Run
 pub mod Lines
 pub mod Checks
+pub mod Generated
+pub mod Ends
 pub mod Own

@@ -11,10 +11,10 @@ use Rattle.pack_streams.specs.Writing.{GainsPart}
 use Rattle.work_share.specs.declared.settings.Settings.{Settings}
 use Rattle.document_terms.specs.declared.claim.SolvingJob.{SolvingJob}
 use Rattle.pack_command.specs.Answered.{answer_for}
-use Rattle.pack_command.specs.Asked.{AsksToSolve, AsksNothing, AsksOther}
+use Rattle.pack_command.specs.Asked.{AsksToSolve, AsksNothing}
 use Rattle.pack_command.specs.Inputs.{IsWholeInput, IsRead}
 use Rattle.pack_command.specs.declared.stop.Stop.{Stop}
-use Rattle.pack_command.specs.declared.stop.Stop.TheVariants.{Words, Unbuilt, TooLong, Text, ReadFault, WriteFault, NoMemory}
+use Rattle.pack_command.specs.declared.stop.Stop.TheVariants.{Words, TooLong, Text, ReadFault, WriteFault, NoMemory}
 
 -- the words ask for a solving job, the whole input is the text of an instance, and these are its status and its document
 pub record IsAnswered (words : List (String Global)) (old new : Option (List ℕ)) (status : ℕ) (document : List ℕ) : Type 0 where
@@ -43,7 +43,6 @@ Asks words = (job : SolvingJob) × (settings : Settings) × AsksToSolve words jo
 -- why a job ended without an answer, and what it took from the source and gave to the sink
 abbrev pub IsStopped : List (String Global) → (old new sunk_old sunk_new : Option (List ℕ)) → Stop → Type 0
 IsStopped words old new sunk_old sunk_new Words = AsksNothing words × (new ≡ old) × (sunk_new ≡ sunk_old)
-IsStopped words old new sunk_old sunk_new Unbuilt = AsksOther words × (new ≡ old) × (sunk_new ≡ sunk_old)
 IsStopped words old new sunk_old sunk_new TooLong = Asks words × IsRead old new (Err TooLong) × (sunk_new ≡ sunk_old)
 IsStopped words old new sunk_old sunk_new (Text fault) = Asks words × IsRead old new (Err (Text fault)) × (sunk_new ≡ sunk_old)
 IsStopped words old new sunk_old sunk_new ReadFault = Asks words × IsRead old new (Err ReadFault) × (sunk_new ≡ sunk_old)

@@ -2,11 +2,10 @@
 use Rattle.std.specs.Prelude.{ℕ, List, ◌++◌, codes}
 use Rattle.std.specs.Fmt.{decimal}
 use Rattle.pack_command.specs.declared.stop.Stop.{Stop}
-use Rattle.pack_command.specs.declared.stop.Stop.TheVariants.{Words, Unbuilt, TooLong, Text, ReadFault, WriteFault, NoMemory}
+use Rattle.pack_command.specs.declared.stop.Stop.TheVariants.{Words, TooLong, Text, ReadFault, WriteFault, NoMemory}
 
 abbrev pub status_of : Stop → ℕ
 status_of Words = 2
-status_of Unbuilt = 2
 status_of TooLong = 2
 status_of (Text fault) = 2
 status_of ReadFault = 4
@@ -15,7 +14,6 @@ status_of NoMemory = 6
 
 abbrev pub message_of : Stop → List ℕ
 message_of Words = codes "usage: pack JOB [--workers N] [--budget B] [--scales yes|no] [--number X]\n"
-message_of Unbuilt = codes "pack: unbuilt\n"
 message_of TooLong = codes "pack: input too long\n"
 message_of (Text fault) = codes "pack: line " ++ decimal fault.line ++ codes ": code " ++ decimal fault.code ++ codes "\n"
 message_of ReadFault = codes "pack: read fault\n"

@@ -10,8 +10,10 @@ use class_search::decide;
 use document_terms::SolvingJob;
 use proof_tree::Outcome;
 use std::alloc::Global;
+use std::sync::Wait;
+use std::thread::Threads;
 use strip_solver::{Strip, least_height};
-use work_share::Settings;
+use work_share::{Gate, Settings};
 
 /// What a solving job found.
 #[derive(Drop)]
@@ -36,8 +38,8 @@ impl Solution {
     }
 }
 
-// The status of an answer of `fit`.
-fn fit_status(outcome: &Outcome) -> u8
+/// The status of an answer of `fit`.
+pub fn fit_status(outcome: &Outcome) -> u8
     ensures { result ≡ status_of (answer_found (Solution.Fit outcome.now)) }
 {
     match outcome {
@@ -113,23 +115,33 @@ fn choice_status(choice: &Choice) -> u8
 }
 
 /// What a job finds for an instance under these settings.
-pub fn solve<R>(
+pub fn solve<R: Threads + Wait + Sync, G: Gate + Sync>(
     rt: &R,
     alloc: Global,
     instance: &Instance,
     job: SolvingJob,
     settings: Settings,
+    gate: &G,
 ) -> Result<Solution, NoMemory>
     requires limits { IsInstance instance.now }
-    requires alone { settings.workers ≡ 1 }
     ensures { IfOk result (λ s. IsSolution job settings instance.now s) }
 {
     match job {
-        SolvingJob::Fit => Ok(Solution::Fit(decide(rt, alloc, instance, &settings)?)),
-        SolvingJob::Strip => Ok(Solution::Strip(least_height(rt, alloc, instance, &settings)?)),
-        SolvingJob::Bins => Ok(Solution::Bins(least_bins(rt, alloc, instance, &settings)?)),
+        SolvingJob::Fit => {
+            let outcome = decide(rt, alloc, instance, &settings, gate)?;
+            Ok(Solution::Fit(outcome))
+        }
+        SolvingJob::Strip => {
+            let strip = least_height(rt, alloc, instance, &settings, gate)?;
+            Ok(Solution::Strip(strip))
+        }
+        SolvingJob::Bins => {
+            let bins = least_bins(rt, alloc, instance, &settings, gate)?;
+            Ok(Solution::Bins(bins))
+        }
         SolvingJob::Knapsack => {
-            Ok(Solution::Knapsack(greatest_value(rt, alloc, instance, &settings)?))
+            let choice = greatest_value(rt, alloc, instance, &settings, gate)?;
+            Ok(Solution::Knapsack(choice))
         }
     }
 }

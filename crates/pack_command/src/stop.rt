@@ -11,8 +11,6 @@ use text_terms::TextFault;
 pub enum Stop {
     /// The words are no job.
     Words,
-    /// What is asked for isn't built yet.
-    Unbuilt,
     /// The input is longer than 1,048,576 bytes.
     TooLong,
     /// The input is no instance text.
@@ -31,7 +29,7 @@ impl Stop {
         ensures { result ≡ status_of self }
     {
         match self {
-            Stop::Words | Stop::Unbuilt | Stop::TooLong | Stop::Text(_) => 2,
+            Stop::Words | Stop::TooLong | Stop::Text(_) => 2,
             Stop::ReadFault => 4,
             Stop::WriteFault => 5,
             Stop::NoMemory => 6,
@@ -44,7 +42,6 @@ impl Stop {
     {
         match self {
             Stop::Words => write_on(err, Ok(()), USAGE),
-            Stop::Unbuilt => write_on(err, Ok(()), b"pack: unbuilt\n"),
             Stop::TooLong => write_on(err, Ok(()), b"pack: input too long\n"),
             Stop::Text(fault) => tell_fault(err, fault),
             Stop::ReadFault => write_on(err, Ok(()), b"pack: read fault\n"),

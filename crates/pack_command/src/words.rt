@@ -1,53 +1,45 @@
 // What the words of the command line ask for.
-ghost use Rattle.std.specs.Prelude.{MatchOption};
-ghost use Rattle.document_terms.specs.declared.claim.SolvingJob.{SolvingJob as PlainJob};
-ghost use Rattle.pack_command.specs.Asked.{IsAsked, IsBuilt};
+ghost use Rattle.pack_command.specs.Asked.{IsAsked};
 
 use crate::stop::Stop;
 use document_terms::SolvingJob;
-use pack_words::{Job, JobWords, WordsError, read_words};
+use pack_words::{Job, WordsError, read_words};
 use std::alloc::Global;
 use work_share::Settings;
 
 /// What the words ask for.
 #[derive(Clone, Copy, Debug, PartialEq, Eq)]
 pub enum Asked {
-    /// A solving job that is built, and how it is to be run.
+    /// A solving job, and how it is to be run.
     Solving { job: SolvingJob, settings: Settings },
     /// `check`.
     Checking,
+    /// `make`, the number that it generates from, and how the instance is to be decided.
+    Making { number: u32, settings: Settings },
 }
 
-// The solving job that is asked for, where its settings are built: with one worker.
-fn built_job(asked: JobWords) -> Option<SolvingJob>
-    ensures { MatchOption result ((job : PlainJob) → ¬ IsBuilt asked job) (λ job. IsBuilt asked job) }
-{
-    if asked.settings.workers != 1 {
-        return None;
-    }
-    match asked.job {
-        Job::Fit => Some(SolvingJob::Fit),
-        Job::Strip => Some(SolvingJob::Strip),
-        Job::Bins => Some(SolvingJob::Bins),
-        Job::Knapsack => Some(SolvingJob::Knapsack),
-        Job::Check | Job::Make => None,
-    }
-}
-
-/// What the words ask for, where that is built.
+/// What the words ask for.
 pub fn read_job(alloc: Global, words: &[String]) -> Result<Asked, Stop>
     ensures { IsAsked words.now result }
 {
-    match read_words(alloc, words) {
-        Ok(asked) if asked.job == Job::Check => Ok(Asked::Checking),
-        Ok(asked) => match built_job(asked) {
-            Some(job) => Ok(Asked::Solving {
-                job,
-                settings: asked.settings,
-            }),
-            None => Err(Stop::Unbuilt),
-        },
-        Err(WordsError::Refused) => Err(Stop::Words),
-        Err(WordsError::NoMemory) => Err(Stop::NoMemory),
-    }
+    let asked = match read_words(alloc, words) {
+        Ok(asked) => asked,
+        Err(WordsError::Refused) => return Err(Stop::Words),
+        Err(WordsError::NoMemory) => return Err(Stop::NoMemory),
+    };
+    let settings = asked.settings;
+    let job = match asked.job {
+        Job::Fit => SolvingJob::Fit,
+        Job::Strip => SolvingJob::Strip,
+        Job::Bins => SolvingJob::Bins,
+        Job::Knapsack => SolvingJob::Knapsack,
+        Job::Check => return Ok(Asked::Checking),
+        Job::Make => {
+            return Ok(Asked::Making {
+                number: asked.number,
+                settings,
+            });
+        }
+    };
+    Ok(Asked::Solving { job, settings })
 }

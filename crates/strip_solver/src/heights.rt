@@ -1,67 +1,74 @@
 // The heights of a strip, each decided by its class tree.
-ghost use Rattle.std.specs.Prelude.{◌≡◌};
+ghost use Rattle.std.specs.Prelude.{◌≡◌, ◌<◌, IfOk, IfSome, []};
+ghost use Rattle.tree_terms.specs.Trees.{outcome, told};
+ghost use Rattle.tree_terms.specs.ClassTree.{class_tree};
+ghost use Rattle.tree_terms.specs.Levels.{first_heights};
+ghost use Rattle.tree_terms.specs.RunEnds.{height_answer};
+ghost use Rattle.proof_tree.specs.Plain.{plain_outcome};
+ghost use Rattle.level_search.specs.Runs.{plain_level};
 ghost use Rattle.class_search.specs.Deciders.{decider_of};
-ghost use Rattle.strip_solver.specs.Heights.{AreInternalHeights};
 
 use box_instances::{Instance, NoMemory};
-use class_search::Decider;
-use level_search::{Ladder, Level, level_of};
+use class_search::{Decider, decide};
+use level_search::{Level, level_of};
+use proof_tree::Outcome;
 use std::alloc::Global;
-use work_share::Settings;
+use std::sync::Wait;
+use std::thread::Threads;
+use work_share::{Gate, Settings};
 
-// The ladder of the heights of an instance. All are decided in the same memory, since their boxes are the same.
-#[derive(Drop)]
-pub struct HeightLadder<'a> {
+// What one worker decides all heights with, in the same memory, since their boxes are the same. Several share the tree of each.
+pub fn decider_for(
     alloc: Global,
-    instance: &'a Instance,
-    budget: u64,
-    scales: bool,
-    decider: Decider,
-    ghost internal: { AreInternalHeights instance.now },
-    ghost ready: { decider ≡ decider_of instance.now },
+    instance: &Instance,
+    workers: u32,
+) -> Result<Option<Decider>, NoMemory>
+    ensures { IfOk result (λ found. IfSome found (λ d. d ≡ decider_of instance.now)) }
+{
+    if workers > 1 {
+        return Ok(None);
+    }
+    Ok(Some(Decider::new(alloc, instance)?))
 }
 
-impl<'a> HeightLadder<'a> {
-    ghost use Rattle.std.specs.Prelude.{IfOk};
-    ghost use Rattle.strip_solver.specs.Heights.{heights};
-
-    pub fn new(
-        alloc: Global,
-        instance: &'a Instance,
-        settings: &Settings,
-    ) -> Result<HeightLadder<'a>, NoMemory>
-        ensures instance { IfOk result (λ l. l.instance.now ≡ instance.now) }
-        ensures budget { IfOk result (λ l. l.budget ≡ settings.now.budget) }
-        ensures scales { IfOk result (λ l. l.scales ≡ settings.now.scales) }
-    {
-        let _limits = instance.len();
-        let decider = Decider::new(alloc, instance)?;
-        Ok(HeightLadder {
-            alloc,
-            instance,
-            budget: settings.budget,
-            scales: settings.scales,
-            decider,
-        })
+// Decides the instance of one height: alone in the memory that is kept, or by several workers.
+fn decide_tall<R: Threads + Wait + Sync, G: Gate + Sync>(
+    rt: &R,
+    alloc: Global,
+    tall: &Instance,
+    decider: &mut Option<Decider>,
+    settings: &Settings,
+    gate: &G,
+) -> Result<Outcome, NoMemory>
+    requires { IfSome decider.old (λ d. d ≡ decider_of tall.now) }
+    ensures same { decider.new ≡ decider.old }
+    ensures outcome { IfOk result (λ r. plain_outcome r
+        ≡ told settings.now.budget (outcome (class_tree tall.now [] settings.now.scales))) }
+{
+    match decider {
+        Some(own) => own.decide(alloc, tall, settings.budget, settings.scales),
+        None => decide(rt, alloc, tall, settings, gate),
     }
 }
 
-impl<'a> Ladder for HeightLadder<'a> {
-    ghost use Rattle.strip_solver.specs.Heights.{heights};
-    ghost use Rattle.strip_solver.specs.TrueAnswers.{placed_heights, refuted_heights};
-
-    ghost meaning = { λ l. heights l.instance.now l.budget l.scales };
-
-    ghost placed_levels_are_reached = { λ l level numbers inside e. placed_heights l.instance.now l.internal l.budget l.scales level numbers inside e };
-
-    ghost refuted_levels_are_not_reached = { λ l level tokens inside e. refuted_heights l.instance.now l.internal l.budget l.scales level tokens inside e };
-
-    fn decide<R>(&mut self, _rt: &R, level: u64) -> Result<Level, NoMemory> {
-        let _limits = self.instance.len();
-        let tall = self.instance.with_last_side(self.alloc, level as u32)?;
-        let outcome = self
-            .decider
-            .decide(self.alloc, &tall, self.budget, self.scales)?;
-        Ok(level_of(outcome))
-    }
+/// The answer at a height below the stack of all boxes.
+pub fn decide_height<R: Threads + Wait + Sync, G: Gate + Sync>(
+    rt: &R,
+    alloc: Global,
+    instance: &Instance,
+    height: u32,
+    decider: &mut Option<Decider>,
+    settings: &Settings,
+    gate: &G,
+) -> Result<Level, NoMemory>
+    requires below { height < (first_heights instance.now).placed }
+    requires ready { IfSome decider.old (λ d. d ≡ decider_of instance.now) }
+    ensures same { decider.new ≡ decider.old }
+    ensures answer { IfOk result (λ r. plain_level r
+        ≡ height_answer instance.now settings.now.budget settings.now.scales height) }
+{
+    let _limits = instance.len();
+    let tall = instance.with_last_side(alloc, height)?;
+    let outcome = decide_tall(rt, alloc, &tall, decider, settings, gate)?;
+    Ok(level_of(outcome))
 }

@@ -5,18 +5,20 @@ ghost use Rattle.packing_terms.specs.Goals.{HasTooWideBox};
 ghost use Rattle.packing_terms.specs.Limits.{most_height};
 ghost use Rattle.tree_terms.specs.Levels.{first_heights, height_run};
 ghost use Rattle.proof_tree.specs.Plain.{plain_tokens};
-ghost use Rattle.level_search.specs.Ladders.{plain_reached};
+ghost use Rattle.level_search.specs.Runs.{plain_reached};
 ghost use Rattle.strip_solver.specs.Strips.{Tells, IsAnswer, IsTrueStrip, IsSpentExactly, IsFinal};
 
 use crate::Strip;
-use crate::heights::HeightLadder;
+use crate::heights::{decide_height, decider_for};
 use crate::stack::stack_all;
 use crate::wide::first_too_wide;
 use box_instances::{Instance, NoMemory};
-use level_search::{Reached, bisect};
+use level_search::Reached;
 use proof_tree::Token;
 use std::alloc::Global;
-use work_share::Settings;
+use std::sync::Wait;
+use std::thread::Threads;
+use work_share::{Gate, Settings};
 
 // The refutation of height 0: box 1 is longer than the container in the last dimension.
 fn no_height(alloc: Global, instance: &Instance) -> Result<Vec<Token>, NoMemory>
@@ -33,11 +35,12 @@ fn no_height(alloc: Global, instance: &Instance) -> Result<Vec<Token>, NoMemory>
 }
 
 // The run of heights of an instance none of whose boxes is too wide.
-fn bisect_heights<R>(
+fn bisect_heights<R: Threads + Wait + Sync, G: Gate + Sync>(
     rt: &R,
     alloc: Global,
     instance: &Instance,
     settings: &Settings,
+    gate: &G,
 ) -> Result<Reached, NoMemory>
     requires { ¬ HasTooWideBox instance.now }
     ensures { IfOk result (λ r. plain_reached r ≡ height_run instance.now settings.now.budget settings.now.scales) }
@@ -45,15 +48,14 @@ fn bisect_heights<R>(
     let _limits = instance.len();
     let stack = stack_all(alloc, instance)?;
     let tokens = no_height(alloc, instance)?;
-    let mut ladder = HeightLadder::new(alloc, instance, settings)?;
-    bisect(
-        rt,
-        &mut ladder,
-        0,
-        tokens,
-        u64::from(stack.height),
-        stack.places,
-    )
+    let mut decider = decider_for(alloc, instance, settings.workers)?;
+    let mut reached = Reached::starting(0, tokens, u64::from(stack.height), stack.places);
+    while let Some(level) = reached.next_level() {
+        let height = level as u32;
+        let answer = decide_height(rt, alloc, instance, height, &mut decider, settings, gate)?;
+        reached = reached.after(level, answer);
+    }
+    Ok(reached)
 }
 
 // The answer where a run of heights ended.
@@ -84,11 +86,12 @@ fn told(reached: Reached) -> Strip
 /// It follows the run of heights from 0 and the stack of all boxes, each decided under the budget. `NoneFits` comes exactly where a
 /// box is longer than the container in a dimension other than the last, and names the first. `Between` comes exactly where a
 /// height on the run has more branchings than the budget.
-pub fn least_height<R>(
+pub fn least_height<R: Threads + Wait + Sync, G: Gate + Sync>(
     rt: &R,
     alloc: Global,
     instance: &Instance,
     settings: &Settings,
+    gate: &G,
 ) -> Result<Strip, NoMemory>
     ensures answer { IfOk result (λ s. IsAnswer instance.now settings.now.budget settings.now.scales s) }
     ensures right { IfOk result (λ s. IsTrueStrip instance.now s) }
@@ -100,7 +103,7 @@ pub fn least_height<R>(
     match first_too_wide(instance) {
         Some((box_no, dim)) => Ok(Strip::NoneFits { box_no, dim }),
         None => {
-            let reached = bisect_heights(rt, alloc, instance, settings)?;
+            let reached = bisect_heights(rt, alloc, instance, settings, gate)?;
             Ok(told(reached))
         }
     }

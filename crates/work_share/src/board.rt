@@ -58,7 +58,7 @@ impl<'a, T: Tree> Model for Board<'a, T> {
 }
 
 // Whether an outcome is "past the budget".
-fn is_past(outcome: &Outcome) -> bool
+pub fn is_past(outcome: &Outcome) -> bool
     ensures { result ≡ is_past (plain_outcome outcome.now) }
 {
     match outcome {

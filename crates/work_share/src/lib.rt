@@ -3,16 +3,21 @@
 
 mod board;
 mod children;
+mod exploring;
 mod front;
+mod gate;
 mod joining;
 mod order;
 mod settings;
+mod sharing;
 mod slot;
 mod task;
 mod tree;
 
 pub use board::Board;
 pub use board_terms::Event;
+pub use gate::{Gate, NoGate};
 pub use settings::Settings;
+pub use sharing::solve_shared;
 pub use task::{Take, Task};
 pub use tree::{Node, Tree};

@@ -1,8 +1,11 @@
 // One run of the program over memory.
 use pack_command::run;
 use pack_streams::{MemorySink, MemorySource, ReadStep, WriteStep};
-use std::alloc::{AllocError, Global};
+use std::alloc::{AllocError, AllocGlobal, Global};
+use std::sync::Wait;
 use std::test::Fail;
+use std::thread::Threads;
+use work_share::NoGate;
 
 /// What a run answered and wrote.
 #[derive(Drop)]
@@ -40,8 +43,8 @@ impl Told {
 }
 
 /// Runs the words on the input, where the source and the sink follow these plans.
-pub fn told_with(
-    rt: &HostRuntime,
+pub fn told_with<R: AllocGlobal + Threads + Wait + Sync>(
+    rt: &R,
     words: &[&str],
     input: &[u8],
     reads: &[ReadStep],
@@ -55,7 +58,7 @@ pub fn told_with(
     let mut source = MemorySource::new(listed(alloc, input)?, listed(alloc, reads)?);
     let mut out = MemorySink::new(alloc, 65536, listed(alloc, writes)?)?;
     let mut err = MemorySink::new(alloc, 256, Vec::new(alloc))?;
-    let status = run(rt, alloc, &given, &mut source, &mut out, &mut err);
+    let status = run(rt, alloc, &given, &mut source, &mut out, &mut err, &NoGate);
     Ok(Told {
         status,
         out: listed(alloc, out.written())?,
@@ -64,7 +67,11 @@ pub fn told_with(
 }
 
 /// Runs the words on the input, where nothing fails.
-pub fn told_of(rt: &HostRuntime, words: &[&str], input: &[u8]) -> Result<Told, Fail> {
+pub fn told_of<R: AllocGlobal + Threads + Wait + Sync>(
+    rt: &R,
+    words: &[&str],
+    input: &[u8],
+) -> Result<Told, Fail> {
     told_with(rt, words, input, &[], &[])
 }
 

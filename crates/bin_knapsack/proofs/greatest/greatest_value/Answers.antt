@@ -1,4 +1,4 @@
-use Rattle.level_search.specs.Ladders.{plain_reached}
+use Rattle.level_search.specs.Runs.{plain_reached}
 use Rattle.bin_knapsack.proofs.ChoicesAnswered.{ended, true_told, spent_told, final_told}
 use Rattle.bin_knapsack.proofs.greatest.greatest_value.Goals as goal
 

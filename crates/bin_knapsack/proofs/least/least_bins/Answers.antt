@@ -1,6 +1,6 @@
 use Rattle.std.proofs.Common.{sym}
 use Rattle.tree_terms.proofs.FirstFound.{first_large_is, none_large_is}
-use Rattle.level_search.specs.Ladders.{plain_reached}
+use Rattle.level_search.specs.Runs.{plain_reached}
 use Rattle.bin_knapsack.proofs.BinsAnswered.{none_at_all, ended, placed_small, answer_told, true_told, spent_told, final_told}
 use Rattle.bin_knapsack.proofs.least.least_bins.Goals as goal
 

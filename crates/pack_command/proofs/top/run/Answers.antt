@@ -1,7 +1,8 @@
-use Rattle.std.proofs.Common.{◌∙◌, ap, Err}
+use Rattle.std.proofs.Common.{◌∙◌, sym, ap, Err}
 use Rattle.document_terms.specs.declared.claim.SolvingJob.TheVariants.{Fit, Strip, Bins, Knapsack}
 use Rattle.pack_command.specs.Stops.{status_of}
 use Rattle.pack_command.proofs.OwnWritten.{own_written}
+use Rattle.pack_command.proofs.Generating.{made_exactly, never_broken_off, never_four}
 use Rattle.pack_command.proofs.Stopped.{never_stops}
 use Rattle.pack_command.proofs.Written.{written_answers, written_decides, written_least, written_fewest, written_greatest, written_enough}
 use Rattle.pack_command.proofs.Checked.{solved_done, solved_undone, judged_done, judged_exactly, judged_within, judged_claimed}
@@ -70,3 +71,15 @@ returns-in-Ok-clause-too_long g c = λ bytes asks told past none in_stood out_st
 
 pub returns-in-Ok-clause-verified : goal.returns-in-Ok-clause-verified
 returns-in-Ok-clause-verified g c = λ job settings asks answer. own_written _ _ _ _ _ _ (solved_done _ _ _ _ _ _ job settings asks c.in-Ok.ensures.answered)
+
+pub returns-in-Ok-clause-makes : goal.returns-in-Ok-clause-makes
+returns-in-Ok-clause-makes g c = λ number settings asks out_stood some. made_exactly _ _ _ _ _ number settings asks _ c.in-Ok.ensures.answered
+
+pub returns-in-Ok-clause-unread : goal.returns-in-Ok-clause-unread
+returns-in-Ok-clause-unread g c = λ number settings asks. (c.in-Ok.ensures.unread number settings asks, never_four _ c.in-Ok.ensures.status)
+
+pub returns-in-Err-clause-unread : goal.returns-in-Err-clause-unread
+returns-in-Err-clause-unread g c = λ number settings asks. (
+  c.in-Err.ensures.unread number settings asks,
+  (λ four. never_broken_off _ _ _ _ _ number settings asks c.in-Err.stop c.in-Err.ensures.stopped (sym c.status.ensures ∙ four)),
+)

@@ -1,20 +1,15 @@
-use Rattle.std.proofs.Common.{arith}
-use Rattle.tree_terms.proofs.FirstLevels.{height_zero, stack_packs}
-use Rattle.strip_solver.proofs.Answered.{stack_high}
+use Rattle.std.proofs.Common.{◌≡◌, sym, subst, IfSome}
+use Rattle.level_search.specs.Runs.{plain_level, plain_reached}
+use Rattle.level_search.proofs.OnRun.{on_run_next, run_told}
+use Rattle.class_search.specs.Deciders.{decider_of}
 use Rattle.strip_solver.proofs.least.bisect_heights.Goals as goal
 
-pub bisect-requires-clause-refuted : goal.bisect-requires-clause-refuted
-bisect-requires-clause-refuted g c =
-    rw (c.in_ok-ladder.ensures.instance, c.in_ok-tokens.ensures) (height_zero c.args.instance.now c.len-limits.ensures.limits)
+pub loop-level-preserved : goal.loop-level-preserved
+loop-level-preserved g c = (
+  on_run_next _ _ _ _ (plain_reached c.loop-level.reached) (plain_reached c.after-reached.result) c.in-Some.level (plain_level c.in_ok-answer.answer)
+      c.loop-level.invariant.0 c.in-Some.ensures c.in_ok-answer.ensures.answer c.after-reached.ensures,
+  subst (λ found. IfSome found (λ d. d ≡ decider_of c.args.instance.now)) (sym c.in_ok-answer.ensures.same) c.loop-level.invariant.1,
+)
 
-pub bisect-requires-clause-placed : goal.bisect-requires-clause-placed
-bisect-requires-clause-placed g c =
-    rw (c.in_ok-ladder.ensures.instance, c.from.ensures, c.in_ok-stack.ensures.height, c.in_ok-stack.ensures.places)
-    (stack_packs c.args.instance.now c.len-limits.ensures.limits c.requires)
-
-pub bisect-requires-clause-differ : goal.bisect-requires-clause-differ
-bisect-requires-clause-differ g c e =
-    let h = stack_high c.args.instance.now c.len-limits.ensures.limits in
-    let f = c.from.ensures in
-    let s = c.in_ok-stack.ensures.height in
-    absurd (omega (arith, e, f, s, h))
+pub returns : goal.returns
+returns g c = run_told _ _ _ _ (plain_reached c.loop-level.reached) c.loop-level.invariant.0 c.in_default.ensures

@@ -1,4 +1,4 @@
-use Rattle.level_search.specs.Ladders.{plain_reached}
+use Rattle.level_search.specs.Runs.{plain_reached}
 use Rattle.strip_solver.proofs.Answered.{none_at_all, ended, placed_small, answer_told, true_told, spent_told, final_told}
 use Rattle.strip_solver.proofs.least.least_height.Goals as goal
 

@@ -1,0 +1,14 @@
+use Rattle.packing_terms.specs.Packing.{box_count}
+use Rattle.tree_terms.specs.Levels.{first_bins}
+use Rattle.tree_terms.specs.RunEnds.{bin_answer}
+use Rattle.level_search.specs.Runs.{plain_reached}
+use Rattle.level_search.proofs.OnRun.{IsOnRun, decisions_left}
+use Rattle.bin_knapsack.proofs.least.bisect_bins.Given as goal
+
+abbrev pub invariant-loop-level : goal.invariant-loop-level
+invariant-loop-level g l =
+    IsOnRun (bin_answer l.fn.instance l.fn.settings.budget l.fn.settings.scales) 0 (box_count l.fn.instance)
+    (first_bins l.fn.instance l.fn.settings.scales) (plain_reached l.reached)
+
+abbrev pub decreases-loop-level : goal.decreases-loop-level
+decreases-loop-level g l = decisions_left (plain_reached l.reached)

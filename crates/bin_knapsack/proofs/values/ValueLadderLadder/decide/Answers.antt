@@ -1,6 +1,0 @@
-use Rattle.std.proofs.Common.{ap, ◌∙◌}
-use Rattle.tree_terms.specs.Levels.{level_by}
-use Rattle.bin_knapsack.proofs.values.ValueLadderLadder.decide.Goals as goal
-
-pub returns-clause-answer : goal.returns-clause-answer
-returns-clause-answer g c = c.level_of.ensures ∙ ap level_by (rw c.in_ok-tree.ensures at c.in_ok-outcome.ensures.outcome)

@@ -1,0 +1,215 @@
+//! Several workers that share one class tree: whatever their number, they give the outcome of one thread.
+use crate::compare::is_same;
+use crate::rows::{EIGHT, LATE, ROWS, Row, instance_of};
+use box_instances::NoMemory;
+use class_search::ClassTree;
+use proof_tree::Outcome;
+use std::alloc::Global;
+use std::sync::Wait;
+use std::sync::atomic::{AtomicU64, Ordering};
+use std::test::Fail;
+use std::thread::Threads;
+use work_share::{Gate, NoGate, Settings, Tree, solve_shared};
+
+const WORKERS: [u32; 5] = [1, 2, 3, 8, 64];
+
+// What so many workers give.
+fn share<R: Threads + Wait + Sync, G: Gate + Sync>(
+    rt: &R,
+    alloc: Global,
+    tree: &ClassTree<'_>,
+    budget: u64,
+    workers: u32,
+    gate: &G,
+) -> Result<Outcome, NoMemory> {
+    let settings = Settings {
+        workers,
+        budget,
+        scales: false,
+    };
+    solve_shared(rt, alloc, tree, &settings, gate)
+}
+
+// Whether each number of workers gives the outcome of one thread, under each budget of a row.
+fn is_shared<R: Threads + Wait + Sync>(rt: &R, alloc: Global, row: &Row) -> Result<bool, Fail> {
+    let instance = instance_of(alloc, row)?;
+    let tree = ClassTree::new(alloc, &instance, row.scales)?;
+    for budget in row.budgets {
+        let alone = tree.explore(alloc, &[], budget)?;
+        for workers in WORKERS {
+            let shared = share(rt, alloc, &tree, budget, workers, &NoGate)?;
+            if !is_same(&alone, &shared) {
+                return Ok(false);
+            }
+        }
+    }
+    Ok(true)
+}
+
+#[test]
+fn any_number_of_workers_gives_the_outcome_of_one_thread(rt: HostRuntime) -> Result<(), Fail> {
+    for row in &ROWS {
+        assert!(rt; is_shared(&rt, rt.alloc(), row)?);
+    }
+    Ok(())
+}
+
+#[test]
+fn a_refutation_past_the_first_cap_is_shared(rt: HostRuntime) -> Result<(), Fail> {
+    assert!(rt; is_shared(&rt, rt.alloc(), &EIGHT)?);
+    Ok(())
+}
+
+#[test]
+fn a_late_yes_is_shared(rt: HostRuntime) -> Result<(), Fail> {
+    assert!(rt; is_shared(&rt, rt.alloc(), &LATE)?);
+    Ok(())
+}
+
+// What 8 workers give under a budget.
+fn share_by_eight<R: Threads + Wait + Sync>(
+    rt: &R,
+    alloc: Global,
+    row: &Row,
+    budget: u64,
+) -> Result<Outcome, Fail> {
+    let instance = instance_of(alloc, row)?;
+    let tree = ClassTree::new(alloc, &instance, row.scales)?;
+    Ok(share(rt, alloc, &tree, budget, 8, &NoGate)?)
+}
+
+#[test]
+fn the_budget_is_exact_for_eight_workers(rt: HostRuntime) -> Result<(), Fail> {
+    let no = share_by_eight(&rt, rt.alloc(), &EIGHT, 5039)?;
+    let is_no = matches!(no, Outcome::No { count: 5039, .. });
+    assert!(rt; is_no);
+    let past = share_by_eight(&rt, rt.alloc(), &EIGHT, 5038)?;
+    let is_past = matches!(past, Outcome::Past);
+    assert!(rt; is_past);
+    let yes = share_by_eight(&rt, rt.alloc(), &LATE, 5062)?;
+    let is_yes = matches!(yes, Outcome::Yes { count: 5062, .. });
+    assert!(rt; is_yes);
+    let past = share_by_eight(&rt, rt.alloc(), &LATE, 5061)?;
+    let is_past = matches!(past, Outcome::Past);
+    assert!(rt; is_past);
+    Ok(())
+}
+
+// A gate that counts its calls, and adds up the numbers of their tasks.
+#[derive(Drop)]
+struct CallCounts {
+    before: AtomicU64,
+    after: AtomicU64,
+    numbers_before: AtomicU64,
+    numbers_after: AtomicU64,
+}
+
+impl CallCounts {
+    fn new() -> CallCounts {
+        CallCounts {
+            before: AtomicU64::new(0),
+            after: AtomicU64::new(0),
+            numbers_before: AtomicU64::new(0),
+            numbers_after: AtomicU64::new(0),
+        }
+    }
+
+    // Whether both calls came so often, with numbers of this sum.
+    fn are(&self, calls: u64, sum: u64) -> bool {
+        self.before.load(Ordering::SeqCst) == calls
+            && self.after.load(Ordering::SeqCst) == calls
+            && self.numbers_before.load(Ordering::SeqCst) == sum
+            && self.numbers_after.load(Ordering::SeqCst) == sum
+    }
+}
+
+impl Gate for CallCounts {
+    fn before(&self, number: u64) {
+        self.before.fetch_add(1, Ordering::SeqCst);
+        self.numbers_before.fetch_add(number, Ordering::SeqCst);
+    }
+
+    fn after(&self, number: u64) {
+        self.after.fetch_add(1, Ordering::SeqCst);
+        self.numbers_after.fetch_add(number, Ordering::SeqCst);
+    }
+}
+
+// Whether so many workers call the gate so often under this budget, once for each of the numbers from 0 on.
+fn calls_for_each<R: Threads + Wait + Sync>(
+    rt: &R,
+    alloc: Global,
+    budget: u64,
+    workers: u32,
+    calls: u64,
+    sum: u64,
+) -> Result<bool, Fail> {
+    let instance = instance_of(alloc, &EIGHT)?;
+    let tree = ClassTree::new(alloc, &instance, EIGHT.scales)?;
+    let counts = CallCounts::new();
+    share(rt, alloc, &tree, budget, workers, &counts)?;
+    Ok(counts.are(calls, sum))
+}
+
+// Each half of the tree has 2,519 branchings, more than the cap of 2,048 there; each quarter is within its cap. So with two workers
+// and more each of the tasks 0 to 6 is explored, and none twice.
+#[test]
+fn the_gate_is_called_around_each_task(rt: HostRuntime) -> Result<(), Fail> {
+    for workers in [2, 3, 8, 64] {
+        assert!(rt;
+            calls_for_each(&rt, rt.alloc(), 5039, workers, 7, 21)?,
+            "{workers} workers"
+        );
+    }
+    Ok(())
+}
+
+// One worker has no tasks. Under a budget that is no greater than its cap the root is the only one.
+#[test]
+fn the_gate_is_called_for_the_root_alone(rt: HostRuntime) -> Result<(), Fail> {
+    assert!(rt; calls_for_each(&rt, rt.alloc(), 5039, 0, 0, 0)?);
+    assert!(rt; calls_for_each(&rt, rt.alloc(), 5039, 1, 0, 0)?);
+    assert!(rt; calls_for_each(&rt, rt.alloc(), 1024, 8, 1, 0)?);
+    Ok(())
+}
+
+// A gate that holds the worker of task 1 until task 2 was explored, or until it has looked so often that this won't come.
+#[derive(Drop)]
+struct Hold {
+    is_explored: AtomicU64,
+    was_met: AtomicU64,
+}
+
+impl Gate for Hold {
+    fn before(&self, number: u64) {
+        if number != 1 {
+            return;
+        }
+        for _ in 0..1_000_000_000u32 {
+            if self.is_explored.load(Ordering::SeqCst) == 1 {
+                self.was_met.store(1, Ordering::SeqCst);
+                return;
+            }
+        }
+    }
+
+    fn after(&self, number: u64) {
+        if number == 2 {
+            self.is_explored.store(1, Ordering::SeqCst);
+        }
+    }
+}
+
+#[test]
+fn two_tasks_are_explored_at_the_same_time(rt: HostRuntime) -> Result<(), Fail> {
+    let alloc = rt.alloc();
+    let instance = instance_of(alloc, &EIGHT)?;
+    let tree = ClassTree::new(alloc, &instance, EIGHT.scales)?;
+    let hold = Hold {
+        is_explored: AtomicU64::new(0),
+        was_met: AtomicU64::new(0),
+    };
+    share(&rt, alloc, &tree, 5039, 2, &hold)?;
+    assert_eq!(rt; hold.was_met.load(Ordering::SeqCst), 1);
+    Ok(())
+}

@@ -1,0 +1,171 @@
+-- What `make` did is the answer of the number that the words ask for, and that is true of its instance.
+use Rattle.std.proofs.Common.{ℕ, ◌≡◌, ◌≤◌, ◌<◌, ◌+◌, ◌↔◌, inl, inr, arith, refl, sym, ap, ap₂, ◌∙◌, subst, List, [], Option, Some, None, String, Global}
+use Rattle.packing_terms.specs.Packing.{PlainInstance, Fits}
+use Rattle.packing_terms.specs.Limits.{IsInstance}
+use Rattle.packing_terms.specs.Generator.{made_instance}
+use Rattle.packing_terms.proofs.Internal.{written_internal, some_dimension}
+use Rattle.packing_terms.proofs.Made.{made_within}
+use Rattle.tree_terms.proofs.Counts.{class_count}
+use Rattle.document_terms.specs.declared.claim.SolvingJob.{SolvingJob}
+use Rattle.document_terms.specs.declared.claim.SolvingJob.TheVariants.{Fit}
+use Rattle.answer_terms.specs.Solved.{JobAnswer, solved}
+use Rattle.pack_streams.specs.Moves.{Gains}
+use Rattle.pack_words.specs.declared.job.Job.{Job}
+use Rattle.pack_words.specs.declared.job.Job.TheVariants.{Check, Make}
+use Rattle.pack_words.specs.declared.job.JobWords.{JobWords}
+use Rattle.work_share.specs.declared.settings.Settings.{Settings}
+use Rattle.pack_command.specs.Answered.{answer_for, branchings, class_bound, IsAnswerStatus, IsDecided}
+use Rattle.pack_command.specs.Asked.{solving_job, AsksToSolve, AsksCheck, AsksToMake}
+use Rattle.pack_command.specs.Ends.{IsDone, IsUndone}
+use Rattle.pack_command.specs.Generated.{made_for, IsMade, IsMadeCut, IsExactlyMade}
+use Rattle.pack_command.specs.Run.{Asks, IsStopped}
+use Rattle.pack_command.specs.Stops.{status_of}
+use Rattle.pack_command.specs.declared.stop.Stop.{Stop}
+use Rattle.pack_command.specs.declared.stop.Stop.TheVariants.{Words, TooLong, Text, ReadFault, WriteFault, NoMemory}
+use Rattle.pack_command.proofs.Decided.{fit_decided}
+use Rattle.pack_command.proofs.Written.{some_same}
+
+-- no words ask for `make` and for another job
+pub no_solve : (words : List (String Global)) (number : ℕ) (settings : Settings) (job : SolvingJob) (others : Settings)
+    → AsksToMake words number settings → AsksToSolve words job others → ⊥
+no_solve words number settings job others make solve =
+    let same : make.asked ≡ solve.asked = some_same _ _ (sym make.is ∙ solve.is) in
+    let none : None ≡ Some job = sym (sym (ap (λ (w : JobWords). solving_job w.job) same) ∙ ap solving_job make.job) ∙ solve.job_is in
+    absurd (cc (none))
+
+pub no_check : (words : List (String Global)) (number : ℕ) (settings : Settings) → AsksToMake words number settings → AsksCheck words → ⊥
+no_check words number settings make check =
+    let same : make.asked ≡ check.asked = some_same _ _ (sym make.is ∙ check.is) in
+    let both : Make ≡ Check = sym make.job ∙ (ap (λ (w : JobWords). w.job) same ∙ check.job) in
+    absurd (cc (both))
+
+number_same : (words : List (String Global)) (n m : ℕ) (a b : Settings) → AsksToMake words n a → AsksToMake words m b → n ≡ m
+number_same words n m a b x y =
+    let same : x.asked ≡ y.asked = some_same _ _ (sym x.is ∙ y.is) in
+    sym x.with_number ∙ (ap (λ (w : JobWords). w.number) same ∙ y.with_number)
+
+settings_same : (words : List (String Global)) (n m : ℕ) (a b : Settings) → AsksToMake words n a → AsksToMake words m b → a ≡ b
+settings_same words n m a b x y =
+    let same : x.asked ≡ y.asked = some_same _ _ (sym x.is ∙ y.is) in
+    sym x.with_settings ∙ (ap (λ (w : JobWords). w.settings) same ∙ y.with_settings)
+
+-- ---- the answer is true
+
+-- what the status of `fit` says of an instance
+pub record IsToldBy (instance : PlainInstance) (settings : Settings) (status : ℕ) : Type 0 where
+  pub yes : status ≡ 0 → Fits instance
+  pub no : status ≡ 1 → ¬ Fits instance
+  pub undecided : status ≡ 3 ↔ settings.budget < branchings settings instance
+
+told_by : (instance : PlainInstance) (settings : Settings) (old new : Option (List ℕ)) (status : ℕ) → IsDecided instance settings old new status
+    → IsToldBy instance settings status
+told_by instance settings old new status (inl y) =
+    let s = y.status_is in
+    let w = y.within in
+    record {
+      yes = (λ zero. (y.places, y.packing));
+      no = (λ one. absurd (omega (arith, s, one)));
+      undecided = ((λ three. absurd (omega (arith, s, three))), (λ past. absurd (omega (arith, w, past))));
+    }
+told_by instance settings old new status (inr (inl n)) =
+    let s = n.status_is in
+    let w = n.within in
+    record {
+      yes = (λ zero. absurd (omega (arith, s, zero)));
+      no = (λ one. n.none);
+      undecided = ((λ three. absurd (omega (arith, s, three))), (λ past. absurd (omega (arith, w, past))));
+    }
+told_by instance settings old new status (inr (inr u)) =
+    let s = u.status_is in
+    record {
+      yes = (λ zero. absurd (omega (arith, s, zero)));
+      no = (λ one. absurd (omega (arith, s, one)));
+      undecided = ((λ three. u.past), (λ past. s));
+    }
+
+fit_told : (instance : PlainInstance) (settings : Settings) → IsInstance instance → IsToldBy instance settings (answer_for Fit settings instance).status
+fit_told instance settings limits = told_by instance settings None None _ (fit_decided settings instance limits None None refl)
+
+made_status : (number : ℕ) (settings : Settings) → (answer_for Fit settings (made_instance number)).status ≡ (made_for number settings).status
+unfolding solved
+made_status number settings = refl
+
+made_told : (number : ℕ) (settings : Settings) (status : ℕ) → status ≡ (made_for number settings).status → IsToldBy (made_instance number) settings status
+made_told number settings status is =
+    subst (λ (s : ℕ). IsToldBy (made_instance number) settings s) (made_status number settings ∙ sym is) (fit_told (made_instance number) settings (made_within number))
+
+-- a budget that bounds the count is enough
+made_enough : (number : ℕ) (settings : Settings) (status : ℕ) → IsToldBy (made_instance number) settings status
+    → class_bound (made_instance number) ≤ settings.budget + 1 → ¬ (status ≡ 3)
+made_enough number settings status told enough three =
+    let past = told.undecided.0 three in
+    let bound = class_count (made_instance number) (some_dimension (made_instance number) (written_internal (made_instance number) (made_within number))) [] settings.scales in
+    omega (arith, past, bound, enough)
+
+-- ---- what was done
+
+module _ (words : List (String Global)) (old new sunk_old sunk_new : Option (List ℕ)) (number : ℕ) (settings : Settings) (asks : AsksToMake words number settings) where
+  pub made_done : (status : ℕ) → IsDone words old new sunk_old sunk_new status → IsMade words old new sunk_old sunk_new status
+  made_done status (inl w) = absurd (no_solve words number settings w.answered.job w.answered.settings asks w.answered.asked)
+  made_done status (inr (inl c)) = absurd (no_check words number settings asks c.0)
+  made_done status (inr (inr m)) = m
+
+  same_made : (m : ℕ) (others : Settings) → AsksToMake words m others → made_for m others ≡ made_for number settings
+  same_made m others asked =
+      ap₂ (λ (n : ℕ) (s : Settings). made_for n s) (number_same words m number others settings asked asks) (settings_same words m number others settings asked asks)
+
+  pub made_exactly : (status : ℕ) → IsDone words old new sunk_old sunk_new status → IsExactlyMade number settings sunk_old sunk_new status
+  made_exactly status done =
+      let m = made_done status done in
+      let same = same_made m.number m.settings m.asked in
+      let is : status ≡ (made_for number settings).status = m.status_is ∙ ap (λ (a : JobAnswer). a.status) same in
+      let told = made_told number settings status is in
+      record {
+        status_is = is;
+        written = subst (λ (a : JobAnswer). Gains sunk_old sunk_new a.text) same m.written;
+        yes = told.yes;
+        no = told.no;
+        undecided = told.undecided;
+        enough = made_enough number settings status told;
+      }
+
+  solves : Asks words → ⊥
+  solves a = no_solve words number settings a.0 a.1 asks a.2
+
+  stopped : (stop : Stop) → IsStopped words old new sunk_old sunk_new stop → ¬ (stop ≡ WriteFault) → ¬ (stop ≡ NoMemory) → ⊥
+  stopped Words s w m = absurd (cc (s.0, asks.is))
+  stopped TooLong s w m = solves s.0
+  stopped (Text fault) s w m = solves s.0
+  stopped ReadFault s w m = solves s.0
+  stopped WriteFault s w m = w refl
+  stopped NoMemory s w m = m refl
+
+  cut : (stop : Stop) (n : ℕ) (others : Settings) → IsMadeCut n others sunk_old sunk_new stop → ¬ (stop ≡ WriteFault) → ¬ (stop ≡ NoMemory) → ⊥
+  cut Words n others c w m = c
+  cut TooLong n others c w m = c
+  cut (Text fault) n others c w m = c
+  cut ReadFault n others c w m = c
+  cut WriteFault n others c w m = w refl
+  cut NoMemory n others c w m = m refl
+
+  -- it doesn't end otherwise
+  pub never_unmade : (stop : Stop) → IsUndone words old new sunk_old sunk_new stop → ¬ (stop ≡ WriteFault) → ¬ (stop ≡ NoMemory) → ⊥
+  never_unmade stop (inl s) = stopped stop s
+  never_unmade stop (inr (inl c)) = λ w m. absurd (no_check words number settings asks c.0)
+  never_unmade stop (inr (inr u)) = cut stop u.number u.settings u.cut
+
+  -- in particular by no failed read
+  pub never_broken_off : (stop : Stop) → IsUndone words old new sunk_old sunk_new stop → ¬ (status_of stop ≡ 4)
+  never_broken_off stop undone four = never_unmade stop undone (λ e. other (ap status_of e)) (λ e. further (ap status_of e))
+    where
+      other : status_of stop ≡ 5 → ⊥
+      other five = omega (arith, four, five)
+
+      further : status_of stop ≡ 6 → ⊥
+      further six = omega (arith, four, six)
+
+-- and an answer has another status than a failed read
+pub never_four : (status : ℕ) → IsAnswerStatus status → ¬ (status ≡ 4)
+never_four status (inl e) four = omega (arith, e, four)
+never_four status (inr (inl e)) four = omega (arith, e, four)
+never_four status (inr (inr e)) four = omega (arith, e, four)
