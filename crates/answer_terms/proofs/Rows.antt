@@ -1,16 +1,16 @@
 -- Answers and their lines, computed from the definitions. `decimal` doesn't compute, so the numbers of a line stand as `decimal n`.
-use Rattle.std.proofs.Common.{◌≡◌, ℕ, refl, ap, ◌∙◌, arith, [], ◌∷◌, ◌++◌, true, false, List, None, codes}
+use Rattle.std.proofs.Common.{◌≡◌, ℕ, refl, ap, ◌∙◌, arith, [], ◌∷◌, ◌++◌, true, List, None, codes}
 use Rattle.std.specs.Fmt.{decimal}
 use Rattle.std.proofs.lemmas.Fmt.{decimal_digit, decimal_step}
-use Rattle.packing_terms.specs.declared.ScaleFn.TheVariants.{Id, Step}
+use Rattle.packing_terms.specs.declared.ScaleFn.TheVariants.{Id}
 use Rattle.packing_terms.specs.Packing.{PlainInstance, PlainBox}
 use Rattle.packing_terms.specs.Generator.{made_instance}
 use Rattle.tree_terms.specs.Trees.{Decided, Past, Yes, No}
-use Rattle.packing_terms.specs.Tokens.PlainToken.{Rules, TooLarge, Scales, Assign, Choose, SetRefuted, ValueShort, GlobalScales}
+use Rattle.packing_terms.specs.Tokens.PlainToken.{Rules, TooLarge, Choose, SetRefuted, ValueShort, GlobalScales}
 use Rattle.text_terms.specs.Spelling.{lines_text}
 use Rattle.document_terms.specs.declared.claim.SolvingJob.TheVariants.{Fit, Strip, Bins, Knapsack}
-use Rattle.document_terms.specs.declared.claim.Claim.TheVariants.{Fitting, NotFitting, LeastHeight, HeightBetween, NoHeight, LeastBins, BinsBetween, NoBins, GreatestValue, ValueBetween}
-use Rattle.answer_terms.specs.Answers.{answer_lines, status_of, Lines}
+use Rattle.document_terms.specs.declared.claim.Claim.TheVariants.{Fitting, NotFitting, LeastHeight, HeightBetween, NoHeight, LeastBins, BinsBetween, GreatestValue}
+use Rattle.answer_terms.specs.Answers.{answer_lines, Lines}
 use Rattle.answer_terms.specs.Answers.Answer.{Undecided, Claimed}
 use Rattle.answer_terms.specs.Solved.{solved}
 use Rattle.answer_terms.specs.Made.{made_lines, made_text, made_answer}

@@ -1,26 +1,25 @@
 -- The answers of the jobs are shown.
-use Rattle.std.proofs.Common.{◌≡◌, ℕ, zero, suc, pred, ◌+◌, ◌-◌, ◌*◌, ◌<◌, ◌≤◌, Bool, true, false, refl, sym, subst, arith, List, [], ◌∷◌, Option, Some, None, if◌then◌else◌, get_or, ltb}
+use Rattle.std.proofs.Common.{◌≡◌, ℕ, zero, suc, pred, ◌+◌, ◌-◌, ◌*◌, ◌≤◌, Bool, true, false, refl, subst, arith, [], ◌∷◌, Option, Some, None, if◌then◌else◌, get_or, ltb}
 use Rattle.std.specs.List.{range_with_len}
 use Rattle.std.proofs.lemmas.List.Sums.{sum_by-cons}
 use Rattle.packing_terms.specs.Packing.{PlainInstance, dims, box_count, no_box}
 use Rattle.packing_terms.specs.Goals.{HasTooWideBox, HasTooLargeBox, worth}
-use Rattle.packing_terms.specs.Limits.{most_height, IsInstance, IsInternalInstance}
-use Rattle.packing_terms.specs.TooLarge.{IsFirstLarge}
+use Rattle.packing_terms.specs.Limits.{IsInstance, IsInternalInstance}
+use Rattle.packing_terms.specs.TooLarge.{IsFirstLongerBelow}
 use Rattle.packing_terms.specs.Tokens.PlainToken.{TooLarge}
 use Rattle.packing_terms.proofs.Internal.{written_internal}
-use Rattle.tree_terms.specs.Trees.{Verdict, Yes, No, PlainOutcome, Decided, Past, outcome, told, count_of}
-use Rattle.tree_terms.specs.ClassTree.{class_tree, first_large, first_too_wide}
+use Rattle.tree_terms.specs.Trees.{Verdict, Yes, No, Decided, Past, outcome, told, count_of}
+use Rattle.tree_terms.specs.ClassTree.{class_tree, first_too_large_box, first_too_wide}
 use Rattle.tree_terms.specs.Search.{IsRightUnder}
-use Rattle.tree_terms.specs.Levels.{PlainReached, first_heights, height_run, bin_run, first_values, value_run}
+use Rattle.tree_terms.specs.Levels.{PlainReached, height_run, bin_run, value_run}
 use Rattle.tree_terms.proofs.Decisions.{class_tree_right}
 use Rattle.tree_terms.proofs.FirstFound.{first_large_is, first_too_wide_is, none_large_is, none_too_wide_is}
 use Rattle.tree_terms.proofs.Optima.{heights_keep, stack_small, bins_keep, values_keep}
 use Rattle.tree_terms.proofs.SpentRuns.{height_end, bins_end, value_end}
 use Rattle.document_terms.specs.declared.claim.SolvingJob.{SolvingJob}
-use Rattle.document_terms.specs.declared.claim.Claim.{Claim}
-use Rattle.document_terms.specs.Claims.{job_of, most_worth}
+use Rattle.document_terms.specs.Claims.{most_worth}
 use Rattle.document_terms.specs.declared.claim.SolvingJob.TheVariants.{Fit, Strip, Bins, Knapsack}
-use Rattle.document_terms.specs.declared.claim.Claim.TheVariants.{Fitting, NotFitting, LeastHeight, HeightBetween, NoHeight, LeastBins, BinsBetween, NoBins, GreatestValue, ValueBetween}
+use Rattle.document_terms.specs.declared.claim.Claim.TheVariants.{LeastHeight, HeightBetween, LeastBins, BinsBetween, GreatestValue, ValueBetween}
 use Rattle.answer_terms.specs.Answers.{Answer}
 use Rattle.answer_terms.specs.Answers.Answer.{Undecided, Claimed}
 use Rattle.answer_terms.specs.Solved.{solved, fit_answer, reached_claim, strip_answer, bins_answer, knapsack_answer}
@@ -43,7 +42,7 @@ fit_is instance budget v h = go (ltb budget (count_of v)) v h
 
 -- ---- a box that is too large
 
-large_named : (instance : PlainInstance) (m : ℕ) (p : ℕ × ℕ) → m ≤ dims instance → IsFirstLarge instance m p.0 p.1
+large_named : (instance : PlainInstance) (m : ℕ) (p : ℕ × ℕ) → m ≤ dims instance → IsFirstLongerBelow instance m p.0 p.1
     → ShowsNone instance m (TooLarge (suc p.0) (suc p.1) ∷ [])
 large_named instance m p few f =
     let a = f.there in
@@ -119,7 +118,7 @@ module _ (instance : PlainInstance) (limits : IsInstance instance) (budget : ℕ
                 (bin_run instance budget scales).tokens) same shown;
           }
 
-  bins_is : (p : Option (ℕ × ℕ)) → first_large instance ≡ p → IsAnswer Bins instance (bins_answer p (bin_run instance budget scales))
+  bins_is : (p : Option (ℕ × ℕ)) → first_too_large_box instance ≡ p → IsAnswer Bins instance (bins_answer p (bin_run instance budget scales))
   bins_is (Some p) e = record { of_job = refl; shown = large_named instance (dims instance) p (omega arith) ((first_large_is instance p.0 p.1).0 e) }
   bins_is None e = bins_shown ((none_large_is instance).0 e)
 
@@ -168,7 +167,7 @@ module _ (instance : PlainInstance) (limits : IsInstance instance) (budget : ℕ
   unfolding solved
   solved_is Fit = fit_is instance budget (outcome (class_tree instance [] scales)) (class_tree_right instance internal [] tt scales)
   solved_is Strip = strip_is (first_too_wide instance) refl
-  solved_is Bins = bins_is (first_large instance) refl
+  solved_is Bins = bins_is (first_too_large_box instance) refl
   solved_is Knapsack = values_shown
 
 pub answers_shown : AnswersAreShown

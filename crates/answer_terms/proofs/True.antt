@@ -1,8 +1,8 @@
 -- What the answers of the jobs claim is true.
-use Rattle.std.proofs.Common.{◌≡◌, ℕ, zero, suc, pred, ◌-◌, ◌<◌, ◌≤◌, ◌↔◌, ◌⊎◌, inl, inr, Bool, true, false, refl, sym, ap, subst, arith, List, [], if◌then◌else◌, ltb}
+use Rattle.std.proofs.Common.{◌≡◌, ℕ, zero, suc, pred, ◌-◌, ◌<◌, ◌≤◌, ◌⊎◌, inl, inr, Bool, true, false, refl, sym, ap, subst, arith, List, [], if◌then◌else◌}
 use Rattle.std.proofs.lemmas.Bool.{true≢false, cases_lt, lt-ltb, le-ltb}
-use Rattle.packing_terms.specs.Packing.{PlainInstance, dims, HasSides, Fits}
-use Rattle.packing_terms.specs.Goals.{with_last_side, FitsInBins, ReachesValue, HasTooWideBox, HasTooLargeBox}
+use Rattle.packing_terms.specs.Packing.{PlainInstance, dims, HasPositiveSides, Fits}
+use Rattle.packing_terms.specs.Goals.{with_last_side, FitsInBins, ReachesValue}
 use Rattle.packing_terms.specs.Limits.{IsInstance, IsInternalInstance}
 use Rattle.packing_terms.specs.Tokens.{PlainToken}
 use Rattle.packing_terms.proofs.Internal.{written_internal, internal_sides}
@@ -16,22 +16,20 @@ use Rattle.std.proofs.Math.ListN.{length-set}
 use Rattle.tree_terms.specs.Trees.{Verdict, Yes, No, Decided, Past, outcome, told, count_of}
 use Rattle.tree_terms.specs.ClassTree.{class_tree}
 use Rattle.tree_terms.specs.OuterSearch.{AreTakenNumbers, bins_in, places_in}
-use Rattle.document_terms.specs.declared.claim.SolvingJob.{SolvingJob}
 use Rattle.document_terms.specs.declared.claim.Claim.{Claim}
-use Rattle.document_terms.specs.Claims.{IsTrueOf, IsHeightBetween, IsBinsBetween, IsValueBetween}
-use Rattle.document_terms.specs.declared.claim.SolvingJob.TheVariants.{Fit}
+use Rattle.document_terms.specs.Claims.{IsTrueOf}
 use Rattle.document_terms.specs.declared.claim.Claim.TheVariants.{Fitting, NotFitting, LeastHeight, HeightBetween, NoHeight, LeastBins, BinsBetween, NoBins, GreatestValue, ValueBetween}
 use Rattle.answer_terms.specs.Answers.Answer.{Undecided, Claimed}
 use Rattle.answer_terms.specs.Answers.{Answer}
 use Rattle.answer_terms.specs.Solved.{solved, fit_answer}
-use Rattle.answer_terms.specs.Shown.{Shows, ShowsHeight, ShowsBins, ShowsValue, ShowsNone, AnswersAreTrue, UndecidedExactlyPast}
+use Rattle.answer_terms.specs.Shown.{Shows, ShowsHeight, ShowsBins, ShowsValue, AnswersAreTrue, UndecidedExactlyPast}
 use Rattle.answer_terms.proofs.Shown.{answers_shown}
 
 module _ (instance : PlainInstance) (limits : IsInstance instance) where
   internal : IsInternalInstance instance
   internal = written_internal instance limits
 
-  sides_at : (h : ℕ) → HasSides (with_last_side instance h)
+  sides_at : (h : ℕ) → HasPositiveSides (with_last_side instance h)
   sides_at h v i l m = internal_sides instance internal v i l (let s = length-set instance.container (dims instance - 1) h in omega (arith, m, s))
 
   -- what fits at no height up to the refuted one

@@ -1,11 +1,12 @@
--- The answer of a solving job, its status, and its text: a document in the one spelling, as the words of its lines in order.
+-- The answer of a solving job, its status, and its text: a document in the one spelling, as the
+-- words of its lines in order.
 --
 --     answer JOB          instance lines          result ..          places, proof, tokens          end
 use Rattle.std.specs.Prelude.{ℕ, suc, ◌+◌, ◌*◌, ◌/◌, List, [], ◌∷◌, ◌++◌, length, map, slice_index, codes}
 use Rattle.std.specs.Fmt.{decimal}
 use Rattle.packing_terms.specs.Packing.{PlainInstance, dims, box_count, place}
 use Rattle.packing_terms.specs.Tokens.{PlainToken}
-use Rattle.rule_terms.specs.Rounds.{below}
+use Rattle.packing_terms.specs.Sums.{below}
 use Rattle.text_terms.specs.Spelling.{instance_words, lines_text}
 use Rattle.document_terms.specs.declared.claim.SolvingJob.{SolvingJob}
 use Rattle.document_terms.specs.declared.claim.Claim.{Claim}
@@ -14,8 +15,9 @@ use Rattle.document_terms.specs.declared.claim.SolvingJob.TheVariants.{Fit}
 use Rattle.document_terms.specs.declared.claim.Claim.TheVariants.{Fitting, NotFitting, LeastHeight, HeightBetween, NoHeight, LeastBins, BinsBetween, NoBins, GreatestValue, ValueBetween}
 use Rattle.document_terms.specs.TokenLines.{token_words}
 
--- Undecided, or a claim with the flat numbers of an answer, which show what the claim places, and the tokens of a refutation of what it refutes.
--- A claim that places nothing has no numbers, and one that refutes nothing has no tokens.
+-- Undecided, or a claim with the flat numbers of an answer, which show what the claim places, and
+-- the tokens of a refutation of what it refutes. A claim that places nothing has no numbers, and
+-- one that refutes nothing has no tokens.
 pub data Answer : Type 0 where
   Undecided : Answer
   Claimed : (claim : Claim) (numbers : List ℕ) (tokens : List PlainToken) → Answer
@@ -47,7 +49,8 @@ Lines = List (List (List ℕ))
 abbrev pub place_words : PlainInstance → List ℕ → ℕ → List (List ℕ)
 place_words instance places v = codes "place" ∷ map (λ i. decimal (place instance places v i)) (below (dims instance))
 
--- A first word, a number and d coordinates: the numbers k * (d + 1) and following. The first is a bin or a box, which the text counts from 1.
+-- A first word, a number and d coordinates: the numbers k * (d + 1) and following. The first is a
+-- bin or a box, which the text counts from 1.
 abbrev pub numbered_words : List ℕ → ℕ → List ℕ → ℕ → List (List ℕ)
 numbered_words key d numbers k =
     key ∷ decimal (suc (slice_index numbers (k * (d + 1)))) ∷ map (λ i. decimal (slice_index numbers (k * (d + 1) + (1 + i)))) (below d)

@@ -1,4 +1,5 @@
--- The answer of the job `make`: the made instance of a number is decided as by `fit`, and three lines tell of it.
+-- The answer of the job `make`: the made instance of a number is decided as by `fit`, and three
+-- lines tell of it.
 --
 --     made 0 boxes 1 volume 52341          the number, its boxes and their volume
 --     fit yes                              or no, or undecided
@@ -30,7 +31,8 @@ abbrev pub made_words : ℕ → PlainInstance → List (List ℕ)
 made_words number instance =
     codes "made" ∷ decimal number ∷ codes "boxes" ∷ decimal (box_count instance) ∷ codes "volume" ∷ decimal (total_volume instance) ∷ []
 
--- the three lines: of a number and its instance, and of what is told of its class tree under a budget
+-- the three lines: of a number and its instance, and of what is told of its class tree under a
+-- budget
 abbrev pub made_lines : ℕ → PlainInstance → ℕ → PlainOutcome → Lines
 made_lines number instance budget decision =
     made_words number instance ∷ (codes "fit" ∷ fit_word decision ∷ []) ∷ (codes "branchings" ∷ branching_words budget decision) ∷ []

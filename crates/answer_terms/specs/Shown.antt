@@ -1,4 +1,5 @@
--- What shows a claim, and the laws: the answers of the jobs are shown and true, and when `fit` is undecided.
+-- What shows a claim, and the laws: the answers of the jobs are shown and true, and when `fit` is
+-- undecided.
 use Rattle.std.specs.Prelude.{ℕ, pred, suc, ◌-◌, ◌<◌, ◌≤◌, ◌≡◌, ◌↔◌, Bool, List, [], ◌∷◌}
 use Rattle.packing_terms.specs.Packing.{PlainInstance, dims, box_count, IsPacking}
 use Rattle.packing_terms.specs.Goals.{with_last_side}

@@ -1,9 +1,10 @@
--- The answer of each solving job for an instance, from what is told of its tree, or from the run of its levels. The number of workers has no part.
+-- The answer of each solving job for an instance, from what is told of its tree, or from the run of
+-- its levels. The number of workers has no part.
 use Rattle.std.specs.Prelude.{ℕ, suc, Bool, true, false, List, [], ◌∷◌, Option, Some, None}
 use Rattle.packing_terms.specs.Packing.{PlainInstance}
 use Rattle.packing_terms.specs.Tokens.PlainToken.{TooLarge}
 use Rattle.tree_terms.specs.Trees.{PlainOutcome, Decided, Past, Yes, No, outcome, told}
-use Rattle.tree_terms.specs.ClassTree.{class_tree, first_large, first_too_wide}
+use Rattle.tree_terms.specs.ClassTree.{class_tree, first_too_large_box, first_too_wide}
 use Rattle.tree_terms.specs.Levels.{PlainReached, height_run, bin_run, value_run}
 use Rattle.document_terms.specs.declared.claim.SolvingJob.{SolvingJob}
 use Rattle.document_terms.specs.declared.claim.Claim.{Claim}
@@ -22,7 +23,8 @@ fit_answer Past = Undecided
 abbrev pub none_answer : Claim → ℕ × ℕ → Answer
 none_answer claim p = Claimed claim [] (TooLarge (suc p.0) (suc p.1) ∷ [])
 
--- the two levels of a run: the claim of the placed one where no decision was spent, else that of both
+-- the two levels of a run: the claim of the placed one where no decision was spent, else that of
+-- both
 abbrev pub reached_claim : Bool → Claim → Claim → Claim
 reached_claim true whole between = between
 reached_claim false whole between = whole
@@ -48,7 +50,7 @@ knapsack_answer r = reached_answer r (GreatestValue r.placed) (ValueBetween r.pl
 unfoldable pub solved : SolvingJob → ℕ → Bool → PlainInstance → Answer
 solved Fit budget scales instance = fit_answer (told budget (outcome (class_tree instance [] scales)))
 solved Strip budget scales instance = strip_answer (first_too_wide instance) (height_run instance budget scales)
-solved Bins budget scales instance = bins_answer (first_large instance) (bin_run instance budget scales)
+solved Bins budget scales instance = bins_answer (first_too_large_box instance) (bin_run instance budget scales)
 solved Knapsack budget scales instance = knapsack_answer (value_run instance budget scales)
 
 -- a status and the bytes of a document

@@ -1,4 +1,5 @@
-//! The answers of the solving jobs: which status and which document an instance has under a job and its settings.
+//! The answers of the solving jobs: which status and which document an instance has under a job and
+//! its settings.
 #![tactic(auto)]
 
 mod laws;

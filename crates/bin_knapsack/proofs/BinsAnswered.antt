@@ -4,7 +4,7 @@ use Rattle.std.proofs.lemmas.Bool.{true≢false}
 use Rattle.packing_terms.specs.Packing.{PlainInstance, dims, box_count}
 use Rattle.packing_terms.specs.Goals.{FitsInBins, HasTooLargeBox, IsLeastBins}
 use Rattle.packing_terms.specs.Limits.{IsInternalInstance, most_boxes}
-use Rattle.packing_terms.specs.Scales.{sum_below}
+use Rattle.packing_terms.specs.Sums.{sum_below}
 use Rattle.packing_terms.specs.TooLarge.{IsFirstTooLarge}
 use Rattle.packing_terms.specs.OuterRefutation.{IsBinRefutation}
 use Rattle.packing_terms.proofs.Internal.{internal_sides}
@@ -13,7 +13,7 @@ use Rattle.packing_terms.proofs.BinsRefuted.{none_fits_bins}
 use Rattle.packing_terms.proofs.TooLarge.{too_large}
 use Rattle.scale_terms.proofs.Excess.{excess_law}
 use Rattle.tree_terms.specs.OuterSearch.{AreBinNumbers}
-use Rattle.tree_terms.specs.Levels.{PlainReached, Keeps, first_bins, bin_run}
+use Rattle.tree_terms.specs.Levels.{PlainReached, HasBothCertificates, first_bins, bin_run}
 use Rattle.tree_terms.specs.RunEnds.{IsRisingEnd}
 use Rattle.tree_terms.proofs.Optima.{bins_keep, bins_optimum}
 use Rattle.tree_terms.proofs.SpentRuns.{bins_spent, bins_end, bins_enough}
@@ -37,7 +37,7 @@ module _ (instance : PlainInstance) (limits : IsInternalInstance instance) (smal
   answer_told (NoneFits v i) t = absurd t
 
   abbrev Both : PlainReached → Type 0
-  Both x = Keeps (λ k ns. AreBinNumbers instance k ns) (λ k ts. IsBinRefutation instance k ts) x
+  Both x = HasBothCertificates (λ k ns. AreBinNumbers instance k ns) (λ k ts. IsBinRefutation instance k ts) x
 
   both : (x : PlainReached) → r ≡ x → Both x
   both x e = subst (λ (y : PlainReached). Both y) (sym run ∙ e) (bins_keep instance limits small budget scales)

@@ -10,23 +10,19 @@ use Rattle.packing_terms.proofs.Neighbours.{reaches_lower}
 use Rattle.packing_terms.proofs.ValueRefuted.{none_reaches}
 use Rattle.scale_terms.proofs.Excess.{excess_law}
 use Rattle.tree_terms.specs.OuterSearch.{AreTakenNumbers}
-use Rattle.tree_terms.specs.Levels.{PlainReached, Keeps, first_values, value_run}
+use Rattle.tree_terms.specs.Levels.{PlainReached, HasBothCertificates, first_values, value_run}
 use Rattle.tree_terms.specs.RunEnds.{IsFallingEnd}
 use Rattle.tree_terms.proofs.Optima.{values_keep, value_optimum}
 use Rattle.tree_terms.proofs.SpentRuns.{value_spent, value_end, value_enough}
 use Rattle.proof_tree.specs.Plain.{plain_tokens}
 use Rattle.bin_knapsack.specs.declared.choice.Choice.{Choice}
 use Rattle.bin_knapsack.specs.declared.choice.Choice.TheVariants.{Greatest, Between}
-use Rattle.bin_knapsack.specs.Choices.{Tells, IsAnswer, IsTrueChoice, IsSpentExactly, IsFinal}
+use Rattle.bin_knapsack.specs.Choices.{Tells, IsTrueChoice, IsSpentExactly, IsFinal}
 
 module _ (instance : PlainInstance) (limits : IsInternalInstance instance) (budget : ℕ) (scales : Bool)
     (r : PlainReached) (run : r ≡ value_run instance budget scales) where
-  pub answer_told : (c : Choice) → Tells r c → IsAnswer instance budget scales c
-  answer_told (Greatest value numbers tokens) t = sym run ∙ t
-  answer_told (Between placed numbers refuted tokens) t = sym run ∙ t
-
   abbrev Both : PlainReached → Type 0
-  Both x = Keeps (λ k ns. AreTakenNumbers instance k ns) (λ k ts. IsValueRefutation instance k ts) x
+  Both x = HasBothCertificates (λ k ns. AreTakenNumbers instance k ns) (λ k ts. IsValueRefutation instance k ts) x
 
   both : (x : PlainReached) → r ≡ x → Both x
   both x e = subst (λ (y : PlainReached). Both y) (sym run ∙ e) (values_keep instance limits budget scales)

@@ -1,5 +1,5 @@
 -- The children of a root that is told as a split may be explored.
-use Rattle.std.proofs.Common.{◌≡◌, ℕ, suc, ◌<◌, ◌≤◌, refl, arith, [], ◌∷◌}
+use Rattle.std.proofs.Common.{◌≡◌, ℕ, ◌<◌, refl, arith, [], ◌∷◌}
 use Rattle.packing_terms.specs.Tokens.{PlainToken}
 use Rattle.tree_terms.specs.Trees.{SearchTree}
 use Rattle.tree_terms.specs.Paths.{Splits, node_told, IsReachable}

@@ -22,7 +22,8 @@ Tells r (Between refuted tokens bins numbers) =
     r ≡ record { refuted = refuted; tokens = plain_tokens tokens.items; placed = bins; numbers = numbers.items; spent = true }
 Tells r (NoneFits v i) = ⊥
 
--- The answer is that of the definition: the first box that is too large, or, where none is, where the run of numbers of bins ended.
+-- The answer is that of the definition: the first box that is too large, or, where none is, where
+-- the run of numbers of bins ended.
 abbrev pub IsAnswer : PlainInstance → ℕ → Bool → Bins → Type 0
 IsAnswer instance budget scales (NoneFits v i) = IsFirstTooLarge instance v i
 IsAnswer instance budget scales (Least bins numbers tokens) =
@@ -36,7 +37,8 @@ pub record IsCertifiedLeast (instance : PlainInstance) (bins : ℕ) (numbers : L
   pub packed : AreBinNumbers instance bins numbers
   pub refuted : IsBinRefutation instance (bins - 1) tokens
 
--- so many bins as are refuted don't hold the boxes, nor do fewer, and the placed number does, with both certificates
+-- so many bins as are refuted don't hold the boxes, nor do fewer, and the placed number does, with
+-- both certificates
 pub record IsCertifiedBetween (instance : PlainInstance) (refuted : ℕ) (tokens : List PlainToken) (bins : ℕ) (numbers : List ℕ) : Type 0 where
   pub order : refuted < bins
   pub none_fits : (k : ℕ) → k ≤ refuted → ¬ FitsInBins instance k

@@ -30,7 +30,8 @@ pub record IsCertifiedGreatest (instance : PlainInstance) (value : ℕ) (numbers
   pub packed : AreTakenNumbers instance value numbers
   pub refuted : IsValueRefutation instance (suc value) tokens
 
--- no set of boxes that fits is worth as much as the refuted value or more, and one is worth the placed value, with both certificates
+-- no set of boxes that fits is worth as much as the refuted value or more, and one is worth the
+-- placed value, with both certificates
 pub record IsCertifiedBetween (instance : PlainInstance) (placed : ℕ) (numbers : List ℕ) (refuted : ℕ) (tokens : List PlainToken) : Type 0 where
   pub order : placed < refuted
   pub none_reaches : (t : ℕ) → refuted ≤ t → ¬ ReachesValue instance t

@@ -1,3 +1,3 @@
-pub mod Counts
+pub mod Alone
 pub mod BinAnswers
 pub mod Choices

@@ -1,3 +1,4 @@
+//! Tests of bin trees: what they give under a budget, and which of them are the same.
 use crate::BinTree;
 use crate::cases::{BLOCKS, BOARDS, Case, PLANKS, Wanted, instance_of, is_wanted};
 use std::alloc::Global;

@@ -1,11 +1,13 @@
-// What is answered for a value.
+//! What is answered for a value.
 use proof_tree::Token;
 
-/// What is answered for the greatest value of boxes that fit together. The numbers are, of each taken box by rising number, that number,
-/// counted from 0, and its coordinates, which are a packing of the taken boxes.
+/// What is answered for the greatest value of boxes that fit together. The numbers are, of each
+/// taken box by rising number, that number, counted from 0, and its coordinates, which are a
+/// packing of the taken boxes.
 ///
-/// `Greatest`: the greatest value, with such numbers, and tokens that refute one more. `Between`: a decision was past the budget; the
-/// greatest value is at least `placed`, which the numbers show, and lies below `refuted`, which the tokens refute.
+/// `Greatest`: the greatest value, with such numbers, and tokens that refute one more. `Between`: a
+/// decision was past the budget; the greatest value is at least `placed`, which the numbers show,
+/// and lies below `refuted`, which the tokens refute.
 #[derive(Drop)]
 pub enum Choice {
     Greatest {

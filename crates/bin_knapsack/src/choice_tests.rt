@@ -1,3 +1,4 @@
+//! Tests of choice trees: what they give under a budget, and which of them are the same.
 use crate::ChoiceTree;
 use crate::cases::{BLOCKS, BOARDS, Case, PLANKS, THREE, Wanted, instance_of, is_wanted};
 use std::alloc::Global;

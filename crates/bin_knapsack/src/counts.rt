@@ -1,4 +1,4 @@
-// The numbers of bins, each decided by its bin tree.
+//! The numbers of bins, each decided by its bin tree.
 ghost use Rattle.std.specs.Prelude.{◌≡◌, ◌≤◌, IfOk};
 ghost use Rattle.packing_terms.specs.Packing.{box_count};
 ghost use Rattle.packing_terms.specs.Scales.{SidesFit};
@@ -27,6 +27,7 @@ pub fn decide_bins<R: Threads + Wait + Sync, G: Gate + Sync>(
     ensures { IfOk result (λ r. plain_level r
         ≡ bin_answer instance.now settings.now.budget settings.now.scales bins) }
 {
+    // For the proof alone: tells the limits of the instance.
     let _limits = instance.len();
     let tree = BinTree::new(alloc, instance, bins, settings.scales)?;
     let outcome = solve_shared(rt, alloc, &tree, settings, gate)?;

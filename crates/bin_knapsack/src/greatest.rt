@@ -1,8 +1,8 @@
-// The greatest value.
+//! The greatest value.
 ghost use Rattle.std.specs.Prelude.{◌≡◌, ◌<◌, ◌≤◌, ◌+◌, ◌-◌, ◌*◌, ◌/◌, ◌^◌, suc, false, IfOk};
 ghost use Rattle.packing_terms.specs.Packing.{dims, box_count};
 ghost use Rattle.packing_terms.specs.Goals.{worth};
-ghost use Rattle.rule_terms.specs.Rounds.{below};
+ghost use Rattle.packing_terms.specs.Sums.{below};
 ghost use Rattle.tree_terms.specs.Levels.{first_values, value_run};
 ghost use Rattle.proof_tree.specs.Plain.{plain_tokens};
 ghost use Rattle.level_search.specs.Runs.{plain_reached};
@@ -32,7 +32,8 @@ fn whole_worth(instance: &Instance) -> u64
 
 // The refutation of a value above what all boxes are worth.
 fn value_short(alloc: Global, instance: &Instance) -> Result<Vec<Token>, NoMemory>
-    ensures { IfOk result (λ tokens. plain_tokens tokens.items ≡ (first_values instance.now).tokens) }
+    ensures { IfOk result (λ tokens. plain_tokens tokens.items
+        ≡ (first_values instance.now).tokens) }
 {
     let mut tokens = Vec::new(alloc);
     let Ok(()) = tokens.push(Token::ValueShort) else {
@@ -49,8 +50,10 @@ fn bisect_values<R: Threads + Wait + Sync, G: Gate + Sync>(
     settings: &Settings,
     gate: &G,
 ) -> Result<Reached, NoMemory>
-    ensures { IfOk result (λ r. plain_reached r ≡ value_run instance.now settings.now.budget settings.now.scales) }
+    ensures { IfOk result (λ r. plain_reached r
+        ≡ value_run instance.now settings.now.budget settings.now.scales) }
 {
+    // For the proof alone: tells the limits of the instance.
     let _limits = instance.len();
     let above = whole_worth(instance) + 1;
     let tokens = value_short(alloc, instance)?;
@@ -82,12 +85,13 @@ fn told(reached: Reached) -> Choice
     }
 }
 
-/// The greatest value of a set of boxes that fits, with both certificates: the taken boxes with coordinates that are a packing of them,
-/// and tokens that refute one more.
+/// The greatest value of a set of boxes that fits, with both certificates: the taken boxes with
+/// coordinates that are a packing of them, and tokens that refute one more.
 ///
-/// It follows the run of values from 0 and one more than all boxes are worth, each decided by its choice tree under the budget. `Between`
-/// comes exactly where a value on the run has a tree with more branchings than the budget; never where, with n boxes and m pairs of boxes
-/// in all dimensions, the budget is at least 3 to the m times 2^(n + 1) - 2.
+/// It follows the run of values from 0 and one more than all boxes are worth, each decided by its
+/// choice tree under the budget. `Between` comes exactly where a value on the run has a tree with
+/// more branchings than the budget; never where, with n boxes and m pairs of boxes in all
+/// dimensions, the budget is at least 3 to the m times 2^(n + 1) - 2.
 pub fn greatest_value<R: Threads + Wait + Sync, G: Gate + Sync>(
     rt: &R,
     alloc: Global,
@@ -95,12 +99,17 @@ pub fn greatest_value<R: Threads + Wait + Sync, G: Gate + Sync>(
     settings: &Settings,
     gate: &G,
 ) -> Result<Choice, NoMemory>
-    ensures answer { IfOk result (λ c. IsAnswer instance.now settings.now.budget settings.now.scales c) }
+    ensures answer { IfOk result
+        (λ c. IsAnswer instance.now settings.now.budget settings.now.scales c) }
     ensures right { IfOk result (λ c. IsTrueChoice instance.now c) }
-    ensures spent { IfOk result (λ c. IsSpentExactly instance.now settings.now.budget settings.now.scales c) }
-    ensures enough { 3 ^ (dims instance.now * box_count instance.now * (box_count instance.now - 1) / 2)
-        * (2 ^ (box_count instance.now + 1) - 2) ≤ settings.now.budget → IfOk result (λ c. IsFinal c) }
+    ensures spent { IfOk result
+        (λ c. IsSpentExactly instance.now settings.now.budget settings.now.scales c) }
+    ensures enough { 3 ^ (dims instance.now * box_count instance.now
+        * (box_count instance.now - 1) / 2)
+        * (2 ^ (box_count instance.now + 1) - 2) ≤ settings.now.budget
+        → IfOk result (λ c. IsFinal c) }
 {
+    // For the proof alone: tells the limits of the instance.
     let _limits = instance.len();
     let reached = bisect_values(rt, alloc, instance, settings, gate)?;
     Ok(told(reached))

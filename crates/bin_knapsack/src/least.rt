@@ -1,10 +1,11 @@
-// The least number of bins.
+//! The least number of bins.
 ghost use Rattle.std.specs.Prelude.{◌≡◌, ◌<◌, ◌≤◌, ◌+◌, ◌-◌, ◌*◌, ◌/◌, ◌^◌, suc, false, None, IfOk};
 ghost use Rattle.packing_terms.specs.Packing.{dims, box_count};
 ghost use Rattle.packing_terms.specs.Goals.{HasTooLargeBox};
 ghost use Rattle.packing_terms.specs.Limits.{most_boxes};
-ghost use Rattle.packing_terms.specs.Scales.{SidesFit, sum_below};
-ghost use Rattle.tree_terms.specs.ClassTree.{first_large};
+ghost use Rattle.packing_terms.specs.Scales.{SidesFit};
+ghost use Rattle.packing_terms.specs.Sums.{sum_below};
+ghost use Rattle.tree_terms.specs.ClassTree.{first_too_large_box};
 ghost use Rattle.tree_terms.specs.Levels.{first_bins, bin_run};
 ghost use Rattle.proof_tree.specs.Plain.{plain_tokens};
 ghost use Rattle.level_search.specs.Runs.{plain_reached};
@@ -26,8 +27,10 @@ use work_share::{Gate, Settings, Tree};
 // The refutation of no bins at all.
 fn no_bins(alloc: Global, instance: &Instance, scales: bool) -> Result<Vec<Token>, NoMemory>
     requires { SidesFit instance.now }
-    ensures { IfOk result (λ tokens. plain_tokens tokens.items ≡ (first_bins instance.now scales).tokens) }
+    ensures { IfOk result (λ tokens. plain_tokens tokens.items
+        ≡ (first_bins instance.now scales).tokens) }
 {
+    // For the proof alone: tells the limits of the instance.
     let _limits = instance.len();
     let tree = BinTree::new(alloc, instance, 0, scales)?;
     match tree.explore(alloc, &[], 0)? {
@@ -48,9 +51,11 @@ fn bisect_bins<R: Threads + Wait + Sync, G: Gate + Sync>(
     settings: &Settings,
     gate: &G,
 ) -> Result<Reached, NoMemory>
-    requires { first_large instance.now ≡ None }
-    ensures { IfOk result (λ r. plain_reached r ≡ bin_run instance.now settings.now.budget settings.now.scales) }
+    requires { first_too_large_box instance.now ≡ None }
+    ensures { IfOk result (λ r. plain_reached r
+        ≡ bin_run instance.now settings.now.budget settings.now.scales) }
 {
+    // For the proof alone: tells the limits of the instance.
     let _limits = instance.len();
     let numbers = spread_all(alloc, instance)?;
     let tokens = no_bins(alloc, instance, settings.scales)?;
@@ -84,13 +89,14 @@ fn told(reached: Reached) -> Bins
     }
 }
 
-/// The least number of bins in which the boxes fit, with both certificates: each box's bin and coordinates, such that the boxes of each
-/// bin are a packing, and tokens that refute one bin less.
+/// The least number of bins in which the boxes fit, with both certificates: each box's bin and
+/// coordinates, such that the boxes of each bin are a packing, and tokens that refute one bin less.
 ///
-/// It follows the run of numbers from 0 and a bin for each box, each decided by its bin tree under the budget. `NoneFits` comes exactly
-/// where a box is longer than the container, and names the first. `Between` comes exactly where a number on the run has a tree with more
-/// branchings than the budget; never where, with n boxes and m pairs of boxes in all dimensions, the budget is at least 3 to the m times
-/// (n - 1) + (n - 1)^2 + .. + (n - 1)^n.
+/// It follows the run of numbers from 0 and a bin for each box, each decided by its bin tree under
+/// the budget. `NoneFits` comes exactly where a box is longer than the container, and names the
+/// first. `Between` comes exactly where a number on the run has a tree with more branchings than
+/// the budget; never where, with n boxes and m pairs of boxes in all dimensions, the budget is at
+/// least 3 to the m times (n - 1) + (n - 1)^2 + .. + (n - 1)^n.
 pub fn least_bins<R: Threads + Wait + Sync, G: Gate + Sync>(
     rt: &R,
     alloc: Global,
@@ -98,13 +104,18 @@ pub fn least_bins<R: Threads + Wait + Sync, G: Gate + Sync>(
     settings: &Settings,
     gate: &G,
 ) -> Result<Bins, NoMemory>
-    ensures answer { IfOk result (λ b. IsAnswer instance.now settings.now.budget settings.now.scales b) }
+    ensures answer { IfOk result
+        (λ b. IsAnswer instance.now settings.now.budget settings.now.scales b) }
     ensures right { IfOk result (λ b. AreTrueBins instance.now b) }
-    ensures spent { IfOk result (λ b. IsSpentExactly instance.now settings.now.budget settings.now.scales b) }
-    ensures enough { 3 ^ (dims instance.now * box_count instance.now * (box_count instance.now - 1) / 2)
-        * sum_below (box_count instance.now) (λ j. (box_count instance.now - 1) ^ (j + 1)) ≤ settings.now.budget
+    ensures spent { IfOk result
+        (λ b. IsSpentExactly instance.now settings.now.budget settings.now.scales b) }
+    ensures enough { 3 ^ (dims instance.now * box_count instance.now
+        * (box_count instance.now - 1) / 2)
+        * sum_below (box_count instance.now) (λ j. (box_count instance.now - 1) ^ (j + 1))
+        ≤ settings.now.budget
         → IfOk result (λ b. IsFinal b) }
 {
+    // For the proof alone: tells the limits of the instance.
     let _limits = instance.len();
     match first_too_large(instance) {
         Some((box_no, dim)) => Ok(Bins::NoneFits { box_no, dim }),

@@ -1,4 +1,5 @@
-//! The least number of bins, and the greatest value of boxes that fit together; and the outer search trees that decide them.
+//! The least number of bins, and the greatest value of boxes that fit together; and the outer
+//! search trees that decide them.
 #![tactic(auto)]
 
 mod bins;

@@ -1,3 +1,4 @@
+//! Tests of nodes of both outer trees by their paths.
 use crate::cases::{PLANKS, THREE, Wanted, instance_of, is_wanted};
 use crate::{BinTree, ChoiceTree};
 use box_instances::NoMemory;

@@ -1,7 +1,7 @@
-// Each box alone in a bin.
+//! Each box alone in a bin.
 ghost use Rattle.std.specs.Prelude.{◌≡◌, ◌++◌, OnOk, IfOk};
 ghost use Rattle.tree_terms.specs.Levels.{spread_numbers};
-ghost use Rattle.bin_knapsack.specs.Counts.{alone};
+ghost use Rattle.bin_knapsack.specs.Alone.{alone};
 
 use box_instances::{Instance, NoMemory};
 use std::alloc::Global;

@@ -1,4 +1,4 @@
-// The values, each decided by its choice tree.
+//! The values, each decided by its choice tree.
 ghost use Rattle.std.specs.Prelude.{◌≡◌, IfOk};
 ghost use Rattle.tree_terms.specs.RunEnds.{value_answer};
 ghost use Rattle.level_search.specs.Runs.{plain_level};

@@ -7,15 +7,15 @@ use Rattle.packing_terms.specs.Goals.{subset, IsBoxSet}
 use Rattle.packing_terms.specs.Tokens.{PlainToken}
 use Rattle.packing_terms.specs.Tokens.PlainToken.{Assign, SetRefuted}
 use Rattle.packing_terms.specs.OuterRefutation.{Bins, with_box, placements}
+use Rattle.packing_terms.proofs.WithBoxes.{child_is}
 use Rattle.tree_terms.specs.Rank.{ranked}
 use Rattle.tree_terms.specs.Trees.{SearchTree, Verdict, Yes, No, Decided, Past, outcome, told, count_of}
 use Rattle.tree_terms.specs.OuterTrees.{set_verdict, with_answer, bin_child, bin_node}
 use Rattle.tree_terms.specs.Paths.{most_budget, Leaf, Splits, node_told}
 use Rattle.tree_terms.proofs.Told.{told_past}
-use Rattle.tree_terms.proofs.BinSearch.{child_is}
 use Rattle.set_search.proofs.Reaching.{next_box}
 use Rattle.set_search.proofs.Verdicts.{finished}
-use Rattle.bin_search.specs.Nodes.{IsPlaced}
+use Rattle.bin_search.specs.Nodes.{AreInBins}
 use Rattle.bin_search.specs.Trees.{PlainBinTree}
 use Rattle.bin_search.specs.Paths.{box_at, grown, answers_of, IsAbove, child_tree}
 use Rattle.bin_search.proofs.Placements.{few_children}
@@ -48,7 +48,7 @@ module _ (t : PlainBinTree) (limits : IsInternalInstance t.instance) (placed : �
   step_set = grown_set t.instance limits t.bins placed bins (answers_of t.instance t.scales bins) a.node a.there b
 
   pub step_used : b ≤ length bins
-  step_used = go (child_is t.bins bins (box_at t.instance placed) b near)
+  step_used = go (child_is t.bins bins [] (box_at t.instance placed) b near)
     where
       go : ((b < length bins) × (get_or (placements t.bins bins (box_at t.instance placed)) b [] ≡ with_box bins b (box_at t.instance placed)))
           ⊎ ((b ≡ length bins) × (length bins < t.bins) × (get_or (placements t.bins bins (box_at t.instance placed)) b [] ≡ bins ++ (box_at t.instance placed ∷ []) ∷ []))
@@ -85,7 +85,7 @@ module _ (t : PlainBinTree) (limits : IsInternalInstance t.instance) (placed : �
       (with_answer (answers_of t.instance t.scales bins) b ns) n) f ∙ ap below (sym e)
 
   pub step_placed : (ns : List ℕ) → IsPacking (subset t.instance (grown bins (box_at t.instance placed) b)) ns
-      → IsPlaced t.instance t.bins (placed + 1) (with_answer bins b (grown bins (box_at t.instance placed) b)) (with_answer (answers_of t.instance t.scales bins) b ns)
+      → AreInBins t.instance t.bins (placed + 1) (with_answer bins b (grown bins (box_at t.instance placed) b)) (with_answer (answers_of t.instance t.scales bins) b ns)
   step_placed ns pack = next_placed t.instance limits t.bins placed bins (answers_of t.instance t.scales bins) a.node a.there b near ns pack
 
   pub step_past_told : most_budget ≤ count_of set → Leaf ≡ node_told (child_tree t placed bins b)

@@ -2,11 +2,11 @@
 use Rattle.std.proofs.Common.{◌≡◌, ℕ, zero, suc, ◌+◌, ◌<◌, ◌≤◌, refl, sym, ap, ◌∙◌, arith, List, [], ◌∷◌, ◌++◌, length, get_or, slice_set, Vec, Global, append_assoc, ◌==◌}
 use Rattle.std.specs.List.{flat_map}
 use Rattle.std.proofs.lemmas.List.{get_or-map}
-use Rattle.rule_terms.specs.Rounds.{below}
+use Rattle.packing_terms.specs.Sums.{below}
 use Rattle.packing_terms.specs.OuterRefutation.{has_box}
+use Rattle.packing_terms.proofs.Ranges.{flat_map_last_below}
 use Rattle.tree_terms.specs.OuterTrees.{with_answer, index_where, coordinates_at}
 use Rattle.bin_search.specs.Lists.{lists_of}
-use Rattle.set_search.proofs.Ranges.{flat_map_last_below}
 
 pub replaced : (lists : List (Vec ℕ Global)) (at : ℕ) (list : Vec ℕ Global) → at < length lists → lists_of (slice_set lists at list) ≡ with_answer (lists_of lists) at list.items
 replaced [] at list l = absurd (omega (arith, l))
@@ -18,12 +18,6 @@ pushed [] zero list l = refl
 pushed [] (suc at) list l = refl
 pushed (x ∷ xs) zero list l = absurd (omega (arith, l))
 pushed (x ∷ xs) (suc at) list l = ap (λ (ys : List (List ℕ)). x.items ∷ ys) (pushed xs at list (omega (arith, l)))
-
--- a list that isn't there reads as none
-pub past_all : (lists : List (List ℕ)) (b : ℕ) → length lists ≤ b → get_or lists b [] ≡ []
-past_all [] b l = refl
-past_all (x ∷ xs) zero l = absurd (omega (arith, l))
-past_all (x ∷ xs) (suc b) l = past_all xs b (omega (arith, l))
 
 pub list_at : (lists : List (Vec ℕ Global)) (b : ℕ) (x : Vec ℕ Global) → b < length lists → x ≡ get_or lists b x → x.items ≡ get_or (lists_of lists) b []
 list_at lists b x l e = ap (λ (y : Vec ℕ Global). y.items) e ∙ sym (get_or-map (λ (y : Vec ℕ Global). y.items) lists b x [] l)

@@ -1,11 +1,12 @@
 -- The bins of a child: those of its node with the changed one.
-use Rattle.std.proofs.Common.{◌≡◌, ℕ, zero, suc, ◌+◌, ◌<◌, ◌≤◌, ◌⊎◌, inl, inr, refl, sym, ap, ◌∙◌, arith, Bool, true, false, ltb, if◌then◌else◌, ◌||◌, List, [], ◌∷◌, ◌++◌, length, get_or, map}
-use Rattle.std.specs.List.{range_with_len, list_any}
-use Rattle.std.proofs.lemmas.Bool.{true≢false, ltb-true}
+use Rattle.std.proofs.Common.{◌≡◌, ℕ, zero, suc, ◌+◌, ◌<◌, ◌≤◌, ◌⊎◌, inl, inr, refl, sym, ap, ◌∙◌, arith, Bool, true, false, ltb, if◌then◌else◌, [], ◌∷◌, ◌++◌, length, get_or, map}
+use Rattle.std.specs.List.{range_with_len}
+use Rattle.std.proofs.lemmas.Bool.{ltb-true}
 use Rattle.std.proofs.lemmas.List.{length-append}
-use Rattle.packing_terms.specs.OuterRefutation.{Bins, insert_box, has_box, with_box, placements}
+use Rattle.packing_terms.specs.OuterRefutation.{Bins, insert_box, with_box, placements}
+use Rattle.packing_terms.proofs.WithBoxes.{child_is}
 use Rattle.tree_terms.specs.OuterTrees.{with_answer}
-use Rattle.tree_terms.proofs.BinSearch.{child_is}
+use Rattle.tree_terms.proofs.BinSearch.{answer_own}
 use Rattle.bin_search.specs.Nodes.{child_count}
 use Rattle.std.proofs.lemmas.List.FromFn.{length-map-range_with_len}
 
@@ -20,7 +21,7 @@ new_bin (us ∷ bins) v = ap (λ (x : Bins). us ∷ x) (new_bin bins v)
 
 pub placed_at : (k : ℕ) (bins : Bins) (v b : ℕ) → b < length (placements k bins v)
     → get_or (placements k bins v) b [] ≡ with_answer bins b (insert_box v (get_or bins b []))
-placed_at k bins v b l = go (child_is k bins v b l)
+placed_at k bins v b l = go (child_is k bins [] v b l)
   where
     go : ((b < length bins) × (get_or (placements k bins v) b [] ≡ with_box bins b v))
         ⊎ ((b ≡ length bins) × (length bins < k) × (get_or (placements k bins v) b [] ≡ bins ++ (v ∷ []) ∷ []))
@@ -28,17 +29,11 @@ placed_at k bins v b l = go (child_is k bins v b l)
     go (inl (m, e)) = e ∙ with_box_at bins b v m
     go (inr (f, m, e)) = e ∙ (new_bin bins v ∙ ap (λ c. with_answer bins c (insert_box v (get_or bins c []))) (sym f))
 
-pub answer_own : (answers : List (List ℕ)) (b : ℕ) (ns : List ℕ) → b ≤ length answers → get_or (with_answer answers b ns) b [] ≡ ns
-answer_own [] zero ns l = refl
-answer_own [] (suc b) ns l = absurd (omega (arith, l))
-answer_own (a ∷ answers) zero ns l = refl
-answer_own (a ∷ answers) (suc b) ns l = answer_own answers b ns (omega (arith, l))
-
 -- the changed bin of a child
 pub changed_at : (k : ℕ) (bins : Bins) (v b : ℕ) → b < length (placements k bins v)
     → get_or (get_or (placements k bins v) b []) b [] ≡ insert_box v (get_or bins b [])
 changed_at k bins v b l =
-    ap (λ (x : Bins). get_or x b []) (placed_at k bins v b l) ∙ answer_own bins b (insert_box v (get_or bins b [])) (go (child_is k bins v b l))
+    ap (λ (x : Bins). get_or x b []) (placed_at k bins v b l) ∙ answer_own bins b (insert_box v (get_or bins b [])) (go (child_is k bins [] v b l))
   where
     go : ((b < length bins) × (get_or (placements k bins v) b [] ≡ with_box bins b v))
         ⊎ ((b ≡ length bins) × (length bins < k) × (get_or (placements k bins v) b [] ≡ bins ++ (v ∷ []) ∷ []))
@@ -56,17 +51,6 @@ placements_count k bins v =
     go : (t : Bool) → length bins + length (if t then (bins ++ (v ∷ []) ∷ []) ∷ [] else []) ≡ (if t then length bins + 1 else length bins)
     go true = refl
     go false = omega arith
-
--- a box that is in no bin isn't in any of them
-pub in_none : (bins : Bins) (v b : ℕ) → list_any (has_box v) bins ≡ false → has_box v (get_or bins b []) ≡ false
-in_none [] v b e = refl
-in_none (us ∷ bins) v b e = go (has_box v us) refl b e (λ c h. in_none bins v c h)
-  where
-    go : (t : Bool) → has_box v us ≡ t → (c : ℕ) → (t || list_any (has_box v) bins) ≡ false
-        → ((d : ℕ) → list_any (has_box v) bins ≡ false → has_box v (get_or bins d []) ≡ false) → has_box v (get_or (us ∷ bins) c []) ≡ false
-    go true f c h rest = absurd (true≢false h)
-    go false f zero h rest = f
-    go false f (suc c) h rest = rest c h
 
 -- no more children than bins
 pub few_children : (k : ℕ) (bins : Bins) (v : ℕ) → length bins ≤ k → length (placements k bins v) ≤ k

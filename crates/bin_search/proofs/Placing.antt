@@ -1,28 +1,31 @@
 -- Nodes of a bin tree, and their children.
 use Rattle.std.proofs.Common.{◌≡◌, ℕ, zero, suc, ◌+◌, ◌*◌, ◌<◌, ◌≤◌, ◌⊎◌, inl, inr, refl, sym, ap, subst, ◌∙◌, arith, Bool, true, false, eqb, List, [], ◌∷◌, length, get_or, drop}
 use Rattle.std.specs.List.{list_any, AllByRecursion}
-use Rattle.std.proofs.lemmas.Bool.{true≢false, cases_eq, eq-eqb, eqb-true}
+use Rattle.std.proofs.lemmas.Bool.{true≢false, cases_eq}
 use Rattle.std.proofs.lemmas.Nat.{mul-le}
+use Rattle.std.proofs.lemmas.List.{drop_all}
 use Rattle.packing_terms.specs.Packing.{PlainInstance, IsPacking, dims, box_count}
 use Rattle.packing_terms.specs.Rules.{AreBoxes}
 use Rattle.packing_terms.specs.Limits.{IsInternalInstance}
 use Rattle.packing_terms.specs.Goals.{subset, IsBoxSet}
 use Rattle.packing_terms.specs.OuterRefutation.{Bins, has_box, placements}
-use Rattle.class_search.proofs.Lists.{drop_all}
 use Rattle.packing_terms.proofs.Internal.{internal_sides, some_dimension}
-use Rattle.packing_terms.proofs.Members.{IsIn, any_from, any_at}
-use Rattle.packing_terms.proofs.Boxes.{not_found, each_from, insert_boxes}
+use Rattle.packing_terms.proofs.Members.{IsIn}
+use Rattle.packing_terms.proofs.Boxes.{not_found, each_from, insert_boxes, found}
+use Rattle.packing_terms.proofs.OuterViews.{has_at}
+use Rattle.packing_terms.proofs.WithBoxes.{in_none}
 use Rattle.tree_terms.specs.Rank.{ranked}
 use Rattle.tree_terms.specs.OuterTrees.{with_answer, index_where}
 use Rattle.tree_terms.proofs.RankLemmas.{ranked_are_boxes, in_ranked}
 use Rattle.tree_terms.proofs.BinNumbers.{index_found}
 use Rattle.tree_terms.proofs.BinSearch.{Holds, IsNext, next_is, next_holds}
-use Rattle.set_search.specs.Rising.{AreRising}
+use Rattle.tree_terms.specs.Rising.{AreRising}
+use Rattle.tree_terms.proofs.ChoiceSearch.{insert_rising}
 use Rattle.set_search.proofs.Reaching.{next_box}
-use Rattle.set_search.proofs.Sets.{insert_rising, box_set, places_count}
-use Rattle.bin_search.specs.Nodes.{IsPlaced}
+use Rattle.set_search.proofs.Sets.{box_set, places_count}
+use Rattle.bin_search.specs.Nodes.{AreInBins}
 use Rattle.bin_search.specs.Paths.{HasAnswers, grown}
-use Rattle.bin_search.proofs.Placements.{placed_at, changed_at, in_none}
+use Rattle.bin_search.proofs.Placements.{placed_at, changed_at}
 
 rising_all : (bins : Bins) → ((b : ℕ) → b < length bins → AreRising (get_or bins b [])) → (b : ℕ) → AreRising (get_or bins b [])
 rising_all [] h b = tt
@@ -34,18 +37,12 @@ boxes_all instance [] h b = tt
 boxes_all instance (us ∷ bins) h zero = h 0 (omega arith)
 boxes_all instance (us ∷ bins) h (suc b) = boxes_all instance bins (λ c l. h (suc c) (omega (arith, l))) b
 
-has_in : (v : ℕ) (us : List ℕ) → has_box v us ≡ true → IsIn v us
-has_in v us e = let p = any_from (λ u. eqb u v) us e in subst (λ (u : ℕ). IsIn u us) (eqb-true p.item v p.passes) p.is_in
-
-in_has : (v : ℕ) (us : List ℕ) → IsIn v us → has_box v us ≡ true
-in_has v us i = any_at (λ u. eqb u v) v us i (eq-eqb v v refl)
-
 module _ (instance : PlainInstance) (limits : IsInternalInstance instance) (k : ℕ) where
   -- a node, as the search of a bin tree knows it
   abbrev pub Held : Bool → List ℕ → Bins → List (List ℕ) → Type 0
   Held scales rest bins answers = Holds instance (internal_sides instance limits) (some_dimension instance limits) scales k rest bins answers
 
-  pub held : (scales : Bool) (placed : ℕ) (bins : Bins) (answers : List (List ℕ)) → IsPlaced instance k placed bins answers
+  pub held : (scales : Bool) (placed : ℕ) (bins : Bins) (answers : List (List ℕ)) → AreInBins instance k placed bins answers
       → Held scales (drop placed (ranked instance)) bins answers
   held scales placed bins answers h = record {
     boxes = h.rest;
@@ -59,12 +56,12 @@ module _ (instance : PlainInstance) (limits : IsInternalInstance instance) (k : 
     where
       go : (v : ℕ) → (has_box v (drop placed (ranked instance)) ≡ true) ⊎ (list_any (has_box v) bins ≡ true)
           → IsIn v (drop placed (ranked instance)) ⊎ (list_any (has_box v) bins ≡ true)
-      go v (inl e) = inl (has_in v (drop placed (ranked instance)) e)
+      go v (inl e) = inl (found v (drop placed (ranked instance)) e)
       go v (inr e) = inr e
 
   placed_from : (scales : Bool) (placed : ℕ) (bins : Bins) (answers : List (List ℕ)) → placed ≤ length (ranked instance)
       → Held scales (drop placed (ranked instance)) bins answers → ((b : ℕ) → b < length bins → AreRising (get_or bins b []))
-      → IsPlaced instance k placed bins answers
+      → AreInBins instance k placed bins answers
   placed_from scales placed bins answers l h r = record {
     there = l;
     rest = h.boxes;
@@ -79,15 +76,15 @@ module _ (instance : PlainInstance) (limits : IsInternalInstance instance) (k : 
     where
       go : (v : ℕ) → IsIn v (drop placed (ranked instance)) ⊎ (list_any (has_box v) bins ≡ true)
           → (has_box v (drop placed (ranked instance)) ≡ true) ⊎ (list_any (has_box v) bins ≡ true)
-      go v (inl i) = inl (in_has v (drop placed (ranked instance)) i)
+      go v (inl i) = inl (has_at v (drop placed (ranked instance)) i)
       go v (inr e) = inr e
 
-  pub nothing_placed : IsPlaced instance k 0 [] []
+  pub nothing_placed : AreInBins instance k 0 [] []
   nothing_placed = record {
     there = omega arith;
     rest = ranked_are_boxes instance;
     unplaced = each_from (λ v. false ≡ false) (ranked instance) (λ v i. refl);
-    covered = (λ v l. inl (in_has v (ranked instance) (in_ranked instance v l)));
+    covered = (λ v l. inl (has_at v (ranked instance) (in_ranked instance v l)));
     few = omega arith;
     lengths = refl;
     sets = (λ b l. absurd (omega (arith, l)));
@@ -95,7 +92,7 @@ module _ (instance : PlainInstance) (limits : IsInternalInstance instance) (k : 
     packs = (λ b l. absurd (omega (arith, l)));
   }
 
-  module _ (placed : ℕ) (bins : Bins) (answers : List (List ℕ)) (h : IsPlaced instance k placed bins answers) (there : placed < length (ranked instance)) where
+  module _ (placed : ℕ) (bins : Bins) (answers : List (List ℕ)) (h : AreInBins instance k placed bins answers) (there : placed < length (ranked instance)) where
     abbrev box : ℕ
     box = get_or (ranked instance) placed 0
 
@@ -138,17 +135,17 @@ module _ (instance : PlainInstance) (limits : IsInternalInstance instance) (k : 
           go (inr ne) = let o = next.others c l ne in subst (λ us. AreRising us) (sym o.1) (h.rising c o.0)
 
       -- the child, once its changed bin has an answer
-      pub next_placed : IsPlaced instance k (placed + 1) (with_answer bins b (grown bins box b)) (with_answer answers b ns)
-      next_placed = subst (λ (x : Bins). IsPlaced instance k (placed + 1) x (with_answer answers b ns)) (placed_at k bins box b m)
+      pub next_placed : AreInBins instance k (placed + 1) (with_answer bins b (grown bins box b)) (with_answer answers b ns)
+      next_placed = subst (λ (x : Bins). AreInBins instance k (placed + 1) x (with_answer answers b ns)) (placed_at k bins box b m)
           (placed_from false (placed + 1) (get_or (placements k bins box) b []) (with_answer answers b ns) (omega (arith, there)) entered next_rising)
 
   -- where no box is left, each is found in its bin and its answer
-  pub has_answers : (placed : ℕ) (bins : Bins) (answers : List (List ℕ)) → k ≤ 128 → IsPlaced instance k placed bins answers
+  pub has_answers : (placed : ℕ) (bins : Bins) (answers : List (List ℕ)) → k ≤ 128 → AreInBins instance k placed bins answers
       → length (ranked instance) ≤ placed → HasAnswers instance bins answers
   has_answers placed bins answers few h over v l b at = rw at (here (h.covered v l))
     where
       none : has_box v (drop placed (ranked instance)) ≡ true → ⊥
-      none e = true≢false (sym e ∙ ap (λ us. has_box v us) (drop_all (ranked instance) placed over))
+      none e = true≢false (sym e ∙ ap (λ us. has_box v us) (drop_all placed (ranked instance) over))
 
       here : (has_box v (drop placed (ranked instance)) ≡ true) ⊎ (list_any (has_box v) bins ≡ true)
           → (index_where (has_box v) bins < length bins) × (index_where (has_box v) bins < length answers) × (length bins ≤ 128)

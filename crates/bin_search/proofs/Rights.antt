@@ -3,13 +3,13 @@ use Rattle.std.proofs.Common.{◌≡◌, ℕ, ◌+◌, ◌-◌, ◌*◌, ◌/◌
 use Rattle.std.proofs.lemmas.Bool.{true≢false}
 use Rattle.packing_terms.specs.Packing.{dims, box_count}
 use Rattle.packing_terms.specs.Limits.{IsInternalInstance}
-use Rattle.packing_terms.specs.Scales.{sum_below}
+use Rattle.packing_terms.specs.Sums.{sum_below}
 use Rattle.packing_terms.specs.Goals.{FitsInBins}
 use Rattle.packing_terms.specs.OuterRefutation.{Bins}
 use Rattle.packing_terms.proofs.Internal.{internal_sides, some_dimension}
 use Rattle.scale_terms.proofs.Excess.{excess_law}
 use Rattle.tree_terms.specs.Trees.{SearchTree, node_at, PlainOutcome, Decided, Past, Verdict, Yes, No, outcome, count_of, told}
-use Rattle.tree_terms.specs.Search.{IsYes}
+use Rattle.tree_terms.specs.Search.{IsYesVerdict}
 use Rattle.tree_terms.specs.OuterSearch.{IsBinRight}
 use Rattle.tree_terms.specs.Paths.{bins_at}
 use Rattle.tree_terms.proofs.OuterDecisions.{bin_tree_search, decides_bins}
@@ -17,7 +17,7 @@ use Rattle.tree_terms.proofs.OuterOutcomes.{bins_right}
 use Rattle.tree_terms.proofs.PathNodes.{bin_search_at}
 use Rattle.tree_terms.proofs.OuterCounts.{bin_count}
 use Rattle.tree_terms.proofs.Told.{told_decided}
-use Rattle.class_search.specs.Right.{IsDecided}
+use Rattle.class_search.specs.Right.{IsYesOrNo}
 use Rattle.bin_search.specs.Trees.{PlainBinTree, shape}
 use Rattle.bin_search.specs.Rights.{IsRight, Decides}
 
@@ -28,7 +28,7 @@ told_right t bins budget v h = go (nat_lt budget (count_of v))
     go true = tt
     go false = h
 
-verdict_decides : (t : PlainBinTree) (v : Verdict) → (FitsInBins t.instance t.bins → IsYes v) → (IsYes v → FitsInBins t.instance t.bins) → Decides t (Decided v)
+verdict_decides : (t : PlainBinTree) (v : Verdict) → (FitsInBins t.instance t.bins → IsYesVerdict v) → (IsYesVerdict v → FitsInBins t.instance t.bins) → Decides t (Decided v)
 verdict_decides t (Yes numbers count) f g = g tt
 verdict_decides t (No tokens count) f g = f
 
@@ -59,7 +59,7 @@ module _ (t : PlainBinTree) (limits : IsInternalInstance t.instance) where
   decides_at (k ∷ path) cap r f p = absurd (cc (p))
 
   pub told_at : (path : List ℕ) (cap : ℕ) (r : PlainOutcome) → IfSome (node_at (Some (shape t)) path) (λ x. r ≡ told cap (outcome x)) → path ≡ []
-      → 3 ^ (dims t.instance * box_count t.instance * (box_count t.instance - 1) / 2) * sum_below (box_count t.instance) (λ j. t.bins ^ (j + 1)) ≤ cap → IsDecided r
+      → 3 ^ (dims t.instance * box_count t.instance * (box_count t.instance - 1) / 2) * sum_below (box_count t.instance) (λ j. t.bins ^ (j + 1)) ≤ cap → IsYesOrNo r
   told_at [] cap r f p l =
       let c = bin_count t.instance (internal_sides t.instance limits) (some_dimension t.instance limits) t.scales t.bins in
       rw (f, told_decided cap (outcome (shape t)) (omega (arith, c, l))) tt

@@ -6,15 +6,15 @@ use Rattle.packing_terms.specs.Tokens.{PlainToken}
 use Rattle.packing_terms.specs.Tokens.PlainToken.{Assign, SetRefuted}
 use Rattle.packing_terms.specs.OuterRefutation.{Bins, placements}
 use Rattle.tree_terms.specs.Rank.{ranked}
-use Rattle.tree_terms.specs.Trees.{SearchTree, Verdict, Yes, No, nothing, join, join_from, outcome, count_of}
+use Rattle.tree_terms.specs.Trees.{SearchTree, Verdict, Yes, No, no_tokens, join, join_from, outcome, count_of}
 use Rattle.tree_terms.specs.OuterTrees.{set_verdict, with_answer, bin_numbers, bin_child, bin_node}
-use Rattle.tree_terms.proofs.Joins.{join_assoc, join_nothing, nothing_join, join_next, count_join_no}
+use Rattle.tree_terms.proofs.Joins.{join_assoc, join_nothing, nothing_join, join_next, count_join_no, count_left}
 use Rattle.set_search.specs.Children.{IsRefuted}
 use Rattle.set_search.proofs.Reaching.{next_box}
-use Rattle.set_search.proofs.Verdicts.{advance, advance_leaf, count_left}
+use Rattle.set_search.proofs.Verdicts.{advance, advance_leaf}
 use Rattle.bin_search.specs.declared.node.Placed.{Placed}
 use Rattle.bin_search.specs.Lists.{lists_of}
-use Rattle.bin_search.specs.Nodes.{IsPlaced, box_of, grown_bin, IsEntered}
+use Rattle.bin_search.specs.Nodes.{AreInBins, box_of, grown_bin, IsEntered}
 use Rattle.bin_search.specs.Trees.{PlainBinTree}
 use Rattle.bin_search.specs.Walks.{later_boxes, next_bins, child_of, width, rest_verdict, waiting_verdict, IsSplit, IsLeft}
 use Rattle.bin_search.proofs.Placements.{placed_at, changed_at}
@@ -58,7 +58,7 @@ module _ (t : PlainBinTree) where
           ∙ ap (λ n. join_from 0 n (λ b. outcome (child_of t d b))) (let z : width t d - 0 ≡ width t d = omega arith in z)
 
   -- the start
-  pub starts : (d : Placed) (own : ℕ) → d.placed < length (ranked t.instance) → d.visited ≡ 0 → IsPlaced t.instance t.bins d.placed (lists_of d.bins.items) (lists_of d.answers.items)
+  pub starts : (d : Placed) (own : ℕ) → d.placed < length (ranked t.instance) → d.visited ≡ 0 → AreInBins t.instance t.bins d.placed (lists_of d.bins.items) (lists_of d.answers.items)
       → IsLeft t (outcome (bin_node t.instance t.scales t.bins (drop d.placed (ranked t.instance)) (lists_of d.bins.items) (lists_of d.answers.items) own))
       (Assign (suc (box_of t.instance d)) ∷ []) own d []
   starts d own there none h = record {
@@ -70,13 +70,13 @@ module _ (t : PlainBinTree) where
   module _ (whole : Verdict) (tokens : List PlainToken) (count : ℕ) (c : Placed) where
     -- all children are visited
     module _ (all : c.visited ≡ width t c) where
-      none_left : rest_verdict t c ≡ nothing
+      none_left : rest_verdict t c ≡ no_tokens
       none_left =
           let e : width t c - c.visited ≡ 0 = omega (arith, all) in
           ap (λ n. join_from c.visited n (λ b. outcome (child_of t c b))) e
 
       pub pop_last : IsLeft t whole tokens count c [] → No tokens count ≡ whole
-      pop_last h = sym (join_nothing (No tokens count)) ∙ (ap (λ x. join (No tokens count) x) (sym (ap (λ x. join x nothing) none_left)) ∙ h.joined)
+      pop_last h = sym (join_nothing (No tokens count)) ∙ (ap (λ x. join (No tokens count) x) (sym (ap (λ x. join x no_tokens) none_left)) ∙ h.joined)
 
       pub pop_next : (w : Placed) (ws : List Placed) → IsLeft t whole tokens count c (w ∷ ws) → IsLeft t whole tokens count w ws
       pop_next w ws h = record {
@@ -145,7 +145,7 @@ module _ (t : PlainBinTree) where
             (join (rest_verdict t (visited_next c)) (waiting_verdict t ws))) ≡ whole
         entered = ap (λ x. join (No tokens count) (join (outcome x) (join (rest_verdict t (visited_next c)) (waiting_verdict t ws)))) (sym child_node) ∙ child_joined
 
-        pub entered_placed : IsInternalInstance t.instance → IsPlaced t.instance t.bins d.placed (lists_of d.bins.items) (lists_of d.answers.items)
+        pub entered_placed : IsInternalInstance t.instance → AreInBins t.instance t.bins d.placed (lists_of d.bins.items) (lists_of d.answers.items)
         entered_placed limits =
             rw (i.placed, i.bins, i.answers) (next_placed t.instance limits t.bins c.placed (lists_of c.bins.items) (lists_of c.answers.items) h.node.node h.node.there c.visited more
             i.numbers i.packing)

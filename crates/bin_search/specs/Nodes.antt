@@ -9,7 +9,7 @@ use Rattle.tree_terms.specs.Rank.{ranked}
 use Rattle.tree_terms.specs.Trees.{Yes, count_of}
 use Rattle.tree_terms.specs.OuterTrees.{set_verdict, with_answer}
 use Rattle.proof_tree.specs.Plain.{plain_token}
-use Rattle.set_search.specs.Rising.{AreRising}
+use Rattle.tree_terms.specs.Rising.{AreRising}
 use Rattle.set_search.specs.Children.{IsRefuted}
 use Rattle.bin_search.specs.declared.node.Placed.{Placed}
 use Rattle.bin_search.specs.declared.node.Opened.{Opened}
@@ -20,8 +20,9 @@ use Rattle.bin_search.specs.Lists.{lists_of}
 abbrev pub child_count : ℕ → List (List ℕ) → ℕ
 child_count k bins = if nat_lt (length bins) k then length bins + 1 else length bins
 
--- so many boxes by rank have bins, at most k of them: each other box is left, the boxes of each bin rise, and its answer is a packing of them
-pub record IsPlaced (instance : PlainInstance) (k placed : ℕ) (bins : Bins) (answers : List (List ℕ)) : Type 0 where
+-- so many boxes by rank have bins, at most k of them: each other box is left, the boxes of each bin
+-- rise, and its answer is a packing of them
+pub record AreInBins (instance : PlainInstance) (k placed : ℕ) (bins : Bins) (answers : List (List ℕ)) : Type 0 where
   pub there : placed ≤ length (ranked instance)
   pub rest : AreBoxes instance (drop placed (ranked instance))
   pub unplaced : AllByRecursion (λ v. list_any (has_box v) bins ≡ false) (drop placed (ranked instance))

@@ -4,9 +4,9 @@ use Rattle.packing_terms.specs.Packing.{PlainInstance, dims, box_count}
 use Rattle.packing_terms.specs.OuterRefutation.{Bins, insert_box, has_box, placements}
 use Rattle.tree_terms.specs.Rank.{ranked}
 use Rattle.tree_terms.specs.Trees.{SearchTree}
-use Rattle.tree_terms.specs.OuterTrees.{set_verdict, numbers_of, index_where, with_answer, bin_child, bin_node}
+use Rattle.tree_terms.specs.OuterTrees.{set_verdict, yes_numbers, index_where, with_answer, bin_child, bin_node}
 use Rattle.set_search.specs.Children.{IsFoundSet}
-use Rattle.bin_search.specs.Nodes.{IsPlaced}
+use Rattle.bin_search.specs.Nodes.{AreInBins}
 use Rattle.bin_search.specs.Trees.{PlainBinTree}
 
 -- each box is in one of the bins, and the answer of that bin has its coordinates
@@ -31,7 +31,7 @@ bins_along bins (v ∷ vs) (b ∷ path) = bins_along (with_answer bins b (grown 
 
 -- the answers of the class trees of some sets
 abbrev pub answers_of : PlainInstance → Bool → Bins → List (List ℕ)
-answers_of instance scales sets = map (λ set. numbers_of (set_verdict instance scales set)) sets
+answers_of instance scales sets = map (λ set. yes_numbers (set_verdict instance scales set)) sets
 
 -- each of the sets is found to fit within the greatest budget
 abbrev pub AreFound : PlainInstance → Bool → Bins → Type 0
@@ -40,7 +40,7 @@ AreFound instance scales sets = (b : ℕ) → b < length sets → IsFoundSet ins
 -- a node with a box left, as the splits above a path's end are
 pub record IsAbove (t : PlainBinTree) (placed : ℕ) (bins : Bins) : Type 0 where
   pub there : placed < length (ranked t.instance)
-  pub node : IsPlaced t.instance t.bins placed bins (answers_of t.instance t.scales bins)
+  pub node : AreInBins t.instance t.bins placed bins (answers_of t.instance t.scales bins)
   pub found : AreFound t.instance t.scales bins
 
 -- a child of such a node
@@ -51,12 +51,13 @@ child_tree t placed bins b =
     (with_answer (answers_of t.instance t.scales bins) b numbers) count)
 
 -- the node at the end of a path is this child of a node with a box left
-pub record IsStep (t : PlainBinTree) (placed : ℕ) (bins : Bins) (b : ℕ) (node : Option SearchTree) : Type 0 where
+pub record IsChildStep (t : PlainBinTree) (placed : ℕ) (bins : Bins) (b : ℕ) (node : Option SearchTree) : Type 0 where
   pub above : IsAbove t placed bins
   pub near : b < length (placements t.bins bins (box_at t.instance placed))
   pub is : node ≡ Some (child_tree t placed bins b)
 
--- the last step of a path: the place of its box by rank, the bins before it, and the number of the child
+-- the last step of a path: the position of its box by rank, the bins before it, and the number of
+-- the child
 pub record IsLastStep (order path : List ℕ) (placed : ℕ) (bins : Bins) (b : ℕ) : Type 0 where
   pub place : placed ≡ length path - 1
   pub before : bins ≡ bins_along [] order (take (length path - 1) path)

@@ -1,12 +1,12 @@
 -- The bin tree as its callers see it.
-use Rattle.std.specs.Prelude.{ℕ, ◌≤◌, ◌≡◌, refl, List, [], Option, Some, Bool}
+use Rattle.std.specs.Prelude.{ℕ, ◌≤◌, ◌≡◌, refl, List, Option, Some, Bool}
 use Rattle.packing_terms.specs.declared.ScaleFn.{ScaleFn}
 use Rattle.packing_terms.specs.Packing.{PlainInstance, box_count}
 use Rattle.packing_terms.specs.Scales.{SidesFit}
 use Rattle.packing_terms.specs.Tokens.PlainToken.{GlobalScales}
 use Rattle.tree_terms.specs.Rank.{ranked}
 use Rattle.tree_terms.specs.Trees.{SearchTree}
-use Rattle.tree_terms.specs.OuterTrees.{bin_node, bin_tree}
+use Rattle.tree_terms.specs.OuterTrees.{bin_tree}
 use Rattle.proof_tree.specs.declared.token.Token.{Token}
 use Rattle.proof_tree.specs.Plain.{plain_token}
 
@@ -19,10 +19,6 @@ pub record PlainBinTree : Type 0 where
 -- the tree of the definition
 abbrev pub shape : PlainBinTree → SearchTree
 shape t = bin_tree t.instance t.bins t.scales
-
--- the tree where the scales don't refute its root
-abbrev pub inner_shape : PlainBinTree → SearchTree
-inner_shape t = bin_node t.instance t.scales t.bins (ranked t.instance) [] [] 0
 
 -- the same parts give the same tree
 pub same_trees : (t u : PlainBinTree) → t ≡ u → shape t ≡ shape u

@@ -3,11 +3,11 @@ use Rattle.std.specs.Prelude.{ℕ, ◌+◌, ◌-◌, ◌<◌, ◌≤◌, ◌≡�
 use Rattle.packing_terms.specs.Tokens.{PlainToken}
 use Rattle.packing_terms.specs.OuterRefutation.{Bins, placements}
 use Rattle.tree_terms.specs.Rank.{ranked}
-use Rattle.tree_terms.specs.Trees.{SearchTree, Verdict, No, nothing, join, join_from, outcome}
+use Rattle.tree_terms.specs.Trees.{SearchTree, Verdict, No, no_tokens, join, join_from, outcome}
 use Rattle.tree_terms.specs.OuterTrees.{set_verdict, with_answer, bin_child, bin_node}
 use Rattle.bin_search.specs.declared.node.Placed.{Placed}
 use Rattle.bin_search.specs.Lists.{lists_of}
-use Rattle.bin_search.specs.Nodes.{IsPlaced, box_of}
+use Rattle.bin_search.specs.Nodes.{AreInBins, box_of}
 use Rattle.bin_search.specs.Trees.{PlainBinTree}
 
 -- the boxes that come after the one that a node gives a bin
@@ -33,21 +33,22 @@ rest_verdict t c = join_from c.visited (width t c - c.visited) (λ b. outcome (c
 
 -- what the nodes above still give, the nearest first
 abbrev pub waiting_verdict : PlainBinTree → List Placed → Verdict
-waiting_verdict t [] = nothing
+waiting_verdict t [] = no_tokens
 waiting_verdict t (c ∷ cs) = join (rest_verdict t c) (waiting_verdict t cs)
 
 -- a node with a box left, some of whose children have been visited
 pub record IsSplit (t : PlainBinTree) (c : Placed) : Type 0 where
   pub there : c.placed < length (ranked t.instance)
-  pub node : IsPlaced t.instance t.bins c.placed (lists_of c.bins.items) (lists_of c.answers.items)
+  pub node : AreInBins t.instance t.bins c.placed (lists_of c.bins.items) (lists_of c.answers.items)
   pub visited : c.visited ≤ width t c
 
 abbrev pub AreSplit : PlainBinTree → List Placed → Type 0
 AreSplit t [] = Unit {0}
 AreSplit t (c ∷ cs) = IsSplit t c × AreSplit t cs
 
--- What a walk has still to give: the tokens and the count so far, joined with the children of the node in hand that haven't been visited, and with
--- those of the nodes above, are what the whole tree gives.
+-- What a walk has still to give: the tokens and the count so far, joined with the children of the
+-- node in hand that haven't been visited, and with those of the nodes above, are what the whole
+-- tree gives.
 pub record IsLeft (t : PlainBinTree) (whole : Verdict) (tokens : List PlainToken) (count : ℕ) (c : Placed) (waiting : List Placed) : Type 0 where
   pub joined : join (No tokens count) (join (rest_verdict t c) (waiting_verdict t waiting)) ≡ whole
   pub node : IsSplit t c

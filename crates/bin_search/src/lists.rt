@@ -1,4 +1,4 @@
-// Lists of lists of numbers.
+//! Lists of lists of numbers.
 ghost use Rattle.std.specs.Prelude.{◌≡◌, IfOk, OnOk};
 ghost use Rattle.tree_terms.specs.OuterTrees.{with_answer};
 ghost use Rattle.bin_search.specs.Lists.{lists_of};

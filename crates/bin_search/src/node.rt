@@ -1,4 +1,4 @@
-// The nodes of a bin tree.
+//! The nodes of a bin tree.
 ghost use Rattle.std.specs.Prelude.{◌≡◌, ◌≤◌, ◌<◌, [], length, slice_index_or, IfOk};
 ghost use Rattle.packing_terms.specs.Goals.{IsBoxSet};
 ghost use Rattle.packing_terms.specs.OuterRefutation.{insert_box};
@@ -55,7 +55,8 @@ pub fn grow_bin(
     v: u32,
     left: u64,
 ) -> Result<Child, NoMemory>
-    requires { IsBoxSet search.old.instance (insert_box v (slice_index_or (lists_of bins.now) b [])) }
+    requires { IsBoxSet search.old.instance
+        (insert_box v (slice_index_or (lists_of bins.now) b [])) }
     ensures same { search.new ≡ search.old }
     ensures child { IfOk result (λ child. IsChild search.old.instance search.old.scales left
         (insert_box v (slice_index_or (lists_of bins.now) b [])) child) }

@@ -1,4 +1,4 @@
-// The numbers of an answer.
+//! The numbers of an answer.
 ghost use Rattle.std.specs.Prelude.{◌≡◌, ◌+◌, ◌==◌, IfOk};
 ghost use Rattle.packing_terms.specs.OuterRefutation.{has_box};
 ghost use Rattle.tree_terms.specs.OuterTrees.{index_where, bin_numbers};

@@ -1,4 +1,4 @@
-// Nodes by their paths.
+//! Nodes by their paths.
 ghost use Rattle.std.specs.Prelude.{◌≡◌, ◌≤◌, ◌<◌, ◌++◌, [], ℕ, Bool, List, length, drop, slice_index_or, IfOk, OnOk};
 ghost use Rattle.packing_terms.specs.Packing.{box_count};
 ghost use Rattle.packing_terms.specs.Limits.{IsInternalInstance};
@@ -10,7 +10,7 @@ ghost use Rattle.tree_terms.specs.Paths.{node_told, most_budget};
 ghost use Rattle.proof_tree.specs.Plain.{plain_outcome};
 ghost use Rattle.work_share.specs.Nodes.{plain_node};
 ghost use Rattle.bin_search.specs.Lists.{lists_of};
-ghost use Rattle.bin_search.specs.Nodes.{IsPlaced};
+ghost use Rattle.bin_search.specs.Nodes.{AreInBins};
 ghost use Rattle.bin_search.specs.Paths.{grown, bins_along, answers_of, AreFound, IsAbove, IsLastStep, child_tree};
 
 use crate::lists::put_list;
@@ -134,7 +134,7 @@ pub fn enter(
     requires search { search.old.instance ≡ instance.now }
     requires order { order.now ≡ ranked instance.now }
     requires few { most ≤ box_count instance.now }
-    requires node { IsPlaced instance.now most node.placed (lists_of node.bins.items)
+    requires node { AreInBins instance.now most node.placed (lists_of node.bins.items)
         (lists_of node.answers.items) }
     requires fresh { node.visited ≡ 0 }
     requires within { own ≤ cap }
@@ -217,6 +217,7 @@ pub fn tell(
         (bin_node instance.now scales most (drop placed (ranked instance.now))
         (lists_of bins.now) answers own) }
 {
+    // For the proof alone: tells the limits of the instance.
     let _limits = instance.len();
     if placed == order.len() {
         return Node::Leaf;

@@ -1,4 +1,4 @@
-// What the root of a bin tree alone is tested for.
+//! What the root of a bin tree alone is tested for.
 ghost use Rattle.std.specs.Prelude.{◌≡◌, ◌≤◌, None, MatchOption};
 ghost use Rattle.packing_terms.specs.Scales.{SidesFit};
 ghost use Rattle.packing_terms.specs.Packing.{box_count};
@@ -18,6 +18,7 @@ pub fn scales_token(alloc: Global, instance: &Instance, bins: u32, scales: bool)
     ensures { MatchOption result (first_exceeding instance.now bins scales ≡ None)
         (λ token. IsExcess (first_exceeding instance.now bins scales) token) }
 {
+    // For the proof alone: tells the limits of the instance.
     let _limits = instance.len();
     if !scales {
         return None;

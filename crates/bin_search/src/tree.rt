@@ -1,14 +1,15 @@
-// The bin tree.
+//! The bin tree.
 ghost use Rattle.std.specs.Prelude.{◌≡◌, ◌+◌, ◌-◌, ◌*◌, ◌/◌, ◌^◌, ◌≤◌, IfOk, IfSome, MatchBool, Some, [], length};
 ghost use Rattle.packing_terms.specs.Packing.{dims, box_count};
-ghost use Rattle.packing_terms.specs.Scales.{SidesFit, sum_below};
+ghost use Rattle.packing_terms.specs.Scales.{SidesFit};
+ghost use Rattle.packing_terms.specs.Sums.{sum_below};
 ghost use Rattle.tree_terms.specs.Trees.{outcome, told, node_at};
 ghost use Rattle.tree_terms.specs.Paths.{bins_at, node_told, outcome_at, IsReachable};
 ghost use Rattle.proof_tree.specs.Plain.{plain_outcome};
 ghost use Rattle.work_share.specs.Nodes.{plain_node};
-ghost use Rattle.class_search.specs.Right.{IsDecided};
+ghost use Rattle.class_search.specs.Right.{IsYesOrNo};
 ghost use Rattle.bin_search.specs.Lists.{lists_of};
-ghost use Rattle.bin_search.specs.Paths.{IsStep};
+ghost use Rattle.bin_search.specs.Paths.{IsChildStep};
 ghost use Rattle.bin_search.specs.Trees.{shape, same_trees};
 ghost use Rattle.bin_search.specs.Rights.{IsRight, Decides};
 
@@ -41,7 +42,8 @@ impl<'a> Model for BinTree<'a> {
 
     ghost view = { λ t. record { instance = t.instance.now; bins = t.bins; scales = t.scales } };
 
-    ghost invariant = { λ t. IsReady (record { instance = t.instance.now; bins = t.bins; scales = t.scales }) t.order.items };
+    ghost invariant = { λ t. IsReady
+        (record { instance = t.instance.now; bins = t.bins; scales = t.scales }) t.order.items };
 }
 
 impl<'a> BinTree<'a> {
@@ -74,6 +76,7 @@ impl<'a> BinTree<'a> {
     fn explore_root(&self, alloc: Global, cap: u64) -> Result<Outcome, NoMemory>
         ensures { IfOk result (λ r. plain_outcome r ≡ told cap (outcome (shape self.now))) }
     {
+        // For the proof alone: tells the limits of the instance.
         let _limits = self.instance.len();
         if let Some(token) = scales_token(alloc, self.instance, self.bins, self.scales) {
             let mut tokens = Vec::new(alloc);
@@ -104,9 +107,10 @@ impl<'a> BinTree<'a> {
     fn step_to(&self, alloc: Global, path: &[u32]) -> Result<Step, NoMemory>
         requires path { 1 ≤ length path.now }
         requires reached { IsReachable (shape self.now) path.now }
-        ensures { IfOk result (λ step. IsStep self.now step.placed (lists_of step.bins.items)
+        ensures { IfOk result (λ step. IsChildStep self.now step.placed (lists_of step.bins.items)
             step.child (node_at (Some (shape self.now)) path.now)) }
     {
+        // For the proof alone: tells the limits of the instance.
         let _limits = self.instance.len();
         last_step(alloc, self.order.as_slice(), path)
     }
@@ -118,6 +122,7 @@ impl<'a> BinTree<'a> {
         ensures { IfOk result (λ r. IfSome (node_at (Some (shape self.now)) path.now)
             (λ node. plain_outcome r ≡ told cap (outcome node))) }
     {
+        // For the proof alone: tells the limits of the instance.
         let _limits = self.instance.len();
         let step = self.step_to(alloc, path)?;
         let mut search = SetSearch::new(alloc, self.instance, self.scales)?;
@@ -150,6 +155,7 @@ impl<'a> BinTree<'a> {
     fn tell_root(&self, alloc: Global) -> Node
         ensures { plain_node result ≡ node_told (shape self.now) }
     {
+        // For the proof alone: tells the limits of the instance.
         let _limits = self.instance.len();
         match scales_token(alloc, self.instance, self.bins, self.scales) {
             Some(_token) => Node::Leaf,
@@ -167,6 +173,7 @@ impl<'a> BinTree<'a> {
         ensures { IfOk result (λ r. IfSome (node_at (Some (shape self.now)) path.now)
             (λ node. plain_node r ≡ node_told node)) }
     {
+        // For the proof alone: tells the limits of the instance.
         let _limits = self.instance.len();
         let step = self.step_to(alloc, path)?;
         let mut search = SetSearch::new(alloc, self.instance, self.scales)?;
@@ -198,8 +205,9 @@ impl<'a> Tree for BinTree<'a> {
         ensures enough { path.now ≡ [] → 3 ^ (dims self.now.instance
             * box_count self.now.instance * (box_count self.now.instance - 1) / 2)
             * sum_below (box_count self.now.instance) (λ j. self.now.bins ^ (j + 1)) ≤ cap
-            → IfOk result (λ r. IsDecided (plain_outcome r)) }
+            → IfOk result (λ r. IsYesOrNo (plain_outcome r)) }
     {
+        // For the proof alone: tells the limits of the instance.
         let _limits = self.instance.len();
         self.explore_node(alloc, path, cap)
     }

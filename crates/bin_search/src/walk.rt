@@ -1,4 +1,4 @@
-// The walk through the bin tree below a node, depth first, with a stack of the nodes above.
+//! The walk through the bin tree below a node, depth first, with a stack of the nodes above.
 ghost use Rattle.std.specs.Prelude.{◌≡◌, ◌≤◌, ◌<◌, ◌∷◌, ◌++◌, [], suc, length, drop, map, slice_index_or, IfOk, OnOk};
 ghost use Rattle.packing_terms.specs.Packing.{box_count};
 ghost use Rattle.packing_terms.specs.Limits.{IsInternalInstance};
@@ -8,7 +8,7 @@ ghost use Rattle.tree_terms.specs.Trees.{outcome, told};
 ghost use Rattle.tree_terms.specs.OuterTrees.{bin_node};
 ghost use Rattle.proof_tree.specs.Plain.{plain_outcome, plain_token};
 ghost use Rattle.bin_search.specs.Lists.{lists_of};
-ghost use Rattle.bin_search.specs.Nodes.{IsPlaced};
+ghost use Rattle.bin_search.specs.Nodes.{AreInBins};
 
 use crate::node::{Opened, Placed, children, open_next};
 use crate::numbers::bin_numbers;
@@ -24,6 +24,7 @@ pub fn assign(instance: &Instance, order: &[u32], placed: usize) -> Token
     requires there { placed < length order.now }
     ensures { plain_token result ≡ Assign (suc (slice_index_or (ranked instance.now) placed 0)) }
 {
+    // For the proof alone: tells the limits of the instance.
     let _limits = instance.len();
     Token::Assign {
         box_no: order[placed] + 1,
@@ -46,7 +47,7 @@ pub fn walk(
     requires order { order.now ≡ ranked instance.now }
     requires few { most ≤ box_count instance.now }
     requires there { node.placed < length order.now }
-    requires node { IsPlaced instance.now most node.placed (lists_of node.bins.items)
+    requires node { AreInBins instance.now most node.placed (lists_of node.bins.items)
         (lists_of node.answers.items) }
     requires fresh { node.visited ≡ 0 }
     requires within { own ≤ cap }

@@ -5,7 +5,7 @@ use Rattle.packing_terms.specs.Tokens.{PlainToken}
 use Rattle.tree_terms.specs.Trees.{SearchTree, Verdict, told, count_of, node_at}
 use Rattle.tree_terms.specs.Paths.{Splits, node_told, outcome_at}
 use Rattle.tree_terms.proofs.Told.{told_past}
-use Rattle.board_terms.specs.Board.{BoardState, PlainEntry, TaskEntry, Out, Done, is_out, path_of, out_path, at_first, with_state, split_into}
+use Rattle.board_terms.specs.Board.{BoardState, PlainEntry, TaskEntry, Out, Done, is_out, entry_path, out_path, at_first, with_state, split_into}
 use Rattle.board_terms.specs.Steps.{Request, AskTask, AskSplit, AskFinish, NoteShort, Reply, Job, NoneWaits, IsOver, IsDone, divided, finished, outcome_given, with_entries, BoardStep, Call, AreSteps, event_of, events_of}
 use Rattle.board_terms.specs.Replay.{told_there, split_as, split_by, outcome_read, done_with, done_by, happens, replay_from}
 use Rattle.board_terms.proofs.Outs.{out_is, same_path}
@@ -15,16 +15,16 @@ pub same_at_out : (f g : PlainEntry → List PlainEntry) (n : ℕ) (p : List ℕ
     → out_path n es ≡ Some p → at_first (is_out n) f es ≡ at_first (is_out n) g es
 same_at_out f g n p same [] h = refl
 same_at_out f g n p same (e ∷ es) h =
-    elim (is_out n e) as (λ b. is_out n e ≡ b → (if b then path_of e else out_path n es) ≡ Some p
+    elim (is_out n e) as (λ b. is_out n e ≡ b → (if b then entry_path e else out_path n es) ≡ Some p
     → (if b then f e ++ es else e ∷ at_first (is_out n) f es) ≡ (if b then g e ++ es else e ∷ at_first (is_out n) g es)) [
       | true ↦ λ k r. ap (λ xs. xs ++ es) (agree e k r)
       | false ↦ λ _ r. ap (λ xs. e ∷ xs) (same_at_out f g n p same es r)
     ] refl h
   where
-    agree : (x : PlainEntry) → is_out n x ≡ true → path_of x ≡ Some p → f x ≡ g x
+    agree : (x : PlainEntry) → is_out n x ≡ true → entry_path x ≡ Some p → f x ≡ g x
     agree x k r =
         let at = out_is n x k in
-        let where_at = same_path at.0 p (sym (ap path_of at.1) ∙ r) in
+        let where_at = same_path at.0 p (sym (ap entry_path at.1) ∙ r) in
         let is = at.1 ∙ ap (λ q. TaskEntry n q Out) where_at in
         ap f is ∙ (same ∙ sym (ap g is))
 

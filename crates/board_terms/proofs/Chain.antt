@@ -1,7 +1,7 @@
 -- The entries of a board stand for the whole search, whatever happened.
 use Rattle.std.proofs.Common.{◌≡◌, ℕ, zero, suc, ◌+◌, ◌≤◌, refl, sym, ap, ap₂, ◌∙◌, arith, add-one, List, [], ◌∷◌, ◌++◌, Option, Some, None, Bool, true, false, if◌then◌else◌}
 use Rattle.packing_terms.specs.Tokens.{PlainToken}
-use Rattle.tree_terms.specs.Trees.{SearchTree, Split, Verdict, No, nothing, join, join_from, outcome, node_at}
+use Rattle.tree_terms.specs.Trees.{SearchTree, Split, Verdict, No, no_tokens, join, join_from, outcome, node_at}
 use Rattle.tree_terms.specs.Paths.{most_budget, PlainNode, Leaf, Splits, outcome_at, outcome_of}
 use Rattle.tree_terms.proofs.Joins.{join_assoc, join_nothing, nothing_join, join_next}
 use Rattle.tree_terms.proofs.Reached.{told_split, child_there}
@@ -10,7 +10,7 @@ use Rattle.board_terms.specs.Replay.{told_there, split_as, split_by, outcome_rea
 
 -- the verdict that may be there
 abbrev pub verdict_or : Option Verdict → Verdict
-verdict_or None = nothing
+verdict_or None = no_tokens
 verdict_or (Some verdict) = verdict
 
 -- what an entry stands for in the search
@@ -20,7 +20,7 @@ value_of tree (TaskEntry number path state) = verdict_or (outcome_at tree path)
 
 -- the entries, one after another
 abbrev pub chain : SearchTree → List PlainEntry → Verdict
-chain tree [] = nothing
+chain tree [] = no_tokens
 chain tree (e ∷ es) = join (value_of tree e) (chain tree es)
 
 pub chain_append : (tree : SearchTree) (xs ys : List PlainEntry) → chain tree (xs ++ ys) ≡ join (chain tree xs) (chain tree ys)

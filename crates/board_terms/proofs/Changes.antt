@@ -2,7 +2,7 @@
 use Rattle.std.proofs.Common.{◌≡◌, ℕ, ◌+◌, refl, sym, ap, ◌∙◌, subst, arith, List, [], ◌∷◌, ◌++◌, length, map, Bool, true, false, if◌then◌else◌, option_to_list, append_assoc}
 use Rattle.std.proofs.lemmas.List.{map-append, length-append}
 use Rattle.tree_terms.specs.Trees.{SearchTree}
-use Rattle.board_terms.specs.Board.{PlainEntry, SplitEntry, TaskEntry, at_first, number_of, path_of}
+use Rattle.board_terms.specs.Board.{PlainEntry, SplitEntry, TaskEntry, at_first, entry_number, entry_path}
 use Rattle.board_terms.specs.Kept.{IsLeftOf, AreFromLeft, task_paths, AreDistinct, AreBelow, AreTasksRight}
 use Rattle.board_terms.proofs.Lists.{numbers_from, inserted_distinct, inserted_below, length_numbers}
 use Rattle.board_terms.proofs.Left.{AreAllLeftOf, left_append, left_first, left_rest, from_left_append, from_left_first, from_left_rest, from_left_apart}
@@ -13,10 +13,10 @@ pub record IsFair (tree : SearchTree) (budget fresh : ℕ) (change : PlainEntry 
   pub whole : (e : PlainEntry) → chain tree (change e) ≡ value_of tree e
   pub right : (e : PlainEntry) → AreTasksRight tree budget (e ∷ []) → AreTasksRight tree budget (change e)
   pub inner : (e : PlainEntry) → AreFromLeft (task_paths (change e))
-  pub behind : (e : PlainEntry) (p : List ℕ) → IsLeftOf p (option_to_list (path_of e)) → IsLeftOf p (task_paths (change e))
-  pub before : (e : PlainEntry) (qs : List (List ℕ)) → AreAllLeftOf (option_to_list (path_of e)) qs → AreAllLeftOf (task_paths (change e)) qs
+  pub behind : (e : PlainEntry) (p : List ℕ) → IsLeftOf p (option_to_list (entry_path e)) → IsLeftOf p (task_paths (change e))
+  pub before : (e : PlainEntry) (qs : List (List ℕ)) → AreAllLeftOf (option_to_list (entry_path e)) qs → AreAllLeftOf (task_paths (change e)) qs
   pub more : PlainEntry → ℕ
-  pub numbers : (e : PlainEntry) → map number_of (change e) ≡ number_of e ∷ numbers_from fresh (more e)
+  pub numbers : (e : PlainEntry) → map entry_number (change e) ≡ entry_number e ∷ numbers_from fresh (more e)
 
 -- two changes that give the same
 pub same_changes : (test : PlainEntry → Bool) (f g : PlainEntry → List PlainEntry) → ((e : PlainEntry) → f e ≡ g e) → (es : List PlainEntry)
@@ -31,7 +31,7 @@ same_changes test f g same (e ∷ es) =
 pub paths_append : (xs ys : List PlainEntry) → task_paths (xs ++ ys) ≡ task_paths xs ++ task_paths ys
 paths_append [] ys = refl
 paths_append (e ∷ xs) ys =
-    ap (λ ps. option_to_list (path_of e) ++ ps) (paths_append xs ys) ∙ sym (append_assoc (option_to_list (path_of e)) (task_paths xs) (task_paths ys))
+    ap (λ ps. option_to_list (entry_path e) ++ ps) (paths_append xs ys) ∙ sym (append_assoc (option_to_list (entry_path e)) (task_paths xs) (task_paths ys))
 
 pub right_append : (tree : SearchTree) (budget : ℕ) (xs ys : List PlainEntry) → AreTasksRight tree budget xs → AreTasksRight tree budget ys
     → AreTasksRight tree budget (xs ++ ys)
@@ -69,11 +69,11 @@ module _ (tree : SearchTree) (budget fresh : ℕ) (test : PlainEntry → Bool) (
   pub left_at_first : (p : List ℕ) (es : List PlainEntry) → IsLeftOf p (task_paths es) → IsLeftOf p (task_paths (at_first test change es))
   left_at_first p [] a = tt
   left_at_first p (e ∷ es) a =
-      let first = left_first p (option_to_list (path_of e)) (task_paths es) a in
-      let rest = left_rest p (option_to_list (path_of e)) (task_paths es) a in
+      let first = left_first p (option_to_list (entry_path e)) (task_paths es) a in
+      let rest = left_rest p (option_to_list (entry_path e)) (task_paths es) a in
       elim (test e) as (λ b. IsLeftOf p (task_paths (if b then change e ++ es else e ∷ at_first test change es))) [
         | true ↦ subst (λ ps. IsLeftOf p ps) (sym (paths_append (change e) es)) (left_append p (task_paths (change e)) (task_paths es) (fair.behind e p first) rest)
-        | false ↦ left_append p (option_to_list (path_of e)) (task_paths (at_first test change es)) first (left_at_first p es rest)
+        | false ↦ left_append p (option_to_list (entry_path e)) (task_paths (at_first test change es)) first (left_at_first p es rest)
       ]
 
   all_left_at_first : (ps : List (List ℕ)) (es : List PlainEntry) → AreAllLeftOf ps (task_paths es) → AreAllLeftOf ps (task_paths (at_first test change es))
@@ -83,7 +83,7 @@ module _ (tree : SearchTree) (budget fresh : ℕ) (test : PlainEntry → Bool) (
   pub order_at_first : (es : List PlainEntry) → AreFromLeft (task_paths es) → AreFromLeft (task_paths (at_first test change es))
   order_at_first [] a = tt
   order_at_first (e ∷ es) a =
-      let here = option_to_list (path_of e) in
+      let here = option_to_list (entry_path e) in
       let first = from_left_first here (task_paths es) a in
       let rest = from_left_rest here (task_paths es) a in
       let between = from_left_apart here (task_paths es) a in
@@ -93,24 +93,24 @@ module _ (tree : SearchTree) (budget fresh : ℕ) (test : PlainEntry → Bool) (
         | false ↦ from_left_append here (task_paths (at_first test change es)) first (order_at_first es rest) (all_left_at_first here es between)
       ]
 
-  pub numbers_at_first : (es : List PlainEntry) → IsInserted fresh (map number_of es) (map number_of (at_first test change es))
+  pub numbers_at_first : (es : List PlainEntry) → IsInserted fresh (map entry_number es) (map entry_number (at_first test change es))
   numbers_at_first [] = record { front = []; rest = []; count = 0; old_is = refl; new_is = refl }
   numbers_at_first (e ∷ es) =
       let more = numbers_at_first es in
-      elim (test e) as (λ b. IsInserted fresh (number_of e ∷ map number_of es) (map number_of (if b then change e ++ es else e ∷ at_first test change es))) [
+      elim (test e) as (λ b. IsInserted fresh (entry_number e ∷ map entry_number es) (map entry_number (if b then change e ++ es else e ∷ at_first test change es))) [
         | true ↦ record {
-          front = number_of e ∷ [];
-          rest = map number_of es;
+          front = entry_number e ∷ [];
+          rest = map entry_number es;
           count = fair.more e;
           old_is = refl;
-          new_is = map-append number_of (change e) es ∙ ap (λ ns. ns ++ map number_of es) (fair.numbers e);
+          new_is = map-append entry_number (change e) es ∙ ap (λ ns. ns ++ map entry_number es) (fair.numbers e);
         }
         | false ↦ record {
-          front = number_of e ∷ more.front;
+          front = entry_number e ∷ more.front;
           rest = more.rest;
           count = more.count;
-          old_is = ap (λ ns. number_of e ∷ ns) more.old_is;
-          new_is = ap (λ ns. number_of e ∷ ns) more.new_is;
+          old_is = ap (λ ns. entry_number e ∷ ns) more.old_is;
+          new_is = ap (λ ns. entry_number e ∷ ns) more.new_is;
         }
       ]
 

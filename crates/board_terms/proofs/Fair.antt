@@ -5,7 +5,7 @@ use Rattle.packing_terms.specs.Tokens.{PlainToken}
 use Rattle.tree_terms.specs.Trees.{SearchTree, Verdict, Decided, Past, told, count_of, node_at}
 use Rattle.tree_terms.specs.Paths.{PlainNode, Leaf, Splits, node_told, outcome_at, IsReachable}
 use Rattle.tree_terms.proofs.Reached.{reached_next}
-use Rattle.board_terms.specs.Board.{PlainEntry, SplitEntry, TaskEntry, Out, with_state, number_of, path_of, children_from}
+use Rattle.board_terms.specs.Board.{PlainEntry, SplitEntry, TaskEntry, Out, with_state, entry_number, entry_path, children_from}
 use Rattle.board_terms.specs.Replay.{told_there, split_as, split_by, outcome_read, done_with, done_by}
 use Rattle.board_terms.specs.Kept.{leads_left, IsLeftOf, AreFromLeft, task_paths, IsOutcomeOf, AreTasksRight}
 use Rattle.board_terms.proofs.Lists.{numbers_from}
@@ -17,14 +17,14 @@ use Rattle.board_terms.proofs.Changes.{IsFair}
 pub record KeepsRight (tree : SearchTree) (budget : ℕ) (change : PlainEntry → PlainEntry) : Type 0 where
   pub whole : (e : PlainEntry) → chain tree (change e ∷ []) ≡ value_of tree e
   pub right : (e : PlainEntry) → AreTasksRight tree budget (e ∷ []) → AreTasksRight tree budget (change e ∷ [])
-  pub paths : (e : PlainEntry) → path_of (change e) ≡ path_of e
-  pub number : (e : PlainEntry) → number_of (change e) ≡ number_of e
+  pub paths : (e : PlainEntry) → entry_path (change e) ≡ entry_path e
+  pub number : (e : PlainEntry) → entry_number (change e) ≡ entry_number e
 
 one_from_left : (o : Option (List ℕ)) → AreFromLeft (option_to_list o)
 one_from_left None = tt
 one_from_left (Some p) = (tt, tt)
 
-paths_one : (e : PlainEntry) → task_paths (e ∷ []) ≡ option_to_list (path_of e)
+paths_one : (e : PlainEntry) → task_paths (e ∷ []) ≡ option_to_list (entry_path e)
 paths_one (SplitEntry number path token own children) = refl
 paths_one (TaskEntry number path state) = refl
 
@@ -34,14 +34,14 @@ pub fair_state : (tree : SearchTree) (budget fresh : ℕ) (change : PlainEntry �
 fair_state tree budget fresh change k = record {
   whole = k.whole;
   right = k.right;
-  inner = λ e. subst AreFromLeft (sym (paths_one (change e))) (one_from_left (path_of (change e)));
+  inner = λ e. subst AreFromLeft (sym (paths_one (change e))) (one_from_left (entry_path (change e)));
   behind = λ e p a. subst (λ ps. IsLeftOf p ps) (sym (same e)) a;
   before = λ e qs a. subst (λ ps. AreAllLeftOf ps qs) (sym (same e)) a;
   more = λ e. 0;
   numbers = λ e. ap (λ n. n ∷ []) (k.number e);
 }
   where
-    same : (e : PlainEntry) → task_paths (change e ∷ []) ≡ option_to_list (path_of e)
+    same : (e : PlainEntry) → task_paths (change e ∷ []) ≡ option_to_list (entry_path e)
     same e = paths_one (change e) ∙ ap option_to_list (k.paths e)
 
 pub out_keeps : (tree : SearchTree) (budget : ℕ) → KeepsRight tree budget (with_state Out)
@@ -56,11 +56,11 @@ out_keeps tree budget = record {
     keeps (SplitEntry number path token own children) a = tt
     keeps (TaskEntry number path state) a = ((a.0.0, tt), tt)
 
-    same : (e : PlainEntry) → path_of (with_state Out e) ≡ path_of e
+    same : (e : PlainEntry) → entry_path (with_state Out e) ≡ entry_path e
     same (SplitEntry number path token own children) = refl
     same (TaskEntry number path state) = refl
 
-    numbered : (e : PlainEntry) → number_of (with_state Out e) ≡ number_of e
+    numbered : (e : PlainEntry) → entry_number (with_state Out e) ≡ entry_number e
     numbered (SplitEntry number path token own children) = refl
     numbered (TaskEntry number path state) = refl
 
@@ -101,25 +101,25 @@ done_keeps tree budget past = record {
         go None e = a
         go (Some verdict) e = ((a.0.0, (verdict, e, read_is_outcome budget past verdict)), tt)
 
-    same : (e : PlainEntry) → path_of (done_entry tree budget past e) ≡ path_of e
+    same : (e : PlainEntry) → entry_path (done_entry tree budget past e) ≡ entry_path e
     same (SplitEntry number path token own children) = refl
     same (TaskEntry number path state) = go (outcome_at tree path)
       where
-        go : (o : Option Verdict) → path_of (done_with budget past o (TaskEntry number path state)) ≡ Some path
+        go : (o : Option Verdict) → entry_path (done_with budget past o (TaskEntry number path state)) ≡ Some path
         go None = refl
         go (Some verdict) = refl
 
-    numbered : (e : PlainEntry) → number_of (done_entry tree budget past e) ≡ number_of e
+    numbered : (e : PlainEntry) → entry_number (done_entry tree budget past e) ≡ entry_number e
     numbered (SplitEntry number path token own children) = refl
     numbered (TaskEntry number path state) = go (outcome_at tree path)
       where
-        go : (o : Option Verdict) → number_of (done_with budget past o (TaskEntry number path state)) ≡ number
+        go : (o : Option Verdict) → entry_number (done_with budget past o (TaskEntry number path state)) ≡ number
         go None = refl
         go (Some verdict) = refl
 
 -- ---- the children of a split
 
-children_numbers : (path : List ℕ) (more k number : ℕ) → map number_of (children_from path k more number) ≡ numbers_from number more
+children_numbers : (path : List ℕ) (more k number : ℕ) → map entry_number (children_from path k more number) ≡ numbers_from number more
 children_numbers path zero k number = refl
 children_numbers path (suc more) k number = ap (λ ns. number ∷ ns) (children_numbers path more (suc k) (suc number))
 
@@ -193,7 +193,7 @@ split_fair tree budget fresh = record {
         go Leaf = (tt, tt)
         go (Splits token own n) = children_inner path n 0 fresh
 
-    behind : (e : PlainEntry) (p : List ℕ) → IsLeftOf p (option_to_list (path_of e)) → IsLeftOf p (task_paths (split_by tree fresh e))
+    behind : (e : PlainEntry) (p : List ℕ) → IsLeftOf p (option_to_list (entry_path e)) → IsLeftOf p (task_paths (split_by tree fresh e))
     behind (SplitEntry number path token own children) p a = tt
     behind (TaskEntry number path state) p a = go (told_there (node_at (Some tree) path))
       where
@@ -201,7 +201,7 @@ split_fair tree budget fresh = record {
         go Leaf = a
         go (Splits token own n) = children_behind p path n 0 fresh a.0
 
-    before : (e : PlainEntry) (qs : List (List ℕ)) → AreAllLeftOf (option_to_list (path_of e)) qs → AreAllLeftOf (task_paths (split_by tree fresh e)) qs
+    before : (e : PlainEntry) (qs : List (List ℕ)) → AreAllLeftOf (option_to_list (entry_path e)) qs → AreAllLeftOf (task_paths (split_by tree fresh e)) qs
     before (SplitEntry number path token own children) qs a = tt
     before (TaskEntry number path state) qs a = go (told_there (node_at (Some tree) path))
       where
@@ -209,10 +209,10 @@ split_fair tree budget fresh = record {
         go Leaf = a
         go (Splits token own n) = children_before path n 0 fresh qs a.0
 
-    numbered : (e : PlainEntry) → map number_of (split_by tree fresh e) ≡ number_of e ∷ numbers_from fresh (more_by tree e)
+    numbered : (e : PlainEntry) → map entry_number (split_by tree fresh e) ≡ entry_number e ∷ numbers_from fresh (more_by tree e)
     numbered (SplitEntry number path token own children) = refl
     numbered (TaskEntry number path state) = go (told_there (node_at (Some tree) path))
       where
-        go : (t : PlainNode) → map number_of (split_as t fresh (TaskEntry number path state)) ≡ number ∷ numbers_from fresh (children_in t)
+        go : (t : PlainNode) → map entry_number (split_as t fresh (TaskEntry number path state)) ≡ number ∷ numbers_from fresh (children_in t)
         go Leaf = refl
         go (Splits token own n) = ap (λ ns. number ∷ ns) (children_numbers path n 0 fresh)

@@ -3,7 +3,7 @@ use Rattle.std.proofs.Common.{◌≡◌, ℕ, ◌⊎◌, inl, inr, refl, sym, ap
 use Rattle.std.proofs.lemmas.Bool.{true≢false}
 use Rattle.tree_terms.specs.Trees.{SearchTree, Verdict, PlainOutcome, outcome, node_at}
 use Rattle.tree_terms.specs.Paths.{outcome_at, outcome_of}
-use Rattle.board_terms.specs.Board.{BoardState, PlainEntry, SplitEntry, TaskEntry, Waits, Out, Done, waits_as, is_out, path_of, out_path, at_first, with_state}
+use Rattle.board_terms.specs.Board.{BoardState, PlainEntry, SplitEntry, TaskEntry, Waits, Out, Done, waits_as, is_out, entry_path, out_path, at_first, with_state}
 use Rattle.board_terms.specs.Replay.{split_by, outcome_read, done_with, done_by, happens, path_finished, finished_paths}
 use Rattle.board_terms.specs.Kept.{leads_left, IsLeftOf, AreFromLeft, task_paths, AreTasksRight, IsNotIn, AreDistinct}
 use Rattle.board_terms.specs.declared.Event.{Event}
@@ -25,7 +25,7 @@ HasDone path (e ∷ es) = IsDoneAt path e ⊎ HasDone path es
 left_of_itself : (p : List ℕ) → leads_left p p ≡ true → ⊥
 left_of_itself p h = left_is_no_prefix p p [] h (sym (append-nil p))
 
-done_is_task : (q : List ℕ) (e : PlainEntry) → IsDoneAt q e → path_of e ≡ Some q
+done_is_task : (q : List ℕ) (e : PlainEntry) → IsDoneAt q e → entry_path e ≡ Some q
 done_is_task q e (done_at number outcome) = refl
 
 done_not_out : (q : List ℕ) (n : ℕ) (e : PlainEntry) → is_out n e ≡ true → IsDoneAt q e → ⊥

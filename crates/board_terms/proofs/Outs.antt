@@ -2,8 +2,8 @@
 use Rattle.std.proofs.Common.{◌≡◌, ℕ, ◌⊎◌, inl, inr, refl, sym, ap, ◌∙◌, subst, List, [], ◌∷◌, Option, Some, None, Bool, true, false, if◌then◌else◌, eqb, ltb, ◌||◌}
 use Rattle.std.proofs.lemmas.Bool.{true≢false, eqb-true, eq-eqb}
 use Rattle.tree_terms.specs.Trees.{Verdict, Yes, No, count_of}
-use Rattle.board_terms.specs.Board.{BoardState, PlainEntry, SplitEntry, TaskEntry, PlainTaskState, Waits, Out, Done, is_out, state_is_out, number_of, path_of, first_waiting, out_path}
-use Rattle.board_terms.specs.Runs.{Run, with_piece, piece_of, run_of, is_over}
+use Rattle.board_terms.specs.Board.{BoardState, PlainEntry, SplitEntry, TaskEntry, PlainTaskState, Waits, Out, Done, is_out, state_is_out, entry_number, entry_path, first_waiting, out_path}
+use Rattle.board_terms.specs.Runs.{Run, with_piece, piece_of, run_of, is_board_over}
 use Rattle.board_terms.specs.Kept.{leads_left, IsLeftOf, AreFromLeft, task_paths, OutsAreApart, HasOut}
 use Rattle.board_terms.proofs.Left.{left_is_no_prefix, right_is_no_prefix}
 
@@ -37,7 +37,7 @@ one_number : (n m : ℕ) (e : PlainEntry) → is_out n e ≡ true → is_out m e
 one_number n m e hn hm =
     let an = (out_is n e hn).1 in
     let am = (out_is m e hm).1 in
-    ap number_of (sym an ∙ am)
+    ap entry_number (sym an ∙ am)
 
 -- of two tasks that are out one is left of the other
 pub outs_in_order : (n m : ℕ) (p q : List ℕ) (es : List PlainEntry) → AreFromLeft (task_paths es) → ¬ (n ≡ m) → out_path n es ≡ Some p → out_path m es ≡ Some q
@@ -73,7 +73,7 @@ has_out_behind e es (n, path, h) = go (is_out n e) refl
     go false f = (n, path, rw f h)
     go true f =
         let at = out_is n e f in
-        (n, at.0, rw f (ap path_of at.1))
+        (n, at.0, rw f (ap entry_path at.1))
 
 stops : (budget : ℕ) (piece : Verdict) (run : Run) → (with_piece piece run).is_whole ≡ false → run.is_whole ≡ false
 stops budget (Yes ns c) run h = absurd (true≢false h)
@@ -94,7 +94,7 @@ not_over false false p e = refl
 not_over false true p e = absurd (true≢false e)
 not_over true w p e = absurd (true≢false e)
 
-pub some_out : (budget : ℕ) (board : BoardState) → is_over budget board ≡ false → first_waiting board.entries ≡ None → HasOut board.entries
+pub some_out : (budget : ℕ) (board : BoardState) → is_board_over budget board ≡ false → first_waiting board.entries ≡ None → HasOut board.entries
 some_out budget board h w =
     let run = run_of budget board.entries in
     run_ends_at budget board.entries (not_over board.is_short run.is_whole (ltb budget (count_of run.verdict)) h) w

@@ -4,7 +4,7 @@ use Rattle.std.proofs.lemmas.List.{length-map}
 use Rattle.tree_terms.specs.Trees.{SearchTree, outcome}
 use Rattle.tree_terms.proofs.Joins.{join_nothing}
 use Rattle.tree_terms.proofs.Reached.{root_reached}
-use Rattle.board_terms.specs.Board.{BoardState, board_start, PlainEntry, at_first, number_of, with_state, Out, waits_as, is_out}
+use Rattle.board_terms.specs.Board.{BoardState, board_start, PlainEntry, at_first, entry_number, with_state, Out, waits_as, is_out}
 use Rattle.board_terms.specs.Replay.{split_by, done_by, happens, replay, replay_from}
 use Rattle.board_terms.specs.Kept.{AreFromLeft, task_paths, AreDistinct, AreBelow, AreTasksRight}
 use Rattle.board_terms.specs.declared.Event.{Event}
@@ -17,8 +17,8 @@ pub record Keeps (tree : SearchTree) (budget : ℕ) (entries : List PlainEntry) 
   pub whole : chain tree entries ≡ outcome tree
   pub right : AreTasksRight tree budget entries
   pub order : AreFromLeft (task_paths entries)
-  pub numbers : AreDistinct (map number_of entries)
-  pub below : AreBelow (length entries) (map number_of entries)
+  pub numbers : AreDistinct (map entry_number entries)
+  pub below : AreBelow (length entries) (map entry_number entries)
 
 pub keeps_start : (tree : SearchTree) (budget : ℕ) → Keeps tree budget board_start.entries
 keeps_start tree budget = record {
@@ -37,16 +37,16 @@ keeps_change tree budget test change es fair k = record {
   right = right_at_first tree budget (length es) test change fair es k.right;
   order = order_at_first tree budget (length es) test change fair es k.order;
   numbers = both.0;
-  below = subst (λ n. AreBelow n (map number_of (at_first test change es))) (length-map (at_first test change es) number_of) both.1;
+  below = subst (λ n. AreBelow n (map entry_number (at_first test change es))) (length-map (at_first test change es) entry_number) both.1;
 }
   where
-    size : length (map number_of es) ≡ length es
-    size = length-map es number_of
+    size : length (map entry_number es) ≡ length es
+    size = length-map es entry_number
 
-    both : AreDistinct (map number_of (at_first test change es)) × AreBelow (length (map number_of (at_first test change es))) (map number_of (at_first test change es))
-    both = inserted_numbers (map number_of es) (map number_of (at_first test change es))
-        (subst (λ n. IsInserted n (map number_of es) (map number_of (at_first test change es))) (sym size) (numbers_at_first tree budget (length es) test change fair es))
-        k.numbers (subst (λ n. AreBelow n (map number_of es)) (sym size) k.below)
+    both : AreDistinct (map entry_number (at_first test change es)) × AreBelow (length (map entry_number (at_first test change es))) (map entry_number (at_first test change es))
+    both = inserted_numbers (map entry_number es) (map entry_number (at_first test change es))
+        (subst (λ n. IsInserted n (map entry_number es) (map entry_number (at_first test change es))) (sym size) (numbers_at_first tree budget (length es) test change fair es))
+        k.numbers (subst (λ n. AreBelow n (map entry_number es)) (sym size) k.below)
 
 pub keeps_happens : (tree : SearchTree) (budget : ℕ) (board : BoardState) (event : Event) → Keeps tree budget board.entries
     → Keeps tree budget (happens tree budget board event).entries

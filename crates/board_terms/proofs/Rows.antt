@@ -6,7 +6,7 @@ use Rattle.packing_terms.specs.Tokens.PlainToken.{Order, Rules}
 use Rattle.tree_terms.specs.Trees.{SearchTree, No, Decided, Past, node_at}
 use Rattle.tree_terms.specs.ClassTree.{class_tree}
 use Rattle.board_terms.specs.Board.{BoardState, PlainTask, board_start, SplitEntry, TaskEntry, Waits, Out, Done}
-use Rattle.board_terms.specs.Runs.{is_over, board_joined}
+use Rattle.board_terms.specs.Runs.{is_board_over, board_joined}
 use Rattle.board_terms.specs.Steps.{Request, AskTask, AskSplit, AskFinish, Reply, Job, NoneWaits, IsOver, IsDone, Call, AreSteps}
 use Rattle.board_terms.specs.Replay.{replay}
 use Rattle.board_terms.specs.declared.Event.TheVariants as stored
@@ -157,5 +157,5 @@ past_joined : board_joined 2 first_done ≡ Past
 past_joined = refl
 
 -- Without a budget that is spent the same board isn't over.
-not_over_yet : is_over 5 first_done ≡ false
+not_over_yet : is_board_over 5 first_done ≡ false
 not_over_yet = refl

@@ -1,12 +1,12 @@
 -- What the leftmost finished run says of the whole search.
 use Rattle.std.proofs.Common.{◌≡◌, ℕ, suc, ◌<◌, ◌≤◌, ◌⊎◌, inl, inr, min, refl, sym, ap, ap₂, ◌∙◌, subst, arith, List, [], ◌∷◌, Bool, true, false, ltb, ◌||◌}
 use Rattle.std.proofs.lemmas.Bool.{true≢false, ltb-true, cases_lt}
-use Rattle.tree_terms.specs.Trees.{SearchTree, Verdict, Yes, No, nothing, join, count_of, PlainOutcome, told, outcome}
+use Rattle.tree_terms.specs.Trees.{SearchTree, Verdict, Yes, No, no_tokens, join, count_of, PlainOutcome, told, outcome}
 use Rattle.tree_terms.specs.Paths.{outcome_at}
-use Rattle.tree_terms.proofs.Joins.{count_join_no}
+use Rattle.tree_terms.proofs.Joins.{count_join_no, count_left}
 use Rattle.tree_terms.proofs.Told.{told_past}
 use Rattle.board_terms.specs.Board.{BoardState, PlainEntry, SplitEntry, TaskEntry, Waits, Out, Done}
-use Rattle.board_terms.specs.Runs.{Run, with_piece, piece_of, run_of, is_over, board_joined}
+use Rattle.board_terms.specs.Runs.{Run, with_piece, piece_of, run_of, is_board_over, board_joined}
 use Rattle.board_terms.specs.Kept.{IsOutcomeOf, AreTasksRight}
 use Rattle.board_terms.proofs.Chain.{verdict_or, chain}
 use Rattle.board_terms.proofs.Replays.{Keeps}
@@ -20,11 +20,6 @@ pub record IsPieceOf (budget : ℕ) (piece value : Verdict) : Type 0 where
 pub record IsRunOf (budget : ℕ) (run : Run) (value : Verdict) : Type 0 where
   pub least : min (suc budget) (count_of run.verdict) ≤ count_of value
   pub same : run.is_whole ≡ true → count_of run.verdict ≤ budget → run.verdict ≡ value
-
-count_join : (u v : Verdict) → count_of u ≤ count_of (join u v)
-count_join (Yes ns c) v = omega arith
-count_join (No ts c) (Yes ns d) = omega arith
-count_join (No ts c) (No us d) = omega arith
 
 whole_piece : (budget : ℕ) (v : Verdict) → IsPieceOf budget v v
 whole_piece budget v = record { least = omega arith; same = λ _. refl }
@@ -40,7 +35,7 @@ done_piece budget verdict o (inr h) = subst (λ x. IsPieceOf budget (piece_of bu
 before_piece : (budget : ℕ) (piece value : Verdict) (run : Run) (rest : Verdict) → IsPieceOf budget piece value → IsRunOf budget run rest
     → IsRunOf budget (with_piece piece run) (join value rest)
 before_piece budget (Yes ns c) value run rest p r = record {
-  least = let a = p.least in let b = count_join value rest in omega (arith, a, b);
+  least = let a = p.least in let b = count_left value rest in omega (arith, a, b);
   same = λ _ l. ap (λ v. join v rest) (p.same l);
 }
 before_piece budget (No ts c) value run rest p r = record {
@@ -51,12 +46,12 @@ before_piece budget (No ts c) value run rest p r = record {
 }
   where
     least : (budget < c) ⊎ (c ≤ budget) → min (suc budget) (count_of (join (No ts c) run.verdict)) ≤ count_of (join value rest)
-    least (inl l) = let a = p.least in let b = count_join value rest in omega (arith, a, b, l)
+    least (inl l) = let a = p.least in let b = count_left value rest in omega (arith, a, b, l)
     least (inr l) =
         subst (λ v. min (suc budget) (count_of (join (No ts c) run.verdict)) ≤ count_of (join v rest)) (p.same l)
         (let a = r.least in let s = count_join_no ts c run.verdict in let t = count_join_no ts c rest in omega (arith, a, s, t))
 
-stopped : (budget : ℕ) (value : Verdict) → IsRunOf budget (record { verdict = nothing; is_whole = false }) value
+stopped : (budget : ℕ) (value : Verdict) → IsRunOf budget (record { verdict = no_tokens; is_whole = false }) value
 stopped budget value = record { least = omega arith; same = λ e _. absurd (true≢false (sym e)) }
 
 pub run_is_right : (tree : SearchTree) (budget : ℕ) (es : List PlainEntry) → AreTasksRight tree budget es
@@ -90,7 +85,7 @@ joins_run budget run value r over = go (cases_lt budget (count_of run.verdict))
         whole (inl w) = w
         whole (inr p) = absurd (let m = ltb-true budget (count_of run.verdict) p in omega (arith, m, l))
 
-pub joins_right : (tree : SearchTree) (budget : ℕ) (board : BoardState) → Keeps tree budget board.entries → is_over budget board ≡ true
+pub joins_right : (tree : SearchTree) (budget : ℕ) (board : BoardState) → Keeps tree budget board.entries → is_board_over budget board ≡ true
     → board.is_short ≡ false → board_joined budget board ≡ told budget (outcome tree)
 joins_right tree budget board k over long =
     let run = run_of budget board.entries in

@@ -1,7 +1,8 @@
 -- What stands on a work board.
 --
--- A board is for one search tree and one budget. Its entries stand in prefix order: each is a split, or a task that waits, is out with a worker,
--- or is done with an outcome. Each entry has a number and the path of its node.
+-- A board is for one search tree and one budget. Its entries stand in prefix order: each is a
+-- split, or a task that waits, is out with a worker, or is done with an outcome. Each entry has a
+-- number and the path of its node.
 use Rattle.std.specs.Prelude.{ℕ, suc, zero, List, [], ◌∷◌, ◌++◌, Option, Some, None, Bool, true, false, ◌==◌, if◌then◌else◌}
 use Rattle.packing_terms.specs.Tokens.{PlainToken}
 use Rattle.tree_terms.specs.Trees.{PlainOutcome}
@@ -28,9 +29,9 @@ pub record PlainTask : Type 0 where
 abbrev pub board_start : BoardState
 board_start = record { entries = TaskEntry 0 [] Waits ∷ []; is_short = false }
 
-abbrev pub number_of : PlainEntry → ℕ
-number_of (SplitEntry number path token own children) = number
-number_of (TaskEntry number path state) = number
+abbrev pub entry_number : PlainEntry → ℕ
+entry_number (SplitEntry number path token own children) = number
+entry_number (TaskEntry number path state) = number
 
 abbrev pub state_waits : PlainTaskState → Bool
 state_waits Waits = true
@@ -63,9 +64,9 @@ task_of (SplitEntry number path token own children) = None
 task_of (TaskEntry number path state) = Some (record { path = path; number = number })
 
 -- the path of an entry, if it is a task
-abbrev pub path_of : PlainEntry → Option (List ℕ)
-path_of (SplitEntry number path token own children) = None
-path_of (TaskEntry number path state) = Some path
+abbrev pub entry_path : PlainEntry → Option (List ℕ)
+entry_path (SplitEntry number path token own children) = None
+entry_path (TaskEntry number path state) = Some path
 
 -- the leftmost task that waits
 abbrev pub first_waiting : List PlainEntry → Option PlainTask
@@ -75,7 +76,7 @@ first_waiting (e ∷ es) = if waits e then task_of e else first_waiting es
 -- the path of the task of this number that is out
 abbrev pub out_path : ℕ → List PlainEntry → Option (List ℕ)
 out_path n [] = None
-out_path n (e ∷ es) = if is_out n e then path_of e else out_path n es
+out_path n (e ∷ es) = if is_out n e then entry_path e else out_path n es
 
 -- the first entry that passes a test gives way to others
 abbrev pub at_first : (PlainEntry → Bool) → (PlainEntry → List PlainEntry) → List PlainEntry → List PlainEntry
@@ -87,7 +88,8 @@ abbrev pub with_state : PlainTaskState → PlainEntry → PlainEntry
 with_state state (SplitEntry number path token own children) = SplitEntry number path token own children
 with_state state (TaskEntry number path old) = TaskEntry number path state
 
--- the children of a split from the k-th on, so many, which wait: numbered from left to right from the given number on
+-- the children of a split from the k-th on, so many, which wait: numbered from left to right from
+-- the given number on
 abbrev pub children_from : List ℕ → ℕ → ℕ → ℕ → List PlainEntry
 children_from path k zero number = []
 children_from path k (suc more) number = TaskEntry number (path ++ k ∷ []) Waits ∷ children_from path (suc k) more (suc number)

@@ -2,7 +2,7 @@
 use Rattle.std.specs.Prelude.{ℕ, ◌≡◌, ◌<◌, ◌⊎◌, List, [], ◌∷◌, ◌++◌, Some, Bool, true, false, ◌==◌, nat_lt, if◌then◌else◌, option_to_list}
 use Rattle.tree_terms.specs.Trees.{SearchTree, Verdict, PlainOutcome, Decided, Past, count_of}
 use Rattle.tree_terms.specs.Paths.{outcome_at, IsReachable}
-use Rattle.board_terms.specs.Board.{PlainEntry, SplitEntry, TaskEntry, PlainTaskState, Waits, Out, Done, path_of, out_path}
+use Rattle.board_terms.specs.Board.{PlainEntry, SplitEntry, TaskEntry, PlainTaskState, Waits, Out, Done, entry_path, out_path}
 
 -- x isn't in the list
 abbrev pub IsNotIn : {A : Type 0} → A → List A → Type 0
@@ -19,7 +19,8 @@ abbrev pub AreBelow : ℕ → List ℕ → Type 0
 AreBelow n [] = Unit {0}
 AreBelow n (x ∷ xs) = (x < n) × AreBelow n xs
 
--- The path leads to the left of the other: where they part, it takes a child before the other's. So neither is a prefix of the other.
+-- The path leads to the left of the other: where they part, it takes a child before the other's. So
+-- neither is a prefix of the other.
 abbrev pub leads_left : List ℕ → List ℕ → Bool
 leads_left [] q = false
 leads_left (i ∷ p) [] = false
@@ -38,7 +39,7 @@ AreFromLeft (p ∷ ps) = IsLeftOf p ps × AreFromLeft ps
 -- the paths of the tasks, in order
 abbrev pub task_paths : List PlainEntry → List (List ℕ)
 task_paths [] = []
-task_paths (e ∷ es) = option_to_list (path_of e) ++ task_paths es
+task_paths (e ∷ es) = option_to_list (entry_path e) ++ task_paths es
 
 -- no path of a task that is out is a prefix of the path of another one
 abbrev pub OutsAreApart : List PlainEntry → Type 0
@@ -58,7 +59,8 @@ IsStateRight tree budget path Waits = Unit {0}
 IsStateRight tree budget path Out = Unit {0}
 IsStateRight tree budget path (Done outcome) = (verdict : Verdict) × (outcome_at tree path ≡ Some verdict) × IsOutcomeOf budget verdict outcome
 
--- each task's path may be reached, and each done task has its node's outcome, or past where the count of that exceeds the budget
+-- each task's path may be reached, and each done task has its node's outcome, or past where the
+-- count of that exceeds the budget
 abbrev pub AreTasksRight : SearchTree → ℕ → List PlainEntry → Type 0
 AreTasksRight tree budget [] = Unit {0}
 AreTasksRight tree budget (SplitEntry number path token own children ∷ es) = AreTasksRight tree budget es

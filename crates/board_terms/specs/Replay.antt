@@ -1,4 +1,5 @@
--- The replay of a history: what each stored event makes of a board, with all else read from the tree.
+-- The replay of a history: what each stored event makes of a board, with all else read from the
+-- tree.
 use Rattle.std.specs.Prelude.{ℕ, List, [], ◌∷◌, ◌++◌, length, Option, Some, None, Bool, true, false, fold, option_to_list}
 use Rattle.tree_terms.specs.Trees.{SearchTree, Verdict, PlainOutcome, Decided, told, node_at}
 use Rattle.tree_terms.specs.Paths.{PlainNode, Leaf, Splits, node_told, outcome_at}
@@ -22,7 +23,8 @@ abbrev pub split_by : SearchTree → ℕ → PlainEntry → List PlainEntry
 split_by tree fresh (SplitEntry number path token own children) = SplitEntry number path token own children ∷ []
 split_by tree fresh (TaskEntry number path state) = split_as (told_there (node_at (Some tree) path)) fresh (TaskEntry number path state)
 
--- the outcome that is read from the tree: as told under the budget where past was given, and else whole
+-- the outcome that is read from the tree: as told under the budget where past was given, and else
+-- whole
 abbrev pub outcome_read : ℕ → Bool → Verdict → PlainOutcome
 outcome_read budget true verdict = told budget verdict
 outcome_read budget false verdict = Decided verdict

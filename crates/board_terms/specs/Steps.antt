@@ -4,11 +4,12 @@ use Rattle.packing_terms.specs.Tokens.{PlainToken}
 use Rattle.tree_terms.specs.Trees.{SearchTree, Verdict, count_of, PlainOutcome, Decided, Past, node_at}
 use Rattle.tree_terms.specs.Paths.{node_told, Splits, outcome_at}
 use Rattle.board_terms.specs.Board.{BoardState, PlainTask, PlainEntry, waits_as, is_out, first_waiting, out_path, at_first, with_state, Out, Done, split_into}
-use Rattle.board_terms.specs.Runs.{is_over}
+use Rattle.board_terms.specs.Runs.{is_board_over}
 use Rattle.board_terms.specs.declared.Event.{Event}
 use Rattle.board_terms.specs.declared.Event.TheVariants as stored
 
--- what is asked of a board: a task, to split or to finish a task that is out, and to note that a worker was short of memory
+-- what is asked of a board: a task, to split or to finish a task that is out, and to note that a
+-- worker was short of memory
 pub data Request : Type 0 where
   AskTask : Request
   AskSplit : (number : ℕ) → Request
@@ -26,7 +27,8 @@ pub data Reply : Type 0 where
 abbrev pub handed_out : ℕ → List PlainEntry → List PlainEntry
 handed_out number = at_first (waits_as number) (λ e. with_state Out e ∷ [])
 
--- the task of this number, which is out, is split, with its children waiting, numbered from the number of entries before on
+-- the task of this number, which is out, is split, with its children waiting, numbered from the
+-- number of entries before on
 abbrev pub divided : PlainToken → ℕ → ℕ → ℕ → List PlainEntry → List PlainEntry
 divided token own children number entries = at_first (is_out number) (split_into token own children (length entries)) entries
 
@@ -43,7 +45,8 @@ outcome_given false verdict = Decided verdict
 abbrev pub with_entries : BoardState → List PlainEntry → BoardState
 with_entries board entries = record board { entries = entries }
 
--- The task of this number is out, and the tree's node at its path is told as a split: its entry and its children stand in the task's place.
+-- The task of this number is out, and the tree's node at its path is told as a split: its entry and
+-- its children stand in the task's place.
 pub record Divides (tree : SearchTree) (old : BoardState) (number : ℕ) (new : BoardState) : Type 0 where
   pub path : List ℕ
   pub handed : out_path number old.entries ≡ Some path
@@ -55,7 +58,8 @@ pub record Divides (tree : SearchTree) (old : BoardState) (number : ℕ) (new : 
   pub told : node_told node ≡ Splits token own children
   pub after : new ≡ with_entries old (divided token own children number old.entries)
 
--- The task of this number is out, and is done with the tree's outcome at its path, or with past where the count of that exceeds the budget.
+-- The task of this number is out, and is done with the tree's outcome at its path, or with past
+-- where the count of that exceeds the budget.
 pub record Finishes (tree : SearchTree) (budget : ℕ) (old : BoardState) (number : ℕ) (past : Bool) (new : BoardState) : Type 0 where
   pub path : List ℕ
   pub handed : out_path number old.entries ≡ Some path
@@ -64,12 +68,13 @@ pub record Finishes (tree : SearchTree) (budget : ℕ) (old : BoardState) (numbe
   pub above : past ≡ true → budget < count_of verdict
   pub after : new ≡ with_entries old (finished (outcome_given past verdict) number old.entries)
 
--- One step of the board for a tree and a budget: a request, its reply, and the state that it leaves.
+-- One step of the board for a tree and a budget: a request, its reply, and the state that it
+-- leaves.
 abbrev pub BoardStep : SearchTree → ℕ → BoardState → Request → Reply → BoardState → Type 0
-BoardStep tree budget old AskTask IsOver new = (is_over budget old ≡ true) × (new ≡ old)
+BoardStep tree budget old AskTask IsOver new = (is_board_over budget old ≡ true) × (new ≡ old)
 BoardStep tree budget old AskTask (Job task) new =
-    (is_over budget old ≡ false) × (first_waiting old.entries ≡ Some task) × (new ≡ with_entries old (handed_out task.number old.entries))
-BoardStep tree budget old AskTask NoneWaits new = (is_over budget old ≡ false) × (first_waiting old.entries ≡ None) × (new ≡ old)
+    (is_board_over budget old ≡ false) × (first_waiting old.entries ≡ Some task) × (new ≡ with_entries old (handed_out task.number old.entries))
+BoardStep tree budget old AskTask NoneWaits new = (is_board_over budget old ≡ false) × (first_waiting old.entries ≡ None) × (new ≡ old)
 BoardStep tree budget old AskTask IsDone new = ⊥
 BoardStep tree budget old (AskSplit number) IsDone new = Divides tree old number new
 BoardStep tree budget old (AskSplit number) IsOver new = ⊥

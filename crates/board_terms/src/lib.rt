@@ -1,6 +1,7 @@
 //! The work board of a search tree, as definitions over plain lists, and the laws over them.
 //!
-//! The definitions stand in specs/, one topic a file. Each law is the contract of a function with an empty body in `laws`.
+//! The definitions stand in specs/, one topic a file. Each law is the contract of a function with
+//! an empty body in `laws`.
 #![tactic(auto)]
 
 mod laws;
@@ -11,9 +12,10 @@ pub use laws::{
 
 /// An event that changes a board. Tasks are named by their numbers.
 ///
-/// `Take`: the task, which waits, is handed out. `Split`: the task, which is out, gives way to the split that the tree has at its
-/// path, and to its children, which wait. `Finish`: the task, which is out, is done with the outcome that the tree has at its path,
-/// or, with `past`, with "past the budget". `Short`: a worker was short of memory.
+/// `Take`: the task, which waits, is handed out. `Split`: the task, which is out, gives way to the
+/// split that the tree has at its path, and to its children, which wait. `Finish`: the task, which
+/// is out, is done with the outcome that the tree has at its path, or, with `past`, with "past the
+/// budget". `Short`: a worker was short of memory.
 #[derive(Clone, Copy, Debug, PartialEq, Eq)]
 pub enum Event {
     Take { number: u64 },

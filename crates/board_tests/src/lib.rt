@@ -1,5 +1,6 @@
-//! Tests of the work board over class trees: both scripts, a thousand random schedules, and a worker that is short of memory
-//! at each moment. Every board that is over gives the outcome of one thread, and so do several workers that share a tree.
+//! Tests of the work board over class trees: both scripts, a thousand random schedules, and a
+//! worker that is short of memory at each moment. Every board that is over gives the outcome of one
+//! thread, and so do several workers that share a tree.
 #![tactic(auto)]
 
 #[cfg(test)]

@@ -3,7 +3,8 @@ use box_instances::{BoxItem, Instance, Sides};
 use std::alloc::Global;
 use std::test::Fail;
 
-/// An instance in two dimensions, whether its tree has scales, and its budgets: spent, just enough, and ample.
+/// An instance in two dimensions, whether its tree has scales, and its budgets: spent, just enough,
+/// and ample.
 #[derive(Drop)]
 pub struct Row {
     pub container: [u32; 2],
@@ -12,8 +13,8 @@ pub struct Row {
     pub budgets: [u64; 4],
 }
 
-/// Two boxes that stand on one another, the pinwheel, four boxes in a row where three have room, a layer of a pallet, a row of
-/// three boxes, and six boxes of which only three have room in a row.
+/// Two boxes that stand on one another, the pinwheel, four boxes in a row where three have room, a
+/// layer of a pallet, a row of three boxes, and six boxes of which only three have room in a row.
 pub const ROWS: [Row; 6] = [
     Row {
         container: [10, 10],
@@ -56,7 +57,8 @@ pub const FOUR: Row = Row {
     budgets: [2, 4, 5, 1000],
 };
 
-/// Eight boxes that must stand in a row, where only seven have room: there are 5,039 branchings, more than the first cap.
+/// Eight boxes that must stand in a row, where only seven have room: there are 5,039 branchings,
+/// more than the first cap.
 pub const EIGHT: Row = Row {
     container: [23, 10],
     boxes: &[
@@ -73,8 +75,8 @@ pub const EIGHT: Row = Row {
     budgets: [0, 1024, 5038, 5039],
 };
 
-/// Two boxes that must stand on one another, and six beside them: before that is tried, all eight are tried in a row, where they have
-/// no room. There are 5,062 branchings.
+/// Two boxes that must stand on one another, and six beside them: before that is tried, all eight
+/// are tried in a row, where they have no room. There are 5,062 branchings.
 pub const LATE: Row = Row {
     container: [23, 10],
     boxes: &[

@@ -1,4 +1,5 @@
-//! A runner: a list of numbers drives a board over a tree, through any events that the board allows.
+//! A runner: a list of numbers drives a board over a tree, through any events that the board
+//! allows.
 ghost use Rattle.std.specs.Prelude.{◌≡◌};
 
 use box_instances::NoMemory;
@@ -6,7 +7,8 @@ use proof_tree::Outcome;
 use std::alloc::Global;
 use work_share::{Board, Node, Take, Task, Tree};
 
-/// The tasks that are out, and what a run met: how many tasks wait, and the numbers of the first yes.
+/// The tasks that are out, and what a run met: how many tasks wait, and the numbers of the first
+/// yes.
 #[derive(Drop)]
 pub struct Met {
     pub out: Vec<Task>,
@@ -110,7 +112,8 @@ pub fn split<T: Tree>(
     }
 }
 
-/// One event: a number below 4 in its last two bits says which, and the rest of it which task that is out.
+/// One event: a number below 4 in its last two bits says which, and the rest of it which task that
+/// is out.
 pub fn turn<T: Tree>(
     alloc: Global,
     tree: &T,
@@ -156,7 +159,8 @@ pub fn drive<T: Tree>(
     Ok(())
 }
 
-/// Takes and finishes tasks, the last taken first, until the board is over. It answers false where it isn't within so many turns.
+/// Takes and finishes tasks, the last taken first, until the board is over. It answers false where
+/// it isn't within so many turns.
 pub fn complete<T: Tree>(
     alloc: Global,
     tree: &T,

@@ -9,8 +9,9 @@ use std::alloc::Global;
 use std::test::Fail;
 use work_share::{Board, Tree};
 
-// What a schedule showed: that its board was over, and gave the outcome of one thread; whether another yes was finished before the
-// one that is the answer, which stands on its left; and whether the budget was passed while tasks waited.
+// What a schedule showed: that its board was over, and gave the outcome of one thread; whether
+// another yes was finished before the one that is the answer, which stands on its left; and whether
+// the budget was passed while tasks waited.
 #[derive(Drop)]
 struct Shown {
     is_right: bool,
@@ -90,8 +91,8 @@ fn run_row(alloc: Global, row: &Row, rounds: u32, total: &mut Total) -> Result<(
     Ok(())
 }
 
-// 42 rounds over six rows with four budgets each: 1008 schedules. In some a yes is finished before another on its left, and in some
-// the budget is passed by the leftmost run while tasks wait.
+// 42 rounds over six rows with four budgets each: 1008 schedules. In some a yes is finished before
+// another on its left, and in some the budget is passed by the leftmost run while tasks wait.
 #[test]
 fn random_schedules_give_the_outcome_of_one_thread(rt: HostRuntime) -> Result<(), Fail> {
     let alloc = rt.alloc();

@@ -44,7 +44,8 @@ fn join<T: Tree>(alloc: Global, board: Board<'_, T>) -> Result<Option<Outcome>, 
     Ok(Some(board.joined(alloc)?))
 }
 
-// Under a budget of 5: the second child is finished before the first, and the pieces join to the whole refutation.
+// Under a budget of 5: the second child is finished before the first, and the pieces join to the
+// whole refutation.
 fn run_whole(alloc: Global, tree: &ClassTree<'_>) -> Result<Option<Outcome>, NoMemory> {
     let mut met = Met::new(alloc);
     let mut board = Board::start(alloc, tree, 5)?;

@@ -10,7 +10,8 @@ use work_share::{Board, Event, Take};
 // Takes and splits, and at the end finishes what is out.
 const NUMBERS: [u32; 16] = [0, 3, 0, 0, 3, 0, 0, 2, 7, 0, 0, 2, 2, 6, 2, 2];
 
-// Whether a board is over from the note of a shortage on, whatever its tasks do later, and keeps one note of it.
+// Whether a board is over from the note of a shortage on, whatever its tasks do later, and keeps
+// one note of it.
 fn stays_short(alloc: Global, tree: &ClassTree<'_>, moment: usize) -> Result<bool, NoMemory> {
     let (before, after) = NUMBERS.split_at(moment.min(NUMBERS.len()));
     let mut met = Met::new(alloc);

@@ -1,4 +1,5 @@
-//! Several workers that share one class tree: whatever their number, they give the outcome of one thread.
+//! Several workers that share one class tree: whatever their number, they give the outcome of one
+//! thread.
 use crate::compare::is_same;
 use crate::rows::{EIGHT, LATE, ROWS, Row, instance_of};
 use box_instances::NoMemory;
@@ -135,7 +136,8 @@ impl Gate for CallCounts {
     }
 }
 
-// Whether so many workers call the gate so often under this budget, once for each of the numbers from 0 on.
+// Whether so many workers call the gate so often under this budget, once for each of the numbers
+// from 0 on.
 fn calls_for_each<R: Threads + Wait + Sync>(
     rt: &R,
     alloc: Global,
@@ -151,8 +153,9 @@ fn calls_for_each<R: Threads + Wait + Sync>(
     Ok(counts.are(calls, sum))
 }
 
-// Each half of the tree has 2,519 branchings, more than the cap of 2,048 there; each quarter is within its cap. So with two workers
-// and more each of the tasks 0 to 6 is explored, and none twice.
+// Each half of the tree has 2,519 branchings, more than the cap of 2,048 there; each quarter is
+// within its cap. So with two workers and more each of the tasks 0 to 6 is explored, and none
+// twice.
 #[test]
 fn the_gate_is_called_around_each_task(rt: HostRuntime) -> Result<(), Fail> {
     for workers in [2, 3, 8, 64] {
@@ -173,7 +176,8 @@ fn the_gate_is_called_for_the_root_alone(rt: HostRuntime) -> Result<(), Fail> {
     Ok(())
 }
 
-// A gate that holds the worker of task 1 until task 2 was explored, or until it has looked so often that this won't come.
+// A gate that holds the worker of task 1 until task 2 was explored, or until it has looked so often
+// that this won't come.
 #[derive(Drop)]
 struct Hold {
     is_explored: AtomicU64,

@@ -1,4 +1,4 @@
-// Copies of instances, whole or in part.
+//! Copies of instances, whole or in part.
 ghost use Rattle.std.specs.Prelude.{◌≡◌, ◌≤◌, ◌-◌, map, length, slice_set, IfOk};
 ghost use Rattle.packing_terms.specs.Goals.{subset, with_last_side, IsBoxSet};
 ghost use Rattle.packing_terms.specs.Limits.{most_height};

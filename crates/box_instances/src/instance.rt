@@ -1,9 +1,9 @@
-// Boxes and instances.
+//! Boxes and instances.
 ghost use Rattle.std.specs.Prelude.{map, replicate, slice_index, IfErr, slice_index_or, ◌≡◌, ◌<◌, ◌≤◌, ◌^◌, ℕ, length, IfOk, OnOk, MatchOption};
 ghost use Rattle.packing_terms.specs.Packing.{dims, box_count, kerf, written_container, written_side, container_side, side, value, no_box};
 ghost use Rattle.packing_terms.specs.Limits.{most_boxes, AreSides, IsBox, IsInstance, IsInternalInstance};
 ghost use Rattle.box_instances.specs.Plain.{plain_box, plain_instance, without_kerf};
-ghost use Rattle.box_instances.specs.Faults.{AreKerfsOf, IsFirstOutside, IsFirstKerfOutside, IsFirstFault, IsFirstBoxFault};
+ghost use Rattle.box_instances.specs.Faults.{AreKerfsOf, IsFirstFaultySide, IsFirstKerfOutside, IsFirstFault, IsFirstBoxFault};
 
 use crate::InstanceFault;
 use smallvec::SmallVec;
@@ -32,13 +32,14 @@ pub const MOST_KERF: u32 = 100_000;
 /// The greatest value of a box.
 pub const MOST_VALUE: u32 = 1_000_000_000;
 
-/// A container and the boxes that are to be packed in it without rotation, with a gap of at least the kerf between boxes
-/// that are apart.
+/// A container and the boxes that are to be packed in it without rotation, with a gap of at least
+/// the kerf between boxes that are apart.
 ///
-/// It has 2 to 4 dimensions and 1 to 128 boxes. In each dimension the kerf is from 0 to 100,000, and each box has a written
-/// side from 1 to 1,000,000 less the kerf; its value is at most 1,000,000,000. Each written container side is in the same
-/// range, but the last one may have been set to anything from 0 to 128,000,000. A working side is a written one with the
-/// kerf. Contracts see an instance as the plain instance of the written numbers.
+/// It has 2 to 4 dimensions and 1 to 128 boxes. In each dimension the kerf is from 0 to 100,000,
+/// and each box has a written side from 1 to 1,000,000 less the kerf; its value is at most
+/// 1,000,000,000. Each written container side is in the same range, but the last one may have been
+/// set to anything from 0 to 128,000,000. A working side is a written one with the kerf. Contracts
+/// see an instance as the plain instance of the written numbers.
 #[derive(Drop)]
 pub struct Instance {
     pub(crate) container: Sides,
@@ -69,7 +70,8 @@ fn kerf_at(kerf: &[u32], i: usize) -> u32
 // The index of the first number that is no written side under these kerfs.
 fn first_outside(kerf: &[u32], sides: &[u32]) -> Option<u32>
     requires { length sides.now < 2 ^ 32 }
-    ensures { MatchOption result (AreSides kerf.now sides.now) (IsFirstOutside kerf.now sides.now) }
+    ensures { MatchOption result (AreSides kerf.now sides.now)
+        (IsFirstFaultySide kerf.now sides.now) }
 {
     for i in 0..sides.len() {
         if sides[i] < 1 || sides[i] as u64 + kerf_at(kerf, i) as u64 > MOST_SIDE as u64 {
@@ -83,7 +85,8 @@ fn first_outside(kerf: &[u32], sides: &[u32]) -> Option<u32>
 fn first_kerf_outside(container: &[u32], kerf: &[u32]) -> Option<u32>
     requires few { length kerf.now < 2 ^ 32 }
     requires same { length kerf.now ≡ length container.now }
-    ensures { MatchOption result (AreKerfsOf container.now kerf.now) (IsFirstKerfOutside container.now kerf.now) }
+    ensures { MatchOption result (AreKerfsOf container.now kerf.now)
+        (IsFirstKerfOutside container.now kerf.now) }
 {
     for i in 0..kerf.len() {
         if kerf[i] > MOST_KERF || container[i] as u64 + kerf[i] as u64 > MOST_SIDE as u64 {
@@ -98,7 +101,8 @@ fn first_box_fault(dims: usize, kerf: &[u32], boxes: &[BoxItem]) -> Option<Insta
     requires few { length boxes.now ≤ most_boxes }
     requires dims { dims ≤ 4 }
     ensures { MatchOption result
-        ((v : ℕ) → v < length boxes.now → IsBox dims kerf.now (slice_index_or (map plain_box boxes.now) v no_box))
+        ((v : ℕ) → v < length boxes.now
+        → IsBox dims kerf.now (slice_index_or (map plain_box boxes.now) v no_box))
         (IsFirstBoxFault dims kerf.now (map plain_box boxes.now)) }
 {
     for v in 0..boxes.len() {
@@ -130,8 +134,8 @@ fn zeros(alloc: Global, count: usize) -> Sides
 }
 
 impl Instance {
-    /// The instance of these parts with kerf 0, whose container sides are all from 1 to 1,000,000. It refuses as `with_kerf`
-    /// does.
+    /// The instance of these parts with kerf 0, whose container sides are all from 1 to 1,000,000.
+    /// It refuses as `with_kerf` does.
     pub fn new(container: Sides, boxes: Vec<BoxItem>) -> Result<Instance, InstanceFault>
         ensures ok { IfOk result (λ i. i ≡ without_kerf container boxes) }
         ensures limits { OnOk result (IsInstance (without_kerf container boxes)) }
@@ -146,10 +150,11 @@ impl Instance {
 
     /// The instance of these parts, by their written sides.
     ///
-    /// It refuses exactly with the first of these faults that holds, and drops the parts: `Dims`; `ContainerRange` at the
-    /// first container side outside 1 to 1,000,000; `KerfCount`; `KerfRange` at the first kerf that exceeds 100,000, or with
-    /// its container side 1,000,000; `NoBoxes`; `TooManyBoxes`; and then at the first faulty box `SideCount`, else
-    /// `SideRange` at its first side outside 1 to 1,000,000 less the kerf, else `ValueRange`.
+    /// It refuses exactly with the first of these faults that holds, and drops the parts: `Dims`;
+    /// `ContainerRange` at the first container side outside 1 to 1,000,000; `KerfCount`;
+    /// `KerfRange` at the first kerf that exceeds 100,000, or with its container side 1,000,000;
+    /// `NoBoxes`; `TooManyBoxes`; and then at the first faulty box `SideCount`, else `SideRange` at
+    /// its first side outside 1 to 1,000,000 less the kerf, else `ValueRange`.
     pub fn with_kerf(
         container: Sides,
         kerf: Sides,
@@ -220,7 +225,8 @@ impl Instance {
         self.written_side(box_no, dim) + self.kerf(dim)
     }
 
-    /// The kerf in a dimension: the least gap between boxes that are apart there. Every instance is within the limits.
+    /// The kerf in a dimension: the least gap between boxes that are apart there. Every instance is
+    /// within the limits.
     pub fn kerf(&self, dim: u32) -> u32
         requires { dim < dims self.now }
         ensures value { result ≡ kerf self.now dim }

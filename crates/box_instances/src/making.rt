@@ -1,4 +1,4 @@
-// The generator of instances.
+//! The generator of instances.
 ghost use Rattle.std.specs.Prelude.{ℕ, ◌≡◌, ◌+◌, ◌*◌, ◌/◌, List, [], ◌∷◌, IfOk, OnOk};
 ghost use Rattle.packing_terms.specs.Limits.{IsInstance};
 ghost use Rattle.packing_terms.specs.Generator.{next_seed, seed, made_box, made_instance};
@@ -58,9 +58,9 @@ fn next_box(alloc: Global, draws: &mut Draws) -> BoxItem
     }
 }
 
-/// The generated instance of a number: 1 to 64 boxes of value 1 with sides
-/// from 1 to 250, in the container 1000 by 1000 with kerf 0. It is the same on every machine, and
-/// within the limits of a written instance.
+/// The generated instance of a number: 1 to 64 boxes of value 1 with sides from 1 to 250, in the
+/// container 1000 by 1000 with kerf 0. It is the same on every machine, and within the limits of a
+/// written instance.
 pub fn make(alloc: Global, number: u32) -> Result<Instance, NoMemory>
     ensures ok { IfOk result (λ i. i ≡ made_instance number) }
     ensures limits { OnOk result (IsInstance (made_instance number)) }

@@ -1,4 +1,4 @@
-// Sets of the boxes of an instance, as instances of their own.
+//! Sets of the boxes of an instance, as instances of their own.
 ghost use Rattle.std.specs.Prelude.{◌≡◌, ◌<◌, ◌≤◌, ◌-◌, IfOk, length, map, slice_index_or, slice_set, vec_capacity};
 ghost use Rattle.std.specs.List.{range_with_len};
 ghost use Rattle.packing_terms.specs.Packing.{dims, box_count, no_box};
@@ -35,8 +35,8 @@ impl Instance {
 /// without taking memory.
 ///
 /// It is seen as the instance and the numbers of the boxes, which rise and of which there is at
-/// least one. It holds one instance for each number of boxes: n (n + 1) / 2 boxes where the instance
-/// has n.
+/// least one. It holds one instance for each number of boxes: n (n + 1) / 2 boxes where the
+/// instance has n.
 #[derive(Drop)]
 pub struct BoxSet<'a> {
     whole: &'a Instance,
@@ -52,12 +52,14 @@ impl<'a> Model for BoxSet<'a> {
 
     ghost view = { λ s. record { whole = s.whole.now; keep = s.keep.items } };
 
-    ghost invariant = { λ s. IsHeldSet s.whole.now s.keep.items s.sets.items (vec_capacity s.keep) };
+    ghost invariant = { λ s. IsHeldSet s.whole.now s.keep.items s.sets.items
+        (vec_capacity s.keep) };
 }
 
 // The numbers 0 to n - 1.
 fn numbers_below(alloc: Global, count: u32) -> Result<Vec<u32>, NoMemory>
-    ensures { IfOk result (λ list. (list.items ≡ range_with_len 0 count) × (count ≤ vec_capacity list)) }
+    ensures { IfOk result (λ list. (list.items ≡ range_with_len 0 count)
+        × (count ≤ vec_capacity list)) }
 {
     let Ok(mut list) = Vec::with_capacity(alloc, count as usize) else {
         return Err(NoMemory);
@@ -118,12 +120,13 @@ impl<'a> BoxSet<'a> {
         Ok(BoxSet { whole, keep, sets })
     }
 
-    /// Makes it the set of these boxes, whose numbers rise. There is at least one.
+    /// Makes it the set of these boxes: at least one, in range, by strictly rising numbers.
     pub fn set_to(&mut self, keep: &[u32])
         requires some { 1 ≤ length keep.now }
         requires set { IsBoxSet self.old.whole keep.now }
         ensures { self.new ≡ record self.old { keep = keep.now } }
     {
+        // For the proof alone: tells the limits of the instance.
         let _limits = self.whole.len();
         refill(&mut self.keep, keep);
         set_boxes(&mut self.sets[keep.len() - 1], self.whole, keep);

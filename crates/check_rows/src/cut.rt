@@ -1,4 +1,4 @@
-// Documents that end too early.
+//! Documents that end too early.
 use crate::runs::told_of;
 use std::test::Fail;
 

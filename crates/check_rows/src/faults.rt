@@ -1,7 +1,8 @@
-// Faults of the source and of the sink, and what is read and written around them.
-use crate::runs::{listed, told_of, told_with};
+//! Faults of the source and of the sink, and what is read and written around them.
+use crate::runs::{told_of, told_with};
 use pack_command::check_stream;
 use pack_streams::{MemorySink, MemorySource, ReadStep, WriteStep};
+use program_runs::listed;
 use std::test::Fail;
 
 const PAIR: &[u8] =

@@ -1,4 +1,5 @@
-// Documents that are refused by their form, each with its line: faults of the instance, of lines, of numbers.
+//! Documents that are refused by their form, each with its line: faults of the instance, of lines,
+//! of numbers.
 use crate::runs::told_of;
 use std::test::Fail;
 

@@ -1,4 +1,5 @@
-// Documents that are refused by what they show, each with its line: their places, their trees, their end.
+//! Documents that are refused by what they show, each with its line: their places, their trees,
+//! their end.
 use crate::runs::told_of;
 use std::test::Fail;
 

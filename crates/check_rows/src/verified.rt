@@ -1,4 +1,5 @@
-// Documents that are verified, each with its line: the rows of the solving jobs, other spellings, trees that no search wrote, and kerfs.
+//! Documents that are verified, each with its line: the rows of the solving jobs, other spellings,
+//! trees that no search wrote, and kerfs.
 use crate::runs::told_of;
 use std::test::Fail;
 

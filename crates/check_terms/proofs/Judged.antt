@@ -20,10 +20,10 @@ use Rattle.packing_terms.specs.Feeding.{Accepts}
 use Rattle.packing_terms.specs.OuterRefutation.{Bins, Choice as BoxChoice, has_box, undecided}
 use Rattle.packing_terms.specs.OuterFeeding.{OpenNode, Outer, Inner, AcceptsBins, AcceptsValue}
 use Rattle.packing_terms.proofs.Members.{all_at, all_from, in_range, range_in}
-use Rattle.rule_terms.specs.Rounds.{below}
+use Rattle.packing_terms.specs.Sums.{below}
 use Rattle.rule_terms.proofs.RoundsLemmas.{closure_is}
-use Rattle.rule_terms.proofs.Tests.{is_not}
 use Rattle.rule_terms.proofs.Conflicts.{calm, stormy}
+use Rattle.rule_terms.proofs.Drawn.{is_not}
 use Rattle.check_terms.specs.declared.answers.RefuseCode.{RefuseCode}
 use Rattle.check_terms.specs.Judging.{unless, names_pair, closed, is_conflict, may_part, may_order, is_legal, sides_fit, tuple_refusal, refusal}
 use Rattle.check_terms.specs.OuterJudging.{bin_refusal, value_refusal}
@@ -82,7 +82,7 @@ module _ (instance : PlainInstance) where
         let b = and_parts _ _ a.0 in
         record {
           named = named dim u v n;
-          calm = no_conflict b.0;
+          no_conflict = no_conflict b.0;
           overlap = open_one (pred dim) (pred u) (pred v) Overlap b.1;
           other = go (or_cases _ _ a.1);
         }
@@ -93,7 +93,7 @@ module _ (instance : PlainInstance) where
         go (inr e) = inr (open_one (pred dim) (pred u) (pred v) After e)
 
     is_parted : (dim u v : ℕ) → MaySplitApart instance es dim u v → may_part instance (closed instance es) dim u v ≡ true
-    is_parted dim u v m = and_from _ _ (and_from _ _ (is_calm m.calm) (is_open (pred dim) (pred u) (pred v) Overlap m.overlap)) (go m.other)
+    is_parted dim u v m = and_from _ _ (and_from _ _ (is_calm m.no_conflict) (is_open (pred dim) (pred u) (pred v) Overlap m.overlap)) (go m.other)
       where
         go : (¬ IsDerived instance (excludes es) (pred dim) (pred u) (pred v) Before) ⊎ (¬ IsDerived instance (excludes es) (pred dim) (pred u) (pred v) After)
             → (not (closed instance es (pred dim) (pred u) (pred v) Before) || not (closed instance es (pred dim) (pred u) (pred v) After)) ≡ true
@@ -107,7 +107,7 @@ module _ (instance : PlainInstance) where
         let c = and_parts _ _ b.0 in
         record {
           named = named dim u v n;
-          calm = no_conflict c.0;
+          no_conflict = no_conflict c.0;
           overlap = (closure_is instance es (pred dim) (pred u) (pred v) Overlap).0 c.1;
           before = open_one (pred dim) (pred u) (pred v) Before b.1;
           after = open_one (pred dim) (pred u) (pred v) After a.1;
@@ -115,7 +115,7 @@ module _ (instance : PlainInstance) where
 
     is_ordered : (dim u v : ℕ) → MaySplitOrder instance es dim u v → may_order instance (closed instance es) dim u v ≡ true
     is_ordered dim u v m =
-        and_from _ _ (and_from _ _ (and_from _ _ (is_calm m.calm) ((closure_is instance es (pred dim) (pred u) (pred v) Overlap).1 m.overlap))
+        and_from _ _ (and_from _ _ (and_from _ _ (is_calm m.no_conflict) ((closure_is instance es (pred dim) (pred u) (pred v) Overlap).1 m.overlap))
         (is_open (pred dim) (pred u) (pred v) Before m.before)) (is_open (pred dim) (pred u) (pred v) After m.after)
 
   pub legal : (W : ℕ) (f : ScaleFn) → is_legal W f ≡ true → IsLegalScale f W

@@ -9,7 +9,7 @@ use Rattle.packing_terms.proofs.Found.{find_some, find_none}
 use Rattle.check_terms.specs.declared.answers.PlaceVerdict.{PlaceVerdict}
 use Rattle.check_terms.specs.declared.answers.PlaceVerdict.TheVariants.{Good, Outside, Overlap}
 use Rattle.check_terms.specs.Placing.{box_dims, box_pairs, leaves, is_apart_in, overlaps, verdict_by, place_verdict}
-use Rattle.check_terms.specs.Tested.{LiesWithin, IsFirstOutside, IsFirstOverlap, Tells}
+use Rattle.check_terms.specs.Tested.{LiesWithin, IsFirstOutside, IsFirstOverlap, TellsOfPlaces}
 use Rattle.check_terms.proofs.Firsts.{IsEarlier, never_itself, find_first, rows_ordered}
 
 module _ (instance : PlainInstance) (places : List ℕ) where
@@ -77,7 +77,7 @@ module _ (instance : PlainInstance) (places : List ℕ) where
       go i (inr h) = or_right _ _ (le-leb _ _ h)
 
   module _ (count : length places ≡ box_count instance * dims instance) where
-    told : Tells instance places (place_verdict instance places)
+    told : TellsOfPlaces instance places (place_verdict instance places)
     told = go (find (leaves instance places) (box_dims instance)) (find (overlaps instance places) (box_pairs instance)) refl refl
       where
         within : find (leaves instance places) (box_dims instance) ≡ None → (v i : ℕ) → v < box_count instance → i < dims instance → LiesWithin instance places v i
@@ -118,7 +118,7 @@ module _ (instance : PlainInstance) (places : List ℕ) where
             }
 
         go : (p q : Option (ℕ × ℕ)) → find (leaves instance places) (box_dims instance) ≡ p → find (overlaps instance places) (box_pairs instance) ≡ q
-            → Tells instance places (verdict_by p q)
+            → TellsOfPlaces instance places (verdict_by p q)
         go (Some (v, i)) q e f = outside v i e
         go None (Some (u, v)) e f = overlap u v e f
         go None None e f = record {
@@ -151,7 +151,7 @@ module _ (instance : PlainInstance) (places : List ℕ) where
       go (inl e) (inr (inr h)) = absurd (b.overlap (subst (λ p. AreApart instance places p y) e (a.before y (subst (λ p. p < y) (sym e) b.rising) h)))
 
   -- of two verdicts that say what the places are, neither differs
-  agree : (p q : PlaceVerdict) → Tells instance places p → Tells instance places q → p ≡ q
+  agree : (p q : PlaceVerdict) → TellsOfPlaces instance places p → TellsOfPlaces instance places q → p ≡ q
   agree Good Good a b = refl
   agree Good (Outside v i) a b = absurd (let h = a.within v i b.box_there b.dim_there in let k = b.leaves in omega (arith, h, k))
   agree Good (Overlap u v) a b = absurd (b.overlap (a.apart u v b.rising b.there))
@@ -163,8 +163,8 @@ module _ (instance : PlainInstance) (places : List ℕ) where
   agree (Overlap u v) (Overlap x y) a b = same_overlap u v x y a b
 
 pub places_tested : (instance : PlainInstance) (places : List ℕ) (verdict : PlaceVerdict) → length places ≡ box_count instance * dims instance
-    → (place_verdict instance places ≡ verdict) ↔ Tells instance places verdict
+    → (place_verdict instance places ≡ verdict) ↔ TellsOfPlaces instance places verdict
 places_tested instance places verdict count = (
-  λ e. subst (λ w. Tells instance places w) e (told instance places count),
+  λ e. subst (λ w. TellsOfPlaces instance places w) e (told instance places count),
   λ t. agree instance places (place_verdict instance places) verdict (told instance places count) t,
 )

@@ -1,4 +1,5 @@
--- A tree that is checked token by token: the open nodes, the next one first, and the refusal if there was one.
+-- A tree that is checked token by token: the open nodes, the next one first, and the refusal if
+-- there was one.
 use Rattle.std.specs.Prelude.{ℕ, List, [], ◌∷◌, ◌++◌, Bool, true, false, Option, Some, None, Result, Ok, Err}
 use Rattle.packing_terms.specs.declared.Exclusion.{Exclusion}
 use Rattle.packing_terms.specs.Packing.{PlainInstance}
@@ -24,7 +25,8 @@ abbrev pub nodes_after : {Node : Type 0} → (Node → PlainToken → Option Ref
 nodes_after refusal children [] t = Err After
 nodes_after refusal children (n ∷ nodes) t = left_by (refusal n t) (children n t) nodes
 
--- inner tokens at nodes of the inner tree of one instance; outer ones at nodes for k bins, and at nodes for a value
+-- inner tokens at nodes of the inner tree of one instance; outer ones at nodes for k bins, and at
+-- nodes for a value
 abbrev pub inner_after : PlainInstance → List (List Exclusion) → PlainToken → Result (List (List Exclusion)) RefuseCode
 inner_after instance nodes t = nodes_after (refusal instance) children nodes t
 

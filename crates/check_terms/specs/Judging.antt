@@ -1,4 +1,5 @@
--- Whether a token of an inner refutation is accepted at a node, and else the reason. The tests are made in the order in which they stand.
+-- Whether a token of an inner refutation is accepted at a node, and else the reason. The tests are
+-- made in the order in which they stand.
 use Rattle.std.specs.Prelude.{ℕ, ◌*◌, pred, Bool, true, false, not, ◌&&◌, ◌||◌, ◌==◌, List, length, Option, Some, None, nat_lt, nat_le}
 use Rattle.std.specs.List.{list_all}
 use Rattle.packing_terms.specs.declared.Rel.TheVariants.{Overlap, Before, After}
@@ -11,8 +12,9 @@ use Rattle.packing_terms.specs.Scales.{function_at}
 use Rattle.packing_terms.specs.Tuples.{has_excess}
 use Rattle.packing_terms.specs.Tokens.{PlainToken}
 use Rattle.packing_terms.specs.Tokens.PlainToken.{Apart, Order, Rules, TooLarge, Scales}
-use Rattle.rule_terms.specs.Rounds.{closure, below}
-use Rattle.rule_terms.specs.Rounds.{has_conflict}
+use Rattle.rule_terms.specs.Rounds.{closure}
+use Rattle.packing_terms.specs.Sums.{below}
+use Rattle.rule_terms.specs.Rounds.{has_empty_mask}
 use Rattle.check_terms.specs.declared.answers.RefuseCode.{RefuseCode}
 use Rattle.check_terms.specs.declared.answers.RefuseCode.TheVariants.{Kind, Range, Choice, Conflict, Excess, Side}
 
@@ -38,9 +40,10 @@ closed instance es = excludes (closure instance es)
 
 -- whether a set of exclusions has a conflict
 abbrev pub is_conflict : PlainInstance → Exclusions → Bool
-is_conflict instance X = has_conflict X (dims instance) (box_count instance)
+is_conflict instance X = has_empty_mask X (dims instance) (box_count instance)
 
--- whether there is no conflict, and the mask there has overlap and another relation; the numbers are those of the text
+-- whether there is no conflict, and the mask there has overlap and another relation; the numbers
+-- are those of the text
 abbrev pub may_part : PlainInstance → Exclusions → ℕ → ℕ → ℕ → Bool
 may_part instance X dim u v =
     not (is_conflict instance X) && not (X (pred dim) (pred u) (pred v) Overlap)

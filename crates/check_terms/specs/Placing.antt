@@ -1,4 +1,5 @@
--- How places are tested: first whether each box lies within the container, and only then whether each two boxes are apart by the kerf.
+-- How places are tested: first whether each box lies within the container, and only then whether
+-- each two boxes are apart by the kerf.
 use Rattle.std.specs.Prelude.{ℕ, ◌+◌, ◌-◌, List, map, Bool, not, ◌||◌, Option, Some, None, nat_lt, nat_le}
 use Rattle.std.specs.List.{find, flat_map, list_any, range_with_len}
 use Rattle.packing_terms.specs.Packing.{PlainInstance, dims, box_count, kerf, written_container, written_side, place}
@@ -28,7 +29,8 @@ is_apart_in instance places p i =
 abbrev pub overlaps : PlainInstance → List ℕ → ℕ × ℕ → Bool
 overlaps instance places p = not (list_any (is_apart_in instance places p) (range_with_len 0 (dims instance)))
 
--- the verdict, by the first box and dimension that leaves the container, and by the first pair that overlaps
+-- the verdict, by the first box and dimension that leaves the container, and by the first pair that
+-- overlaps
 abbrev pub verdict_by : Option (ℕ × ℕ) → Option (ℕ × ℕ) → PlaceVerdict
 verdict_by (Some p) q = Outside p.0 p.1
 verdict_by None (Some q) = Overlap q.0 q.1

@@ -16,7 +16,7 @@ use Rattle.tree_terms.proofs.Joins.{count_join_no}
 use Rattle.set_search.proofs.Verdicts.{finished}
 use Rattle.set_search.proofs.Reaching.{next_box}
 use Rattle.choice_search.specs.Choices.{PlainChoiceTree, IsChosen}
-use Rattle.choice_search.specs.Paths.{answer_of, IsAbove, box_at, child_tree}
+use Rattle.choice_search.specs.Paths.{class_answer, IsAbove, box_at, child_tree}
 use Rattle.choice_search.proofs.Choosing.{more_boxes, more_set, inside_chosen, outside_chosen}
 use Rattle.choice_search.proofs.NodeOutcomes.{own_first, inside_counts}
 
@@ -51,17 +51,17 @@ module _ (t : PlainChoiceTree) (decided : ℕ) (taken : List ℕ) (a : IsAbove t
   here = next_box (ranked t.instance) decided a.there
 
   pub first_set : IsBoxSet t.instance (insert_box (box_at t.instance decided) taken)
-  first_set = more_set t.instance decided taken (answer_of t.instance t.scales taken) a.chosen (box_at t.instance decided) here
+  first_set = more_set t.instance decided taken (class_answer t.instance t.scales taken) a.chosen (box_at t.instance decided) here
 
   pub first_boxes : AreBoxes t.instance (insert_box (box_at t.instance decided) taken)
-  first_boxes = more_boxes t.instance decided taken (answer_of t.instance t.scales taken) a.chosen (box_at t.instance decided) here
+  first_boxes = more_boxes t.instance decided taken (class_answer t.instance t.scales taken) a.chosen (box_at t.instance decided) here
 
   pub first_chosen : (ns : List ℕ) → length ns ≡ length (insert_box (box_at t.instance decided) taken) * dims t.instance
       → IsChosen t.instance (decided + 1) (insert_box (box_at t.instance decided) taken) ns
-  first_chosen = inside_chosen t.instance decided taken (answer_of t.instance t.scales taken) a.chosen (box_at t.instance decided) here
+  first_chosen = inside_chosen t.instance decided taken (class_answer t.instance t.scales taken) a.chosen (box_at t.instance decided) here
 
-  pub second_chosen : IsChosen t.instance (decided + 1) taken (answer_of t.instance t.scales taken)
-  second_chosen = outside_chosen t.instance decided taken (answer_of t.instance t.scales taken) a.chosen (box_at t.instance decided) here
+  pub second_chosen : IsChosen t.instance (decided + 1) taken (class_answer t.instance t.scales taken)
+  second_chosen = outside_chosen t.instance decided taken (class_answer t.instance t.scales taken) a.chosen (box_at t.instance decided) here
 
   abbrev set : Verdict
   set = set_verdict t.instance t.scales (insert_box (box_at t.instance decided) taken)
@@ -96,6 +96,6 @@ module _ (t : PlainChoiceTree) (decided : ℕ) (taken : List ℕ) (a : IsAbove t
 
   pub second_past : 0 < count_of (outcome (child_tree t decided taken 1))
   second_past =
-      let k = ap count_of (own_first t.instance t.scales t.goal (drop (decided + 1) (ranked t.instance)) taken (answer_of t.instance t.scales taken) 1) in
-      let l = count_join_no [] 1 (outcome (choice_node t.instance t.scales t.goal (drop (decided + 1) (ranked t.instance)) taken (answer_of t.instance t.scales taken) 0)) in
+      let k = ap count_of (own_first t.instance t.scales t.goal (drop (decided + 1) (ranked t.instance)) taken (class_answer t.instance t.scales taken) 1) in
+      let l = count_join_no [] 1 (outcome (choice_node t.instance t.scales t.goal (drop (decided + 1) (ranked t.instance)) taken (class_answer t.instance t.scales taken) 0)) in
       omega (arith, k, l)

@@ -8,31 +8,18 @@ use Rattle.packing_terms.proofs.Internal.{internal_sides, some_dimension}
 use Rattle.tree_terms.specs.Rank.{ranked}
 use Rattle.tree_terms.specs.Search.{IsRightUnder}
 use Rattle.packing_terms.specs.Goals.{subset}
+use Rattle.packing_terms.proofs.WithBoxes.{inserted_some}
 use Rattle.tree_terms.specs.Trees.{SearchTree, Refuted, Split, Verdict, Yes, No, node_at}
-use Rattle.tree_terms.specs.OuterTrees.{set_verdict, numbers_of, taken_child, choice_of, is_reached, is_short, choice_numbers, choice_node}
+use Rattle.tree_terms.specs.OuterTrees.{set_verdict, yes_numbers, taken_child, choice_of, is_reached, is_short, choice_numbers, choice_node}
 use Rattle.tree_terms.specs.Paths.{most_budget, own_of, IsReachable}
 use Rattle.tree_terms.proofs.BinSearch.{set_right}
 use Rattle.set_search.specs.Children.{IsFound}
-use Rattle.set_search.proofs.Sets.{inserted_some, places_count}
+use Rattle.set_search.proofs.Sets.{places_count}
 use Rattle.choice_search.specs.Choices.{PlainChoiceTree, shape, IsChosen}
-use Rattle.choice_search.specs.Paths.{taken_along, answer_of, AreFitting, IsAbove, box_at, child_tree}
+use Rattle.choice_search.specs.Paths.{taken_along, class_answer, AreFitting, IsAbove, box_at, child_tree}
 use Rattle.choice_search.proofs.Choosing.{nothing_chosen, more_boxes, inside_chosen, outside_chosen}
 use Rattle.set_search.proofs.Reaching.{next_box, path_ends, past_leaf, refuted_leaf, own_within, reach_child}
-
-drop_next : (us : List ℕ) (k v : ℕ) (vs : List ℕ) → drop k us ≡ v ∷ vs → (k < length us) × (get_or us k 0 ≡ v) × (drop (k + 1) us ≡ vs)
-drop_next [] zero v vs e = absurd (cc (e))
-drop_next [] (suc k) v vs e = absurd (cc (e))
-drop_next (u ∷ us) zero v vs e = (omega arith, head, tail)
-  where
-    head : u ≡ v
-    head = cc (e)
-
-    tail : us ≡ vs
-    tail = cc (e)
-drop_next (u ∷ us) (suc k) v vs e =
-    let h = drop_next us k v vs e in
-    let s : suc k + 1 ≡ suc (k + 1) = omega arith in
-    (let l = h.0 in omega (arith, l), h.1, ap (λ n. drop n (u ∷ us)) s ∙ h.2)
+use Rattle.class_search.proofs.Lists.{drop_next}
 
 module _ (t : PlainChoiceTree) (limits : IsInternalInstance t.instance) where
   -- what is known of the child at the end of a path: it is a child of a node with these boxes in
@@ -41,12 +28,12 @@ module _ (t : PlainChoiceTree) (limits : IsInternalInstance t.instance) where
     pub is : node ≡ Some (child_tree t decided taken k)
 
   -- the answer of what is in
-  answered : (v : ℕ) (taken ns : List ℕ) (cost : ℕ) → set_verdict t.instance t.scales (insert_box v taken) ≡ Yes ns cost → answer_of t.instance t.scales (insert_box v taken) ≡ ns
+  answered : (v : ℕ) (taken ns : List ℕ) (cost : ℕ) → set_verdict t.instance t.scales (insert_box v taken) ≡ Yes ns cost → class_answer t.instance t.scales (insert_box v taken) ≡ ns
   answered v taken ns cost e = go (insert_box v taken) (inserted_some v taken) e
     where
-      go : (us : List ℕ) → 1 ≤ length us → set_verdict t.instance t.scales us ≡ Yes ns cost → answer_of t.instance t.scales us ≡ ns
+      go : (us : List ℕ) → 1 ≤ length us → set_verdict t.instance t.scales us ≡ Yes ns cost → class_answer t.instance t.scales us ≡ ns
       go [] l h = absurd (omega (arith, l))
-      go (u ∷ us) l h = ap numbers_of h
+      go (u ∷ us) l h = ap yes_numbers h
 
   fitting : (v : ℕ) (taken ns : List ℕ) (cost : ℕ) → set_verdict t.instance t.scales (insert_box v taken) ≡ Yes ns cost → cost ≤ most_budget
       → AreFitting t.instance t.scales (insert_box v taken)
@@ -63,7 +50,7 @@ module _ (t : PlainChoiceTree) (limits : IsInternalInstance t.instance) where
     is : node_at (Some (choice_node t.instance t.scales t.goal rest taken numbers own)) (j ∷ path) ≡ node_at (Some (child_tree t decided taken j)) path
     reached : IsReachable (child_tree t decided taken j) path
 
-  module _ (decided : ℕ) (taken numbers : List ℕ) (own j : ℕ) (path : List ℕ) (answer : numbers ≡ answer_of t.instance t.scales taken) where
+  module _ (decided : ℕ) (taken numbers : List ℕ) (own j : ℕ) (path : List ℕ) (answer : numbers ≡ class_answer t.instance t.scales taken) where
     same_child : (v : ℕ) (vs : List ℕ) → get_or (ranked t.instance) decided 0 ≡ v → drop (decided + 1) (ranked t.instance) ≡ vs → (k : ℕ)
         → (elim k [
           | zero ↦ taken_child (set_verdict t.instance t.scales (insert_box v taken)) (λ ns count. choice_node t.instance t.scales t.goal vs (insert_box v taken) ns count)
@@ -121,7 +108,7 @@ module _ (t : PlainChoiceTree) (limits : IsInternalInstance t.instance) where
       go false false f = refl
 
   come : (above : List ℕ) (k decided : ℕ) (taken numbers : List ℕ) (own : ℕ) → IsChosen t.instance decided taken numbers
-      → numbers ≡ answer_of t.instance t.scales taken → AreFitting t.instance t.scales taken
+      → numbers ≡ class_answer t.instance t.scales taken → AreFitting t.instance t.scales taken
       → IsReachable (choice_node t.instance t.scales t.goal (drop decided (ranked t.instance)) taken numbers own) (above ++ k ∷ [])
       → (end : ℕ) → end ≡ length above + decided → IsChild end (taken_along taken (drop decided (ranked t.instance)) above) k
       (node_at (Some (choice_node t.instance t.scales t.goal (drop decided (ranked t.instance)) taken numbers own)) (above ++ k ∷ []))
@@ -139,17 +126,17 @@ module _ (t : PlainChoiceTree) (limits : IsInternalInstance t.instance) where
       subst (λ (x : Option SearchTree). IsChild end (taken_along taken (drop decided (ranked t.instance)) (j ∷ above)) k x) (sym i.is)
       (subst (λ (us : List ℕ). IsChild end (taken_along taken us (j ∷ above)) k (node_at (Some (child_tree t decided taken j)) (above ++ k ∷ []))) (sym e)
       (step j e i.reached (λ ns cost c' a' f' r'. come above k (decided + 1) (insert_box (box_at t.instance decided) taken) ns (1 + cost) c' a' f' r' end n)
-      (λ c' a' f' r'. come above k (decided + 1) taken (answer_of t.instance t.scales taken) 1 c' a' f' r' end n)))
+      (λ c' a' f' r'. come above k (decided + 1) taken (class_answer t.instance t.scales taken) 1 c' a' f' r' end n)))
     where
       Goes : (taken' numbers' : List ℕ) (own' : ℕ) → Type 0
-      Goes taken' numbers' own' = IsChosen t.instance (decided + 1) taken' numbers' → numbers' ≡ answer_of t.instance t.scales taken' → AreFitting t.instance t.scales taken'
+      Goes taken' numbers' own' = IsChosen t.instance (decided + 1) taken' numbers' → numbers' ≡ class_answer t.instance t.scales taken' → AreFitting t.instance t.scales taken'
           → IsReachable (choice_node t.instance t.scales t.goal (drop (decided + 1) (ranked t.instance)) taken' numbers' own') (above ++ k ∷ [])
           → IsChild end (taken_along taken' (drop (decided + 1) (ranked t.instance)) above) k
           (node_at (Some (choice_node t.instance t.scales t.goal (drop (decided + 1) (ranked t.instance)) taken' numbers' own')) (above ++ k ∷ []))
 
       step : (i : ℕ) → drop decided (ranked t.instance) ≡ box_at t.instance decided ∷ drop (decided + 1) (ranked t.instance)
           → IsReachable (child_tree t decided taken i) (above ++ k ∷ [])
-          → ((ns : List ℕ) (cost : ℕ) → Goes (insert_box (box_at t.instance decided) taken) ns (1 + cost)) → Goes taken (answer_of t.instance t.scales taken) 1
+          → ((ns : List ℕ) (cost : ℕ) → Goes (insert_box (box_at t.instance decided) taken) ns (1 + cost)) → Goes taken (class_answer t.instance t.scales taken) 1
           → IsChild end (taken_along taken (box_at t.instance decided ∷ drop (decided + 1) (ranked t.instance)) (i ∷ above)) k
           (node_at (Some (child_tree t decided taken i)) (above ++ k ∷ []))
       step zero e h first second = go (set_verdict t.instance t.scales (insert_box (box_at t.instance decided) taken)) refl h

@@ -8,7 +8,7 @@ use Rattle.packing_terms.specs.OuterRefutation.{Choice, no_choice}
 use Rattle.packing_terms.proofs.Internal.{internal_sides, some_dimension}
 use Rattle.scale_terms.proofs.Excess.{excess_law}
 use Rattle.tree_terms.specs.Trees.{SearchTree, node_at, PlainOutcome, Decided, Past, Verdict, Yes, No, outcome, count_of, told}
-use Rattle.tree_terms.specs.Search.{IsYes}
+use Rattle.tree_terms.specs.Search.{IsYesVerdict}
 use Rattle.tree_terms.specs.OuterSearch.{IsChoiceRight}
 use Rattle.tree_terms.specs.Paths.{choice_at}
 use Rattle.tree_terms.proofs.OuterDecisions.{choice_tree_search, decides_value}
@@ -16,7 +16,7 @@ use Rattle.tree_terms.proofs.OuterOutcomes.{value_right}
 use Rattle.tree_terms.proofs.PathNodes.{choice_search_at}
 use Rattle.tree_terms.proofs.ChoiceCounts.{choice_count}
 use Rattle.tree_terms.proofs.Told.{told_decided}
-use Rattle.class_search.specs.Right.{IsDecided}
+use Rattle.class_search.specs.Right.{IsYesOrNo}
 use Rattle.choice_search.specs.Choices.{PlainChoiceTree, shape}
 use Rattle.choice_search.specs.Rights.{IsRight, Decides}
 
@@ -27,7 +27,7 @@ told_right t c budget v h = go (nat_lt budget (count_of v))
     go true = tt
     go false = h
 
-verdict_decides : (t : PlainChoiceTree) (v : Verdict) → (ReachesValue t.instance t.goal → IsYes v) → (IsYes v → ReachesValue t.instance t.goal) → Decides t (Decided v)
+verdict_decides : (t : PlainChoiceTree) (v : Verdict) → (ReachesValue t.instance t.goal → IsYesVerdict v) → (IsYesVerdict v → ReachesValue t.instance t.goal) → Decides t (Decided v)
 verdict_decides t (Yes numbers count) f g = g tt
 verdict_decides t (No tokens count) f g = f
 
@@ -58,7 +58,7 @@ module _ (t : PlainChoiceTree) (limits : IsInternalInstance t.instance) where
   decides_at (k ∷ path) cap r f p = absurd (cc (p))
 
   pub told_at : (path : List ℕ) (cap : ℕ) (r : PlainOutcome) → IfSome (node_at (Some (shape t)) path) (λ x. r ≡ told cap (outcome x)) → path ≡ []
-      → 3 ^ (dims t.instance * box_count t.instance * (box_count t.instance - 1) / 2) * (2 ^ (box_count t.instance + 1) - 2) ≤ cap → IsDecided r
+      → 3 ^ (dims t.instance * box_count t.instance * (box_count t.instance - 1) / 2) * (2 ^ (box_count t.instance + 1) - 2) ≤ cap → IsYesOrNo r
   told_at [] cap r f p l =
       let c = choice_count t.instance (internal_sides t.instance limits) (some_dimension t.instance limits) t.scales t.goal in
       rw (f, told_decided cap (outcome (shape t)) (omega (arith, c, l))) tt

@@ -7,11 +7,11 @@ use Rattle.packing_terms.specs.OuterRefutation.{insert_box}
 use Rattle.tree_terms.specs.Rank.{ranked}
 use Rattle.tree_terms.specs.Trees.{Verdict, Yes, No, join, outcome, count_of}
 use Rattle.tree_terms.specs.OuterTrees.{set_verdict, is_reached, is_short, choice_numbers, choice_node}
-use Rattle.tree_terms.proofs.Joins.{join_assoc, join_nothing, count_join_no}
+use Rattle.tree_terms.proofs.Joins.{join_assoc, join_nothing, count_join_no, count_left}
 use Rattle.choice_search.specs.declared.node.Chosen.{Chosen}
-use Rattle.choice_search.specs.Choices.{PlainChoiceTree, IsChosen}
+use Rattle.choice_search.specs.Choices.{PlainChoiceTree, IsChosen, rise_of}
 use Rattle.choice_search.specs.Walks.{node_verdict, waiting_verdict, IsLeft}
-use Rattle.set_search.proofs.Verdicts.{advance, advance_count, advance_leaf, count_left}
+use Rattle.set_search.proofs.Verdicts.{advance, advance_count, advance_leaf}
 use Rattle.choice_search.proofs.Choosing.{inside_chosen, outside_chosen}
 use Rattle.choice_search.proofs.NodeOutcomes.{inside_verdict, own_first, reached_node, short_node, split_node, inside_counts}
 
@@ -91,7 +91,7 @@ module _ (t : PlainChoiceTree) where
           ∙ split_node t.instance t.scales t.goal v (drop (c.decided + 1) (ranked t.instance)) c.taken.items c.numbers.items e
           (subst (λ us. is_short t.instance t.goal c.taken.items us ≡ false) g f))) ∙ left.joined))
 
-      pub split_past : count + 1 + count_of set ≤ count_of whole
+      split_past : count + 1 + count_of set ≤ count_of whole
       split_past =
           let k = inside_counts t.instance t.scales t.goal v (drop (c.decided + 1) (ranked t.instance)) c.taken.items set in
           let l = count_left (inside set) (join (node_verdict t outside 1) (waiting_verdict t ws)) in
@@ -123,7 +123,7 @@ module _ (t : PlainChoiceTree) where
             sym (advance_leaf (tokens ++ Choose (suc v) ∷ []) (SetRefuted None ∷ us) count (1 + cost) (join (node_verdict t outside 1) (waiting_verdict t ws)))
             ∙ (ap (λ x. join (No (tokens ++ Choose (suc v) ∷ []) count) (join x (join (node_verdict t outside 1) (waiting_verdict t ws)))) (sym (ap inside y)) ∙ split_joined)
 
-        pub refuted_past : count + (1 + cost) < count_of whole
+        refuted_past : count + (1 + cost) < count_of whole
         refuted_past = waiting_past whole ((tokens ++ Choose (suc v) ∷ []) ++ SetRefuted None ∷ us) (count + (1 + cost)) outside (waiting_verdict t ws) refuted_joined
 
         pub outside_next : IsLeft t whole ((tokens ++ Choose (suc v) ∷ []) ++ SetRefuted None ∷ us) (count + (1 + cost) + 1) outside ws
@@ -132,3 +132,11 @@ module _ (t : PlainChoiceTree) where
           node = outside_chosen t.instance c.decided c.taken.items c.numbers.items left.node v g;
           waits = left.waits;
         }
+
+      -- the next node is counted too
+      pub opened_past : count + rise_of set ≤ count_of whole
+      opened_past = go set refl
+        where
+          go : (x : Verdict) → set ≡ x → count + rise_of x ≤ count_of whole
+          go (Yes ns cost) y = let p = split_past in let q = ap count_of y in omega (arith, p, q)
+          go (No us cost) y = let p = refuted_past us cost y in omega (arith, p)

@@ -4,7 +4,7 @@ use Rattle.packing_terms.specs.Packing.{PlainInstance}
 use Rattle.packing_terms.specs.OuterRefutation.{insert_box}
 use Rattle.tree_terms.specs.Rank.{ranked}
 use Rattle.tree_terms.specs.Trees.{SearchTree}
-use Rattle.tree_terms.specs.OuterTrees.{set_verdict, numbers_of, taken_child, choice_node}
+use Rattle.tree_terms.specs.OuterTrees.{set_verdict, yes_numbers, taken_child, choice_node}
 use Rattle.set_search.specs.Children.{IsFound}
 use Rattle.choice_search.specs.Choices.{PlainChoiceTree, IsChosen}
 
@@ -16,9 +16,9 @@ taken_along taken (v ∷ vs) (zero ∷ path) = taken_along (insert_box v taken) 
 taken_along taken (v ∷ vs) (suc k ∷ path) = taken_along taken vs path
 
 -- the answer of the class tree of the boxes that are in
-abbrev pub answer_of : PlainInstance → Bool → List ℕ → List ℕ
-answer_of instance scales [] = []
-answer_of instance scales (v ∷ vs) = numbers_of (set_verdict instance scales (v ∷ vs))
+abbrev pub class_answer : PlainInstance → Bool → List ℕ → List ℕ
+class_answer instance scales [] = []
+class_answer instance scales (v ∷ vs) = yes_numbers (set_verdict instance scales (v ∷ vs))
 
 -- the boxes that are in were found to fit within the greatest budget, or there is none
 abbrev pub AreFitting : PlainInstance → Bool → List ℕ → Type 0
@@ -28,7 +28,7 @@ AreFitting instance scales (v ∷ vs) = IsFound (set_verdict instance scales (v 
 -- a node with a box left, as the splits above a path's end are
 pub record IsAbove (instance : PlainInstance) (scales : Bool) (decided : ℕ) (taken : List ℕ) : Type 0 where
   pub there : decided < length (ranked instance)
-  pub chosen : IsChosen instance decided taken (answer_of instance scales taken)
+  pub chosen : IsChosen instance decided taken (class_answer instance scales taken)
   pub fitting : AreFitting instance scales taken
 
 -- the box that comes next
@@ -41,4 +41,4 @@ child_tree t decided taken zero =
     taken_child (set_verdict t.instance t.scales (insert_box (box_at t.instance decided) taken)) (λ numbers count. choice_node t.instance t.scales t.goal
     (drop (decided + 1) (ranked t.instance)) (insert_box (box_at t.instance decided) taken) numbers count)
 child_tree t decided taken (suc k) =
-    choice_node t.instance t.scales t.goal (drop (decided + 1) (ranked t.instance)) taken (answer_of t.instance t.scales taken) 1
+    choice_node t.instance t.scales t.goal (drop (decided + 1) (ranked t.instance)) taken (class_answer t.instance t.scales taken) 1

@@ -5,7 +5,8 @@ use Rattle.tree_terms.specs.Trees.{PlainOutcome, Decided, Past, Yes, No}
 use Rattle.tree_terms.specs.OuterSearch.{IsChoiceRight}
 use Rattle.choice_search.specs.Choices.{PlainChoiceTree}
 
--- a yes has a set of the value that fits, and a no refutes the node with these boxes in and these out
+-- a yes has a set of the value that fits, and a no refutes the node with these boxes in and these
+-- out
 abbrev pub IsRight : PlainChoiceTree → Choice → PlainOutcome → Type 0
 IsRight t c (Decided v) = IsChoiceRight t.instance t.goal c v
 IsRight t c Past = Unit {0}

@@ -1,15 +1,18 @@
-// The nodes of a choice tree.
-ghost use Rattle.std.specs.Prelude.{◌≡◌, ◌≤◌, ◌+◌, ℕ, Bool, List, drop, length};
+//! The nodes of a choice tree.
+ghost use Rattle.std.specs.Prelude.{◌≡◌, ◌≤◌, ◌+◌, ℕ, Bool, List, drop, length, IfOk};
 ghost use Rattle.packing_terms.specs.Rules.{AreBoxes};
-ghost use Rattle.packing_terms.specs.Goals.{worth};
+ghost use Rattle.packing_terms.specs.Goals.{worth, IsBoxSet};
+ghost use Rattle.packing_terms.specs.OuterRefutation.{insert_box};
 ghost use Rattle.tree_terms.specs.Rank.{ranked};
 ghost use Rattle.tree_terms.specs.OuterTrees.{choice_node};
 ghost use Rattle.tree_terms.specs.Paths.{node_told, most_budget};
 ghost use Rattle.work_share.specs.Nodes.{plain_node};
-ghost use Rattle.choice_search.specs.Choices.{IsMet};
+ghost use Rattle.choice_search.specs.Choices.{IsMet, IsOpened};
 
-use box_instances::Instance;
+use box_instances::{Instance, NoMemory};
 use proof_tree::Token;
+use set_search::{Child, SetSearch};
+use std::alloc::Global;
 use work_share::Node;
 
 // A node that its set of boxes doesn't refute: so many boxes by rank are decided, these of them are
@@ -30,12 +33,22 @@ pub enum NodeKind {
     Divided(u32),
 }
 
+// What a split leads to: past what is left; to its second child, since the set of the first is
+// refuted; or to its first child, while the second waits. The count rises by `own` on the way.
+#[derive(Drop)]
+pub enum Opened {
+    Past,
+    Refuted { tokens: Vec<Token>, own: u64 },
+    Entered { node: Chosen, own: u64 },
+}
+
 // The total value of some boxes.
 fn worth_of(instance: &Instance, keep: &[u32]) -> u64
     requires { AreBoxes instance.now keep.now }
     ensures value { result ≡ worth instance.now keep.now }
     ensures bound { result ≤ 128000000000 }
 {
+    // For the proof alone: tells the limits of the instance.
     let _limits = instance.len();
     let mut sum = 0;
     for v in keep {
@@ -71,6 +84,40 @@ pub fn meet(
     NodeKind::Divided(order[decided])
 }
 
+// Decides the first child of a split by a box, whose second child is this node, under what is left
+// of a cap.
+pub fn open_first(
+    alloc: Global,
+    search: &mut SetSearch<'_>,
+    node: &Chosen,
+    v: u32,
+    left: u64,
+) -> Result<Opened, NoMemory>
+    requires { IsBoxSet search.old.instance (insert_box v node.now.taken.items) }
+    ensures same { search.new ≡ search.old }
+    ensures opened { IfOk result (λ r.
+        IsOpened search.old.instance search.old.scales node.now v left r) }
+{
+    match search.grow(alloc, &node.taken, v, left)? {
+        Child::Past => Ok(Opened::Past),
+        Child::Refuted { tokens, own } => {
+            if own == left {
+                return Ok(Opened::Past);
+            }
+            let own = own + 1;
+            Ok(Opened::Refuted { tokens, own })
+        }
+        Child::Fits { set, numbers, own } => {
+            let node = Chosen {
+                decided: node.decided,
+                taken: set,
+                numbers,
+            };
+            Ok(Opened::Entered { node, own })
+        }
+    }
+}
+
 // What is told of a node of this kind, whose own count is within the greatest budget.
 pub fn tell(
     instance: &Instance,
@@ -84,8 +131,10 @@ pub fn tell(
     requires boxes { AreBoxes instance.now (drop decided (ranked instance.now)) }
     requires within { own ≤ most_budget }
     ensures { (scales : Bool) (numbers : List ℕ) → plain_node result ≡ node_told
-        (choice_node instance.now scales value (drop decided (ranked instance.now)) taken.now numbers own) }
+        (choice_node instance.now scales value (drop decided (ranked instance.now)) taken.now
+        numbers own) }
 {
+    // For the proof alone: tells the limits of the instance.
     let _limits = instance.len();
     match kind {
         NodeKind::Reached => Node::Leaf,

@@ -1,4 +1,4 @@
-// The numbers of an answer.
+//! The numbers of an answer.
 ghost use Rattle.std.specs.Prelude.{◌≡◌, ◌≤◌, ◌*◌, length, IfOk};
 ghost use Rattle.packing_terms.specs.Packing.{dims};
 ghost use Rattle.tree_terms.specs.OuterTrees.{choice_numbers};

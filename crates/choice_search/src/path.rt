@@ -1,4 +1,4 @@
-// Nodes by their paths.
+//! Nodes by their paths.
 ghost use Rattle.std.specs.Prelude.{◌≡◌, ◌≤◌, ◌<◌, ◌+◌, [], IfOk, Bool, length, drop};
 ghost use Rattle.packing_terms.specs.Limits.{IsInternalInstance};
 ghost use Rattle.packing_terms.specs.Rules.{AreBoxes};
@@ -8,7 +8,7 @@ ghost use Rattle.tree_terms.specs.Trees.{outcome, told};
 ghost use Rattle.tree_terms.specs.Paths.{node_told};
 ghost use Rattle.proof_tree.specs.Plain.{plain_outcome};
 ghost use Rattle.work_share.specs.Nodes.{plain_node};
-ghost use Rattle.choice_search.specs.Paths.{taken_along, answer_of, AreFitting, IsAbove, child_tree};
+ghost use Rattle.choice_search.specs.Paths.{taken_along, class_answer, AreFitting, IsAbove, child_tree};
 
 use crate::node::{Chosen, meet, tell};
 use crate::walk::walk;
@@ -44,12 +44,16 @@ pub fn come_to(alloc: Global, order: &[u32], path: &[u32]) -> Result<Above, NoMe
 }
 
 // The answer of the class tree of the boxes that are in. It was found within the greatest budget.
-fn answer_of(alloc: Global, search: &mut SetSearch<'_>, taken: &[u32]) -> Result<Vec<u32>, NoMemory>
+fn class_answer(
+    alloc: Global,
+    search: &mut SetSearch<'_>,
+    taken: &[u32],
+) -> Result<Vec<u32>, NoMemory>
     requires set { IsBoxSet search.old.instance taken.now }
     requires fitting { AreFitting search.old.instance search.old.scales taken.now }
     ensures same { search.new ≡ search.old }
     ensures value { IfOk result (λ numbers. numbers.items
-        ≡ answer_of search.old.instance search.old.scales taken.now) }
+        ≡ class_answer search.old.instance search.old.scales taken.now) }
 {
     if taken.is_empty() {
         return Ok(Vec::new(alloc));
@@ -114,7 +118,7 @@ pub fn explore_second(
     if cap == 0 {
         return Ok(Outcome::Past);
     }
-    let numbers = answer_of(alloc, search, &above.taken)?;
+    let numbers = class_answer(alloc, search, &above.taken)?;
     let node = Chosen {
         decided: above.decided + 1,
         taken: above.taken,

@@ -1,4 +1,4 @@
-// The choice tree.
+//! The choice tree.
 ghost use Rattle.std.specs.Prelude.{◌≡◌, ◌+◌, ◌-◌, ◌*◌, ◌/◌, ◌^◌, ◌≤◌, IfOk, IfSome, MatchBool, Some, [], length};
 ghost use Rattle.packing_terms.specs.Packing.{dims, box_count};
 ghost use Rattle.packing_terms.specs.OuterRefutation.{no_choice};
@@ -6,7 +6,7 @@ ghost use Rattle.tree_terms.specs.Trees.{outcome, told, node_at};
 ghost use Rattle.tree_terms.specs.Paths.{choice_at, node_told, outcome_at, IsReachable};
 ghost use Rattle.proof_tree.specs.Plain.{plain_outcome};
 ghost use Rattle.work_share.specs.Nodes.{plain_node};
-ghost use Rattle.class_search.specs.Right.{IsDecided};
+ghost use Rattle.class_search.specs.Right.{IsYesOrNo};
 ghost use Rattle.choice_search.specs.Choices.{shape, same_trees};
 ghost use Rattle.choice_search.specs.Rights.{IsRight, Decides};
 
@@ -71,6 +71,7 @@ impl<'a> ChoiceTree<'a> {
     fn explore_root(&self, alloc: Global, cap: u64) -> Result<Outcome, NoMemory>
         ensures { IfOk result (λ r. plain_outcome r ≡ told cap (outcome (shape self.now))) }
     {
+        // For the proof alone: tells the limits of the instance.
         let _limits = self.instance.len();
         let mut search = SetSearch::new(alloc, self.instance, self.scales)?;
         let root = Chosen {
@@ -98,6 +99,7 @@ impl<'a> ChoiceTree<'a> {
         ensures { IfOk result (λ r. IfSome (node_at (Some (shape self.now)) path.now)
             (λ node. plain_outcome r ≡ told cap (outcome node))) }
     {
+        // For the proof alone: tells the limits of the instance.
         let _limits = self.instance.len();
         let last = path.len() - 1;
         let order = self.order.as_slice();
@@ -143,6 +145,7 @@ impl<'a> ChoiceTree<'a> {
     fn tell_root(&self) -> Node
         ensures { plain_node result ≡ node_told (shape self.now) }
     {
+        // For the proof alone: tells the limits of the instance.
         let _limits = self.instance.len();
         let order = self.order.as_slice();
         let kind = meet(self.instance, order, self.value, 0, &[]);
@@ -156,6 +159,7 @@ impl<'a> ChoiceTree<'a> {
         ensures { IfOk result (λ r. IfSome (node_at (Some (shape self.now)) path.now)
             (λ node. plain_node r ≡ node_told node)) }
     {
+        // For the proof alone: tells the limits of the instance.
         let _limits = self.instance.len();
         let last = path.len() - 1;
         let order = self.order.as_slice();
@@ -192,8 +196,9 @@ impl<'a> Tree for ChoiceTree<'a> {
         ensures enough { path.now ≡ [] → 3 ^ (dims self.now.instance
             * box_count self.now.instance * (box_count self.now.instance - 1) / 2)
             * (2 ^ (box_count self.now.instance + 1) - 2) ≤ cap
-            → IfOk result (λ r. IsDecided (plain_outcome r)) }
+            → IfOk result (λ r. IsYesOrNo (plain_outcome r)) }
     {
+        // For the proof alone: tells the limits of the instance.
         let _limits = self.instance.len();
         self.explore_node(alloc, path, cap)
     }

@@ -1,5 +1,5 @@
-// The walk through the choice tree below a node, depth first, with a stack of the second children
-// that wait.
+//! The walk through the choice tree below a node, depth first, with a stack of the second children
+//! that wait.
 ghost use Rattle.std.specs.Prelude.{◌≡◌, ◌≤◌, IfOk, drop};
 ghost use Rattle.packing_terms.specs.Limits.{IsInternalInstance};
 ghost use Rattle.tree_terms.specs.Rank.{ranked};
@@ -8,11 +8,11 @@ ghost use Rattle.tree_terms.specs.OuterTrees.{choice_node};
 ghost use Rattle.proof_tree.specs.Plain.{plain_outcome};
 ghost use Rattle.choice_search.specs.Choices.{IsChosen};
 
-use crate::node::{Chosen, NodeKind, meet};
+use crate::node::{Chosen, NodeKind, Opened, meet, open_first};
 use crate::numbers::choice_numbers;
 use box_instances::{Instance, NoMemory};
 use proof_tree::{Outcome, Token};
-use set_search::{Child, SetSearch, push_refuted, push_token};
+use set_search::{SetSearch, push_refuted, push_token};
 use std::alloc::Global;
 use std::mem;
 
@@ -48,38 +48,26 @@ pub fn walk(
             }
             NodeKind::Short => {
                 push_token(&mut tokens, Token::ValueShort)?;
-                match stack.pop() {
-                    None => return Ok(Outcome::No { tokens, count }),
-                    Some(waiting) => {
-                        if count == cap {
-                            return Ok(Outcome::Past);
-                        }
-                        count += 1;
-                        node = waiting;
-                    }
+                let Some(waiting) = stack.pop() else {
+                    return Ok(Outcome::No { tokens, count });
+                };
+                if count == cap {
+                    return Ok(Outcome::Past);
                 }
+                count += 1;
+                node = waiting;
             }
             NodeKind::Divided(v) => {
                 push_token(&mut tokens, Token::Choose { box_no: v + 1 })?;
-                match search.grow(alloc, &node.taken, v, cap - count)? {
-                    Child::Past => return Ok(Outcome::Past),
-                    Child::Refuted { tokens: inner, own } => {
+                node.decided += 1;
+                match open_first(alloc, search, &node, v, cap - count)? {
+                    Opened::Past => return Ok(Outcome::Past),
+                    Opened::Refuted { tokens: inner, own } => {
                         push_refuted(&mut tokens, None, inner)?;
                         count += own;
-                        if count == cap {
-                            return Ok(Outcome::Past);
-                        }
-                        count += 1;
-                        node.decided += 1;
                     }
-                    Child::Fits { set, numbers, own } => {
+                    Opened::Entered { node: inside, own } => {
                         count += own;
-                        node.decided += 1;
-                        let inside = Chosen {
-                            decided: node.decided,
-                            taken: set,
-                            numbers,
-                        };
                         let Ok(()) = stack.push(mem::replace(&mut node, inside)) else {
                             return Err(NoMemory);
                         };

@@ -5,12 +5,7 @@ use Rattle.packing_terms.specs.Packing.{PlainInstance}
 use Rattle.tree_terms.specs.Trees.{SearchTree, PlainOutcome, outcome, told}
 use Rattle.class_search.specs.declared.root.Arrival.{Arrival}
 use Rattle.class_search.specs.declared.root.Arrival.TheVariants.{RefutedRoot, Inner}
-use Rattle.class_search.specs.Rooted.{IsArrival, arrival_tree, IsKnownArrival}
-
-pub arrival_known : (instance : PlainInstance) (tree : Option SearchTree) (es : List Exclusion) (arrival : Arrival) → IsArrival instance tree es arrival
-    → IsKnownArrival instance es arrival
-arrival_known instance tree es (RefutedRoot token) h = tt
-arrival_known instance tree es (Inner kind) h = (h.known, h.fit)
+use Rattle.class_search.specs.Rooted.{IsArrival, arrival_tree}
 
 pub arrival_is : (instance : PlainInstance) (tree : Option SearchTree) (es : List Exclusion) (arrival : Arrival) → IsArrival instance tree es arrival
     → tree ≡ Some (arrival_tree instance es arrival)

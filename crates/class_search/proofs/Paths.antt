@@ -4,11 +4,11 @@ use Rattle.std.proofs.lemmas.Bool.{true≢false, ltb-true}
 use Rattle.packing_terms.specs.declared.Exclusion.{Exclusion}
 use Rattle.packing_terms.specs.Packing.{PlainInstance}
 use Rattle.tree_terms.specs.Trees.{SearchTree, node_at}
-use Rattle.tree_terms.specs.InnerTree.{SplitNode, split_tree, inner_tree}
+use Rattle.tree_terms.specs.InnerTree.{SplitNode, split_tree, tree_below}
 use Rattle.tree_terms.proofs.NodeSteps.{set_tree}
 use Rattle.class_search.specs.declared.splits.Split.{Split}
 use Rattle.class_search.specs.declared.visit.NodeKind.{NodeKind}
-use Rattle.class_search.specs.declared.visit.NodeKind.TheVariants.{Conflict, Settled, Divided}
+use Rattle.class_search.specs.declared.visit.NodeKind.TheVariants.{Divided}
 use Rattle.class_search.specs.Splits.{plain_split, added, with_all}
 use Rattle.class_search.specs.Visits.{kind_tree, IsMet}
 use Rattle.class_search.proofs.Closings.{with_sets}
@@ -22,14 +22,7 @@ past_two s t c path h = go (ltb (suc (suc c)) 2) refl h
     go false e k = true≢false (sym k)
 
 module _ (instance : PlainInstance) (fs : List Exclusion) where
-  -- no path leads on from a conflict, or from a settled node
-  pub no_way : (c : ℕ) (path : List ℕ) → IsSome (node_at (Some (kind_tree instance fs Conflict)) (c ∷ path)) → ⊥
-  no_way c path way = true≢false (sym way)
-
-  pub all_settled : (c : ℕ) (path : List ℕ) → IsSome (node_at (Some (kind_tree instance fs Settled)) (c ∷ path)) → ⊥
-  all_settled c path way = true≢false (sym way)
-
-  child_is : (add gs : List Exclusion) (kind : NodeKind) → IsMet instance (with_all add fs) gs kind → inner_tree instance (add ++ fs) ≡ kind_tree instance gs kind
+  child_is : (add gs : List Exclusion) (kind : NodeKind) → IsMet instance (with_all add fs) gs kind → tree_below instance (add ++ fs) ≡ kind_tree instance gs kind
   child_is add gs kind met = sym (set_tree instance (with_all add fs) (add ++ fs) (with_sets add fs)) ∙ met.tree
 
   pub path_next : (s : Split) (k c : ℕ) (path : List ℕ) (gs : List Exclusion) (kind : NodeKind) → IsMet instance (with_all (added s (not (c == 0))) fs) gs kind
@@ -37,4 +30,4 @@ module _ (instance : PlainInstance) (fs : List Exclusion) where
       → node_at (Some (kind_tree instance fs (Divided s k))) (c ∷ path) ≡ node_at (Some (kind_tree instance gs kind)) path
   path_next s k zero path gs kind met h = ap (λ t. node_at (Some t) path) (child_is (plain_split s).first gs kind met)
   path_next s k (suc zero) path gs kind met h = ap (λ t. node_at (Some t) path) (child_is (plain_split s).second gs kind met)
-  path_next s k (suc (suc c)) path gs kind met h = absurd (past_two (plain_split s) (λ add. inner_tree instance (add ++ fs)) c path h)
+  path_next s k (suc (suc c)) path gs kind met h = absurd (past_two (plain_split s) (λ add. tree_below instance (add ++ fs)) c path h)

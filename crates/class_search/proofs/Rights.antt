@@ -7,7 +7,7 @@ use Rattle.packing_terms.specs.Limits.{IsInternalInstance}
 use Rattle.packing_terms.proofs.Internal.{some_dimension}
 use Rattle.scale_terms.proofs.Excess.{excess_law}
 use Rattle.tree_terms.specs.Trees.{SearchTree, node_at, PlainOutcome, Decided, Past, Verdict, Yes, No, outcome, count_of, told}
-use Rattle.tree_terms.specs.Search.{AreAtPlaces, IsRightUnder, IsYes}
+use Rattle.tree_terms.specs.Search.{AreAtEdges, IsRightUnder, IsYesVerdict}
 use Rattle.tree_terms.specs.ClassTree.{class_tree}
 use Rattle.tree_terms.specs.Paths.{exclusions_at}
 use Rattle.tree_terms.proofs.Decisions.{class_tree_search, class_tree_right, decides}
@@ -16,7 +16,7 @@ use Rattle.tree_terms.proofs.Searches.{outcome_right}
 use Rattle.tree_terms.proofs.Counts.{class_count}
 use Rattle.tree_terms.proofs.Told.{told_decided}
 use Rattle.class_search.specs.Tree.{PlainClassTree, shape}
-use Rattle.class_search.specs.Right.{IsRight, Decides, IsDecided}
+use Rattle.class_search.specs.Right.{IsRight, Decides, IsYesOrNo}
 
 told_right : (instance : PlainInstance) (es : List Exclusion) (budget : ℕ) (v : Verdict) → IsRightUnder instance es v → IsRight instance es (told budget v)
 told_right instance es budget v h = go (nat_lt budget (count_of v))
@@ -30,7 +30,7 @@ pub class_right : (instance : PlainInstance) → IsInternalInstance instance →
 class_right instance limits scales budget r e =
     rw e (told_right instance [] budget (outcome (class_tree instance [] scales)) (class_tree_right instance limits [] tt scales))
 
-verdict_decides : (instance : PlainInstance) (v : Verdict) → (Fits instance → IsYes v) → (IsYes v → Fits instance) → Decides instance (Decided v)
+verdict_decides : (instance : PlainInstance) (v : Verdict) → (Fits instance → IsYesVerdict v) → (IsYesVerdict v → Fits instance) → Decides instance (Decided v)
 verdict_decides instance (Yes numbers count) f g = g tt
 verdict_decides instance (No tokens count) f g = f
 
@@ -43,13 +43,13 @@ class_decides instance limits scales budget r e = rw e (go (nat_lt budget (count
     go false = let d = decides instance limits excess_law scales in verdict_decides instance (outcome (class_tree instance [] scales)) d.0 d.1
 
 pub class_told : (instance : PlainInstance) → IsInternalInstance instance → (start : List Exclusion) (scales : Bool) (budget : ℕ) (r : PlainOutcome)
-    → r ≡ told budget (outcome (class_tree instance start scales)) → 3 ^ (dims instance * box_count instance * (box_count instance - 1) / 2) ≤ budget + 1 → IsDecided r
+    → r ≡ told budget (outcome (class_tree instance start scales)) → 3 ^ (dims instance * box_count instance * (box_count instance - 1) / 2) ≤ budget + 1 → IsYesOrNo r
 class_told instance limits start scales budget r e l =
     let c = class_count instance (some_dimension instance limits) start scales in
     rw (e, told_decided budget (outcome (class_tree instance start scales)) (omega (arith, c, l))) tt
 
 -- at a node
-pub right_at : (t : PlainClassTree) → IsInternalInstance t.instance → AreAtPlaces t.instance t.start → (path : List ℕ) (cap : ℕ) (r : PlainOutcome)
+pub right_at : (t : PlainClassTree) → IsInternalInstance t.instance → AreAtEdges t.instance t.start → (path : List ℕ) (cap : ℕ) (r : PlainOutcome)
     → IsSome (node_at (Some (shape t)) path) → IfSome (node_at (Some (shape t)) path) (λ x. r ≡ told cap (outcome x))
     → IsRight t.instance (exclusions_at t.start (shape t) path) r
 right_at t limits placed path cap r there h = go (node_at (Some (shape t)) path) refl there h
@@ -69,6 +69,6 @@ decides_at t limits (k ∷ path) cap r f p s = absurd (cc (p))
 
 pub told_at : (t : PlainClassTree) → IsInternalInstance t.instance → (path : List ℕ) (cap : ℕ) (r : PlainOutcome)
     → IfSome (node_at (Some (shape t)) path) (λ x. r ≡ told cap (outcome x)) → path ≡ []
-    → 3 ^ (dims t.instance * box_count t.instance * (box_count t.instance - 1) / 2) ≤ cap + 1 → IsDecided r
+    → 3 ^ (dims t.instance * box_count t.instance * (box_count t.instance - 1) / 2) ≤ cap + 1 → IsYesOrNo r
 told_at t limits [] cap r f p l = class_told t.instance limits t.start t.scales cap r f l
 told_at t limits (k ∷ path) cap r f p l = absurd (cc (p))

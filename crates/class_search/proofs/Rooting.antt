@@ -8,12 +8,14 @@ use Rattle.packing_terms.specs.Packing.{PlainInstance, dims, box_count, containe
 use Rattle.packing_terms.specs.Exclusions.{Exclusions, excludes}
 use Rattle.packing_terms.specs.Closure.{HasConflict, Derives}
 use Rattle.packing_terms.specs.Scales.{SidesFit}
-use Rattle.packing_terms.specs.Tokens.PlainToken.{Rules, TooLarge}
-use Rattle.rule_terms.specs.Rounds.{below, has_conflict}
+use Rattle.packing_terms.specs.Tokens.PlainToken.{Rules}
+use Rattle.packing_terms.proofs.Found.{find_left, find_right}
+use Rattle.rule_terms.specs.Rounds.{has_empty_mask}
+use Rattle.packing_terms.specs.Sums.{below}
 use Rattle.rule_closure.specs.Closes.{IsClosure}
 use Rattle.tree_terms.specs.Trees.{SearchTree, Refuted, node_at}
-use Rattle.tree_terms.specs.InnerTree.{inner_tree}
-use Rattle.tree_terms.specs.ClassTree.{first_large, excess_where, scales_after, root_of, closes_in_conflict, class_tree}
+use Rattle.tree_terms.specs.InnerTree.{tree_below}
+use Rattle.tree_terms.specs.ClassTree.{first_too_large_box, exceeding_where, scales_after, root_of, closes_in_conflict, class_tree}
 use Rattle.tree_terms.proofs.Closed.{same_closure}
 use Rattle.tree_terms.proofs.ClassSearch.{none_large}
 use Rattle.proof_tree.specs.declared.token.Token.{Token}
@@ -23,23 +25,6 @@ use Rattle.class_search.specs.Splits.{with_all}
 use Rattle.class_search.specs.Tree.{PlainClassTree, shape}
 use Rattle.tree_terms.proofs.NodeSteps.{set_tree, conflict_test, calm_test}
 use Rattle.class_search.proofs.Closings.{with_sets}
-
--- a search of two lists, and of a list of values
-find_left : {A : Type 0} (t : A → Bool) (xs ys : List A) (x : A) → find t xs ≡ Some x → find t (xs ++ ys) ≡ Some x
-find_left t [] ys x e = absurd (cc)
-find_left t (y ∷ xs) ys x e = go (t y) e (find_left t xs ys x)
-  where
-    go : (b : Bool) → cond b (Some y) (find t xs) ≡ Some x → (find t xs ≡ Some x → find t (xs ++ ys) ≡ Some x) → cond b (Some y) (find t (xs ++ ys)) ≡ Some x
-    go true e rest = e
-    go false e rest = rest e
-
-find_right : {A : Type 0} (t : A → Bool) (xs ys : List A) → find t xs ≡ None → find t (xs ++ ys) ≡ find t ys
-find_right t [] ys e = refl
-find_right t (y ∷ xs) ys e = go (t y) e (find_right t xs ys)
-  where
-    go : (b : Bool) → cond b (Some y) (find t xs) ≡ None → (find t xs ≡ None → find t (xs ++ ys) ≡ find t ys) → cond b (Some y) (find t (xs ++ ys)) ≡ find t ys
-    go true e rest = absurd (cc)
-    go false e rest = rest e
 
 find_mapped : {A B : Type 0} (t : B → Bool) (f : A → B) (xs : List A) (x : A) → find (λ a. t (f a)) xs ≡ Some x → find t (map f xs) ≡ Some (f x)
 find_mapped t f [] x e = absurd (cc)
@@ -56,9 +41,6 @@ never_mapped t f (y ∷ xs) e = go (t (f y)) e (never_mapped t f xs)
     go : (b : Bool) → cond b (Some y) (find (λ a. t (f a)) xs) ≡ None → (find (λ a. t (f a)) xs ≡ None → find t (map f xs) ≡ None) → cond b (Some (f y)) (find t (map f xs)) ≡ None
     go true e rest = absurd (cc)
     go false e rest = rest e
-
-plus_one : (n : ℕ) → suc n ≡ n + 1
-plus_one n = omega arith
 
 module _ (instance : PlainInstance) where
   abbrev is_large : ℕ × ℕ → Bool
@@ -89,33 +71,30 @@ module _ (instance : PlainInstance) where
       ∙ sides_never (a + 1) m (λ u x y. none u (omega (arith, x)) (omega (arith, y)))
 
   pub large_first : (v i : ℕ) → v < box_count instance → ((u : ℕ) → u < v → none_of u) → find (is_larger instance v) (below (dims instance)) ≡ Some i
-      → first_large instance ≡ Some (v, i)
+      → first_too_large_box instance ≡ Some (v, i)
   large_first v i l before e = sides_first 0 (box_count instance) v i (omega arith) (omega (arith, l)) (λ u x y. before u y) e
 
-  pub large_never : ((u : ℕ) → u < box_count instance → none_of u) → first_large instance ≡ None
+  pub large_never : ((u : ℕ) → u < box_count instance → none_of u) → first_too_large_box instance ≡ None
   large_never none = sides_never 0 (box_count instance) (λ u x y. none u (omega (arith, y)))
 
   -- the class tree by the root's tests
-  by_root : (es : List Exclusion) (scales : Bool) (l : Option (ℕ × ℕ)) (b : Bool) (o : Option (List ScaleFn)) → first_large instance ≡ l → closes_in_conflict instance es ≡ b
-      → scales_after instance scales b ≡ o → class_tree instance es scales ≡ root_of l b o (inner_tree instance es)
+  by_root : (es : List Exclusion) (scales : Bool) (l : Option (ℕ × ℕ)) (b : Bool) (o : Option (List ScaleFn)) → first_too_large_box instance ≡ l → closes_in_conflict instance es ≡ b
+      → scales_after instance scales b ≡ o → class_tree instance es scales ≡ root_of l b o (tree_below instance es)
   by_root es scales l b o e f g =
-      ap₂ (λ x y. root_of x y (scales_after instance scales y) (inner_tree instance es)) e f ∙ ap (λ z. root_of l b z (inner_tree instance es)) g
+      ap₂ (λ x y. root_of x y (scales_after instance scales y) (tree_below instance es)) e f ∙ ap (λ z. root_of l b z (tree_below instance es)) g
 
-  pub root_large : (es : List Exclusion) (scales : Bool) (v i : ℕ) → first_large instance ≡ Some (v, i) → class_tree instance es scales ≡ Refuted (TooLarge (v + 1) (i + 1) ∷ []) 0
-  root_large es scales v i e = by_root es scales (Some (v, i)) _ _ e refl refl ∙ ap₂ (λ a b. Refuted (TooLarge a b ∷ []) 0) (plus_one v) (plus_one i)
-
-  pub root_conflict : (es : List Exclusion) (scales : Bool) → first_large instance ≡ None → HasConflict instance (excludes es) → class_tree instance es scales ≡ Refuted (Rules ∷ []) 0
+  pub root_conflict : (es : List Exclusion) (scales : Bool) → first_too_large_box instance ≡ None → HasConflict instance (excludes es) → class_tree instance es scales ≡ Refuted (Rules ∷ []) 0
   root_conflict es scales e c = by_root es scales None true None e (conflict_test instance es c) refl
 
-  scales_are : (scales : Bool) (o : Option (List ScaleFn)) → first_large instance ≡ None → excess_where instance 1 scales None ≡ o → scales_after instance scales false ≡ o
-  scales_are scales o e h = ap (excess_where instance 1 scales) e ∙ h
+  scales_are : (scales : Bool) (o : Option (List ScaleFn)) → first_too_large_box instance ≡ None → exceeding_where instance 1 scales None ≡ o → scales_after instance scales false ≡ o
+  scales_are scales o e h = ap (exceeding_where instance 1 scales) e ∙ h
 
   -- at a closed root: passed, or refuted by the scales
-  pub root_passed : (es fs : List Exclusion) (scales : Bool) → first_large instance ≡ None → IsClosure instance es fs → excess_where instance 1 scales None ≡ None
-      → class_tree instance es scales ≡ inner_tree instance es
+  pub root_passed : (es fs : List Exclusion) (scales : Bool) → first_too_large_box instance ≡ None → IsClosure instance es fs → exceeding_where instance 1 scales None ≡ None
+      → class_tree instance es scales ≡ tree_below instance es
   root_passed es fs scales e closed h = by_root es scales None false None e (calm_test instance es closed.none) (scales_are scales None e h)
 
-  pub root_refuted : (es fs : List Exclusion) (scales : Bool) (t : Token) → first_large instance ≡ None → IsClosure instance es fs → IsExcessToken instance scales t
+  pub root_refuted : (es fs : List Exclusion) (scales : Bool) (t : Token) → first_too_large_box instance ≡ None → IsClosure instance es fs → IsExcessToken instance scales t
       → class_tree instance es scales ≡ Refuted (plain_token t ∷ []) 0
   root_refuted es fs scales t e closed h =
       by_root es scales None false (Some h.tuple) e (calm_test instance es closed.none) (scales_are scales (Some h.tuple) e h.found)
@@ -124,8 +103,8 @@ module _ (instance : PlainInstance) where
   -- lists of one set have one class tree
   pub class_set : (es fs : List Exclusion) (scales : Bool) → excludes es ≡ excludes fs → class_tree instance es scales ≡ class_tree instance fs scales
   class_set es fs scales e =
-      ap₂ (λ b t. root_of (first_large instance) b (scales_after instance scales b) t)
-      (ap (λ X. has_conflict X (dims instance) (box_count instance)) (same_closure instance es fs
+      ap₂ (λ b t. root_of (first_too_large_box instance) b (scales_after instance scales b) t)
+      (ap (λ X. has_empty_mask X (dims instance) (box_count instance)) (same_closure instance es fs
       (subst (λ (X : Exclusions). Derives instance (excludes es) X) e (λ i u v r d. d)) (subst (λ (X : Exclusions). Derives instance X (excludes es)) e (λ i u v r d. d))))
       (set_tree instance es fs e)
 
@@ -141,11 +120,11 @@ module _ (instance : PlainInstance) where
   root_split None false None t k path h = (refl, refl)
 
   pub below_root : (es : List Exclusion) (scales : Bool) (k : ℕ) (path : List ℕ) → IsSome (node_at (Some (class_tree instance es scales)) (k ∷ path))
-      → (first_large instance ≡ None) × (class_tree instance es scales ≡ inner_tree instance es)
-  below_root es scales k path h = root_split (first_large instance) _ _ (inner_tree instance es) k path h
+      → (first_too_large_box instance ≡ None) × (class_tree instance es scales ≡ tree_below instance es)
+  below_root es scales k path h = root_split (first_too_large_box instance) _ _ (tree_below instance es) k path h
 
   pub on_path : (start : List Exclusion) (scales : Bool) (k : ℕ) (path : List ℕ) → IsSome (node_at (Some (class_tree instance start scales)) (k ∷ path))
-      → SidesFit instance × (class_tree instance start scales ≡ inner_tree instance (with_all start []))
+      → SidesFit instance × (class_tree instance start scales ≡ tree_below instance (with_all start []))
   on_path start scales k path h =
       let b = below_root start scales k path h in
       (none_large instance b.0, b.1 ∙ sym (set_tree instance (with_all start []) start (with_sets start [] ∙ ap excludes (append-nil start))))
@@ -157,8 +136,8 @@ root_arrival t es [] x s e h = ap Some (sym (class_start t.instance t.start t.sc
 root_arrival t es (k ∷ path) x s e h = absurd (let z = eqb-true (length (k ∷ path)) 0 e in omega (arith, z))
 
 pub path_arrival : (t : PlainClassTree) (es : List Exclusion) (path : List ℕ) → es ≡ with_all t.start [] → (length path == 0) ≡ false
-    → IsSome (node_at (Some (shape t)) path) → SidesFit t.instance × (shape t ≡ inner_tree t.instance es)
+    → IsSome (node_at (Some (shape t)) path) → SidesFit t.instance × (shape t ≡ tree_below t.instance es)
 path_arrival t es [] s e h = absurd (true≢false e)
 path_arrival t es (k ∷ path) s e h =
     let p = on_path t.instance t.start t.scales k path h in
-    (p.0, p.1 ∙ ap (λ fs. inner_tree t.instance fs) (sym s))
+    (p.0, p.1 ∙ ap (λ fs. tree_below t.instance fs) (sym s))

@@ -1,7 +1,7 @@
 -- Each turn of the walk leaves what is still to be given.
 use Rattle.std.proofs.Common.{◌≡◌, ℕ, zero, suc, ◌+◌, ◌-◌, ◌<◌, ◌≤◌, inl, inr, refl, sym, ap, ap₂, subst, ◌∙◌, arith, Bool, true, false, not, cond, List, [], ◌∷◌, ◌++◌, length, Some, None, append_assoc, add-zero}
 use Rattle.std.specs.List.{find}
-use Rattle.std.proofs.lemmas.Bool.{true≢false}
+use Rattle.std.proofs.lemmas.Bool.{true≢false, not_from_true, not_from_false}
 use Rattle.packing_terms.specs.declared.Exclusion.{Exclusion}
 use Rattle.packing_terms.specs.Packing.{PlainInstance, dims, box_count}
 use Rattle.packing_terms.specs.Exclusions.{excludes}
@@ -11,21 +11,20 @@ use Rattle.packing_terms.specs.Tokens.PlainToken.{Rules}
 use Rattle.packing_terms.proofs.Sets.{excludes_right, excludes_symmetric}
 use Rattle.packing_terms.proofs.Found.{find_none}
 use Rattle.packing_terms.proofs.Members.{IsIn}
-use Rattle.rule_terms.specs.Places.{IsSettled}
-use Rattle.tree_terms.specs.Trees.{SearchTree, Verdict, Yes, No, nothing, join, outcome, count_of, Decided, told}
+use Rattle.rule_terms.specs.Places.{IsOrdered}
+use Rattle.tree_terms.specs.Trees.{SearchTree, Verdict, No, no_tokens, join, outcome, count_of}
 use Rattle.tree_terms.specs.Rank.{ranked_pairs}
-use Rattle.tree_terms.specs.InnerTree.{SplitNode, is_settled, is_unsettled, settled_places, inner_tree}
+use Rattle.tree_terms.specs.InnerTree.{SplitNode, is_settled, is_unsettled, tree_below}
 use Rattle.tree_terms.proofs.RankLemmas.{ranked_rise, pair_ranked}
 use Rattle.tree_terms.proofs.Nodes.{settled_pair}
-use Rattle.tree_terms.proofs.Told.{told_decided}
-use Rattle.tree_terms.proofs.Joins.{join_assoc, join_nothing, nothing_join, split_joins, count_join_no}
+use Rattle.tree_terms.proofs.Joins.{join_assoc, join_nothing, split_joins, count_join_no}
 use Rattle.class_search.specs.declared.splits.Split.{Split}
 use Rattle.class_search.specs.declared.visit.NodeKind.{NodeKind}
-use Rattle.class_search.specs.declared.visit.NodeKind.TheVariants.{Conflict, Settled as SettledKind, Divided}
+use Rattle.class_search.specs.declared.visit.NodeKind.TheVariants.{Conflict, Divided}
 use Rattle.class_search.specs.declared.walk.Waiting.{Waiting}
 use Rattle.class_search.specs.Settling.{pair_at, ArePairsAmong, AreSettledBefore}
 use Rattle.class_search.specs.Splits.{plain_split, added, with_all}
-use Rattle.class_search.specs.Visits.{Grows, kind_tree, IsKind, IsMet}
+use Rattle.class_search.specs.Visits.{Grows, kind_tree, IsMet}
 use Rattle.class_search.specs.Walks.{IsPastSettled, oldest, waiting_verdict, AreWaiting, IsLeft}
 use Rattle.class_search.proofs.Firsts.{find_at, find_never}
 use Rattle.tree_terms.proofs.NodeSteps.{set_tree}
@@ -102,24 +101,18 @@ module _ (instance : PlainInstance) where
   pub child_settled : (k : ℕ) (es add : List Exclusion) → AreSettledBefore (excludes es) (dims instance) (ranked_pairs instance) k → IsPastSettled instance k (with_all add es)
   child_settled k es add h = settled_more k es (with_all add es) (grown_subset es (with_all add es) (with_grows add es)) (past_here k es h)
 
-  is_not : (b : Bool) → b ≡ true → not b ≡ false
-  is_not b e = rw e refl
-
-  is_so : (b : Bool) → b ≡ false → not b ≡ true
-  is_so b e = rw e refl
-
   pub none_found : (es : List Exclusion) → AreSettledBefore (excludes es) (dims instance) (ranked_pairs instance) (length (ranked_pairs instance))
       → find (is_unsettled instance (excludes es)) (ranked_pairs instance) ≡ None
-  none_found es h = find_never (is_unsettled instance (excludes es)) (0, 0) (ranked_pairs instance) (λ j l. is_not _ (h j l l))
+  none_found es h = find_never (is_unsettled instance (excludes es)) (0, 0) (ranked_pairs instance) (λ j l. not_from_true _ (h j l l))
 
   pub one_found : (es : List Exclusion) (k : ℕ) → k < length (ranked_pairs instance) → AreSettledBefore (excludes es) (dims instance) (ranked_pairs instance) k
       → is_settled (excludes es) (dims instance) (pair_at (ranked_pairs instance) k) ≡ false
       → find (is_unsettled instance (excludes es)) (ranked_pairs instance) ≡ Some (pair_at (ranked_pairs instance) k)
-  one_found es k l h e = find_at (is_unsettled instance (excludes es)) (0, 0) (ranked_pairs instance) k l (λ j m. is_not _ (h j m (omega (arith, m, l)))) (is_so _ e)
+  one_found es k l h e = find_at (is_unsettled instance (excludes es)) (0, 0) (ranked_pairs instance) k l (λ j m. not_from_true _ (h j m (omega (arith, m, l)))) (not_from_false _ e)
 
   -- where no pair is left unsettled, each two boxes are settled
   pub pairs_settled : (es : List Exclusion) → AreSettledBefore (excludes es) (dims instance) (ranked_pairs instance) (length (ranked_pairs instance))
-      → (u v : ℕ) → u < v → v < box_count instance → IsSettled instance (excludes es) u v
+      → (u v : ℕ) → u < v → v < box_count instance → IsOrdered instance (excludes es) u v
   pairs_settled es h u v l m =
       settled_pair (excludes es) (dims instance) (box_count instance) (excludes_symmetric es) (u, v)
       (is_true (is_settled (excludes es) (dims instance) (u, v))
@@ -129,19 +122,15 @@ module _ (instance : PlainInstance) where
       is_true true k = refl
       is_true false k = absurd (true≢false k)
 
--- what is told in the end
-pub finished : (cap : ℕ) (v whole : Verdict) → v ≡ whole → count_of v ≤ cap → Decided v ≡ told cap whole
-finished cap v whole e l = sym (told_decided cap v l) ∙ ap (told cap) e
-
 -- verdicts
 leaf_joins : (tokens more : List PlainToken) (count : ℕ) (v : Verdict) → join (No tokens count) (join (No more 0) v) ≡ join (No (tokens ++ more) count) v
 leaf_joins tokens more count v = sym (join_assoc (No tokens count) (No more 0) v) ∙ ap (λ n. join (No (tokens ++ more) n) v) (add-zero count)
 
 split_joined : (tokens : List PlainToken) (count : ℕ) (token : PlainToken) (a b w : Verdict)
-    → join (No tokens count) (join (join (No (token ∷ []) 1) (join a (join b nothing))) w) ≡ join (No (tokens ++ token ∷ []) (count + 1)) (join a (join b w))
+    → join (No tokens count) (join (join (No (token ∷ []) 1) (join a (join b no_tokens))) w) ≡ join (No (tokens ++ token ∷ []) (count + 1)) (join a (join b w))
 split_joined tokens count token a b w =
-    ap (λ x. join (No tokens count) x) (join_assoc (No (token ∷ []) 1) (join a (join b nothing)) w)
-    ∙ (sym (join_assoc (No tokens count) (No (token ∷ []) 1) (join (join a (join b nothing)) w))
+    ap (λ x. join (No tokens count) x) (join_assoc (No (token ∷ []) 1) (join a (join b no_tokens)) w)
+    ∙ (sym (join_assoc (No tokens count) (No (token ∷ []) 1) (join (join a (join b no_tokens)) w))
     ∙ ap (λ x. join (No (tokens ++ token ∷ []) (count + 1)) x) (ap (λ y. join (join a y) w) (join_nothing b) ∙ join_assoc a b w))
 
 past_count : (tokens : List PlainToken) (count : ℕ) (token : PlainToken) (v w : Verdict) → count < count_of (join (No tokens count) (join (join (No (token ∷ []) 1) v) w))
@@ -151,11 +140,6 @@ past_count tokens count token v w =
     omega (arith, e, f)
 
 module _ (instance : PlainInstance) (whole : Verdict) (tokens : List PlainToken) (count : ℕ) where
-  -- at a conflict
-  pub conflict_last : (fs : List Exclusion) → IsLeft instance whole tokens count [] fs Conflict → No (tokens ++ Rules ∷ []) count ≡ whole
-  conflict_last fs left =
-      sym (join_nothing (No (tokens ++ Rules ∷ []) count)) ∙ (sym (leaf_joins tokens (Rules ∷ []) count nothing) ∙ left.joined)
-
   pub conflict_next : (w : Waiting) (ws : List Waiting) (fs gs : List Exclusion) (kind : NodeKind) → IsLeft instance whole tokens count (w ∷ ws) fs Conflict
       → IsMet instance (with_all (added w.split true) (oldest w.mark fs)) gs kind → IsLeft instance whole (tokens ++ Rules ∷ []) count ws gs kind
   conflict_next w ws fs gs kind left met = record {
@@ -171,29 +155,25 @@ module _ (instance : PlainInstance) (whole : Verdict) (tokens : List PlainToken)
       grows : Grows (oldest w.mark fs) gs
       grows = grows_on (oldest w.mark fs) (with_all (added w.split true) (oldest w.mark fs)) gs (with_grows (added w.split true) (oldest w.mark fs)) met.grown
 
-  -- at a settled node
-  pub settled_last : (ws : List Waiting) (fs : List Exclusion) → IsLeft instance whole tokens count ws fs SettledKind → Yes (settled_places instance (excludes fs)) count ≡ whole
-  settled_last ws fs left = ap (λ n. Yes (settled_places instance (excludes fs)) n) (sym (add-zero count)) ∙ left.joined
-
   -- at a split
   module _ (s : Split) (k : ℕ) (ws : List Waiting) (fs : List Exclusion) (left : IsLeft instance whole tokens count ws fs (Divided s k)) where
     abbrev here : SplitNode
     here = plain_split s
 
     abbrev first_child : Verdict
-    first_child = outcome (inner_tree instance (here.first ++ fs))
+    first_child = outcome (tree_below instance (here.first ++ fs))
 
     abbrev second_child : Verdict
-    second_child = outcome (inner_tree instance (here.second ++ fs))
+    second_child = outcome (tree_below instance (here.second ++ fs))
 
-    outcome_here : outcome (kind_tree instance fs (Divided s k)) ≡ join (No (here.token ∷ []) 1) (join first_child (join second_child nothing))
-    outcome_here = split_joins here.token 1 2 (λ j. elim j [ zero ↦ inner_tree instance (here.first ++ fs) | suc _ ↦ inner_tree instance (here.second ++ fs) ])
+    outcome_here : outcome (kind_tree instance fs (Divided s k)) ≡ join (No (here.token ∷ []) 1) (join first_child (join second_child no_tokens))
+    outcome_here = split_joins here.token 1 2 (λ j. elim j [ zero ↦ tree_below instance (here.first ++ fs) | suc _ ↦ tree_below instance (here.second ++ fs) ])
 
     pub split_past : count < count_of whole
     split_past =
         subst (λ v. count < count_of v)
         (ap (λ v. join (No tokens count) (join v (waiting_verdict instance ws fs))) (sym outcome_here) ∙ left.joined)
-        (past_count tokens count here.token (join first_child (join second_child nothing)) (waiting_verdict instance ws fs))
+        (past_count tokens count here.token (join first_child (join second_child no_tokens)) (waiting_verdict instance ws fs))
 
     pub split_next : (gs : List Exclusion) (kind : NodeKind) → IsMet instance (with_all (added s false) fs) gs kind
         → IsLeft instance whole (tokens ++ here.token ∷ []) (count + 1) (record { split = s; mark = length fs; place = k } ∷ ws) gs kind
@@ -201,7 +181,7 @@ module _ (instance : PlainInstance) (whole : Verdict) (tokens : List PlainToken)
       joined =
           ap₂ (λ (t : SearchTree) v. join (No (tokens ++ here.token ∷ []) (count + 1)) (join (outcome t) v))
           (sym met.tree ∙ set_tree instance (with_all here.first fs) (here.first ++ fs) (with_sets here.first fs))
-          (ap (λ (cut : List Exclusion). join (outcome (inner_tree instance (here.second ++ cut))) (waiting_verdict instance ws cut)) cut_is)
+          (ap (λ (cut : List Exclusion). join (outcome (tree_below instance (here.second ++ cut))) (waiting_verdict instance ws cut)) cut_is)
           ∙ (sym (split_joined tokens count here.token first_child second_child (waiting_verdict instance ws fs))
           ∙ (ap (λ v. join (No tokens count) (join v (waiting_verdict instance ws fs))) (sym outcome_here) ∙ left.joined));
       waits = (
@@ -217,8 +197,3 @@ module _ (instance : PlainInstance) (whole : Verdict) (tokens : List PlainToken)
 
         cut_is : oldest (length fs) gs ≡ fs
         cut_is = cut_back fs gs grows
-
--- before the first step
-pub walk_start : (instance : PlainInstance) (fs : List Exclusion) (kind : NodeKind) → IsKind instance fs kind
-    → IsLeft instance (outcome (kind_tree instance fs kind)) [] 0 [] fs kind
-walk_start instance fs kind known = record { joined = nothing_join _ ∙ join_nothing (outcome (kind_tree instance fs kind)); waits = tt; known = known }

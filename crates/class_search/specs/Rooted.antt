@@ -6,7 +6,7 @@ use Rattle.packing_terms.specs.Packing.{PlainInstance, container_side, side}
 use Rattle.packing_terms.specs.Scales.{SidesFit}
 use Rattle.packing_terms.specs.Tokens.PlainToken.{Scales}
 use Rattle.tree_terms.specs.Trees.{SearchTree, Refuted}
-use Rattle.tree_terms.specs.ClassTree.{excess_where}
+use Rattle.tree_terms.specs.ClassTree.{exceeding_where}
 use Rattle.proof_tree.specs.declared.token.Token.{Token}
 use Rattle.proof_tree.specs.Plain.{plain_token}
 use Rattle.class_search.specs.declared.root.Arrival.{Arrival}
@@ -22,7 +22,7 @@ is_larger instance v i = nat_lt (container_side instance i) (side instance v i)
 pub record IsExcessToken (instance : PlainInstance) (scales : Bool) (token : Token) : Type 0 where
   pub tuple : List ScaleFn
   pub is : plain_token token ≡ Scales tuple
-  pub found : excess_where instance 1 scales None ≡ Some tuple
+  pub found : exceeding_where instance 1 scales None ≡ Some tuple
 
 -- the node is an inner tree of this kind, in which no box is longer than the container
 pub record IsInner (instance : PlainInstance) (node : Option SearchTree) (es : List Exclusion) (kind : NodeKind) : Type 0 where
@@ -30,7 +30,8 @@ pub record IsInner (instance : PlainInstance) (node : Option SearchTree) (es : L
   pub known : IsKind instance es kind
   pub fit : SidesFit instance
 
--- what is at the end of a path: a root that is refuted by its own tests, or a node of the inner tree, whose closed state has these exclusions
+-- what is at the end of a path: a root that is refuted by its own tests, or a node of the inner
+-- tree, whose closed state has these exclusions
 abbrev pub IsArrival : PlainInstance → Option SearchTree → List Exclusion → Arrival → Type 0
 IsArrival instance node es (RefutedRoot token) = node ≡ Some (Refuted (plain_token token ∷ []) 0)
 IsArrival instance node es (Inner kind) = IsInner instance node es kind

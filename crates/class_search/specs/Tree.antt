@@ -3,7 +3,7 @@ use Rattle.std.specs.Prelude.{ℕ, ◌≡◌, refl, List, Bool}
 use Rattle.packing_terms.specs.declared.Exclusion.{Exclusion}
 use Rattle.packing_terms.specs.Packing.{PlainInstance}
 use Rattle.tree_terms.specs.Rank.{ranked_pairs}
-use Rattle.tree_terms.specs.Search.{AreAtPlaces}
+use Rattle.tree_terms.specs.Search.{AreAtEdges}
 use Rattle.tree_terms.specs.ClassTree.{class_tree}
 use Rattle.tree_terms.specs.Trees.{SearchTree}
 
@@ -23,5 +23,5 @@ same_trees t u e = rw e refl
 
 -- what a tree keeps: its exclusions are at pairs of the instance, and its pairs are in their order
 pub record IsReady (t : PlainClassTree) (order : List (ℕ × ℕ)) : Type 0 where
-  pub start : AreAtPlaces t.instance t.start
+  pub start : AreAtEdges t.instance t.start
   pub ranked : order ≡ ranked_pairs t.instance

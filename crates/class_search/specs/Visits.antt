@@ -8,7 +8,7 @@ use Rattle.packing_terms.specs.Tokens.PlainToken.{Rules}
 use Rattle.rule_terms.specs.Places.{HasNoEmptyMask}
 use Rattle.tree_terms.specs.Trees.{SearchTree, Settled as SettledTree, Refuted}
 use Rattle.tree_terms.specs.Rank.{ranked_pairs}
-use Rattle.tree_terms.specs.InnerTree.{is_settled, settled_places, split_at, split_tree, inner_tree}
+use Rattle.tree_terms.specs.InnerTree.{is_settled, settled_places, split_at, split_tree, tree_below}
 use Rattle.class_search.specs.declared.splits.Split.{Split}
 use Rattle.class_search.specs.declared.visit.NodeKind.{NodeKind}
 use Rattle.class_search.specs.declared.visit.NodeKind.TheVariants.{Conflict, Settled, Divided}
@@ -25,7 +25,7 @@ pub record IsCalm (instance : PlainInstance) (es : List Exclusion) : Type 0 wher
   pub stable : IsStable instance (excludes es)
   pub full : HasNoEmptyMask instance (excludes es)
 
--- the pair at place k by rank is the first that isn't settled, and this is its split
+-- the pair at position k by rank is the first that isn't settled, and this is its split
 pub record IsNextSplit (instance : PlainInstance) (es : List Exclusion) (s : Split) (k : ℕ) : Type 0 where
   pub there : k < length (ranked_pairs instance)
   pub before : AreSettledBefore (excludes es) (dims instance) (ranked_pairs instance) k
@@ -34,37 +34,37 @@ pub record IsNextSplit (instance : PlainInstance) (es : List Exclusion) (s : Spl
   pub among : IsSplitAmong (dims instance) (box_count instance) s
 
 -- each pair is settled, or the first that isn't is split
-abbrev pub IsNext : PlainInstance → List Exclusion → NodeKind → Type 0
-IsNext instance es Conflict = ⊥
-IsNext instance es Settled = AreSettledBefore (excludes es) (dims instance) (ranked_pairs instance) (length (ranked_pairs instance))
-IsNext instance es (Divided s k) = IsNextSplit instance es s k
+abbrev pub IsNextPair : PlainInstance → List Exclusion → NodeKind → Type 0
+IsNextPair instance es Conflict = ⊥
+IsNextPair instance es Settled = AreSettledBefore (excludes es) (dims instance) (ranked_pairs instance) (length (ranked_pairs instance))
+IsNextPair instance es (Divided s k) = IsNextSplit instance es s k
 
 -- the tree of a node of this kind, whose closed state has these exclusions
 abbrev pub kind_tree : PlainInstance → List Exclusion → NodeKind → SearchTree
 kind_tree instance es Conflict = Refuted (Rules ∷ []) 0
 kind_tree instance es Settled = SettledTree (settled_places instance (excludes es)) 0
-kind_tree instance es (Divided s k) = split_tree (plain_split s) (λ add. inner_tree instance (add ++ es))
+kind_tree instance es (Divided s k) = split_tree (plain_split s) (λ add. tree_below instance (add ++ es))
 
 -- a closed state in which each pair is settled
-pub record IsOver (instance : PlainInstance) (es : List Exclusion) : Type 0 where
-  pub calm : IsCalm instance es
+pub record IsSettledLeaf (instance : PlainInstance) (es : List Exclusion) : Type 0 where
+  pub no_conflict : IsCalm instance es
   pub settled : AreSettledBefore (excludes es) (dims instance) (ranked_pairs instance) (length (ranked_pairs instance))
 
 -- a closed state that is split so
 pub record IsDivided (instance : PlainInstance) (es : List Exclusion) (s : Split) (k : ℕ) : Type 0 where
-  pub calm : IsCalm instance es
+  pub no_conflict : IsCalm instance es
   pub split : IsNextSplit instance es s k
 
 -- what is known of a node of this kind
 abbrev pub IsKind : PlainInstance → List Exclusion → NodeKind → Type 0
 IsKind instance es Conflict = Unit {0}
-IsKind instance es Settled = IsOver instance es
+IsKind instance es Settled = IsSettledLeaf instance es
 IsKind instance es (Divided s k) = IsDivided instance es s k
 
 -- the node of the old exclusions is of this kind, and the new ones are those of its closed state
 pub record IsMet (instance : PlainInstance) (old new : List Exclusion) (kind : NodeKind) : Type 0 where
   pub grown : Grows old new
-  pub tree : inner_tree instance old ≡ kind_tree instance new kind
+  pub tree : tree_below instance old ≡ kind_tree instance new kind
   pub known : IsKind instance new kind
 
 -- a split, if it is one, is of two boxes of so many in a dimension of so many

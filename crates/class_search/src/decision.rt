@@ -1,10 +1,10 @@
-// The decision of one instance.
+//! The decision of one instance.
 ghost use Rattle.std.specs.Prelude.{◌≡◌, ◌≤◌, ◌+◌, ◌-◌, ◌*◌, ◌/◌, ◌^◌, IfOk, []};
 ghost use Rattle.packing_terms.specs.Packing.{dims, box_count};
 ghost use Rattle.tree_terms.specs.Trees.{outcome, told};
 ghost use Rattle.tree_terms.specs.ClassTree.{class_tree};
 ghost use Rattle.proof_tree.specs.Plain.{plain_outcome};
-ghost use Rattle.class_search.specs.Right.{IsRight, Decides, IsDecided};
+ghost use Rattle.class_search.specs.Right.{IsRight, Decides, IsYesOrNo};
 
 use crate::exploring::searched;
 use crate::rank::ranked_pairs;
@@ -20,19 +20,22 @@ use work_share::{Gate, Settings, solve_shared};
 
 /// Whether an instance fits, decided by its class tree under a budget of branchings.
 ///
-/// A yes has places that are a packing, and a no has a refutation. `Past` comes exactly where the tree has more branchings than
-/// the budget, and never where the budget is at least 3 to the number of pairs in all dimensions, less 1.
+/// A yes has places that are a packing, and a no has a refutation. `Past` comes exactly where the
+/// tree has more branchings than the budget, and never where the budget is at least 3 to the number
+/// of pairs in all dimensions, less 1.
 pub fn decide_alone(
     alloc: Global,
     instance: &Instance,
     budget: u64,
     scales: bool,
 ) -> Result<Outcome, NoMemory>
-    ensures outcome { IfOk result (λ r. plain_outcome r ≡ told budget (outcome (class_tree instance.now [] scales))) }
+    ensures outcome { IfOk result
+        (λ r. plain_outcome r ≡ told budget (outcome (class_tree instance.now [] scales))) }
     ensures right { IfOk result (λ r. IsRight instance.now [] (plain_outcome r)) }
     ensures decides { IfOk result (λ r. Decides instance.now (plain_outcome r)) }
-    ensures enough { 3 ^ (dims instance.now * box_count instance.now * (box_count instance.now - 1) / 2) ≤ budget + 1
-        → IfOk result (λ r. IsDecided (plain_outcome r)) }
+    ensures enough { 3 ^ (dims instance.now * box_count instance.now
+        * (box_count instance.now - 1) / 2) ≤ budget + 1
+        → IfOk result (λ r. IsYesOrNo (plain_outcome r)) }
 {
     let mut decider = Decider::new(alloc, instance)?;
     decider.decide(alloc, instance, budget, scales)
@@ -55,9 +58,11 @@ pub fn decide_in(
     requires room { closer.old ≡ record { dims = state.old.dims; boxes = state.old.boxes } }
     ensures sizes { state.new ≡ record state.old { trail = state.new.trail } }
     ensures closer { closer.new ≡ closer.old }
-    ensures outcome { IfOk result (λ r. plain_outcome r ≡ told budget (outcome (class_tree instance.now [] scales))) }
+    ensures outcome { IfOk result
+        (λ r. plain_outcome r ≡ told budget (outcome (class_tree instance.now [] scales))) }
     ensures right { IfOk result (λ r. IsRight instance.now [] (plain_outcome r)) }
 {
+    // For the proof alone: tells the limits of the instance.
     let _limits = instance.len();
     let pairs = ranked_pairs(alloc, instance)?;
     searched(
@@ -71,7 +76,8 @@ pub fn decide_in(
     )
 }
 
-/// Whether an instance fits, decided by its class tree under the budget of the settings, by as many workers as these say.
+/// Whether an instance fits, decided by its class tree under the budget of the settings, by as many
+/// workers as these say.
 ///
 /// It answers what `decide_alone` answers, for every number of workers and every gate.
 pub fn decide<R: Threads + Wait + Sync, G: Gate + Sync>(
@@ -81,12 +87,16 @@ pub fn decide<R: Threads + Wait + Sync, G: Gate + Sync>(
     settings: &Settings,
     gate: &G,
 ) -> Result<Outcome, NoMemory>
-    ensures outcome { IfOk result (λ r. plain_outcome r ≡ told settings.now.budget (outcome (class_tree instance.now [] settings.now.scales))) }
+    ensures outcome { IfOk result
+        (λ r. plain_outcome r ≡ told settings.now.budget
+        (outcome (class_tree instance.now [] settings.now.scales))) }
     ensures right { IfOk result (λ r. IsRight instance.now [] (plain_outcome r)) }
     ensures decides { IfOk result (λ r. Decides instance.now (plain_outcome r)) }
-    ensures enough { 3 ^ (dims instance.now * box_count instance.now * (box_count instance.now - 1) / 2) ≤ settings.now.budget + 1
-        → IfOk result (λ r. IsDecided (plain_outcome r)) }
+    ensures enough { 3 ^ (dims instance.now * box_count instance.now
+        * (box_count instance.now - 1) / 2) ≤ settings.now.budget + 1
+        → IfOk result (λ r. IsYesOrNo (plain_outcome r)) }
 {
+    // For the proof alone: tells the limits of the instance.
     let _limits = instance.len();
     let tree = ClassTree::new(alloc, instance, settings.scales)?;
     solve_shared(rt, alloc, &tree, settings, gate)

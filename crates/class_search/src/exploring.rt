@@ -1,4 +1,4 @@
-// What the tree of the node that a path came to gives.
+//! What the tree of the node that a path came to gives.
 ghost use Rattle.std.specs.Prelude.{◌≡◌, IfOk, []};
 ghost use Rattle.packing_terms.specs.Packing.{dims, box_count};
 ghost use Rattle.packing_terms.specs.Limits.{IsInternalInstance};
@@ -16,7 +16,8 @@ use proof_tree::{Outcome, Token};
 use rule_closure::Closer;
 use std::alloc::Global;
 
-// What the tree of a node gives under a cap. This is what the path to it came to, and the node's closed state.
+// What the tree of a node gives under a cap. This is what the path to it came to, and the node's
+// closed state.
 pub fn explored(
     alloc: Global,
     instance: &Instance,
@@ -34,7 +35,9 @@ pub fn explored(
     requires known { IsKnownArrival instance.now state.old.trail arrival }
     ensures sizes { state.new ≡ record state.old { trail = state.new.trail } }
     ensures closer { closer.new ≡ closer.old }
-    ensures outcome { IfOk result (λ r. plain_outcome r ≡ told cap (outcome (arrival_tree instance.now state.old.trail arrival))) }
+    ensures outcome { IfOk result
+        (λ r. plain_outcome r ≡ told cap (outcome
+        (arrival_tree instance.now state.old.trail arrival))) }
 {
     match arrival {
         Arrival::RefutedRoot(token) => {
@@ -66,7 +69,8 @@ pub fn searched(
     requires pairs { pairs.now ≡ ranked_pairs instance.now }
     ensures sizes { state.new ≡ record state.old { trail = state.new.trail } }
     ensures closer { closer.new ≡ closer.old }
-    ensures outcome { IfOk result (λ r. plain_outcome r ≡ told budget (outcome (class_tree instance.now [] scales))) }
+    ensures outcome { IfOk result
+        (λ r. plain_outcome r ≡ told budget (outcome (class_tree instance.now [] scales))) }
 {
     let arrival = visit_class_root(alloc, instance, pairs, scales, state, closer);
     explored(alloc, instance, pairs, state, closer, arrival, budget)

@@ -1,4 +1,5 @@
-//! The class tree, which decides whether an instance fits, and its exploration with a stack of its own.
+//! The class tree, which decides whether an instance fits, and its exploration with a stack of its
+//! own.
 //!
 //! Source: the search over packing classes of Fekete, Schepers and van der Veen (2007).
 #![tactic(auto)]

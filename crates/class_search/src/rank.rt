@@ -1,4 +1,4 @@
-// The order in which the tree looks at pairs.
+//! The order in which the tree looks at pairs.
 ghost use Rattle.std.specs.Prelude.{◌≡◌, IfOk};
 ghost use Rattle.tree_terms.specs.Rank.{in_order, ranked_pairs};
 

@@ -1,12 +1,12 @@
-// What the root alone is tested for.
+//! What the root alone is tested for.
 ghost use Rattle.std.specs.Prelude.{◌≡◌, ◌<◌, Some, None, MatchOption, IfSome};
 ghost use Rattle.std.specs.List.{find};
 ghost use Rattle.packing_terms.specs.Packing.{dims, box_count, container_side, side};
 ghost use Rattle.packing_terms.specs.Limits.{IsInternalInstance};
 ghost use Rattle.packing_terms.specs.Scales.{SidesFit};
-ghost use Rattle.rule_terms.specs.Rounds.{below};
+ghost use Rattle.packing_terms.specs.Sums.{below};
 ghost use Rattle.tree_terms.specs.Rank.{ranked_pairs};
-ghost use Rattle.tree_terms.specs.ClassTree.{first_large, excess_where, class_tree};
+ghost use Rattle.tree_terms.specs.ClassTree.{first_too_large_box, exceeding_where, class_tree};
 ghost use Rattle.class_search.specs.Rooted.{is_larger, IsExcessToken, IsArrival};
 
 use crate::visit::{NodeKind, next_kind};
@@ -49,7 +49,7 @@ fn large_dim(instance: &Instance, v: u32) -> Option<u32>
 
 /// The first box that is longer than the container, and its first such dimension.
 pub fn first_too_large(instance: &Instance) -> Option<(u32, u32)>
-    ensures value { result ≡ first_large instance.now }
+    ensures value { result ≡ first_too_large_box instance.now }
     ensures there { IfSome result (λ p. (p.0 < 128) × (p.1 < 4)) }
 {
     for v in 0..instance.len() {
@@ -63,7 +63,7 @@ pub fn first_too_large(instance: &Instance) -> Option<(u32, u32)>
 // The token of the first tuple of scale functions that exceeds, where scales are wanted.
 fn scales_token(alloc: Global, instance: &Instance, scales: bool) -> Option<Token>
     requires { SidesFit instance.now }
-    ensures { MatchOption result (excess_where instance.now 1 scales None ≡ None)
+    ensures { MatchOption result (exceeding_where instance.now 1 scales None ≡ None)
         (λ token. IsExcessToken instance.now scales token) }
 {
     if !scales {
@@ -89,10 +89,11 @@ fn visit_fitting_root(
     requires boxes { state.old.boxes ≡ box_count instance.now }
     requires room { closer.old ≡ record { dims = state.old.dims; boxes = state.old.boxes } }
     requires pairs { pairs.now ≡ ranked_pairs instance.now }
-    requires none { first_large instance.now ≡ None }
+    requires none { first_too_large_box instance.now ≡ None }
     ensures sizes { state.new ≡ record state.old { trail = state.new.trail } }
     ensures closer { closer.new ≡ closer.old }
-    ensures root { IsArrival instance.now (Some (class_tree instance.now state.old.trail scales)) state.new.trail result }
+    ensures root { IsArrival instance.now (Some (class_tree instance.now state.old.trail scales))
+        state.new.trail result }
 {
     match closer.close(instance, state) {
         Closed::Conflict => Arrival::Inner(NodeKind::Conflict),
@@ -119,7 +120,8 @@ pub fn visit_class_root(
     requires pairs { pairs.now ≡ ranked_pairs instance.now }
     ensures sizes { state.new ≡ record state.old { trail = state.new.trail } }
     ensures closer { closer.new ≡ closer.old }
-    ensures root { IsArrival instance.now (Some (class_tree instance.now state.old.trail scales)) state.new.trail result }
+    ensures root { IsArrival instance.now (Some (class_tree instance.now state.old.trail scales))
+        state.new.trail result }
 {
     match first_too_large(instance) {
         Some((v, dim)) => Arrival::RefutedRoot(Token::TooLarge {

@@ -1,4 +1,4 @@
-// Whether two trees were made from equal parts.
+//! Whether two trees were made from equal parts.
 ghost use Rattle.std.specs.Prelude.{◌≡◌, ◌<◌, MatchBool};
 ghost use Rattle.packing_terms.specs.Packing.{dims, box_count};
 ghost use Rattle.class_search.specs.Same.{AreSameContainers, AreSameBoxes};
@@ -9,7 +9,8 @@ use relation_table::Rel;
 
 // Whether both instances have the same container and kerfs.
 fn are_same_containers(first: &Instance, second: &Instance) -> bool
-    ensures { MatchBool result (AreSameContainers first.now second.now) (¬ (first.now ≡ second.now)) }
+    ensures { MatchBool result (AreSameContainers first.now second.now)
+        (¬ (first.now ≡ second.now)) }
 {
     if first.dims() != second.dims() {
         return false;

@@ -1,9 +1,7 @@
-// The splits of unsettled pairs, and their children.
+//! The splits of unsettled pairs, and their children.
 ghost use Rattle.std.specs.Prelude.{◌≡◌, ◌≢◌, ◌<◌, None, true, false};
-ghost use Rattle.std.specs.List.{find};
 ghost use Rattle.packing_terms.specs.Exclusions.{excludes};
-ghost use Rattle.rule_terms.specs.Rounds.{below};
-ghost use Rattle.tree_terms.specs.InnerTree.{is_apart_somewhere, may_order, may_apart, chosen_split};
+ghost use Rattle.tree_terms.specs.InnerTree.{is_apart_somewhere, order_dim, apart_dim, chosen_split};
 ghost use Rattle.proof_tree.specs.Plain.{plain_token};
 ghost use Rattle.class_search.specs.Splits.{plain_split, added, with_all, IsSplitAmong, MaySplit};
 
@@ -35,9 +33,11 @@ impl Split {
         requires there { v < state.now.boxes }
         requires divided { MaySplit (excludes state.now.trail) state.now.dims (u, v) }
         ensures place { IsSplitAmong state.now.dims state.now.boxes result }
-        ensures value { plain_split result ≡ chosen_split (u, v) (is_apart_somewhere (excludes state.now.trail) state.now.dims (u, v))
-            (find (may_order (excludes state.now.trail) (u, v)) (below state.now.dims))
-            (find (may_apart (excludes state.now.trail) (u, v)) (below state.now.dims)) }
+        ensures value { plain_split result
+            ≡ chosen_split (u, v) (is_apart_somewhere (excludes state.now.trail) state.now.dims
+            (u, v))
+            (order_dim (excludes state.now.trail) state.now.dims (u, v))
+            (apart_dim (excludes state.now.trail) state.now.dims (u, v)) }
     {
         if is_apart(state, u, v) {
             let Some(dim) = order_dim(state, u, v) else {
@@ -76,7 +76,10 @@ impl Split {
     // Adds what its first child excludes, or its second.
     pub fn enter(&self, state: &mut EdgeState, second: bool)
         requires { IsSplitAmong state.old.dims state.old.boxes self.now }
-        ensures { state.new ≡ record state.old { trail = with_all (added self.now second) state.old.trail } }
+        ensures { state.new ≡ record state.old {
+          trail = with_all (added self.now second)
+              state.old.trail;
+        } }
     {
         match (self.choice, second) {
             (Choice::Apart, false) => {

@@ -1,13 +1,13 @@
-// The class tree.
+//! The class tree.
 ghost use Rattle.std.specs.Prelude.{◌≡◌, ◌+◌, ◌-◌, ◌*◌, ◌/◌, ◌^◌, ◌≤◌, IfOk, IfSome, IsSome, MatchBool, Some, []};
 ghost use Rattle.packing_terms.specs.Packing.{dims, box_count};
-ghost use Rattle.tree_terms.specs.Search.{AreAtPlaces};
+ghost use Rattle.tree_terms.specs.Search.{AreAtEdges};
 ghost use Rattle.tree_terms.specs.Trees.{outcome, told, node_at};
 ghost use Rattle.tree_terms.specs.Paths.{exclusions_at, node_told, outcome_at, IsReachable};
 ghost use Rattle.proof_tree.specs.Plain.{plain_outcome};
 ghost use Rattle.work_share.specs.Nodes.{plain_node};
 ghost use Rattle.class_search.specs.Splits.{with_all};
-ghost use Rattle.class_search.specs.Right.{IsRight, Decides, IsDecided};
+ghost use Rattle.class_search.specs.Right.{IsRight, Decides, IsYesOrNo};
 ghost use Rattle.class_search.specs.Rooted.{IsArrival};
 ghost use Rattle.class_search.specs.Tree.{shape, same_trees};
 
@@ -25,8 +25,9 @@ use std::alloc::Global;
 use std::marker::Model;
 use work_share::{Node, Tree};
 
-/// The search tree of an instance over its component graphs and their partial orientations, from a state on that already
-/// excludes some relations. It is seen as these parts, and stands for the tree of the definition.
+/// The search tree of an instance over its component graphs and their partial orientations, from a
+/// state on that already excludes some relations. It is seen as these parts, and stands for the
+/// tree of the definition.
 ///
 /// Source: the search over packing classes of Fekete, Schepers and van der Veen (2007).
 #[derive(Drop)]
@@ -42,21 +43,31 @@ impl<'a> Model for ClassTree<'a> {
 
     ghost Value = { PlainClassTree };
 
-    ghost view = { λ t. record { instance = t.instance.now; start = t.start.items; scales = t.scales } };
+    ghost view = { λ t. record {
+      instance = t.instance.now;
+      start = t.start.items;
+      scales = t.scales;
+    } };
 
-    ghost invariant = { λ t. IsReady (record { instance = t.instance.now; start = t.start.items; scales = t.scales }) t.pairs.items };
+    ghost invariant = { λ t. IsReady
+        (record { instance = t.instance.now; start = t.start.items; scales = t.scales })
+        t.pairs.items };
 }
 
 impl<'a> ClassTree<'a> {
-    /// The tree whose root holds the exclusions of `start`, which are at pairs of the instance.
+    /// The tree whose root holds the exclusions of `start`, which are at edges of the instance.
     pub fn starting(
         alloc: Global,
         instance: &'a Instance,
         start: &[Exclusion],
         scales: bool,
     ) -> Result<ClassTree<'a>, NoMemory>
-        requires { AreAtPlaces instance.now start.now }
-        ensures { IfOk result (λ t. t ≡ record { instance = instance.now; start = start.now; scales = scales }) }
+        requires { AreAtEdges instance.now start.now }
+        ensures { IfOk result (λ t. t ≡ record {
+          instance = instance.now;
+          start = start.now;
+          scales = scales;
+        }) }
     {
         let pairs = ranked_pairs(alloc, instance)?;
         let Ok(start) = Vec::from_slice(alloc, start) else {
@@ -76,7 +87,11 @@ impl<'a> ClassTree<'a> {
         instance: &'a Instance,
         scales: bool,
     ) -> Result<ClassTree<'a>, NoMemory>
-        ensures { IfOk result (λ t. t ≡ record { instance = instance.now; start = []; scales = scales }) }
+        ensures { IfOk result (λ t. t ≡ record {
+          instance = instance.now;
+          start = [];
+          scales = scales;
+        }) }
     {
         ClassTree::starting(alloc, instance, &[], scales)
     }
@@ -117,8 +132,10 @@ impl<'a> ClassTree<'a> {
         requires there { IsSome (node_at (Some (shape self.now)) path.now) }
         ensures sizes { state.new ≡ record state.old { trail = state.new.trail } }
         ensures closer { closer.new ≡ closer.old }
-        ensures node { IsArrival self.now.instance (node_at (Some (shape self.now)) path.now) state.new.trail result }
+        ensures node { IsArrival self.now.instance (node_at (Some (shape self.now)) path.now)
+            state.new.trail result }
     {
+        // For the proof alone: tells the limits of the instance.
         let _limits = self.instance.len();
         let pairs = self.pairs.as_slice();
         if path.is_empty() {
@@ -131,7 +148,8 @@ impl<'a> ClassTree<'a> {
     // What the tree below the node at a path gives under a cap.
     fn explore_node(&self, alloc: Global, path: &[u32], cap: u64) -> Result<Outcome, NoMemory>
         requires { IsSome (node_at (Some (shape self.now)) path.now) }
-        ensures { IfOk result (λ r. IfSome (node_at (Some (shape self.now)) path.now) (λ node. plain_outcome r ≡ told cap (outcome node))) }
+        ensures { IfOk result (λ r. IfSome (node_at (Some (shape self.now)) path.now)
+            (λ node. plain_outcome r ≡ told cap (outcome node))) }
     {
         let mut state = self.start_state(alloc)?;
         let mut closer = Closer::new(alloc, self.instance.dims(), self.instance.len())?;
@@ -154,30 +172,40 @@ impl<'a> Tree for ClassTree<'a> {
 
     ghost AreSame = { λ t u. t ≡ u };
 
-    /// What the tree below the node at a path gives under a cap: its outcome where that has a count of at most `cap`, and
-    /// `Past` exactly where its count is greater.
+    /// What the tree below the node at a path gives under a cap: its outcome where that has a count
+    /// of at most `cap`, and `Past` exactly where its count is greater.
     ///
-    /// A yes has places that are a packing, and a no refutes the instance under the exclusions of the path: those of the root,
-    /// and what each split on the way adds. At the root of a tree without starting exclusions a yes comes only where the
-    /// instance fits, and a no only where it doesn't. At every root the count is within a cap of at least 3 to the number of
-    /// pairs in all dimensions, less 1.
+    /// A yes has places that are a packing, and a no refutes the instance under the exclusions of
+    /// the path: those of the root, and what each split on the way adds. At the root of a tree
+    /// without starting exclusions a yes comes only where the instance fits, and a no only where it
+    /// doesn't. At every root the count is within a cap of at least 3 to the number of pairs in all
+    /// dimensions, less 1.
     fn explore(&self, alloc: Global, path: &[u32], cap: u64) -> Result<Outcome, NoMemory>
         requires { IsReachable (shape self.now) path.now }
-        ensures outcome { IfOk result (λ r. IfSome (outcome_at (shape self.now) path.now) (λ v. plain_outcome r ≡ told cap v)) }
-        ensures right { IfOk result (λ r. IsRight self.now.instance (exclusions_at self.now.start (shape self.now) path.now) (plain_outcome r)) }
-        ensures decides { path.now ≡ [] → self.now.start ≡ [] → IfOk result (λ r. Decides self.now.instance (plain_outcome r)) }
+        ensures outcome { IfOk result
+            (λ r. IfSome (outcome_at (shape self.now) path.now)
+            (λ v. plain_outcome r ≡ told cap v)) }
+        ensures right { IfOk result
+            (λ r. IsRight self.now.instance (exclusions_at self.now.start (shape self.now) path.now)
+            (plain_outcome r)) }
+        ensures decides { path.now ≡ [] → self.now.start ≡ []
+            → IfOk result (λ r. Decides self.now.instance (plain_outcome r)) }
         ensures enough { path.now ≡ []
-            → 3 ^ (dims self.now.instance * box_count self.now.instance * (box_count self.now.instance - 1) / 2) ≤ cap + 1
-            → IfOk result (λ r. IsDecided (plain_outcome r)) }
+            → 3 ^ (dims self.now.instance * box_count self.now.instance
+            * (box_count self.now.instance - 1) / 2) ≤ cap + 1
+            → IfOk result (λ r. IsYesOrNo (plain_outcome r)) }
     {
+        // For the proof alone: tells the limits of the instance.
         let _limits = self.instance.len();
         self.explore_node(alloc, path, cap)
     }
 
-    /// Whether the node at a path is a split, with its token, its own count 1 and its 2 children; or a leaf.
+    /// Whether the node at a path is a split, with its token, its own count 1 and its 2 children;
+    /// or a leaf.
     fn node(&self, alloc: Global, path: &[u32]) -> Result<Node, NoMemory>
         requires { IsReachable (shape self.now) path.now }
-        ensures { IfOk result (λ r. IfSome (node_at (Some (shape self.now)) path.now) (λ node. plain_node r ≡ node_told node)) }
+        ensures { IfOk result (λ r. IfSome (node_at (Some (shape self.now)) path.now)
+            (λ node. plain_node r ≡ node_told node)) }
     {
         let mut state = self.start_state(alloc)?;
         let mut closer = Closer::new(alloc, self.instance.dims(), self.instance.len())?;
@@ -187,7 +215,8 @@ impl<'a> Tree for ClassTree<'a> {
         }
     }
 
-    /// Whether both trees have the same instance, the same exclusions at the root and the same choice of scales.
+    /// Whether both trees have the same instance, the same exclusions at the root and the same
+    /// choice of scales.
     fn same(&self, other: &Self) -> bool
         ensures { MatchBool result (self.now ≡ other.now) (¬ (self.now ≡ other.now)) }
     {

@@ -1,4 +1,4 @@
-// Visits of nodes: a state is closed, and what kind of node it is is told.
+//! Visits of nodes: a state is closed, and what kind of node it is is told.
 ghost use Rattle.std.specs.Prelude.{◌≡◌, ◌<◌, ℕ, false};
 ghost use Rattle.packing_terms.specs.Packing.{dims, box_count};
 ghost use Rattle.packing_terms.specs.Limits.{IsInternalInstance};
@@ -7,7 +7,7 @@ ghost use Rattle.tree_terms.specs.Rank.{ranked_pairs};
 ghost use Rattle.tree_terms.specs.InnerTree.{is_settled};
 ghost use Rattle.class_search.specs.Settling.{AreSettledBefore};
 ghost use Rattle.class_search.specs.Splits.{MaySplit, added, with_all};
-ghost use Rattle.class_search.specs.Visits.{IsNext, IsMet, IsDivided};
+ghost use Rattle.class_search.specs.Visits.{IsNextPair, IsMet, IsDivided};
 
 use crate::pairs::first_unsettled;
 use crate::splits::Split;
@@ -15,8 +15,8 @@ use box_instances::Instance;
 use edge_state::EdgeState;
 use rule_closure::{Closed, Closer};
 
-// What a node is: one with a conflict, one whose pairs are all settled, or one that is split at the first unsettled pair, whose
-// place by rank is told.
+// What a node is: one with a conflict, one whose pairs are all settled, or one that is split at the
+// first unsettled pair, whose position by rank is told.
 #[derive(Clone, Copy, Debug, PartialEq, Eq)]
 pub enum NodeKind {
     Conflict,
@@ -34,10 +34,12 @@ pub fn next_kind(
     requires dims { state.now.dims ≡ dims instance.now }
     requires boxes { state.now.boxes ≡ box_count instance.now }
     requires pairs { pairs.now ≡ ranked_pairs instance.now }
-    requires settled { AreSettledBefore (excludes state.now.trail) (dims instance.now) (ranked_pairs instance.now) from }
-    requires divided { (p : ℕ × ℕ) → p.0 < p.1 → p.1 < box_count instance.now → is_settled (excludes state.now.trail) (dims instance.now) p ≡ false
+    requires settled { AreSettledBefore (excludes state.now.trail) (dims instance.now)
+        (ranked_pairs instance.now) from }
+    requires divided { (p : ℕ × ℕ) → p.0 < p.1 → p.1 < box_count instance.now
+        → is_settled (excludes state.now.trail) (dims instance.now) p ≡ false
         → MaySplit (excludes state.now.trail) (dims instance.now) p }
-    ensures { IsNext instance.now state.now.trail result }
+    ensures { IsNextPair instance.now state.now.trail result }
 {
     let Some(place) = first_unsettled(state, pairs, from) else {
         return NodeKind::Settled;
@@ -69,8 +71,8 @@ pub fn visit_root(
     }
 }
 
-// Goes from a node that is split, whose closed state this is, to its first child or its second. It closes what follows from
-// the child's own exclusions, and tells the child's kind.
+// Goes from a node that is split, whose closed state this is, to its first child or its second. It
+// closes what follows from the child's own exclusions, and tells the child's kind.
 pub fn visit_child(
     instance: &Instance,
     pairs: &[(u32, u32)],
@@ -88,7 +90,8 @@ pub fn visit_child(
     requires divided { IsDivided instance.now state.old.trail split place }
     ensures sizes { state.new ≡ record state.old { trail = state.new.trail } }
     ensures closer { closer.new ≡ closer.old }
-    ensures met { IsMet instance.now (with_all (added split second) state.old.trail) state.new.trail result }
+    ensures met { IsMet instance.now (with_all (added split second) state.old.trail) state.new.trail
+        result }
 {
     let closed = state.mark();
     split.enter(state, second);

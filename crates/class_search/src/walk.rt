@@ -1,4 +1,5 @@
-// The walk through the tree below a node, depth first, with a stack of the second children that wait.
+//! The walk through the tree below a node, depth first, with a stack of the second children that
+//! wait.
 ghost use Rattle.std.specs.Prelude.{◌≡◌, IfOk, IsSome, List};
 ghost use Rattle.packing_terms.specs.declared.Exclusion.{Exclusion as PlainExclusion};
 ghost use Rattle.packing_terms.specs.Packing.{PlainInstance, dims, box_count};
@@ -21,7 +22,8 @@ use rule_closure::Closer;
 use std::alloc::Global;
 use work_share::Node;
 
-// A second child that waits: the split above it, the closed state of that split's node, and its pair's place by rank.
+// A second child that waits: the split above it, the closed state of that split's node, and its
+// pair's position by rank.
 #[derive(Clone, Copy)]
 pub struct Waiting {
     split: Split,
@@ -48,7 +50,8 @@ pub fn walk(
     requires known { IsKind instance.now state.old.trail node }
     ensures sizes { state.new ≡ record state.old { trail = state.new.trail } }
     ensures closer { closer.new ≡ closer.old }
-    ensures outcome { IfOk result (λ r. plain_outcome r ≡ told cap (outcome (kind_tree instance.now state.old.trail node))) }
+    ensures outcome { IfOk result
+        (λ r. plain_outcome r ≡ told cap (outcome (kind_tree instance.now state.old.trail node))) }
 {
     let mut stack: Vec<Waiting> = Vec::new(alloc);
     let mut tokens = Vec::new(alloc);
@@ -106,10 +109,12 @@ pub fn descend(
     requires room { closer.old ≡ record { dims = state.old.dims; boxes = state.old.boxes } }
     requires pairs { pairs.now ≡ ranked_pairs instance.now }
     requires known { IsKind instance.now state.old.trail node }
-    requires there { IsSome (node_at (Some (kind_tree instance.now state.old.trail node)) path.now) }
+    requires there { IsSome (node_at (Some (kind_tree instance.now state.old.trail node))
+        path.now) }
     ensures sizes { state.new ≡ record state.old { trail = state.new.trail } }
     ensures closer { closer.new ≡ closer.old }
-    ensures node { node_at (Some (kind_tree instance.now state.old.trail node)) path.now ≡ Some (kind_tree instance.now state.new.trail result) }
+    ensures node { node_at (Some (kind_tree instance.now state.old.trail node)) path.now
+        ≡ Some (kind_tree instance.now state.new.trail result) }
     ensures known { IsKind instance.now state.new.trail result }
 {
     let mut node = node;
@@ -128,7 +133,8 @@ pub fn descend(
 // What is told of a node of this kind.
 pub fn told(node: NodeKind) -> Node
     requires { IsAmong 4 128 node }
-    ensures { (instance : PlainInstance) (es : List PlainExclusion) → plain_node result ≡ node_told (kind_tree instance es node) }
+    ensures { (instance : PlainInstance) (es : List PlainExclusion)
+        → plain_node result ≡ node_told (kind_tree instance es node) }
 {
     match node {
         NodeKind::Divided { split, place: _ } => Node::Split {

@@ -1,6 +1,6 @@
 -- Where a row has no box beyond what the compositions allow, COMPOSE adds nothing.
 use Rattle.std.proofs.Common.{◌≡◌, ◌≢◌, ℕ, ◌<◌, ◌⊎◌, inl, inr, refl, sym, ◌∙◌, Bool, true, false, not, ◌&&◌, ◌||◌, eqb, List}
-use Rattle.std.proofs.lemmas.Bool.{true≢false, or_cases, and_parts, ltb-true}
+use Rattle.std.proofs.lemmas.Bool.{true≢false, or_cases, and_parts, ltb-true, or_parts, true_from_ne_false}
 use Rattle.packing_terms.specs.declared.Rel.{Rel}
 use Rattle.packing_terms.specs.declared.Rel.TheVariants.{Overlap, Before, After}
 use Rattle.packing_terms.specs.declared.Exclusion.{Exclusion}
@@ -10,11 +10,12 @@ use Rattle.packing_terms.specs.Exclusions.{Exclusions, excludes}
 use Rattle.packing_terms.specs.Rules.{Compose, Concludes, IsRuleInstance}
 use Rattle.rule_terms.specs.Applied.{Adds, added, mirror_added}
 use Rattle.packing_terms.proofs.Sets.{excludes_symmetric}
-use Rattle.edge_state.specs.Edges.{is_other}
+use Rattle.edge_state.specs.Edges.{is_other_box}
 use Rattle.edge_state.proofs.RowBits.{eqb_false}
 use Rattle.edge_state.proofs.Tables.{other_from}
 use Rattle.closure_terms.specs.Work.{IsCovered}
 use Rattle.closure_terms.specs.Rows.{may}
+use Rattle.closure_terms.proofs.Members.{both_on}
 
 module _ (X : Exclusions) (i u v x : ℕ) (q s : Rel → Bool) (open_q : (r : Rel) → q r ≡ true → X i u v r ≡ false) (open_s : (r : Rel) → s r ≡ true → X i v x r ≡ false) where
   clash : (r a b : Rel) → Concludes X (Compose i u v x) r → allows a b r ≡ true → q a ≡ true → s b ≡ true → ⊥
@@ -80,23 +81,15 @@ module _ (X : Exclusions) (i u v x : ℕ) (q s : Rel → Bool) (open_q : (r : Re
   none_may Before c h = in_before c (or_cases _ _ h)
   none_may After c h = in_after c (or_cases _ _ h)
 
-or_off : (a b : Bool) → (a || b) ≡ false → (a ≡ false) × (b ≡ false)
-or_off false b h = (refl, h)
-or_off true b h = absurd (true≢false h)
-
 beyond_off : (a b : Bool) → a ≡ true → (a && not b) ≡ false → b ≡ true
 beyond_off true true e h = refl
 beyond_off true false e h = absurd (true≢false h)
 beyond_off false b e h = absurd (true≢false (sym e))
 
-both_on : (a b : Bool) → b ≡ true → (a && b) ≡ false → a ≡ false
-both_on true b e h = sym e ∙ h
-both_on false b e h = refl
-
 -- What the row of boxes beyond the compositions doesn't have is covered.
 pub covered_beyond : (instance : PlainInstance) (es : List Exclusion) (i u v x : ℕ) (here : Bool) (q s t : Rel → Bool) → u ≢ v
-    → ((r : Rel) → q r ≡ not (excludes es i u v r)) → ((r : Rel) → s r ≡ is_other (box_count instance) v x && not (excludes es i v x r))
-    → ((r : Rel) → t r ≡ is_other (box_count instance) u x && not (excludes es i u x r))
+    → ((r : Rel) → q r ≡ not (excludes es i u v r)) → ((r : Rel) → s r ≡ is_other_box (box_count instance) v x && not (excludes es i v x r))
+    → ((r : Rel) → t r ≡ is_other_box (box_count instance) u x && not (excludes es i u x r))
     → here ≡ (((t Overlap && not (may Overlap q s)) || (t Before && not (may Before q s))) || (t After && not (may After q s))) && not (eqb x v)
     → here ≡ false → IsCovered instance (excludes es) es (Compose i u v x)
 covered_beyond instance es i u v x here q s t ne hq hs ht e off = record { holds = λ j a b r add. go j a b r add }
@@ -135,26 +128,22 @@ covered_beyond instance es i u v x here q s t ne hq hs ht e off = record { holds
         sums = both_on _ (not (eqb x v)) (rw apart refl) (sym e ∙ off)
 
         and_off : (r : Rel) → (t r && not (may r q s)) ≡ false
-        and_off Overlap = (or_off _ _ (or_off _ _ sums).0).0
-        and_off Before = (or_off _ _ (or_off _ _ sums).0).1
-        and_off After = (or_off _ _ sums).1
+        and_off Overlap = (or_parts _ _ (or_parts _ _ sums).0).0
+        and_off Before = (or_parts _ _ (or_parts _ _ sums).0).1
+        and_off After = (or_parts _ _ sums).1
 
         by_rel : (r : Rel) → Concludes (excludes es) (Compose i u v x) r → t r ≡ true → (t r && not (may r q s)) ≡ false → ⊥
         by_rel r c k f =
             none_may (excludes es) i u v x q s (λ r h. not_true (q r) (excludes es i u v r) (hq r) h)
-            (λ r h. other_not (is_other (box_count instance) v x) (s r) (excludes es i v x r) (hs r) h) r c (beyond_off (t r) (may r q s) k f)
-
-    true_of : (b : Bool) → (b ≡ false → ⊥) → b ≡ true
-    true_of true h = refl
-    true_of false h = absurd (h refl)
+            (λ r h. other_not (is_other_box (box_count instance) v x) (s r) (excludes es i v x r) (hs r) h) r c (beyond_off (t r) (may r q s) k f)
 
     go : (j a b : ℕ) (r : Rel) → Adds instance (excludes es) (Compose i u v x) j a b r → excludes es j a b r ≡ true
-    go _ _ _ _ (added r is p c) = true_of (excludes es i u x r) (shut r is c)
-    go _ _ _ _ (mirror_added r is p c) = excludes_symmetric es i u x r (true_of (excludes es i u x r) (shut r is c))
+    go _ _ _ _ (added r is p c) = true_from_ne_false (excludes es i u x r) (shut r is c)
+    go _ _ _ _ (mirror_added r is p c) = excludes_symmetric es i u x r (true_from_ne_false (excludes es i u x r) (shut r is c))
 
 -- what the row has is a box
 pub within_beyond : (n u v x : ℕ) (es : List Exclusion) (i : ℕ) (here : Bool) (q s t : Rel → Bool)
-    → ((r : Rel) → t r ≡ is_other n u x && not (excludes es i u x r))
+    → ((r : Rel) → t r ≡ is_other_box n u x && not (excludes es i u x r))
     → here ≡ (((t Overlap && not (may Overlap q s)) || (t Before && not (may Before q s))) || (t After && not (may After q s))) && not (eqb x v)
     → here ≡ true → x < n
 within_beyond n u v x es i here q s t ht e on = go (or_cases _ _ (and_parts _ _ (sym e ∙ on)).0)

@@ -11,7 +11,7 @@ use Rattle.packing_terms.specs.Closure.{IsSubset}
 use Rattle.packing_terms.proofs.Sets.{excludes_symmetric}
 use Rattle.rule_terms.specs.Applied.{Adds, added, mirror_added}
 use Rattle.rule_terms.specs.Runs.{AreHeaviestHeads, AreHeaviestTails}
-use Rattle.rule_terms.proofs.Tests.{ends_in}
+use Rattle.rule_terms.proofs.Drawn.{ends_in}
 use Rattle.closure_terms.specs.Work.{IsCovered, IsChainIn, IsChained, IsUnordered}
 use Rattle.closure_terms.specs.Passes.{IsShut}
 use Rattle.closure_terms.proofs.Touched.{IsAt, decide_at, only_old, old_adds}

@@ -6,7 +6,7 @@ use Rattle.packing_terms.specs.declared.Rel.{Rel}
 use Rattle.packing_terms.specs.declared.Rel.TheVariants.{Overlap, Before, After}
 use Rattle.packing_terms.specs.declared.Exclusion.{Exclusion}
 use Rattle.packing_terms.specs.Packing.{PlainInstance}
-use Rattle.packing_terms.specs.Exclusions.{Exclusions, excludes, IsPlace}
+use Rattle.packing_terms.specs.Exclusions.{Exclusions, excludes, IsEdge}
 use Rattle.packing_terms.specs.Closure.{IsDerived, HasConflict, IsStable, Derives}
 use Rattle.packing_terms.proofs.Sets.{excludes_symmetric}
 use Rattle.packing_terms.proofs.Derivations.{stable_holds}
@@ -16,7 +16,7 @@ use Rattle.rule_terms.specs.Applied.{Extends}
 use Rattle.rule_terms.proofs.RoundsLemmas.{given}
 use Rattle.relation_table.specs.Masks.{mask_has}
 use Rattle.relation_table.proofs.Tables.{each, rels}
-use Rattle.closure_terms.specs.States.{HasEmptyMask, IsLeft}
+use Rattle.closure_terms.specs.States.{HasEmptyMask, HasRelationLeft}
 use Rattle.closure_terms.specs.Ends.{IsClosureOf, IsConflictOf}
 
 -- what a derivation that goes on from a list excludes is derived from that list
@@ -35,7 +35,7 @@ ended_closure instance E old new extends there back settled full = record {
   exact = λ i u v r. (λ h. there i u v r (only_derived instance old new extends i u v r h), λ d. all_there i u v r (back i u v r d));
   stable = settled;
   full = full;
-  none = λ c. clash c (full c.dim c.u c.v c.place);
+  none = λ c. clash c (full c.dim c.u c.v c.edge);
 }
   where
     all_there : (i u v : ℕ) (r : Rel) → IsDerived instance (excludes old) i u v r → IsTrue (excludes new i u v r)
@@ -50,7 +50,7 @@ pub ended_conflict : (instance : PlainInstance) (E : Exclusions) (old new : List
 ended_conflict instance E old new extends there empty = record {
   only = only;
   empty = empty;
-  conflict = record { dim = empty.dim; u = empty.u; v = empty.v; place = empty.place; each = λ r. only empty.dim empty.u empty.v r (empty.each r) };
+  conflict = record { dim = empty.dim; u = empty.u; v = empty.v; edge = empty.edge; each = λ r. only empty.dim empty.u empty.v r (empty.each r) };
 }
   where
     only : (i u v : ℕ) (r : Rel) → IsTrue (excludes new i u v r) → IsDerived instance E i u v r
@@ -60,8 +60,8 @@ ended_conflict instance E old new extends there empty = record {
 some_rel : (m : ℕ) → m < 8 → (eqb m 0 || list_any (λ r. mask_has m r) rels) ≡ true
 some_rel m l = each (λ x s. eqb x 0 || list_any (λ r. mask_has x r) rels) refl m l Overlap
 
-pub empty_or_left : (instance : PlainInstance) (X : Exclusions) (i u v m : ℕ) → IsPlace instance i u v → m < 8 → ((r : Rel) → mask_has m r ≡ not (X i u v r))
-    → MatchBool (eqb m 0) (HasEmptyMask instance X) (IsLeft instance X i u v)
+pub empty_or_left : (instance : PlainInstance) (X : Exclusions) (i u v m : ℕ) → IsEdge instance i u v → m < 8 → ((r : Rel) → mask_has m r ≡ not (X i u v r))
+    → MatchBool (eqb m 0) (HasEmptyMask instance X) (HasRelationLeft instance X i u v)
 empty_or_left instance X i u v m place l has = go (eqb m 0) refl
   where
     zero_has : (r : Rel) → mask_has 0 r ≡ false
@@ -81,12 +81,12 @@ empty_or_left instance X i u v m place l has = go (eqb m 0) refl
     left (inl t) f = absurd (true≢false (sym t ∙ f))
     left (inr t) f = let p = any_from (λ r. mask_has m r) rels t in (p.item, opened (mask_has m p.item) (X i u v p.item) (has p.item) p.passes)
 
-    go : (x : Bool) → eqb m 0 ≡ x → MatchBool x (HasEmptyMask instance X) (IsLeft instance X i u v)
+    go : (x : Bool) → eqb m 0 ≡ x → MatchBool x (HasEmptyMask instance X) (HasRelationLeft instance X i u v)
     go true e = record {
       dim = i;
       u = u;
       v = v;
-      place = place;
+      edge = place;
       each = λ r. flipped (mask_has m r) (X i u v r) (has r) (rw (eqb-true m 0 e) (zero_has r));
     }
     go false e = record { some = λ p. left (or_cases _ _ (some_rel m l)) e }

@@ -1,49 +1,41 @@
 -- Where a row leaves a box out, an instance of the rule adds nothing there.
 use Rattle.std.proofs.Common.{◌≡◌, ◌≢◌, ℕ, ◌<◌, ◌⊎◌, inl, inr, refl, sym, ◌∙◌, Bool, true, false, not, ◌&&◌, ◌||◌, eqb, ltb, List}
-use Rattle.std.proofs.lemmas.Bool.{true≢false, and_parts, eqb-true, ltb-true}
+use Rattle.std.proofs.lemmas.Bool.{true≢false, and_parts, eqb-true, ltb-true, or_parts}
 use Rattle.packing_terms.specs.declared.Rel.{Rel}
 use Rattle.packing_terms.specs.declared.Rel.TheVariants.{Overlap, Before, After}
 use Rattle.packing_terms.specs.declared.Exclusion.{Exclusion}
-use Rattle.packing_terms.specs.Packing.{PlainInstance, dims}
+use Rattle.packing_terms.specs.Packing.{PlainInstance}
 use Rattle.packing_terms.specs.Exclusions.{Exclusions, excludes}
-use Rattle.packing_terms.specs.Rules.{Rule, Apart, Triple, Cycle, Order, Concludes, Premises, IsRuleInstance, dim_of, first_of, second_of}
+use Rattle.packing_terms.specs.Rules.{Rule, Triple, Cycle, Order, Concludes, Premises, IsRuleInstance, dim_of, first_of, second_of}
 use Rattle.rule_terms.specs.Applied.{Adds, added, mirror_added}
 use Rattle.packing_terms.proofs.Sets.{excludes_symmetric}
-use Rattle.edge_state.specs.Edges.{is_other}
+use Rattle.edge_state.specs.Edges.{is_other_box}
 use Rattle.edge_state.proofs.Kept.{row_open, row_shut}
 use Rattle.closure_terms.specs.Work.{IsCovered}
 use Rattle.closure_terms.proofs.Worked.{covered_if, covered_not}
-
-pub or_off : (a b : Bool) → (a || b) ≡ false → (a ≡ false) × (b ≡ false)
-or_off false b h = (refl, h)
-or_off true b h = absurd (true≢false h)
 
 pub minus_off : (a b : Bool) → (a && not b) ≡ false → (a ≡ false) ⊎ (b ≡ true)
 minus_off false b h = inl refl
 minus_off true true h = inr refl
 minus_off true false h = absurd (true≢false h)
 
-pub both_off : (a b : Bool) → (a && b) ≡ false → (a ≡ false) ⊎ (b ≡ false)
-both_off false b h = inl refl
-both_off true b h = inr h
-
 -- a box of a row
-pub row_within : (n u v : ℕ) (x b : Bool) → b ≡ is_other n u v && x → b ≡ true → v < n
+pub row_within : (n u v : ℕ) (x b : Bool) → b ≡ is_other_box n u v && x → b ≡ true → v < n
 row_within n u v x b e h = ltb-true v n (and_parts _ _ (and_parts _ _ (sym e ∙ h)).0).0
 
 -- a box of two rows
-pub either_within : (n u v : ℕ) (a b x y e : Bool) → a ≡ is_other n u v && x → b ≡ is_other n u v && y → e ≡ a || b → e ≡ true → v < n
+pub either_within : (n u v : ℕ) (a b x y e : Bool) → a ≡ is_other_box n u v && x → b ≡ is_other_box n u v && y → e ≡ a || b → e ≡ true → v < n
 either_within n u v true b x y e ha hb he h = ltb-true v n (and_parts _ _ (and_parts _ _ (sym ha)).0).0
 either_within n u v false b x y e ha hb he h = ltb-true v n (and_parts _ _ (and_parts _ _ (sym hb ∙ (sym he ∙ h))).0).0
 
-pub either_shut : (n i u v : ℕ) (X : Exclusions) (r s : Rel) (a b e : Bool) → v < n → u ≢ v → a ≡ is_other n u v && not (X i u v r)
-    → b ≡ is_other n u v && not (X i u v s) → e ≡ a || b → e ≡ false → (X i u v r ≡ true) × (X i u v s ≡ true)
+pub either_shut : (n i u v : ℕ) (X : Exclusions) (r s : Rel) (a b e : Bool) → v < n → u ≢ v → a ≡ is_other_box n u v && not (X i u v r)
+    → b ≡ is_other_box n u v && not (X i u v s) → e ≡ a || b → e ≡ false → (X i u v r ≡ true) × (X i u v s ≡ true)
 either_shut n i u v X r s a b e small ne ha hb he off =
-    let none = or_off a b (sym he ∙ off) in
+    let none = or_parts a b (sym he ∙ off) in
     (row_shut n i u v X r a small ne ha none.0, row_shut n i u v X s b small ne hb none.1)
 
-pub either_some : (n i u v : ℕ) (X : Exclusions) (r s : Rel) (a b e : Bool) → a ≡ is_other n u v && not (X i u v r)
-    → b ≡ is_other n u v && not (X i u v s) → e ≡ a || b → e ≡ true → X i u v r ≡ true → X i u v s ≡ true → ⊥
+pub either_some : (n i u v : ℕ) (X : Exclusions) (r s : Rel) (a b e : Bool) → a ≡ is_other_box n u v && not (X i u v r)
+    → b ≡ is_other_box n u v && not (X i u v s) → e ≡ a || b → e ≡ true → X i u v r ≡ true → X i u v s ≡ true → ⊥
 either_some n i u v X r s true b e ha hb he on f g = true≢false (sym f ∙ row_open n i u v X r true ha refl)
 either_some n i u v X r s false b e ha hb he on f g = true≢false (sym g ∙ row_open n i u v X s b hb (sym he ∙ on))
 
@@ -91,14 +83,6 @@ before_rest : (X : Exclusions) (i u v : ℕ) (r : Rel) → r ≢ Before → (X i
 before_rest X i u v Overlap ne h = h.0
 before_rest X i u v Before ne h = absurd (ne refl)
 before_rest X i u v After ne h = h.1
-
--- APART adds nothing in another dimension where two boxes aren't joined in this one
-pub covered_apart : (instance : PlainInstance) (es : List Exclusion) (dim i u v : ℕ) → dim < dims instance → dim ≢ i
-    → (excludes es dim u v Before && excludes es dim u v After) ≡ false → IsCovered instance (excludes es) es (Apart i u v)
-covered_apart instance es dim i u v there ne off = covered_by instance es (Apart i u v) (λ is p r k. absurd (clash (p dim there ne)))
-  where
-    clash : (excludes es dim u v Before ≡ true) × (excludes es dim u v After ≡ true) → ⊥
-    clash h = true≢false (sym (rw (h.0, h.1) refl) ∙ off)
 
 pub covered_triple : (instance : PlainInstance) (es : List Exclusion) (i u v x : ℕ) (a b : Bool) → (a && not b) ≡ false
     → (u ≢ v → a ≡ false → (excludes es i u v Before ≡ true) × (excludes es i u v After ≡ true)) → (b ≡ true → excludes es i x v Overlap ≡ false)

@@ -4,11 +4,11 @@ use Rattle.packing_terms.specs.Packing.{PlainInstance}
 use Rattle.packing_terms.specs.Exclusions.{excludes}
 use Rattle.packing_terms.specs.Rules.{Rule, Pair, Apart, Triple, Chain, Compose, Cycle, Order, IsRuleInstance}
 use Rattle.edge_state.specs.Edges.{PlainEdges}
-use Rattle.closure_terms.specs.Work.{IsReached, IsWorked}
+use Rattle.closure_terms.specs.Work.{IsAppliedAt, IsWorked}
 use Rattle.closure_terms.specs.Instances.{AppliedAll}
 use Rattle.closure_terms.proofs.Worked.{covered_if}
 
-in_applied : (instance : PlainInstance) (j p q : ℕ) (rule : Rule) → IsReached j p q rule → IsRuleInstance instance rule → AppliedAll instance j p q rule
+in_applied : (instance : PlainInstance) (j p q : ℕ) (rule : Rule) → IsAppliedAt j p q rule → IsRuleInstance instance rule → AppliedAll instance j p q rule
 in_applied instance j p q (Pair i u v) h is = absurd h
 in_applied instance j p q (Chain i before u v after) h is = absurd h
 in_applied instance j p q (Compose i u v x) (e, f, g) is = inl (inl (inl (inl (x, is.1.2.2.0, rw (e, f, g) refl))))
@@ -21,7 +21,7 @@ in_applied instance j p q (Order i a b c d) (e, inr (inl h)) is = inl (inr (inr 
 in_applied instance j p q (Order i a b c d) (e, inr (inr h)) is = inr (b, is.1.2.0, (c, is.1.2.2.0, rw (e, h.0, h.1) refl))
 
 pub worked_reached : (instance : PlainInstance) (a b : PlainEdges) (lost : Bool) (j p q : ℕ) → IsWorked instance a b lost (AppliedAll instance j p q)
-    → IsWorked instance a b lost (IsReached j p q)
+    → IsWorked instance a b lost (IsAppliedAt j p q)
 worked_reached instance a b lost j p q h = record {
   same_dims = h.same_dims;
   same_boxes = h.same_boxes;

@@ -6,7 +6,7 @@ use Rattle.packing_terms.specs.declared.Rel.{Rel}
 use Rattle.packing_terms.specs.declared.Rel.TheVariants.{Overlap, Before, After}
 use Rattle.packing_terms.specs.declared.Exclusion.{Exclusion}
 use Rattle.packing_terms.specs.Packing.{PlainInstance, dims}
-use Rattle.packing_terms.specs.Exclusions.{excludes, IsPlace}
+use Rattle.packing_terms.specs.Exclusions.{excludes, IsEdge}
 use Rattle.packing_terms.proofs.Sets.{excludes_symmetric}
 use Rattle.rule_terms.specs.Applied.{Extends}
 use Rattle.relation_table.specs.Masks.{mask_has}
@@ -14,8 +14,8 @@ use Rattle.edge_state.specs.BitRows.{row_has, members_below}
 use Rattle.edge_state.specs.Edges.{PlainEdges}
 use Rattle.edge_state.specs.Answers.{IsChangeAfter}
 use Rattle.edge_state.proofs.RowBits.{members_fewer}
-use Rattle.closure_terms.specs.States.{IsLeft}
-use Rattle.closure_terms.specs.Work.{IsChainIn, IsReached, IsWorked, IsChained, IsUnordered, IsBehind}
+use Rattle.closure_terms.specs.States.{HasRelationLeft}
+use Rattle.closure_terms.specs.Work.{IsChainIn, IsAppliedAt, IsWorked, IsChained, IsUnordered, IsBehind}
 use Rattle.closure_terms.proofs.Chained.{chained_grown}
 use Rattle.closure_terms.proofs.Settled.{settled_step, chained_step, settled_after, chained_after}
 use Rattle.closure_terms.specs.Work.{IsLookedThrough}
@@ -40,8 +40,8 @@ unordered es e m o b a has ho hb ha off = record {
     tested false true true h f (inr g) = true≢false g
 
 -- the changes at one place are looked through
-pub looked_step : (instance : PlainInstance) (s t : PlainEdges) (e : Exclusion) (mark next : ℕ) (dirty more : List ℕ) → IsPlace instance e.dim e.u e.v
-    → IsLeft instance (excludes s.trail) e.dim e.u e.v → IsWorked instance s t false (λ rule. IsReached e.dim e.u e.v rule ⊎ IsReached e.dim e.v e.u rule)
+pub looked_step : (instance : PlainInstance) (s t : PlainEdges) (e : Exclusion) (mark next : ℕ) (dirty more : List ℕ) → IsEdge instance e.dim e.u e.v
+    → HasRelationLeft instance (excludes s.trail) e.dim e.u e.v → IsWorked instance s t false (λ rule. IsAppliedAt e.dim e.u e.v rule ⊎ IsAppliedAt e.dim e.v e.u rule)
     → IsChangeAfter s.trail mark e (mark + 1) → IsBehind s.trail mark e next
     → ((i : ℕ) → row_has more i ≡ false → row_has dirty i ≡ false) → ((i : ℕ) → row_has more i ≡ false → e.dim ≡ i → IsUnordered (excludes s.trail) e)
     → ((i : ℕ) → row_has more i ≡ true → (i ≡ e.dim) ⊎ (row_has dirty i ≡ true))

@@ -11,7 +11,7 @@ use Rattle.closure_terms.specs.Passes.{IsPass}
 use Rattle.closure_terms.proofs.Passes.{IsKept, pass_then, pass_as}
 use Rattle.closure_terms.proofs.Worked.{worked_none, worked_then, worked_as}
 
-both_on : (a b : Bool) → b ≡ true → (a && b) ≡ false → a ≡ false
+pub both_on : (a b : Bool) → b ≡ true → (a && b) ≡ false → a ≡ false
 both_on true b e h = sym e ∙ h
 both_on false b e h = refl
 

@@ -1,15 +1,13 @@
 -- Passes follow one another.
-use Rattle.std.proofs.Common.{◌≡◌, ℕ, ◌+◌, ◌<◌, ◌≤◌, ◌⊎◌, inl, inr, refl, sym, ap, subst, ◌∙◌, arith, Bool, true, false, List, slice_index, cond, ltb}
-use Rattle.std.proofs.lemmas.Bool.{true≢false, cases_lt, lt-ltb}
+use Rattle.std.proofs.Common.{◌≡◌, ℕ, ◌+◌, ◌<◌, ◌≤◌, ◌⊎◌, inl, inr, refl, sym, subst, ◌∙◌, arith, false, List, slice_index}
+use Rattle.std.proofs.lemmas.Bool.{true≢false, cases_lt}
 use Rattle.packing_terms.specs.declared.Rel.TheVariants.{Before}
 use Rattle.packing_terms.specs.declared.Exclusion.{Exclusion}
 use Rattle.packing_terms.specs.Packing.{PlainInstance, box_count, container_side}
 use Rattle.packing_terms.specs.Exclusions.{excludes}
 use Rattle.packing_terms.specs.Closure.{IsSubset}
-use Rattle.rule_terms.specs.Applied.{IsStep}
-use Rattle.rule_terms.specs.Steps.{at_pair, with_exclusion}
 use Rattle.rule_terms.specs.Runs.{AreHeads, AreTails, AreHeaviestHeads, AreHeaviestTails}
-use Rattle.rule_terms.proofs.Applied.{extends_refl, extends_trans, with_own}
+use Rattle.rule_terms.proofs.Applied.{extends_refl, extends_trans}
 use Rattle.rule_terms.proofs.ChainsMore.{head_more, tail_more}
 use Rattle.edge_state.specs.Edges.{PlainEdges}
 use Rattle.closure_terms.specs.States.{IsSized}
@@ -75,28 +73,6 @@ module _ (instance : PlainInstance) (i : ℕ) where
   pub shut_fits : (head tail : List ℕ) (u v most : ℕ) (es : List Exclusion) → slice_index head u + most ≤ container_side instance i
       → slice_index tail v ≤ most → IsShut instance i head tail u v es
   shut_fits head tail u v most es fit less = record { shut = λ ne heavy. absurd (omega (arith, heavy, fit, less)) }
-
-  -- CHAIN was applied at two boxes
-  pub pass_chain : (a b : PlainEdges) (x : Bool) (head tail : List ℕ) (u v : ℕ)
-      → b ≡ record a {
-        trail = cond (ltb (container_side instance i) (slice_index head u + slice_index tail v))
-            (with_exclusion a.trail (at_pair i u v Before)) a.trail;
-      }
-      → IsStep instance a.trail b.trail x → IsPass instance a b (IsShut instance i head tail u v)
-  pass_chain a b x head tail u v e step = record {
-    same_dims = ap (λ (s : PlainEdges). s.dims) e;
-    same_boxes = ap (λ (s : PlainEdges). s.boxes) e;
-    same_room = ap (λ (s : PlainEdges). s.room) e;
-    extends = step.extends;
-    done = record { shut = λ ne wide. now wide };
-  }
-    where
-      now : container_side instance i < slice_index head u + slice_index tail v → excludes b.trail i u v Before ≡ true
-      now wide =
-          let t : b.trail ≡ cond (ltb (container_side instance i) (slice_index head u + slice_index tail v))
-          (with_exclusion a.trail (at_pair i u v Before)) a.trail = ap (λ (s : PlainEdges). s.trail) e in
-          let w : ltb (container_side instance i) (slice_index head u + slice_index tail v) ≡ true = lt-ltb _ _ wide in
-          rw t (rw w (with_own a.trail (at_pair i u v Before)))
 
   -- with the weights of heaviest chains a pass over all pairs covers what CHAIN adds
   pub worked_heaviest : (a b : PlainEdges) (head tail : List ℕ)

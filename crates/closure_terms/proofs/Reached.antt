@@ -5,14 +5,15 @@ use Rattle.packing_terms.specs.declared.Rel.TheVariants.{Overlap, Before, After}
 use Rattle.packing_terms.specs.declared.Exclusion.{Exclusion}
 use Rattle.packing_terms.specs.Packing.{PlainInstance}
 use Rattle.packing_terms.specs.Relations.{allows, mirror}
-use Rattle.packing_terms.specs.Exclusions.{Exclusions, excludes, IsJoined, IsPlace}
+use Rattle.packing_terms.specs.Exclusions.{Exclusions, excludes, IsJoined, IsEdge}
 use Rattle.packing_terms.specs.Rules.{Rule, Pair, Apart, Triple, Chain, Compose, Cycle, Order, AreBoxesAmong, Concludes}
 use Rattle.packing_terms.specs.Closure.{IsSubset}
 use Rattle.rule_terms.specs.Applied.{Adds, added, mirror_added}
 use Rattle.packing_terms.proofs.Sets.{excludes_symmetric, mirror_twice}
+use Rattle.packing_terms.proofs.Monotone.{open_less}
 use Rattle.rule_terms.proofs.Steps.{open_mirrored}
-use Rattle.closure_terms.specs.Work.{IsLocal, ReadsPlace, IsReached, IsCovered, IsSettled}
-use Rattle.closure_terms.proofs.Touched.{IsTouched, IsAt, decide_at, touched_or_old, adds_more, still_open, open_less}
+use Rattle.closure_terms.specs.Work.{IsLocal, ReadsEdge, IsAppliedAt, IsCovered, IsUpToDate}
+use Rattle.closure_terms.proofs.Touched.{IsTouched, IsAt, decide_at, touched_or_old, adds_more, still_open}
 
 not_overlap : (r : Rel) → r ≢ Overlap → mirror r ≢ Overlap
 not_overlap r other = λ e. other (sym (mirror_twice r) ∙ ap mirror e)
@@ -119,10 +120,10 @@ module _ (instance : PlainInstance) (es : List Exclusion) where
 
   -- an instance that is applied for the place and adds no less
   abbrev pub HasReached : ℕ → ℕ → ℕ → Rule → Type 0
-  HasReached j p q rule = (other : Rule) × (IsReached j p q other ⊎ IsReached j q p other)
+  HasReached j p q rule = (other : Rule) × (IsAppliedAt j p q other ⊎ IsAppliedAt j q p other)
       × ((k a b : ℕ) (r : Rel) → Adds instance (excludes es) rule k a b r → Adds instance (excludes es) other k a b r)
 
-  pub reached : (j p q : ℕ) (rule : Rule) → ReadsPlace rule j p q → HasReached j p q rule
+  pub reached : (j p q : ℕ) (rule : Rule) → ReadsEdge rule j p q → HasReached j p q rule
   reached j p q (Pair i u v) h = absurd h
   reached j p q (Chain i before u v after) h = absurd h
   reached j p q (Apart i u v) h = (Apart i u v, inl h, λ k a b r x. x)
@@ -145,16 +146,16 @@ swap_sum (inr b) = inl b
 -- The step of the worklist's invariant: where all instances that are applied for the place of the oldest exclusion that wasn't looked through yet cover
 -- what they add, that exclusion is looked through.
 pub settled_next : (instance : PlainInstance) (e : Exclusion) (seen old new : List Exclusion) → IsSubset (excludes (e ∷ seen)) (excludes old)
-    → IsSettled instance seen new → ((r : Rel) × (excludes old e.dim e.u e.v r ≡ false))
-    → ((rule : Rule) → IsReached e.dim e.u e.v rule ⊎ IsReached e.dim e.v e.u rule → IsCovered instance (excludes old) new rule)
-    → IsSettled instance (e ∷ seen) new
+    → IsUpToDate instance seen new → ((r : Rel) × (excludes old e.dim e.u e.v r ≡ false))
+    → ((rule : Rule) → IsAppliedAt e.dim e.u e.v rule ⊎ IsAppliedAt e.dim e.v e.u rule → IsCovered instance (excludes old) new rule)
+    → IsUpToDate instance (e ∷ seen) new
 settled_next instance e seen old new within settled left done = record {
   covered = λ rule local. record { holds = λ i u v r add. go rule local i u v r add (touched_or_old instance e seen rule local) };
   full = λ i u v place. still i u v place (decide_at e i u v);
 }
   where
     by_reached : (rule : Rule) (p q : ℕ) → HasReached instance (e ∷ seen) e.dim p q rule
-        → ((other : Rule) → IsReached e.dim p q other ⊎ IsReached e.dim q p other → IsCovered instance (excludes old) new other)
+        → ((other : Rule) → IsAppliedAt e.dim p q other ⊎ IsAppliedAt e.dim q p other → IsCovered instance (excludes old) new other)
         → (i u v : ℕ) (r : Rel) → Adds instance (excludes (e ∷ seen)) rule i u v r → excludes new i u v r ≡ true
     by_reached rule p q h covers i u v r add =
         (covers h.0 h.1).holds i u v r (adds_more instance (excludes (e ∷ seen)) (excludes old) within h.0 i u v r (h.2 i u v r add))
@@ -168,7 +169,7 @@ settled_next instance e seen old new within settled left done = record {
     go rule local i u v r add (inl (inr t)) =
         by_reached rule e.v e.u (reached instance (e ∷ seen) e.dim e.v e.u rule t) (λ other s. done other (swap_sum s)) i u v r add
 
-    still : (i u v : ℕ) → IsPlace instance i u v → IsAt e i u v ⊎ (IsAt e i u v → ⊥) → (r : Rel) × (excludes (e ∷ seen) i u v r ≡ false)
+    still : (i u v : ℕ) → IsEdge instance i u v → IsAt e i u v ⊎ (IsAt e i u v → ⊥) → (r : Rel) × (excludes (e ∷ seen) i u v r ≡ false)
     still i u v place (inr off) = let k = settled.full i u v place in (k.0, still_open e seen i u v k.0 off k.1)
     still i u v place (inl (d, inl h)) = (
       left.0,

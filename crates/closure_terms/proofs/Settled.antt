@@ -1,13 +1,13 @@
 -- The worklist's invariant from one exclusion to the next, from the first to the last.
-use Rattle.std.proofs.Common.{◌≡◌, ℕ, zero, suc, ◌+◌, ◌-◌, ◌*◌, ◌/◌, ◌<◌, ◌≤◌, ◌⊎◌, inl, inr, refl, sym, subst, ◌∙◌, arith, Bool, true, false, ◌||◌, List, [], ◌∷◌, ◌++◌, length, drop}
-use Rattle.std.proofs.lemmas.Bool.{true≢false, cases_lt}
+use Rattle.std.proofs.Common.{◌≡◌, ℕ, zero, suc, ◌+◌, ◌-◌, ◌*◌, ◌/◌, ◌<◌, ◌≤◌, ◌⊎◌, inl, inr, refl, sym, subst, ◌∙◌, arith, true, false, List, [], ◌∷◌, ◌++◌, length, drop}
+use Rattle.std.proofs.lemmas.Bool.{true≢false, cases_lt, or_right}
 use Rattle.std.proofs.lemmas.List.{length-append}
 use Rattle.packing_terms.specs.declared.Rel.{Rel}
 use Rattle.packing_terms.specs.declared.Rel.TheVariants.{Overlap, Before, After}
 use Rattle.packing_terms.specs.declared.Exclusion.{Exclusion}
 use Rattle.packing_terms.specs.Packing.{PlainInstance, dims, box_count}
 use Rattle.packing_terms.specs.Relations.{allows}
-use Rattle.packing_terms.specs.Exclusions.{Exclusions, excludes, is_of, IsPlace, IsPlaceAmong, IsSurelyBefore}
+use Rattle.packing_terms.specs.Exclusions.{Exclusions, excludes, is_of, IsEdge, IsEdgeAmong, IsSurelyBefore}
 use Rattle.packing_terms.specs.Rules.{Rule, Pair, Apart, Triple, Chain, Compose, Cycle, Order, IsRuleInstance, Premises, Concludes, by_rule, mirrored}
 use Rattle.packing_terms.specs.Closure.{IsSubset, IsStable}
 use Rattle.rule_terms.specs.Applied.{Adds, added, mirror_added, Extends}
@@ -17,8 +17,8 @@ use Rattle.rule_terms.specs.Steps.{IsTrail}
 use Rattle.rule_terms.proofs.Steps.{trail_room, few_open}
 use Rattle.edge_state.specs.Edges.{PlainEdges}
 use Rattle.edge_state.specs.Answers.{IsChangeAfter}
-use Rattle.closure_terms.specs.States.{IsLeft}
-use Rattle.closure_terms.specs.Work.{IsLocal, IsReached, IsCovered, IsExhausted, IsWorked, IsSettled, IsChained, IsUnordered, IsBehind, behind_one, behind_two}
+use Rattle.closure_terms.specs.States.{HasRelationLeft}
+use Rattle.closure_terms.specs.Work.{IsLocal, IsAppliedAt, IsCovered, IsExhausted, IsWorked, IsUpToDate, IsChained, IsUnordered, IsBehind, behind_one, behind_two}
 use Rattle.closure_terms.proofs.Touched.{adds_more}
 use Rattle.closure_terms.proofs.Worked.{covered_not}
 use Rattle.closure_terms.proofs.Reached.{settled_next, pair_turned}
@@ -37,15 +37,11 @@ drop_grown more old new next e h =
 pub drop_none : (es : List Exclusion) (k : ℕ) → k ≡ length es → drop (length es - k) es ≡ es
 drop_none es k e = let z : length es - k ≡ 0 = omega (arith, e) in rw z refl
 
-right : (a b : Bool) → b ≡ true → (a || b) ≡ true
-right true b h = refl
-right false b h = h
-
 -- what is left of a list excludes no more
 drop_within : (k : ℕ) (es : List Exclusion) → IsSubset (excludes (drop k es)) (excludes es)
 drop_within zero es i u v r h = h
 drop_within (suc k) [] i u v r h = h
-drop_within (suc k) (e ∷ es) i u v r h = right (is_of e i u v r) (excludes es i u v r) (drop_within k es i u v r h)
+drop_within (suc k) (e ∷ es) i u v r h = or_right (is_of e i u v r) (excludes es i u v r) (drop_within k es i u v r h)
 
 trail_drop : (d n k : ℕ) (es : List Exclusion) → IsTrail d n es → IsTrail d n (drop k es)
 trail_drop d n zero es h = h
@@ -53,7 +49,7 @@ trail_drop d n (suc k) [] h = h
 trail_drop d n (suc k) (e ∷ es) h = trail_drop d n k es h.2
 
 -- what comes next is at a place
-pub change_place : (d n : ℕ) (es : List Exclusion) (mark next : ℕ) (e : Exclusion) → IsTrail d n es → IsChangeAfter es mark e next → IsPlaceAmong d n e.dim e.u e.v
+pub change_place : (d n : ℕ) (es : List Exclusion) (mark next : ℕ) (e : Exclusion) → IsTrail d n es → IsChangeAfter es mark e next → IsEdgeAmong d n e.dim e.u e.v
 change_place d n es mark next e trail change =
     (subst (λ (l : List Exclusion). IsTrail d n l) change.newest (trail_drop d n (length es - next) es trail)).0
 
@@ -62,15 +58,15 @@ pub trail_short : (d n : ℕ) (es : List Exclusion) → IsTrail d n es → lengt
 trail_short d n es trail = let a = trail_room d n es trail in let b = few_open d n [] in omega arith
 
 -- what was settled stays so when exclusions come on top
-pub settled_grown : (instance : PlainInstance) (seen old new : List Exclusion) → IsSubset (excludes old) (excludes new) → IsSettled instance seen old
-    → IsSettled instance seen new
+pub settled_grown : (instance : PlainInstance) (seen old new : List Exclusion) → IsSubset (excludes old) (excludes new) → IsUpToDate instance seen old
+    → IsUpToDate instance seen new
 settled_grown instance seen old new more h = record {
   covered = λ rule local. record { holds = λ i u v r add. more i u v r ((h.covered rule local).holds i u v r add) };
   full = h.full;
 }
 
-module _ (instance : PlainInstance) (s t : PlainEdges) (e : Exclusion) (place : IsPlace instance e.dim e.u e.v) (left : IsLeft instance (excludes s.trail) e.dim e.u e.v)
-    (work : IsWorked instance s t false (λ rule. IsReached e.dim e.u e.v rule ⊎ IsReached e.dim e.v e.u rule)) where
+module _ (instance : PlainInstance) (s t : PlainEdges) (e : Exclusion) (place : IsEdge instance e.dim e.u e.v) (left : HasRelationLeft instance (excludes s.trail) e.dim e.u e.v)
+    (work : IsWorked instance s t false (λ rule. IsAppliedAt e.dim e.u e.v rule ⊎ IsAppliedAt e.dim e.v e.u rule)) where
   -- what was looked through after one change more
   seen_next : (mark next : ℕ) (f : Exclusion) → IsChangeAfter s.trail mark f next → drop (length t.trail - next) t.trail ≡ f ∷ drop (length s.trail - mark) s.trail
   seen_next mark next f change =
@@ -84,9 +80,9 @@ module _ (instance : PlainInstance) (s t : PlainEdges) (e : Exclusion) (place : 
 
   -- one change more at the place
   settled_one : (mark next : ℕ) (f : Exclusion) → IsChangeAfter s.trail mark f next → f.dim ≡ e.dim → f.u ≡ e.u → f.v ≡ e.v
-      → IsSettled instance (drop (length s.trail - mark) s.trail) t.trail → IsSettled instance (drop (length t.trail - next) t.trail) t.trail
+      → IsUpToDate instance (drop (length s.trail - mark) s.trail) t.trail → IsUpToDate instance (drop (length t.trail - next) t.trail) t.trail
   settled_one mark next f change d u v settled =
-      subst (λ (l : List Exclusion). IsSettled instance l t.trail) (sym (seen_next mark next f change))
+      subst (λ (l : List Exclusion). IsUpToDate instance l t.trail) (sym (seen_next mark next f change))
       (settled_next instance f (drop (length s.trail - mark) s.trail) s.trail t.trail (seen_within mark next f change) settled
       (rw (d, u, v) (left.some place)) (rw (d, u, v) (work.done refl)))
 
@@ -99,19 +95,19 @@ module _ (instance : PlainInstance) (s t : PlainEdges) (e : Exclusion) (place : 
       (λ is. let h = free (sym d ∙ is) in record { forth = rw (d, u, v) h.forth; back = rw (d, u, v) h.back }) chained)
 
   -- all changes at the place that stand together
-  pub settled_step : (mark next : ℕ) → IsSettled instance (drop (length s.trail - mark) s.trail) s.trail → IsChangeAfter s.trail mark e (mark + 1)
-      → IsBehind s.trail mark e next → IsSettled instance (drop (length t.trail - next) t.trail) t.trail
+  pub settled_step : (mark next : ℕ) → IsUpToDate instance (drop (length s.trail - mark) s.trail) s.trail → IsChangeAfter s.trail mark e (mark + 1)
+      → IsBehind s.trail mark e next → IsUpToDate instance (drop (length t.trail - next) t.trail) t.trail
   settled_step mark next settled change behind = go behind
     where
-      one : IsSettled instance (drop (length t.trail - (mark + 1)) t.trail) t.trail
+      one : IsUpToDate instance (drop (length t.trail - (mark + 1)) t.trail) t.trail
       one = settled_one mark (mark + 1) e change refl refl refl
           (settled_grown instance (drop (length s.trail - mark) s.trail) s.trail t.trail work.extends.kept settled)
 
-      go : IsBehind s.trail mark e next → IsSettled instance (drop (length t.trail - next) t.trail) t.trail
+      go : IsBehind s.trail mark e next → IsUpToDate instance (drop (length t.trail - next) t.trail) t.trail
       go (behind_one is) = rw is one
       go (behind_two f more d u v) =
           settled_one (mark + 1) next f more d u v
-          (subst (λ (l : List Exclusion). IsSettled instance l t.trail) (seen_before (mark + 1) (let h = change.before_last in omega arith)) one)
+          (subst (λ (l : List Exclusion). IsUpToDate instance l t.trail) (seen_before (mark + 1) (let h = change.before_last in omega arith)) one)
 
   pub chained_step : (i mark next : ℕ) → (e.dim ≡ i → IsUnordered (excludes s.trail) e) → IsChained instance i (drop (length s.trail - mark) s.trail) s.trail
       → IsChangeAfter s.trail mark e (mark + 1) → IsBehind s.trail mark e next → IsChained instance i (drop (length t.trail - next) t.trail) t.trail
@@ -129,7 +125,7 @@ module _ (instance : PlainInstance) (s t : PlainEdges) (e : Exclusion) (place : 
 
 -- a stable list was settled
 pub settled_stable : (instance : PlainInstance) (seen es : List Exclusion) → IsStable instance (excludes seen) → HasNoEmptyMask instance (excludes seen)
-    → IsSubset (excludes seen) (excludes es) → IsSettled instance seen es
+    → IsSubset (excludes seen) (excludes es) → IsUpToDate instance seen es
 settled_stable instance seen es stable full within = record {
   covered = λ rule local. record { holds = λ i u v r add. go rule i u v r add };
   full = full;
@@ -151,12 +147,12 @@ pub chained_since : (instance : PlainInstance) (i : ℕ) (es : List Exclusion) (
 chained_since instance i es k stable = chained_stable instance i (drop k es) es stable (drop_within k es)
 
 pub settled_since : (instance : PlainInstance) (es : List Exclusion) (k : ℕ) → IsStable instance (excludes (drop k es)) → HasNoEmptyMask instance (excludes (drop k es))
-    → IsSettled instance (drop k es) es
+    → IsUpToDate instance (drop k es) es
 settled_since instance es k stable full = settled_stable instance (drop k es) es stable full (drop_within k es)
 
 -- At the start only PAIR can add anything.
 pub settled_first : (instance : PlainInstance) (es : List Exclusion) → 2 ≤ dims instance
-    → ((i u v : ℕ) → IsRuleInstance instance (Pair i u v) → IsCovered instance (excludes []) es (Pair i u v)) → IsSettled instance [] es
+    → ((i u v : ℕ) → IsRuleInstance instance (Pair i u v) → IsCovered instance (excludes []) es (Pair i u v)) → IsUpToDate instance [] es
 settled_first instance es two pairs = record { covered = λ rule local. at rule local; full = λ i u v place. (Overlap, refl) }
   where
     nothing : {A : Type 0} → false ≡ true → A
@@ -187,7 +183,7 @@ settled_first instance es two pairs = record { covered = λ rule local. at rule 
     at (Order i a b c d) l = covered_not instance (excludes []) es (Order i a b c d) (λ p. nothing p.0.0)
 
 -- COMPOSE makes surely before transitive
-pub settled_transitive : (instance : PlainInstance) (es : List Exclusion) (i : ℕ) → i < dims instance → IsSettled instance es es
+pub settled_transitive : (instance : PlainInstance) (es : List Exclusion) (i : ℕ) → i < dims instance → IsUpToDate instance es es
     → IsTransitive (box_count instance) (IsSurelyBefore (excludes es) i)
 settled_transitive instance es i hi settled u v x b uv vx = (
   at.holds _ _ _ _ (added Overlap (hi, b) tt (λ q s e f. only q s Overlap e f refl)),
@@ -204,7 +200,7 @@ settled_transitive instance es i hi settled u v x b uv vx = (
     only Before Overlap r e f g = absurd (true≢false (sym vx.0 ∙ f))
     only Before After r e f g = absurd (true≢false (sym vx.1 ∙ f))
 
-all_covered : (instance : PlainInstance) (es : List Exclusion) → IsSettled instance es es → ((i : ℕ) → i < dims instance → IsChained instance i es es)
+all_covered : (instance : PlainInstance) (es : List Exclusion) → IsUpToDate instance es es → ((i : ℕ) → i < dims instance → IsChained instance i es es)
     → (rule : Rule) → IsRuleInstance instance rule → IsExhausted instance es rule
 all_covered instance es settled chains (Chain i before u v after) is = (chains i is.0).covered (Chain i before u v after) refl
 all_covered instance es settled chains (Pair i u v) is = settled.covered (Pair i u v) tt
@@ -215,21 +211,15 @@ all_covered instance es settled chains (Cycle i a b c d) is = settled.covered (C
 all_covered instance es settled chains (Order i a b c d) is = settled.covered (Order i a b c d) tt
 
 -- All is looked through and CHAIN adds nothing: no rule adds anything.
-pub stable_settled : (instance : PlainInstance) (es : List Exclusion) → IsSettled instance es es
+pub stable_settled : (instance : PlainInstance) (es : List Exclusion) → IsUpToDate instance es es
     → ((i : ℕ) → i < dims instance → IsChained instance i es es) → IsStable instance (excludes es)
 stable_settled instance es settled chains _ _ _ _ (by_rule rule r is p c) = (all_covered instance es settled chains rule is).holds _ _ _ _ (added r is p c)
 stable_settled instance es settled chains _ _ _ _ (mirrored rule r is p c) = (all_covered instance es settled chains rule is).holds _ _ _ _ (mirror_added r is p c)
 
--- after a pass over CHAIN, which came on top of what was looked through
-pub grown_within : (instance : PlainInstance) (old new : List Exclusion) (k : ℕ) → Extends instance old new → k ≡ length old → k ≤ length new
-grown_within instance old new k extends e =
-    let grown : length new ≡ length extends.more + length old = rw extends.grown (length-append extends.more old) in
-    omega (arith, e, grown)
-
-pub settled_after : (instance : PlainInstance) (old new : List Exclusion) (k : ℕ) → Extends instance old new → k ≡ length old → IsSettled instance old old
-    → IsSettled instance (drop (length new - k) new) new
+pub settled_after : (instance : PlainInstance) (old new : List Exclusion) (k : ℕ) → Extends instance old new → k ≡ length old → IsUpToDate instance old old
+    → IsUpToDate instance (drop (length new - k) new) new
 settled_after instance old new k extends e h =
-    subst (λ (l : List Exclusion). IsSettled instance l new) (sym same) (settled_grown instance old old new extends.kept h)
+    subst (λ (l : List Exclusion). IsUpToDate instance l new) (sym same) (settled_grown instance old old new extends.kept h)
   where
     same : drop (length new - k) new ≡ old
     same = drop_grown extends.more old new k extends.grown (omega (arith, e)) ∙ drop_none old k e
@@ -275,9 +265,9 @@ pairs_both instance X es half i u v is = go (cases_lt u v)
 
 pub settled_pairs : (instance : PlainInstance) (old new : List Exclusion) (k : ℕ) → k ≡ 0 → 2 ≤ dims instance
     → ((i u v : ℕ) → IsRuleInstance instance (Pair i u v) → IsCovered instance (excludes old) new (Pair i u v))
-    → IsSettled instance (drop (length new - k) new) new
+    → IsUpToDate instance (drop (length new - k) new) new
 settled_pairs instance old new k e two pairs =
-    subst (λ (l : List Exclusion). IsSettled instance l new) (sym (drop_whole new k e)) (settled_first instance new two (pairs_first instance old new pairs))
+    subst (λ (l : List Exclusion). IsUpToDate instance l new) (sym (drop_whole new k e)) (settled_first instance new two (pairs_first instance old new pairs))
 
 pub chained_pairs : (instance : PlainInstance) (i : ℕ) (old new : List Exclusion) (k : ℕ) → k ≡ 0
     → ((j u v : ℕ) → IsRuleInstance instance (Pair j u v) → IsCovered instance (excludes old) new (Pair j u v))
@@ -301,9 +291,9 @@ grown_past instance old new mark next e extends h behind =
     omega (arith, grown, within.1)
 
 -- the last place is reached: all was looked through
-pub settled_all : (instance : PlainInstance) (es : List Exclusion) (k : ℕ) → k ≡ length es → IsSettled instance (drop (length es - k) es) es
-    → IsSettled instance es es
-settled_all instance es k e h = subst (λ (l : List Exclusion). IsSettled instance l es) (drop_none es k e) h
+pub settled_all : (instance : PlainInstance) (es : List Exclusion) (k : ℕ) → k ≡ length es → IsUpToDate instance (drop (length es - k) es) es
+    → IsUpToDate instance es es
+settled_all instance es k e h = subst (λ (l : List Exclusion). IsUpToDate instance l es) (drop_none es k e) h
 
 pub chained_all : (instance : PlainInstance) (i : ℕ) (es : List Exclusion) (k : ℕ) → k ≡ length es → IsChained instance i (drop (length es - k) es) es
     → IsChained instance i es es

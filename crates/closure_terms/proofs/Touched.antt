@@ -11,11 +11,11 @@ use Rattle.packing_terms.specs.Rules.{Rule, Pair, Apart, Triple, Chain, Compose,
 use Rattle.packing_terms.specs.Closure.{IsSubset}
 use Rattle.packing_terms.proofs.Monotone.{premises_more, concludes_more}
 use Rattle.rule_terms.specs.Applied.{Adds, added, mirror_added}
-use Rattle.closure_terms.specs.Work.{IsLocal, ReadsPlace}
+use Rattle.closure_terms.specs.Work.{IsLocal, ReadsEdge}
 
 -- the instance reads the place of the exclusion, in one order or the other
 abbrev pub IsTouched : Exclusion → Rule → Type 0
-IsTouched e rule = ReadsPlace rule e.dim e.u e.v ⊎ ReadsPlace rule e.dim e.v e.u
+IsTouched e rule = ReadsEdge rule e.dim e.u e.v ⊎ ReadsEdge rule e.dim e.v e.u
 
 -- the place is that of the exclusion
 abbrev pub IsAt : Exclusion → ℕ → ℕ → ℕ → Type 0
@@ -44,7 +44,7 @@ decide_at e i a b = go (cases_eq e.dim i) (decide_pair e.u e.v a b) (decide_pair
     go (inl d) (inr n) (inr m) = inr (λ h. neither n m h.1)
 
 -- an instance that reads the place of the exclusion is touched by it
-touched_at : (e : Exclusion) (rule : Rule) (i a b : ℕ) → ((j p q : ℕ) → i ≡ j → a ≡ p → b ≡ q → ReadsPlace rule j p q) → IsAt e i a b → IsTouched e rule
+touched_at : (e : Exclusion) (rule : Rule) (i a b : ℕ) → ((j p q : ℕ) → i ≡ j → a ≡ p → b ≡ q → ReadsEdge rule j p q) → IsAt e i a b → IsTouched e rule
 touched_at e rule i a b reads at = go at.1
   where
     go : ((e.u ≡ a) × (e.v ≡ b)) ⊎ ((e.u ≡ b) × (e.v ≡ a)) → IsTouched e rule
@@ -153,13 +153,6 @@ touched_or_old instance e es (Order i a b c d) l = go (decide_at e i a b) (decid
           (only_old e es i c d Overlap n2 p.1.0, only_old e es i c d After n2 p.1.1),
           only_old e es i a d Before n3 p.2,
         )) (λ r k. k))
-
-pub open_less : (X Y : Exclusions) → IsSubset X Y → (i a b : ℕ) (r : Rel) → Y i a b r ≡ false → X i a b r ≡ false
-open_less X Y more i a b r h = go (cases_Bool (X i a b r))
-  where
-    go : (X i a b r ≡ true) ⊎ (X i a b r ≡ false) → X i a b r ≡ false
-    go (inl k) = absurd (true≢false (sym (more i a b r k) ∙ h))
-    go (inr k) = k
 
 -- What adds by fewer exclusions adds by more.
 pub adds_more : (instance : PlainInstance) (X Y : Exclusions) → IsSubset X Y → (rule : Rule) → (j a b : ℕ) (r : Rel)

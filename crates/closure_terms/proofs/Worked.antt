@@ -1,15 +1,15 @@
 -- Rule instances applied one after another.
-use Rattle.std.proofs.Common.{◌≡◌, ℕ, ◌+◌, ◌<◌, ◌≤◌, ◌⊎◌, inl, inr, refl, sym, ap, subst, ◌∙◌, arith, Bool, true, false, List, MatchBool}
+use Rattle.std.proofs.Common.{◌≡◌, ℕ, ◌+◌, ◌<◌, ◌≤◌, ◌⊎◌, inl, inr, refl, sym, ap, subst, ◌∙◌, arith, Bool, true, false, List}
 use Rattle.std.proofs.lemmas.Bool.{true≢false, cases_lt}
 use Rattle.packing_terms.specs.declared.Rel.{Rel}
 use Rattle.packing_terms.specs.declared.Exclusion.{Exclusion}
 use Rattle.packing_terms.specs.Packing.{PlainInstance}
 use Rattle.packing_terms.specs.Exclusions.{Exclusions, excludes}
 use Rattle.packing_terms.specs.Rules.{Rule, IsRuleInstance, Premises}
-use Rattle.rule_terms.specs.Applied.{Adds, added, mirror_added, IsApplied, IsAppliedAmong}
+use Rattle.rule_terms.specs.Applied.{Adds, added, mirror_added, IsApplied}
 use Rattle.rule_terms.proofs.Applied.{extends_refl, extends_trans}
 use Rattle.edge_state.specs.Edges.{PlainEdges}
-use Rattle.closure_terms.specs.States.{IsSized, HasEmptyMask}
+use Rattle.closure_terms.specs.States.{IsSized}
 use Rattle.closure_terms.specs.Work.{IsCovered, IsWorked}
 use Rattle.closure_terms.proofs.Touched.{adds_more}
 
@@ -62,26 +62,6 @@ worked_applied instance a b x rule e h = record {
   empty = λ f. absurd (true≢false (sym f));
   done = λ f s is. subst (λ (t : Rule). IsCovered instance (excludes a.trail) b.trail t) (sym is) (record { holds = λ i u v r add. (h.exact i u v r).1 (inr add) });
 }
-
--- the same where it is told whether the mask is lost
-pub worked_tested : (instance : PlainInstance) (a b : PlainEdges) (lost : Bool) (R : Rule → Type 0) (Q : Type 0) → IsWorked instance a b false R
-    → MatchBool lost (HasEmptyMask instance (excludes b.trail)) Q → IsWorked instance a b lost R
-worked_tested instance a b lost R Q h test = record {
-  same_dims = h.same_dims;
-  same_boxes = h.same_boxes;
-  same_room = h.same_room;
-  extends = h.extends;
-  empty = λ e. go lost test e;
-  done = λ e. h.done refl;
-}
-  where
-    go : (x : Bool) → MatchBool x (HasEmptyMask instance (excludes b.trail)) Q → x ≡ true → HasEmptyMask instance (excludes b.trail)
-    go true m e = m
-    go false m e = absurd (true≢false (sym e))
-
-pub applied_among : (instance : PlainInstance) (a b : PlainEdges) (i : ℕ) (x : Bool) (rule : Rule) → IsSized instance a i
-    → IsAppliedAmong a.dims a.boxes rule a.trail b.trail x → IsApplied instance rule a.trail b.trail x
-applied_among instance a b i x rule sizes h = h instance (sym sizes.same_dims) (sym sizes.same_boxes)
 
 -- fewer instances
 pub worked_as : (instance : PlainInstance) (a b : PlainEdges) (lost : Bool) (R S : Rule → Type 0) → ((rule : Rule) → S rule → R rule)

@@ -1,4 +1,4 @@
--- The instances of the rules that are applied for one place, in one order of its boxes.
+-- The instances of the rules that are applied for one edge, in one order of its boxes.
 use Rattle.std.specs.Prelude.{◌≡◌, ◌≢◌, ℕ, ◌<◌, ◌⊎◌}
 use Rattle.packing_terms.specs.Packing.{PlainInstance, dims, box_count}
 use Rattle.packing_terms.specs.Rules.{Rule, Apart, Triple, Compose, Cycle, Order}

@@ -2,7 +2,7 @@
 use Rattle.std.specs.Prelude.{ℕ, ◌≡◌, ◌<◌, false, IsTrue}
 use Rattle.packing_terms.specs.declared.Rel.{Rel}
 use Rattle.packing_terms.specs.Packing.{PlainInstance, dims, box_count}
-use Rattle.packing_terms.specs.Exclusions.{Exclusions, IsPlace}
+use Rattle.packing_terms.specs.Exclusions.{Exclusions, IsEdge}
 use Rattle.edge_state.specs.Edges.{PlainEdges}
 
 -- state and instance have the same sizes, and the dimension is there
@@ -16,9 +16,9 @@ pub record HasEmptyMask (instance : PlainInstance) (X : Exclusions) : Type 0 whe
   pub dim : ℕ
   pub u : ℕ
   pub v : ℕ
-  pub place : IsPlace instance dim u v
+  pub edge : IsEdge instance dim u v
   pub each : (r : Rel) → IsTrue (X dim u v r)
 
 -- the mask of the pair has a relation, if it is one
-pub record IsLeft (instance : PlainInstance) (X : Exclusions) (i u v : ℕ) : Type 0 where
-  pub some : IsPlace instance i u v → (r : Rel) × (X i u v r ≡ false)
+pub record HasRelationLeft (instance : PlainInstance) (X : Exclusions) (i u v : ℕ) : Type 0 where
+  pub some : IsEdge instance i u v → (r : Rel) × (X i u v r ≡ false)

@@ -1,8 +1,10 @@
--- Going along a list of exclusions: rule instances that are applied one after another, and what is then covered.
+-- Going along a list of exclusions: rule instances that are applied one after another, and what is
+-- then covered.
 --
--- The worklist is the newer part of the state's own list of exclusions; `seen` is the older part, that was looked through. Each instance of a rule other
--- than CHAIN that could add something by all exclusions has a premise at a place of the newer part; so once that is empty, no such instance adds anything.
--- CHAIN can add something in a dimension only where a pair of it became ordered.
+-- The worklist is the newer part of the state's own list of exclusions; `seen` is the older part,
+-- that was looked through. Each instance of a rule other than CHAIN that could add something by all
+-- exclusions has a premise at an edge of the newer part; so once that is empty, no such instance
+-- adds anything. CHAIN can add something in a dimension only where a pair of it became ordered.
 use Rattle.std.specs.Prelude.{ℕ, ◌≡◌, ◌≢◌, ◌⊎◌, ◌+◌, ◌<◌, List, Bool, true, false, IsTrue}
 use Rattle.packing_terms.specs.declared.Rel.{Rel}
 use Rattle.packing_terms.specs.declared.Rel.TheVariants.{Overlap, After}
@@ -27,26 +29,27 @@ abbrev pub IsChainIn : ℕ → Rule → Type 0
 IsChainIn i (Chain j before u v after) = j ≡ i
 IsChainIn i _ = ⊥
 
--- the instance of the rule reads the mask of the place, in this order of the boxes
-abbrev pub ReadsPlace : Rule → ℕ → ℕ → ℕ → Type 0
-ReadsPlace (Pair i u v) j p q = ⊥
-ReadsPlace (Apart i u v) j p q = (j ≢ i) × (u ≡ p) × (v ≡ q)
-ReadsPlace (Triple i u v x) j p q = (i ≡ j) × (((u ≡ p) × (x ≡ q)) ⊎ ((v ≡ p) × (x ≡ q)))
-ReadsPlace (Chain i before u v after) j p q = ⊥
-ReadsPlace (Compose i u v x) j p q = (i ≡ j) × (((u ≡ p) × (v ≡ q)) ⊎ ((v ≡ p) × (x ≡ q)))
-ReadsPlace (Cycle i a b c d) j p q =
+-- the instance of the rule reads the mask of the edge, in this order of the boxes
+abbrev pub ReadsEdge : Rule → ℕ → ℕ → ℕ → Type 0
+ReadsEdge (Pair i u v) j p q = ⊥
+ReadsEdge (Apart i u v) j p q = (j ≢ i) × (u ≡ p) × (v ≡ q)
+ReadsEdge (Triple i u v x) j p q = (i ≡ j) × (((u ≡ p) × (x ≡ q)) ⊎ ((v ≡ p) × (x ≡ q)))
+ReadsEdge (Chain i before u v after) j p q = ⊥
+ReadsEdge (Compose i u v x) j p q = (i ≡ j) × (((u ≡ p) × (v ≡ q)) ⊎ ((v ≡ p) × (x ≡ q)))
+ReadsEdge (Cycle i a b c d) j p q =
     (i ≡ j) × (((a ≡ p) × (b ≡ q)) ⊎ (((b ≡ p) × (c ≡ q)) ⊎ (((c ≡ p) × (d ≡ q)) ⊎ (((d ≡ p) × (a ≡ q)) ⊎ ((a ≡ p) × (c ≡ q))))))
-ReadsPlace (Order i a b c d) j p q = (i ≡ j) × (((a ≡ p) × (b ≡ q)) ⊎ (((c ≡ p) × (d ≡ q)) ⊎ ((a ≡ p) × (d ≡ q))))
+ReadsEdge (Order i a b c d) j p q = (i ≡ j) × (((a ≡ p) × (b ≡ q)) ⊎ (((c ≡ p) × (d ≡ q)) ⊎ ((a ≡ p) × (d ≡ q))))
 
--- The instance is one of those that are to be applied for the place, in this order of the boxes. The others that read it add the same as one of these do.
-abbrev pub IsReached : ℕ → ℕ → ℕ → Rule → Type 0
-IsReached j p q (Pair i u v) = ⊥
-IsReached j p q (Apart i u v) = (j ≢ i) × (u ≡ p) × (v ≡ q)
-IsReached j p q (Triple i u v x) = (i ≡ j) × (u ≡ p) × (x ≡ q)
-IsReached j p q (Chain i before u v after) = ⊥
-IsReached j p q (Compose i u v x) = (i ≡ j) × (u ≡ p) × (v ≡ q)
-IsReached j p q (Cycle i a b c d) = (i ≡ j) × (((a ≡ p) × (b ≡ q)) ⊎ ((a ≡ p) × (c ≡ q)))
-IsReached j p q (Order i a b c d) = (i ≡ j) × (((a ≡ p) × (b ≡ q)) ⊎ (((c ≡ p) × (d ≡ q)) ⊎ ((a ≡ p) × (d ≡ q))))
+-- The instance is one of those that are to be applied for the edge, in this order of the boxes. The
+-- others that read it add the same as one of these do.
+abbrev pub IsAppliedAt : ℕ → ℕ → ℕ → Rule → Type 0
+IsAppliedAt j p q (Pair i u v) = ⊥
+IsAppliedAt j p q (Apart i u v) = (j ≢ i) × (u ≡ p) × (v ≡ q)
+IsAppliedAt j p q (Triple i u v x) = (i ≡ j) × (u ≡ p) × (x ≡ q)
+IsAppliedAt j p q (Chain i before u v after) = ⊥
+IsAppliedAt j p q (Compose i u v x) = (i ≡ j) × (u ≡ p) × (v ≡ q)
+IsAppliedAt j p q (Cycle i a b c d) = (i ≡ j) × (((a ≡ p) × (b ≡ q)) ⊎ ((a ≡ p) × (c ≡ q)))
+IsAppliedAt j p q (Order i a b c d) = (i ≡ j) × (((a ≡ p) × (b ≡ q)) ⊎ (((c ≡ p) × (d ≡ q)) ⊎ ((a ≡ p) × (d ≡ q))))
 
 -- what the instance adds by the exclusions that were looked at is excluded
 pub record IsCovered (instance : PlainInstance) (seen : Exclusions) (es : List Exclusion) (rule : Rule) : Type 0 where
@@ -56,17 +59,19 @@ pub record IsCovered (instance : PlainInstance) (seen : Exclusions) (es : List E
 abbrev pub IsExhausted : PlainInstance → List Exclusion → Rule → Type 0
 IsExhausted instance es rule = IsCovered instance (excludes es) es rule
 
--- The state grew by what follows. Where it is told that a mask is lost, one is empty; else these instances cover what they add by the old exclusions.
-pub record IsWorked (instance : PlainInstance) (old new : PlainEdges) (lost : Bool) (Rules : Rule → Type 0) : Type 0 where
+-- The state grew by what follows. Where it is told that a mask is empty, one is; else these
+-- instances cover what they add by the old exclusions.
+pub record IsWorked (instance : PlainInstance) (old new : PlainEdges) (emptied : Bool) (Rules : Rule → Type 0) : Type 0 where
   pub same_dims : new.dims ≡ old.dims
   pub same_boxes : new.boxes ≡ old.boxes
   pub same_room : new.room ≡ old.room
   pub extends : Extends instance old.trail new.trail
-  pub empty : IsTrue lost → HasEmptyMask instance (excludes new.trail)
-  pub done : lost ≡ false → (rule : Rule) → Rules rule → IsCovered instance (excludes old.trail) new.trail rule
+  pub empty : IsTrue emptied → HasEmptyMask instance (excludes new.trail)
+  pub done : emptied ≡ false → (rule : Rule) → Rules rule → IsCovered instance (excludes old.trail) new.trail rule
 
--- The invariant of the worklist: all that an instance of a rule other than CHAIN adds by what was looked through is excluded, and no mask is empty by it.
-pub record IsSettled (instance : PlainInstance) (seen es : List Exclusion) : Type 0 where
+-- The invariant of the worklist: all that an instance of a rule other than CHAIN adds by what was
+-- looked through is excluded, and no mask is empty by it.
+pub record IsUpToDate (instance : PlainInstance) (seen es : List Exclusion) : Type 0 where
   pub covered : (rule : Rule) → IsLocal rule → IsCovered instance (excludes seen) es rule
   pub full : HasNoEmptyMask instance (excludes seen)
 
@@ -79,13 +84,15 @@ pub record IsUnordered (X : Exclusions) (e : Exclusion) : Type 0 where
   pub forth : IsTrue (X e.dim e.u e.v Overlap) → IsTrue (X e.dim e.u e.v After) → ⊥
   pub back : IsTrue (X e.dim e.v e.u Overlap) → IsTrue (X e.dim e.v e.u After) → ⊥
 
--- The place behind the next exclusion of the list, or behind two that stand together and are at one place.
+-- The position behind the next exclusion of the list, or behind two that stand together and are at
+-- one edge.
 pub data IsBehind (es : List Exclusion) (mark : ℕ) (e : Exclusion) (next : ℕ) : Type 0 where
   behind_one : next ≡ mark + 1 → IsBehind es mark e next
   behind_two : (f : Exclusion) → IsChangeAfter es (mark + 1) f next → f.dim ≡ e.dim → f.u ≡ e.u → f.v ≡ e.v → IsBehind es mark e next
 
--- What was looked through of a list: no rule adds anything by it but CHAIN in the dimensions of a row.
+-- What was looked through of a list: no rule adds anything by it but CHAIN in the dimensions of a
+-- row.
 pub record IsLookedThrough (instance : PlainInstance) (seen es : List Exclusion) (dirty : List ℕ) : Type 0 where
-  pub settled : IsSettled instance seen es
+  pub settled : IsUpToDate instance seen es
   pub chained : (i : ℕ) → i < dims instance → row_has dirty i ≡ false → IsChained instance i seen es
   pub within : (i : ℕ) → row_has dirty i ≡ true → i < dims instance

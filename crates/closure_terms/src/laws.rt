@@ -10,35 +10,35 @@ ghost use Rattle.rule_terms.specs.Applied.{Extends};
 ghost use Rattle.rule_terms.specs.Places.{HasNoEmptyMask};
 ghost use Rattle.rule_terms.specs.Runs.{IsTransitive, AreHeaviestHeads, AreHeaviestTails};
 ghost use Rattle.closure_terms.specs.States.{HasEmptyMask};
-ghost use Rattle.closure_terms.specs.Work.{IsReached, IsCovered, IsSettled, IsChained, IsUnordered};
+ghost use Rattle.closure_terms.specs.Work.{IsAppliedAt, IsCovered, IsUpToDate, IsChained, IsUnordered};
 ghost use Rattle.closure_terms.specs.Passes.{IsShut};
 ghost use Rattle.closure_terms.specs.Ends.{IsClosureOf, IsConflictOf};
 
-/// Where a closing may begin: by no exclusion at all, once PAIR was applied at all pairs; and by any
-/// older part of the list that no rule adds to and that leaves no mask empty.
+/// Where a closing may begin: by no exclusion at all, once PAIR was applied at all pairs; and by
+/// any older part of the list that no rule adds to and that leaves no mask empty.
 pub fn closings_begin()
     ensures settled { (instance : PlainInstance) (es : List PlainExclusion) → 2 ≤ dims instance
         → ((i u v : ℕ) → IsRuleInstance instance (Pair i u v)
-        → IsCovered instance (excludes []) es (Pair i u v)) → IsSettled instance [] es }
+        → IsCovered instance (excludes []) es (Pair i u v)) → IsUpToDate instance [] es }
     ensures chained { (instance : PlainInstance) (i : ℕ) (es : List PlainExclusion)
         → ((j u v : ℕ) → IsRuleInstance instance (Pair j u v)
         → IsCovered instance (excludes []) es (Pair j u v)) → IsChained instance i [] es }
     ensures settled_since { (instance : PlainInstance) (es : List PlainExclusion) (k : ℕ)
         → IsStable instance (excludes (drop k es)) → HasNoEmptyMask instance (excludes (drop k es))
-        → IsSettled instance (drop k es) es }
+        → IsUpToDate instance (drop k es) es }
     ensures chained_since { (instance : PlainInstance) (i : ℕ) (es : List PlainExclusion) (k : ℕ)
         → IsStable instance (excludes (drop k es)) → IsChained instance i (drop k es) es }
 {}
 
-/// An exclusion is looked through once the instances that are to be applied for its place, in both
+/// An exclusion is looked through once the instances that are to be applied for its edge, in both
 /// orders of its boxes, cover what they add, and its mask isn't empty. CHAIN has to be looked at
 /// again in its dimension alone, and only where its two boxes are ordered now.
 pub fn changes_are_looked_through()
     ensures settled { (instance : PlainInstance) (e : PlainExclusion)
         (seen old new : List PlainExclusion) → IsSubset (excludes (e ∷ seen)) (excludes old)
-        → IsSettled instance seen new → ((r : PlainRel) × (excludes old e.dim e.u e.v r ≡ false))
-        → ((rule : Rule) → IsReached e.dim e.u e.v rule ⊎ IsReached e.dim e.v e.u rule
-        → IsCovered instance (excludes old) new rule) → IsSettled instance (e ∷ seen) new }
+        → IsUpToDate instance seen new → ((r : PlainRel) × (excludes old e.dim e.u e.v r ≡ false))
+        → ((rule : Rule) → IsAppliedAt e.dim e.u e.v rule ⊎ IsAppliedAt e.dim e.v e.u rule
+        → IsCovered instance (excludes old) new rule) → IsUpToDate instance (e ∷ seen) new }
     ensures chained { (instance : PlainInstance) (e : PlainExclusion)
         (seen old new : List PlainExclusion) (i : ℕ) → IsSubset (excludes (e ∷ seen)) (excludes old)
         → (e.dim ≡ i → IsUnordered (excludes old) e) → IsChained instance i seen new
@@ -59,10 +59,10 @@ pub fn chains_are_covered()
 /// and where CHAIN adds nothing either, no rule does.
 pub fn settled_lists_are_stable()
     ensures transitive { (instance : PlainInstance) (es : List PlainExclusion) (i : ℕ)
-        → i < dims instance → IsSettled instance es es
+        → i < dims instance → IsUpToDate instance es es
         → IsTransitive (box_count instance) (IsSurelyBefore (excludes es) i) }
     ensures stable { (instance : PlainInstance) (es : List PlainExclusion)
-        → IsSettled instance es es → ((i : ℕ) → i < dims instance → IsChained instance i es es)
+        → IsUpToDate instance es es → ((i : ℕ) → i < dims instance → IsChained instance i es es)
         → IsStable instance (excludes es) }
 {}
 

@@ -1,7 +1,7 @@
 //! Closing only what changed comes to the same as closing everything.
 ghost use Rattle.std.specs.Prelude.{◌≡◌};
 ghost use Rattle.packing_terms.specs.Packing.{dims, box_count};
-ghost use Rattle.packing_terms.specs.Exclusions.{excludes, IsPlaceAmong};
+ghost use Rattle.packing_terms.specs.Exclusions.{excludes, IsEdgeAmong};
 ghost use Rattle.packing_terms.specs.Closure.{IsStable};
 ghost use Rattle.packing_terms.specs.Limits.{IsDimCount, IsBoxCount};
 ghost use Rattle.rule_terms.specs.Places.{HasNoEmptyMask};
@@ -27,7 +27,7 @@ fn try_since(
     requires dims { state.old.dims ≡ dims instance.now }
     requires boxes { state.old.boxes ≡ box_count instance.now }
     requires room { closer.old ≡ record { dims = state.old.dims; boxes = state.old.boxes } }
-    requires place { IsPlaceAmong state.old.dims state.old.boxes dim u v }
+    requires edge { IsEdgeAmong state.old.dims state.old.boxes dim u v }
     requires stable { IsStable instance.now (excludes state.old.trail) }
     requires full { HasNoEmptyMask instance.now (excludes state.old.trail) }
     ensures closer { closer.new ≡ closer.old }
@@ -59,7 +59,7 @@ fn try_whole(
     requires dims { state.old.dims ≡ dims instance.now }
     requires boxes { state.old.boxes ≡ box_count instance.now }
     requires room { closer.old ≡ record { dims = state.old.dims; boxes = state.old.boxes } }
-    requires place { IsPlaceAmong state.old.dims state.old.boxes dim u v }
+    requires edge { IsEdgeAmong state.old.dims state.old.boxes dim u v }
     ensures closer { closer.new ≡ closer.old }
     ensures sizes { state.new ≡ record state.old { trail = state.new.trail } }
 {

@@ -14,6 +14,13 @@ pub struct PlainState {
     pub excluded: Vec<bool>,
 }
 
+// Which chains of a box are weighed.
+#[derive(Clone, Copy)]
+enum Chains {
+    EndThere,
+    StartThere,
+}
+
 fn spot(i: u8, u: u8, v: u8, r: u8) -> usize {
     ((usize::from(i) * 20 + usize::from(u)) * 20 + usize::from(v)) * 3 + usize::from(r)
 }
@@ -187,14 +194,13 @@ impl PlainState {
         changed
     }
 
-    // Raises the weights of the chains that end in each box, or start there, by one box more.
-    fn raise(&self, weights: &mut [u32], i: u8, starts: bool) {
+    // Raises the weights of the chains of each box by one box more.
+    fn raise(&self, weights: &mut [u32], i: u8, chains: Chains) {
         for v in 0..self.boxes {
             for x in 0..self.boxes {
-                let leads = if starts {
-                    self.is_before(i, v, x)
-                } else {
-                    self.is_before(i, x, v)
+                let leads = match chains {
+                    Chains::EndThere => self.is_before(i, x, v),
+                    Chains::StartThere => self.is_before(i, v, x),
                 };
                 let at = usize::from(x);
                 let to = usize::from(v);
@@ -208,21 +214,21 @@ impl PlainState {
 
     // The weights of the heaviest chains. Where no mask is empty and COMPOSE adds nothing, surely
     // before goes in no circle, so a chain has no more boxes than there are.
-    fn weigh(&self, alloc: Global, i: u8, starts: bool) -> Result<Vec<u32>, AllocError> {
+    fn weigh(&self, alloc: Global, i: u8, chains: Chains) -> Result<Vec<u32>, AllocError> {
         let mut weights = Vec::new(alloc);
         for v in 0..self.boxes {
             weights.push(self.side(v, i))?;
         }
         for _ in 0..self.boxes {
-            self.raise(weights.as_mut_slice(), i, starts);
+            self.raise(weights.as_mut_slice(), i, chains);
         }
         Ok(weights)
     }
 
     // CHAIN in one dimension, at all boxes.
     fn by_chain(&mut self, alloc: Global, i: u8) -> Result<bool, AllocError> {
-        let heads = self.weigh(alloc, i, false)?;
-        let tails = self.weigh(alloc, i, true)?;
+        let heads = self.weigh(alloc, i, Chains::EndThere)?;
+        let tails = self.weigh(alloc, i, Chains::StartThere)?;
         let mut changed = false;
         for u in 0..self.boxes {
             for v in 0..self.boxes {

@@ -18,7 +18,8 @@ fn two_boxes(
     first: [u32; 2],
     second: [u32; 2],
 ) -> Result<Instance, Fail>
-    ensures { IfOk result (λ instance. (dims instance ≡ 2) × (box_count instance ≡ 2) × SidesFit instance) }
+    ensures { IfOk result (λ instance. (dims instance ≡ 2) × (box_count instance ≡ 2)
+        × SidesFit instance) }
 {
     let mut items = Vec::new(alloc);
     for sides in [first, second] {
@@ -61,12 +62,14 @@ fn two_flat_boxes_are_apart_in_height(rt: HostRuntime) -> Result<(), Fail> {
     Ok(())
 }
 
-// The places of a state of two boxes, if closing it makes the first surely before the second in height.
+// The places of a state of two boxes, if closing it makes the first surely before the second in
+// height.
 fn places_of(closer: &mut Closer, instance: &Instance, state: &mut EdgeState) -> [u32; 4]
     requires closer { closer.old ≡ record { dims = 2; boxes = 2 } }
     requires dims { state.old.dims ≡ 2 }
     requires boxes { state.old.boxes ≡ 2 }
-    requires instance { (dims instance.now ≡ 2) × (box_count instance.now ≡ 2) × SidesFit instance.now }
+    requires instance { (dims instance.now ≡ 2) × (box_count instance.now ≡ 2)
+        × SidesFit instance.now }
 {
     let mut places = [9; 4];
     if let Closed::Stable = closer.close(instance, state) {

@@ -1,9 +1,9 @@
 -- The next of the rising parameters.
-use Rattle.std.proofs.Common.{◌≡◌, ℕ, zero, suc, ◌+◌, ◌-◌, ◌/◌, ◌<◌, ◌≤◌, ◌⊎◌, inl, inr, refl, sym, ap, ◌∙◌, arith, Bool, true, false, eqb, [], ◌∷◌}
+use Rattle.std.proofs.Common.{◌≡◌, ℕ, zero, suc, ◌+◌, ◌-◌, ◌/◌, ◌<◌, ◌≤◌, ◌⊎◌, inl, inr, refl, sym, ap, ◌∙◌, arith, Bool, true, false, eqb, ◌∷◌}
 use Rattle.std.specs.List.{filter, range_with_len}
 use Rattle.std.proofs.lemmas.Bool.{cases_eq, or_cases, or_left, or_right, true≢false, eqb-true, eq-eqb}
 use Rattle.packing_terms.specs.Packing.{PlainInstance, box_count, container_side, side}
-use Rattle.packing_terms.specs.Tuples.{any_below, is_edge, edges_above, functions_after}
+use Rattle.packing_terms.specs.Tuples.{any_below, is_threshold, thresholds_above, functions_after}
 use Rattle.packing_terms.specs.declared.ScaleFn.TheVariants.{Step}
 
 pub any_at : (n : ℕ) (f : ℕ → Bool) (v : ℕ) → v < n → f v ≡ true → any_below n f ≡ true
@@ -23,10 +23,6 @@ any_from (suc n) f e = go (or_cases _ _ e) (any_from n f)
     go (inl i) rest = let h = rest i in let k = h.1 in (h.0, omega (arith, k), h.2)
     go (inr i) rest = (n, omega arith, i)
 
-pub filter_none : (p : ℕ → Bool) (a n : ℕ) → ((y : ℕ) → a ≤ y → y < a + n → p y ≡ false) → filter p (range_with_len a n) ≡ []
-filter_none p a zero h = refl
-filter_none p a (suc n) h = rw (h a (omega arith) (omega arith)) (filter_none p (a + 1) n (λ y l m. h y (omega arith) (omega arith)))
-
 -- the first of a range that passes
 pub filter_first : (p : ℕ → Bool) (a n x m : ℕ) → a ≤ x → x + 1 + m ≡ a + n → p x ≡ true → ((y : ℕ) → a ≤ y → y < x → p y ≡ false)
     → filter p (range_with_len a n) ≡ x ∷ filter p (range_with_len (x + 1) m)
@@ -45,18 +41,18 @@ filter_first p a (suc n) x m l e t h = go (cases_eq x a) (λ f. filter_first p (
 pub record IsNext (instance : PlainInstance) (i low next : ℕ) : Type 0 where
   pub above : low < next
   pub most : next ≤ container_side instance i / 2
-  pub edge : is_edge instance i next ≡ true
+  pub edge : is_threshold instance i next ≡ true
   pub least : (v : ℕ) → v < box_count instance → low < side instance v i → next ≤ side instance v i
 
 pub next_is : (instance : PlainInstance) (i low next : ℕ) → IsNext instance i low next
-    → edges_above instance i low ≡ next ∷ edges_above instance i next
+    → thresholds_above instance i low ≡ next ∷ thresholds_above instance i next
 next_is instance i low next h =
     let a = h.above in
     let m = h.most in
-    filter_first (λ e. is_edge instance i e) (low + 1) (container_side instance i / 2 - low) next (container_side instance i / 2 - next)
-    (omega (arith, a)) (omega (arith, a, m)) h.edge (λ y k l. between y (omega (arith, k)) l (is_edge instance i y) refl)
+    filter_first (λ e. is_threshold instance i e) (low + 1) (container_side instance i / 2 - low) next (container_side instance i / 2 - next)
+    (omega (arith, a)) (omega (arith, a, m)) h.edge (λ y k l. between y (omega (arith, k)) l (is_threshold instance i y) refl)
   where
-    between : (y : ℕ) → low < y → y < next → (b : Bool) → is_edge instance i y ≡ b → b ≡ false
+    between : (y : ℕ) → low < y → y < next → (b : Bool) → is_threshold instance i y ≡ b → b ≡ false
     between y k l false e = refl
     between y k l true e = absurd (parts (or_cases _ _ e))
       where
@@ -71,7 +67,7 @@ next_is instance i low next h =
 pub record IsBest (instance : PlainInstance) (i low n next : ℕ) : Type 0 where
   pub above : low < next
   pub most : next ≤ container_side instance i / 2
-  pub edge : is_edge instance i next ≡ true
+  pub edge : is_threshold instance i next ≡ true
   pub least : (v : ℕ) → v < n → low < side instance v i → next ≤ side instance v i
 
 pub half_best : (instance : PlainInstance) (i low half : ℕ) → half ≡ container_side instance i / 2 → low < half → IsBest instance i low 0 half
@@ -109,7 +105,7 @@ best_keeps instance i low n next s h e k = record {
     go v (inr f) l m = h.least v (omega arith) m
 
 pub best_is : (instance : PlainInstance) (i low n next : ℕ) → IsBest instance i low n next → box_count instance ≤ n
-    → edges_above instance i low ≡ next ∷ edges_above instance i next
+    → thresholds_above instance i low ≡ next ∷ thresholds_above instance i next
 best_is instance i low n next h l = next_is instance i low next (record { above = h.above; most = h.most; edge = h.edge; least = λ v m k. h.least v (omega arith) k })
 
 pub steps_after : (instance : PlainInstance) (i k : ℕ) → k < 4

@@ -7,7 +7,8 @@ use Rattle.packing_terms.specs.declared.ScaleFn.{ScaleFn}
 use Rattle.packing_terms.specs.declared.ScaleFn.TheVariants.{Id}
 use Rattle.packing_terms.specs.Tuples.{functions_after}
 
--- the choices for the dimensions below i with at most so many functions other than id, before the given functions
+-- the choices for the dimensions below i with at most so many functions other than id, before the
+-- given functions
 abbrev pub within : PlainInstance → ℕ → ℕ → List ScaleFn → List (List ScaleFn)
 within instance zero left rest = rest ∷ []
 within instance (suc i) zero rest = within instance i zero (Id ∷ rest)

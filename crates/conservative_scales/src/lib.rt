@@ -1,4 +1,5 @@
-//! Conservative scales: whether a tuple of scale functions, one for each dimension, shows that the boxes don't fit.
+//! Conservative scales: whether a tuple of scale functions, one for each dimension, shows that the
+//! boxes don't fit.
 //!
 //! Source: Fekete and Schepers, on dual feasible functions and the volume bounds that they give.
 #![tactic(auto)]

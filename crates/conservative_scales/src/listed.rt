@@ -1,8 +1,8 @@
-// The list of scale functions of a dimension, one after another.
+//! The list of scale functions of a dimension, one after another.
 ghost use Rattle.std.specs.Prelude.{◌≡◌, ◌<◌, ◌≤◌, ◌*◌, [], ◌∷◌, MatchOption, IfSome};
 ghost use Rattle.packing_terms.specs.Packing.{dims, container_side};
 ghost use Rattle.packing_terms.specs.Scales.{IsLegalScale};
-ghost use Rattle.packing_terms.specs.Tuples.{edges_above, functions_after};
+ghost use Rattle.packing_terms.specs.Tuples.{thresholds_above, functions_after};
 ghost use Rattle.conservative_scales.specs.Within.{from_next};
 
 use box_instances::Instance;
@@ -11,8 +11,8 @@ use packing_terms::ScaleFn;
 // The next parameter above the given one, where there is one.
 fn next_edge(instance: &Instance, dim: u32, above: u32) -> Option<u32>
     requires { dim < dims instance.now }
-    ensures next { MatchOption result (edges_above instance.now dim above ≡ [])
-        (λ e. edges_above instance.now dim above ≡ e ∷ edges_above instance.now dim e) }
+    ensures next { MatchOption result (thresholds_above instance.now dim above ≡ [])
+        (λ e. thresholds_above instance.now dim above ≡ e ∷ thresholds_above instance.now dim e) }
     ensures legal { IfSome result (λ e. (above < e) × (2 * e ≤ container_side instance.now dim)) }
 {
     let half = instance.container_side(dim) / 2;

@@ -1,4 +1,4 @@
-// The first tuple of the list that exceeds.
+//! The first tuple of the list that exceeds.
 ghost use Rattle.std.specs.Prelude.{◌≡◌, ◌≤◌, [], length, drop, MatchOption, MatchBool, IfSome, None, Some};
 ghost use Rattle.std.specs.List.{find};
 ghost use Rattle.packing_terms.specs.Packing.{dims};
@@ -19,8 +19,9 @@ use std::alloc::Global;
 /// One scale function for each dimension.
 pub type ScaleTuple = SmallVec<ScaleFn, 4>;
 
-// Whether a tuple exceeds that ends in the functions from `dim` on, of which `rest` has the products, and that has at most
-// `left` functions other than id before them. The first one is left in `tuple`.
+// Whether a tuple exceeds that ends in the functions from `dim` on, of which `rest` has the
+// products, and that has at most `left` functions other than id before them. The first one is left
+// in `tuple`.
 fn search(
     instance: &Instance,
     copies: u32,
@@ -35,10 +36,13 @@ fn search(
     requires count { length tuple.old ≡ dims instance.now }
     requires there { dim ≤ dims instance.now }
     requires legal { AreLegalFrom instance.now dim (drop dim tuple.old) }
-    requires partial { IsPartial instance.now dim (drop dim tuple.old) rest.now.images rest.now.whole }
+    requires partial { IsPartial instance.now dim (drop dim tuple.old) rest.now.images
+        rest.now.whole }
     ensures found { MatchBool result
-        (find (has_excess instance.now copies) (within instance.now dim left (drop dim tuple.old)) ≡ Some tuple.new)
-        (find (has_excess instance.now copies) (within instance.now dim left (drop dim tuple.old)) ≡ None) }
+        (find (has_excess instance.now copies) (within instance.now dim left (drop dim tuple.old))
+        ≡ Some tuple.new)
+        (find (has_excess instance.now copies) (within instance.now dim left (drop dim tuple.old))
+        ≡ None) }
     ensures kept { drop dim tuple.new ≡ drop dim tuple.old }
 {
     if dim == 0 {
@@ -77,7 +81,8 @@ fn copied(alloc: Global, functions: &[ScaleFn]) -> ScaleTuple
     tuple
 }
 
-/// The first tuple of the list that exceeds, and none exactly where none of the list does. Then the boxes don't fit in so many bins.
+/// The first tuple of the list that exceeds, and none exactly where none of the list does. Then the
+/// boxes don't fit in so many bins.
 pub fn first_exceeding(alloc: Global, instance: &Instance, copies: u32) -> Option<ScaleTuple>
     requires fit { SidesFit instance.now }
     requires few { copies ≤ 128 }

@@ -1,3 +1,4 @@
+//! Tests of CYCLE and ORDER, each with all its premises and without one of them.
 ghost use Rattle.std.specs.Prelude.{◌≡◌, IfOk};
 
 use crate::{apply_cycle, apply_order};
@@ -6,7 +7,8 @@ use std::alloc::Global;
 use std::process::Abort;
 use std::test::Fail;
 
-// A state of four boxes in two dimensions with these exclusions in the first dimension, but the one at `skipped`.
+// A state of four boxes in two dimensions with these exclusions in the first dimension, but the one
+// at `skipped`.
 fn state_without(
     rt: &impl Abort,
     alloc: Global,

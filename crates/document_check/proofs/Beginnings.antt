@@ -1,17 +1,15 @@
 -- The trees of checkers to which no token was fed, and the stages of phases.
-use Rattle.std.proofs.Common.{◌≡◌, ◌∙◌, ℕ, refl, sym, ap, subst, [], get_or, true, Option, Some, None}
+use Rattle.std.proofs.Common.{◌≡◌, ◌∙◌, refl, sym, ap, subst, [], get_or, Option, Some}
 use Rattle.std.proofs.lemmas.List.FromFn.{fill_by_all}
 use Rattle.packing_terms.specs.Packing.{PlainInstance, no_box, box_count}
 use Rattle.packing_terms.specs.Goals.{subset}
 use Rattle.box_instances.specs.Sets.{all_boxes}
 use Rattle.check_terms.specs.Checking.{starting}
 use Rattle.refutation_check.specs.Refuters.{PlainRefuter}
-use Rattle.outer_check.specs.declared.goal.Goal.TheVariants.{Bins, Value}
-use Rattle.outer_check.specs.Outers.{PlainOuter, started}
 use Rattle.verdict_terms.specs.Stages.{Stage}
-use Rattle.verdict_terms.specs.Trees.{ToFit, ToFitIn, ToReach, begun}
+use Rattle.verdict_terms.specs.Trees.{ToFit, begun}
 use Rattle.document_check.specs.Reading.{IsAt}
-use Rattle.document_check.specs.Checkers.{inner_tree, is_inner_open, outer_tree}
+use Rattle.document_check.specs.Checkers.{shown_inner_tree}
 
 -- the set of all boxes has the instance itself
 whole_set : (instance : PlainInstance) → subset instance (all_boxes instance) ≡ instance
@@ -20,20 +18,8 @@ whole_set instance =
     (sym (fill_by_all (λ v. get_or instance.boxes v no_box) instance.boxes (box_count instance) no_box refl (λ k l. refl)))
 
 pub inner_begun : (r : PlainRefuter) (instance : PlainInstance) → r ≡ record { instance = instance; keep = all_boxes instance; checked = starting [] }
-    → inner_tree r ≡ begun (ToFit instance)
-inner_begun r instance e = ap inner_tree e ∙ ap (λ i. begun (ToFit i)) (whole_set instance)
-
-pub inner_open : (r : PlainRefuter) (instance : PlainInstance) → r ≡ record { instance = instance; keep = all_boxes instance; checked = starting [] }
-    → is_inner_open r ≡ true
-inner_open r instance e = ap is_inner_open e
-
-pub bins_begun : (o : PlainOuter) (instance : PlainInstance) (k : ℕ) → o ≡ record { instance = instance; tree = started (Bins k); refused = None }
-    → outer_tree o ≡ begun (ToFitIn instance k)
-bins_begun o instance k e = ap outer_tree e
-
-pub value_begun : (o : PlainOuter) (instance : PlainInstance) (y : ℕ) → o ≡ record { instance = instance; tree = started (Value y); refused = None }
-    → outer_tree o ≡ begun (ToReach instance y)
-value_begun o instance y e = ap outer_tree e
+    → shown_inner_tree r ≡ begun (ToFit instance)
+inner_begun r instance e = ap shown_inner_tree e ∙ ap (λ i. begun (ToFit i)) (whole_set instance)
 
 -- where the document stands behind the lines of a judge
 pub at_behind : (behind : Option Stage) (stage next : Stage) → IsAt behind stage → behind ≡ Some next → stage ≡ next

@@ -1,9 +1,10 @@
 -- Why the places of several bins are refused, by one bin after another.
-use Rattle.std.proofs.Common.{◌≡◌, ◌∙◌, ℕ, zero, suc, ◌+◌, ◌-◌, ◌<◌, ◌≤◌, refl, sym, ap, ap₂, subst, arith, true, false, List, [], ◌∷◌, ◌++◌, map, Option, Some, None}
+use Rattle.std.proofs.Common.{◌≡◌, ◌∙◌, ℕ, ◌+◌, ◌-◌, ◌<◌, ◌≤◌, refl, sym, ap, subst, arith, true, false, List, [], ◌∷◌, ◌++◌, map, Option, Some, None}
 use Rattle.std.specs.List.{range_with_len}
 use Rattle.std.specs.Option.{is_some}
 use Rattle.std.proofs.lemmas.List.{map-append}
 use Rattle.packing_terms.specs.Packing.{PlainInstance}
+use Rattle.packing_terms.proofs.Ranges.{range_split}
 use Rattle.check_terms.specs.declared.answers.PlaceVerdict.{PlaceVerdict}
 use Rattle.check_terms.specs.declared.answers.PlaceVerdict.TheVariants.{Good, Outside, Overlap}
 use Rattle.verdict_terms.specs.declared.reason.Reason.{Reason}
@@ -44,12 +45,6 @@ overlap_first (Some x) r new e f = absurd (cc (e))
 pub overlap_kept : (o r new : Option Reason) → is_some o ≡ true → new ≡ o → new ≡ first_reason o r
 overlap_kept None r new e f = absurd (cc (e))
 overlap_kept (Some x) r new e f = f
-
-range_split : (a m n : ℕ) → range_with_len a (m + n) ≡ range_with_len a m ++ range_with_len (a + m) n
-range_split a zero n = ap₂ range_with_len (let e : a ≡ a + 0 = omega arith in e) (let e : 0 + n ≡ n = omega arith in e)
-range_split a (suc m) n =
-    ap (range_with_len a) (let e : suc m + n ≡ suc (m + n) = omega arith in e)
-    ∙ ap (λ l. a ∷ l) (range_split (a + 1) m n ∙ ap (λ x. range_with_len (a + 1) m ++ range_with_len x n) (let e : a + 1 + m ≡ a + suc m = omega arith in e))
 
 module _ (instance : PlainInstance) (bins places : List ℕ) where
   -- the bins behind the first ones
@@ -100,8 +95,3 @@ module _ (instance : PlainInstance) (bins places : List ℕ) where
         ∙ (overlap_append (bin_groups instance bins places b) (bin_group instance bins places b ∷ [])
         ∙ (ap (λ r. first_reason r (first_overlap (bin_group instance bins places b ∷ []))) (sym o)
         ∙ ap (first_reason overlap) ((one_inside (bin_group instance bins places b) (subst (λ r. is_outside r ≡ false) is e)).1 ∙ sym is)))
-
-  -- behind all bins
-  pub none_outside : (k : ℕ) (overlap : Option Reason) → first_outside (bin_groups instance bins places k) ≡ None → overlap ≡ first_overlap (bin_groups instance bins places k)
-      → overlap ≡ groups_reason (bin_groups instance bins places k)
-  none_outside k overlap e o = o ∙ sym (ap (λ r. first_reason r (first_overlap (bin_groups instance bins places k))) e)

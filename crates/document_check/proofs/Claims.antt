@@ -9,7 +9,7 @@ use Rattle.document_terms.specs.declared.claim.SolvingJob.TheVariants.{Fit, Stri
 use Rattle.verdict_terms.specs.Reasons.{form}
 use Rattle.verdict_terms.specs.Results.{none_claim, one_claim, two_claim, claim_of}
 use Rattle.verdict_terms.specs.Stages.{rest_of}
-use Rattle.document_check.specs.Words.{fit_word}
+use Rattle.document_check.specs.Words.{claimed_fit}
 
 module _ (instance : PlainInstance) where
   pub strip_none : (ws : List (List ℕ)) → length ws ≡ 2 → none_claim NoHeight (get_or ws 1 []) ≡ claim_of Strip instance (rest_of ws)
@@ -106,7 +106,7 @@ module _ (instance : PlainInstance) where
   no_value (a ∷ b ∷ c ∷ d ∷ []) some three four = absurd (four refl)
   no_value (a ∷ b ∷ c ∷ d ∷ x ∷ ws) some three four = refl
 
-  pub fit_one : (ws : List (List ℕ)) → length ws ≡ 2 → fit_word (get_or ws 1 []) ≡ claim_of Fit instance (rest_of ws)
+  pub fit_one : (ws : List (List ℕ)) → length ws ≡ 2 → claimed_fit (get_or ws 1 []) ≡ claim_of Fit instance (rest_of ws)
   unfolding claim_of
   fit_one [] e = absurd (omega (arith, e))
   fit_one (a ∷ []) e = absurd (omega (arith, e))

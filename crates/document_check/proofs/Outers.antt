@@ -11,8 +11,8 @@ use Rattle.check_terms.specs.Checking.{bins_after, value_after}
 use Rattle.outer_check.specs.Outers.{PlainOuter, OuterTree, ForBins, ForValue, fed, fed_by, answered, answered_by, judged_at, left_open, is_whole_view}
 use Rattle.outer_check.proofs.Opened.{bins_opened, value_opened}
 use Rattle.verdict_terms.specs.Trees.{BinTree, ValueTree, map_ok, is_whole}
-use Rattle.document_check.specs.Proofs.{Grows}
-use Rattle.document_check.specs.Checkers.{outer_tree, is_outer_open}
+use Rattle.document_check.specs.Proofs.{IsFed}
+use Rattle.document_check.specs.Checkers.{shown_outer_tree, is_outer_open}
 
 -- ---- whether no node is open
 
@@ -35,7 +35,7 @@ module _ (instance : PlainInstance) (t : PlainToken) where
   at_value : (y : ℕ) → OuterView BoxChoice → PlainOuter
   at_value y view = record { instance = instance; tree = ForValue y view; refused = None }
 
-  bins_grow : (k : ℕ) (view : OuterView UsedBins) → Grows (outer_tree (at_bins k view)) t (outer_tree (fed (at_bins k view) t)) (is_outer_open (fed (at_bins k view) t)) (answered (fed (at_bins k view) t))
+  bins_grow : (k : ℕ) (view : OuterView UsedBins) → IsFed (shown_outer_tree (at_bins k view)) t (shown_outer_tree (fed (at_bins k view) t)) (is_outer_open (fed (at_bins k view) t)) (answered (fed (at_bins k view) t))
   unfolding at_bins
   bins_grow k view = go (judged_at (bin_refusal instance k) view t) refl
     where
@@ -45,16 +45,16 @@ module _ (instance : PlainInstance) (t : PlainToken) where
       step r e = ap (map_ok (BinTree instance k)) (bins_opened instance k view t ∙ ap (λ x. left_open x (open_nodes (bins_with k) (view_after (bins_with k) bin_step view t))) e)
 
       ended : (w : Bool) → is_whole_view (view_after (bins_with k) bin_step view t) ≡ w → judged_at (bin_refusal instance k) view t ≡ None
-          → Grows (BinTree instance k (open_nodes (bins_with k) view)) t (BinTree instance k (open_nodes (bins_with k) (view_after (bins_with k) bin_step view t))) (not w) (answered_by None w)
+          → IsFed (BinTree instance k (open_nodes (bins_with k) view)) t (BinTree instance k (open_nodes (bins_with k) (view_after (bins_with k) bin_step view t))) (not w) (answered_by None w)
       ended true f e = (step None e, bins_whole instance k (view_after (bins_with k) bin_step view t) ∙ f)
       ended false f e = (step None e, bins_whole instance k (view_after (bins_with k) bin_step view t) ∙ f, refl)
 
       go : (r : Option RefuseCode) → judged_at (bin_refusal instance k) view t ≡ r
-          → Grows (BinTree instance k (open_nodes (bins_with k) view)) t (outer_tree (fed_by None r (at_bins k view) t)) (is_outer_open (fed_by None r (at_bins k view) t)) (answered (fed_by None r (at_bins k view) t))
+          → IsFed (BinTree instance k (open_nodes (bins_with k) view)) t (shown_outer_tree (fed_by None r (at_bins k view) t)) (is_outer_open (fed_by None r (at_bins k view) t)) (answered (fed_by None r (at_bins k view) t))
       go (Some code) e = step (Some code) e
       go None e = ended (is_whole_view (view_after (bins_with k) bin_step view t)) refl e
 
-  value_grow : (y : ℕ) (view : OuterView BoxChoice) → Grows (outer_tree (at_value y view)) t (outer_tree (fed (at_value y view) t)) (is_outer_open (fed (at_value y view) t)) (answered (fed (at_value y view) t))
+  value_grow : (y : ℕ) (view : OuterView BoxChoice) → IsFed (shown_outer_tree (at_value y view)) t (shown_outer_tree (fed (at_value y view) t)) (is_outer_open (fed (at_value y view) t)) (answered (fed (at_value y view) t))
   unfolding at_value
   value_grow y view = go (judged_at (value_refusal instance y) view t) refl
     where
@@ -64,27 +64,27 @@ module _ (instance : PlainInstance) (t : PlainToken) where
       step r e = ap (map_ok (ValueTree instance y)) (value_opened instance y view t ∙ ap (λ x. left_open x (open_nodes choices_with (view_after choices_with choice_step view t))) e)
 
       ended : (w : Bool) → is_whole_view (view_after choices_with choice_step view t) ≡ w → judged_at (value_refusal instance y) view t ≡ None
-          → Grows (ValueTree instance y (open_nodes choices_with view)) t (ValueTree instance y (open_nodes choices_with (view_after choices_with choice_step view t))) (not w) (answered_by None w)
+          → IsFed (ValueTree instance y (open_nodes choices_with view)) t (ValueTree instance y (open_nodes choices_with (view_after choices_with choice_step view t))) (not w) (answered_by None w)
       ended true f e = (step None e, value_whole instance y (view_after choices_with choice_step view t) ∙ f)
       ended false f e = (step None e, value_whole instance y (view_after choices_with choice_step view t) ∙ f, refl)
 
       go : (r : Option RefuseCode) → judged_at (value_refusal instance y) view t ≡ r
-          → Grows (ValueTree instance y (open_nodes choices_with view)) t (outer_tree (fed_by None r (at_value y view) t)) (is_outer_open (fed_by None r (at_value y view) t)) (answered (fed_by None r (at_value y view) t))
+          → IsFed (ValueTree instance y (open_nodes choices_with view)) t (shown_outer_tree (fed_by None r (at_value y view) t)) (is_outer_open (fed_by None r (at_value y view) t)) (answered (fed_by None r (at_value y view) t))
       go (Some code) e = step (Some code) e
       go None e = ended (is_whole_view (view_after choices_with choice_step view t)) refl e
 
 -- a token that is fed to an open tree
-pub outer_grows : (o : PlainOuter) (t : PlainToken) → is_outer_open o ≡ true → Grows (outer_tree o) t (outer_tree (fed o t)) (is_outer_open (fed o t)) (answered (fed o t))
+pub outer_grows : (o : PlainOuter) (t : PlainToken) → is_outer_open o ≡ true → IsFed (shown_outer_tree o) t (shown_outer_tree (fed o t)) (is_outer_open (fed o t)) (answered (fed o t))
 unfolding at_bins at_value
 outer_grows o t h = by_parts o.instance o.tree o.refused h
   where
     by_parts : (instance : PlainInstance) (tree : OuterTree) (refused : Option RefuseCode) → is_outer_open (record { instance = instance; tree = tree; refused = refused }) ≡ true
-        → Grows (outer_tree (record { instance = instance; tree = tree; refused = refused })) t (outer_tree (fed (record { instance = instance; tree = tree; refused = refused }) t))
+        → IsFed (shown_outer_tree (record { instance = instance; tree = tree; refused = refused })) t (shown_outer_tree (fed (record { instance = instance; tree = tree; refused = refused }) t))
         (is_outer_open (fed (record { instance = instance; tree = tree; refused = refused }) t)) (answered (fed (record { instance = instance; tree = tree; refused = refused }) t))
     by_parts instance tree (Some code) h = absurd (cc (h))
     by_parts instance (ForBins k view) None h = bins_grow instance t k view
     by_parts instance (ForValue y view) None h = value_grow instance t y view
 
 pub outer_feeds : (o new : PlainOuter) (t : PlainToken) (answer : FeedVerdict) → new ≡ fed o t → answer ≡ answered new → is_outer_open o ≡ true
-    → Grows (outer_tree o) t (outer_tree new) (is_outer_open new) answer
+    → IsFed (shown_outer_tree o) t (shown_outer_tree new) (is_outer_open new) answer
 outer_feeds o new t answer e f h = rw (f, e) (outer_grows o t h)

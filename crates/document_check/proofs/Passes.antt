@@ -6,7 +6,7 @@ use Rattle.verdict_terms.specs.declared.reason.Reason.{Reason}
 use Rattle.verdict_terms.specs.declared.reason.Reason.TheVariants.{TooShort}
 use Rattle.verdict_terms.specs.Stages.{Stage}
 use Rattle.verdict_terms.specs.Stages.Stage.{Beginning, Reading, Placing, Sharing, Taking, Proving, Refuting, Exceeding, Ending, Ended}
-use Rattle.verdict_terms.specs.Documents.{Refusal, at_end}
+use Rattle.verdict_terms.specs.Documents.{Refusal, document_at_end}
 use Rattle.document_check.specs.declared.check.CheckEnd.{CheckEnd}
 use Rattle.document_check.specs.declared.check.CheckEnd.TheVariants.{Refused, TooLong, ReadFault, NoMemory}
 use Rattle.document_check.specs.declared.judge.ReadEnd.{ReadEnd}
@@ -23,7 +23,7 @@ abbrev verdict_of : Option Claim → ℕ → Result Claim Refusal
 verdict_of (Some claim) n = Ok claim
 verdict_of None n = Err (record { line = n + 1; reason = TooShort })
 
-at_end_is : (stage : Stage) (n : ℕ) → at_end stage n ≡ verdict_of (ended_claim stage) n
+at_end_is : (stage : Stage) (n : ℕ) → document_at_end stage n ≡ verdict_of (ended_claim stage) n
 at_end_is Beginning n = refl
 at_end_is (Reading job parts) n = refl
 at_end_is (Placing instance claim refuted places) n = refl
@@ -74,10 +74,6 @@ module _ (old left : Option (List ℕ)) (before now : ℕ) (at : Position) (stag
       let r = read first start le taking in
       (r.rising, record { taken = r.taken; gives = r.gives; counted = r.ends.0; so_far = r.ends.1 })
 
--- memory was refused before a line was taken
-pub no_memory_here : (old : Option (List ℕ)) (before : ℕ) (at : Position) (stage : Stage) → IsCheckedFrom old old before before at stage NoMemory
-no_memory_here old before at stage first start le taking = record { taken = taking.taken; gives = taking.gives; rising = le; comes = tt }
-
 -- one phase, and then what is left
 module _ (old mid left : Option (List ℕ)) (before between now : ℕ) (at next : Position) (stage behind : Stage) (result : CheckEnd) where
   pub then_from : IsReadOn old mid before between at stage next behind → (rest : Stage) → behind ≡ rest → IsCheckedFrom mid left between now next rest result
@@ -85,11 +81,6 @@ module _ (old mid left : Option (List ℕ)) (before between now : ℕ) (at next 
   then_from on rest same more first start le taking =
       let g = on first start le taking in
       subst (λ s. IsCheckedFrom mid left between now next s result) (sym same) more first start g.0 g.1
-
-pub then_no_memory : (old mid : Option (List ℕ)) (before between : ℕ) (at next : Position) (stage behind : Stage) → IsReadOn old mid before between at stage next behind
-    → IsCheckedFrom old mid before between at stage NoMemory
-then_no_memory old mid before between at next stage behind on =
-    then_from old mid mid before between between at next stage behind NoMemory on behind refl (no_memory_here mid between next behind)
 
 -- from the first byte on
 pub from_start : (old left : Option (List ℕ)) (before now : ℕ) (result : CheckEnd) → IsCheckedFrom old left before now (record { lexer = new_lexer; count = 0 }) Beginning result

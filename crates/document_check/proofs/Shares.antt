@@ -1,5 +1,5 @@
 -- The bins of a document, one box after another.
-use Rattle.std.proofs.Common.{◌≡◌, ℕ, zero, suc, pred, ◌+◌, ◌-◌, ◌*◌, ◌<◌, ◌≤◌, ◌⊎◌, inl, inr, refl, sym, ap, ap₂, subst, ◌∙◌, arith, Bool, true, false, ◌&&◌, List, [], ◌∷◌, ◌++◌, length, drop, get_or, nat_le, ◌==◌, Option, Some, None, Result, Ok, Err}
+use Rattle.std.proofs.Common.{◌≡◌, ℕ, zero, suc, pred, ◌+◌, ◌-◌, ◌*◌, ◌<◌, ◌≤◌, ◌⊎◌, inl, inr, refl, sym, ap, ap₂, subst, ◌∙◌, arith, Bool, true, false, ◌&&◌, List, [], ◌∷◌, ◌++◌, length, drop, get_or, nat_le, ◌==◌, Option, Some, None, Result, Ok}
 use Rattle.std.specs.List.{All}
 use Rattle.std.proofs.lemmas.Bool.{cases_lt, eq-eqb}
 use Rattle.std.proofs.lemmas.List.{length-append, length-drop}
@@ -9,14 +9,12 @@ use Rattle.packing_terms.specs.Packing.{PlainInstance, dims, box_count, side, co
 use Rattle.packing_terms.specs.Scales.{SidesFit}
 use Rattle.packing_terms.proofs.TooLarge.{too_large}
 use Rattle.document_terms.specs.declared.claim.Claim.{Claim}
-use Rattle.document_terms.specs.declared.claim.Claim.TheVariants.{Fitting, NotFitting, LeastHeight, HeightBetween, NoHeight, LeastBins, BinsBetween, NoBins, GreatestValue, ValueBetween}
 use Rattle.verdict_terms.specs.declared.reason.Reason.{Reason}
-use Rattle.verdict_terms.specs.Reasons.{range}
 use Rattle.verdict_terms.specs.Numbers.{coordinates}
 use Rattle.verdict_terms.specs.Stages.{Stage, placed, to_refute, refused_by, bins_reason, share_line}
 use Rattle.verdict_terms.specs.Stages.Stage.{Sharing}
 use Rattle.verdict_terms.proofs.BinsGood.{bins_good}
-use Rattle.document_check.specs.Sharings.{AreShares, HaveSides, shared_by}
+use Rattle.document_check.specs.Sharings.{AreShares, shared_by}
 
 -- ---- behind all bins
 
@@ -40,32 +38,9 @@ module _ (instance : PlainInstance) (k : ℕ) (bins places : List ℕ) where
       by true e (Some x) f = absurd (cc (f))
       by false e r f = absurd (cc (e))
 
--- a refutation for bins is wanted behind places in bins alone
-pub sides_behind : (instance : PlainInstance) (claim : Claim) → SidesFit instance → HaveSides (placed claim (to_refute instance claim))
-sides_behind instance Fitting fit = tt
-sides_behind instance NotFitting fit = tt
-sides_behind instance (LeastHeight h) fit = tt
-sides_behind instance (HeightBetween a b) fit = tt
-sides_behind instance NoHeight fit = tt
-sides_behind instance (LeastBins k) fit = fit
-sides_behind instance (BinsBetween a b) fit = fit
-sides_behind instance NoBins fit = tt
-sides_behind instance (GreatestValue v) fit = tt
-sides_behind instance (ValueBetween a b) fit = tt
-
 -- ---- a line
 
 module _ (instance : PlainInstance) (k : ℕ) (bins places : List ℕ) where
-  pub too_far : (numbers : List ℕ) → length numbers ≡ dims instance + 1 → (nat_le 1 (get_or numbers 0 0) && nat_le (get_or numbers 0 0) k) ≡ false
-      → (claim : Claim) → share_line instance claim k bins places numbers ≡ Err range
-  too_far [] count e claim = absurd (omega (arith, count))
-  too_far (b ∷ ns) count e claim = rw e refl
-
-  no_coordinates : (numbers : List ℕ) → length numbers ≡ dims instance + 1 → (nat_le 1 (get_or numbers 0 0) && nat_le (get_or numbers 0 0) k) ≡ true
-      → (reason : Reason) → coordinates (drop 1 numbers) ≡ Err reason → (claim : Claim) → share_line instance claim k bins places numbers ≡ Err reason
-  no_coordinates [] count e reason bad claim = absurd (omega (arith, count))
-  no_coordinates (b ∷ ns) count e reason bad claim = rw (e, bad) refl
-
   one_less : (b : ℕ) → 1 ≤ b → pred b ≡ b - 1
   one_less zero l = absurd (omega (arith, l))
   one_less (suc b) l = omega arith

@@ -1,25 +1,26 @@
 -- The steps of reading, over plain values.
 use Rattle.std.proofs.Common.{◌≡◌, ℕ, suc, ◌+◌, ◌<◌, ◌≤◌, inl, inr, refl, sym, ap, subst, ◌∙◌, arith, Bool, true, false, cond, List, [], ◌∷◌, ◌++◌, length, take, append_assoc, append-nil, get_or, Option, Some, None, Result, Ok, Err, not}
 use Rattle.std.specs.List.{slice_split, onto_first}
-use Rattle.std.specs.Io.KnownBytes.{IsAtEnd, prepend_known}
+use Rattle.std.specs.Io.KnownBytes.{IsAtEnd}
 use Rattle.std.proofs.lemmas.Bool.{eqb-true}
 use Rattle.std.proofs.lemmas.List.{length-append, take_at}
 use Rattle.std.proofs.lemmas.List.Splits.{length-slice_split}
 use Rattle.pack_streams.specs.Moves.{Gives}
 use Rattle.text_terms.specs.Lines.{is_line_feed, text_lines, drop_empty_end}
 use Rattle.text_terms.specs.Texts.{◌>>=◌}
-use Rattle.text_terms.specs.Feeding.{Lexer, new_lexer, end_line as end_line_step, add_byte, held_of, feed, finish, told}
+use Rattle.text_terms.specs.Feeding.{Lexer, new_lexer, end_line as end_line_step, add_byte, held_of, feed, finish, ended_line}
 use Rattle.document_terms.specs.declared.claim.Claim.{Claim}
 use Rattle.verdict_terms.specs.declared.reason.Reason.{Reason}
 use Rattle.verdict_terms.specs.Stages.{Stage, stage_after}
 use Rattle.verdict_terms.specs.Stages.Stage.{Beginning}
-use Rattle.verdict_terms.specs.Documents.{Refusal, at_line, at_end, document_verdict}
+use Rattle.verdict_terms.specs.Documents.{Refusal, document_at_line, document_at_end, document_verdict}
 use Rattle.verdict_terms.specs.Fed.{taken_line, fed_verdict, NoneRefused, EndsRefused}
 use Rattle.verdict_terms.proofs.FedGiven.{documents_are_fed}
 use Rattle.verdict_terms.proofs.Stays.{refusals_stay, split_feed, end_append, end_line}
 use Rattle.pack_streams.specs.Faults.{Rose}
-use Rattle.pack_streams.specs.Moves.{Reads}
+use Rattle.pack_streams.specs.Moves.{ReadsPiece}
 use Rattle.pack_streams.specs.declared.source.ReadAnswer.TheVariants.{Got, End as SourceEnd}
+use Rattle.pack_streams.proofs.Runs.{gives_more}
 use Rattle.document_check.specs.declared.judge.LineStop.{LineStop}
 use Rattle.document_check.specs.declared.judge.LineStop.TheVariants.{Refused as LineRefused}
 use Rattle.document_check.specs.declared.judge.ReadEnd.{ReadEnd}
@@ -31,10 +32,6 @@ use Rattle.document_check.specs.Reading.{IsSoFar, IsTaking, TakesByte, TakesEnd,
 pub gives_none : (old : Option (List ℕ)) → Gives old old []
 gives_none None = refl
 gives_none (Some xs) = refl
-
-pub gives_more : (old mid now : Option (List ℕ)) (taken more : List ℕ) → Gives old mid taken → Gives mid now more → Gives old now (taken ++ more)
-gives_more old mid None taken more g h = g ∙ ap (prepend_known taken) h
-gives_more old mid (Some xs) taken more g h = g ∙ ap (prepend_known taken) h ∙ ap Some (sym (append_assoc taken more xs))
 
 -- ---- how many lines have ended
 
@@ -55,21 +52,6 @@ split_push (x ∷ xs) b f = go (is_line_feed x) (split_push xs b f) (slice_split
         let i : length us ≡ length (slice_split is_line_feed (xs ++ b ∷ [])) = ap length (sym p) in
         let j : length vs ≡ length (slice_split is_line_feed xs) = ap length (sym q) in
         onto_length us (omega (arith, m, i)) ∙ i ∙ e ∙ sym j ∙ sym (onto_length vs (omega (arith, n, j)))
-
-split_small : (xs : List ℕ) → length (slice_split is_line_feed xs) ≤ length xs + 1
-split_small [] = omega arith
-split_small (x ∷ xs) = go (is_line_feed x) (slice_split is_line_feed xs) (split_small xs)
-  where
-    onto_small : (ls : List (List ℕ)) → length (onto_first x ls) ≤ length ls + 1
-    onto_small [] = omega arith
-    onto_small (l ∷ ls) = omega arith
-
-    go : (t : Bool) (ls : List (List ℕ)) → length ls ≤ length xs + 1 → length (cond t ([] ∷ ls) (onto_first x ls)) ≤ suc (length xs) + 1
-    go true ls h = omega (arith, h)
-    go false ls h = let o = onto_small ls in omega (arith, h, o)
-
-pub number_small : (s : Lexer) (stage : Stage) (taken : List ℕ) → IsSoFar s stage taken → s.number ≤ length taken
-number_small s stage taken h = let n = h.number in let l = split_small taken in omega (arith, n, l)
 
 -- the number of lines of a text that ends in a line feed
 ended_lines : (front : List ℕ) → length (text_lines (front ++ 10 ∷ [])) ≡ length (slice_split is_line_feed front)
@@ -128,17 +110,17 @@ late s stage [] r e = go s.begun refl e
     ended : s.begun ≡ true → (finish s).number ≡ s.number + 1
     ended f = ap (λ t. (cond t (end_line_step s) s).number) f
 
-    later : (x : Result Stage Reason) → ◌≡◌ {A = Result Claim Refusal} (at_line (finish s).number x >>= λ next. at_end next (finish s).number) (Err r) → (finish s).number ≤ r.line
+    later : (x : Result Stage Reason) → ◌≡◌ {A = Result Claim Refusal} (document_at_line (finish s).number x >>= λ next. document_at_end next (finish s).number) (Err r) → (finish s).number ≤ r.line
     later (Ok next) f = let n = end_line next (finish s).number r f in omega (arith, n)
     later (Err reason) f =
         let same : record { line = (finish s).number; reason = reason } ≡ r = cc (f) in let n : (finish s).number ≡ r.line = ap (λ x. x.line) same in omega (arith, n)
 
-    go : (t : Bool) → s.begun ≡ t → ◌≡◌ {A = Result Claim Refusal} (cond t (taken_line stage (finish s) >>= λ next. at_end next (finish s).number) (at_end stage s.number)) (Err r) → s.number < r.line
-    go true f g = let l = later (stage_after stage (told (finish s).held)) g in let n = ended f in omega (arith, l, n)
+    go : (t : Bool) → s.begun ≡ t → ◌≡◌ {A = Result Claim Refusal} (cond t (taken_line stage (finish s) >>= λ next. document_at_end next (finish s).number) (document_at_end stage s.number)) (Err r) → s.number < r.line
+    go true f g = let l = later (stage_after stage (ended_line (finish s).held)) g in let n = ended f in omega (arith, l, n)
     go false f g = let n = end_line stage s.number r g in omega (arith, n)
 late s stage (b ∷ rest) r e = go (is_line_feed b) refl e (λ next f. late (feed b s) next rest r f)
   where
-    accepted : (x : Result Stage Reason) → ◌≡◌ {A = Result Claim Refusal} (at_line (feed b s).number x >>= λ next. fed_verdict (feed b s) next rest) (Err r)
+    accepted : (x : Result Stage Reason) → ◌≡◌ {A = Result Claim Refusal} (document_at_line (feed b s).number x >>= λ next. fed_verdict (feed b s) next rest) (Err r)
         → ((next : Stage) → fed_verdict (feed b s) next rest ≡ Err r → (feed b s).number < r.line) → (feed b s).number ≤ r.line
     accepted (Ok next) f later = let l = later next f in omega (arith, l)
     accepted (Err reason) f later =
@@ -147,7 +129,7 @@ late s stage (b ∷ rest) r e = go (is_line_feed b) refl e (λ next f. late (fee
     go : (t : Bool) → is_line_feed b ≡ t
         → ◌≡◌ {A = Result Claim Refusal} (cond t (taken_line stage (feed b s) >>= λ next. fed_verdict (feed b s) next rest) (fed_verdict (feed b s) stage rest)) (Err r)
         → ((next : Stage) → fed_verdict (feed b s) next rest ≡ Err r → (feed b s).number < r.line) → s.number < r.line
-    go true f g later = let l = accepted (stage_after stage (told (feed b s).held)) g later in let n = feed_number s b f in omega (arith, l, n)
+    go true f g later = let l = accepted (stage_after stage (ended_line (feed b s).held)) g later in let n = feed_number s b f in omega (arith, l, n)
     go false f g later = let l = later stage g in let n = same_number s b f in omega (arith, l, n)
 
 -- no line that was whole is refused
@@ -173,7 +155,7 @@ rises before between after l rose = omega (arith, l, rose)
 module _ (limit m : ℕ) (old mid now : Option (List ℕ)) (before between after : ℕ) (s : Lexer) (stage : Stage) (n : ℕ) (so_far : IsTaking old mid s stage n)
     (few : n ≤ limit) (rising : before ≤ between) (later : between ≤ after) where
   -- at the end of the source
-  pub read_end : (piece : List ℕ) (new : Lexer) (next : Stage) (result : ReadEnd) → Reads mid now SourceEnd piece → TakesEnd s stage new next result
+  pub read_end : (piece : List ℕ) (new : Lexer) (next : Stage) (result : ReadEnd) → ReadsPiece mid now SourceEnd piece → TakesEnd s stage new next result
       → IsRead limit old now before after new next m result
   read_end piece new next End reads ends = record {
     taken = so_far.taken;
@@ -215,7 +197,7 @@ module _ (limit m : ℕ) (old mid now : Option (List ℕ)) (before between after
   }
 
   -- the next byte, and what is held behind it
-  pub taking_more : (k b : ℕ) (next : Stage) (new : Lexer) → Reads mid now (Got k) (b ∷ []) → TakesByte s stage b new next (Ok tt)
+  pub taking_more : (k b : ℕ) (next : Stage) (new : Lexer) → ReadsPiece mid now (Got k) (b ∷ []) → TakesByte s stage b new next (Ok tt)
       → IsTaking old now new next (n + 1)
   taking_more k b next new reads step =
       subst (λ x. IsTaking old now x next (n + 1)) (sym step.0) (record {
@@ -225,10 +207,10 @@ module _ (limit m : ℕ) (old mid now : Option (List ℕ)) (before between after
         so_far = so_far_more s stage next so_far.taken b so_far.so_far (λ rest. step.1 rest ∙ ap (λ x. fed_verdict x next rest) step.0);
       })
     where
-      one_byte : (k b : ℕ) → Reads mid now (Got k) (b ∷ []) → Gives mid now (b ∷ [])
+      one_byte : (k b : ℕ) → ReadsPiece mid now (Got k) (b ∷ []) → Gives mid now (b ∷ [])
       one_byte k b reads = let one : k ≡ 1 = let l = reads.0 in let m = reads.1 in omega (arith, l, m) in subst (λ j. Gives mid now (take j (b ∷ []))) one reads.2
 
-  pub read_refused : (k b : ℕ) (next : Stage) (new : Lexer) (reason : Reason) → n < limit → Reads mid now (Got k) (b ∷ []) → TakesByte s stage b new next (Err (LineRefused reason))
+  pub read_refused : (k b : ℕ) (next : Stage) (new : Lexer) (reason : Reason) → n < limit → ReadsPiece mid now (Got k) (b ∷ []) → TakesByte s stage b new next (Err (LineRefused reason))
       → IsRead limit old now before after new next m (Refused reason)
   read_refused k b next new reason room reads step =
       let h = refused_here s stage so_far.taken b reason so_far.so_far step.1 (λ rest. step.2 rest ∙ ap (λ (x : Lexer). Err (record { line = x.number; reason = reason })) step.0) in
@@ -243,10 +225,10 @@ module _ (limit m : ℕ) (old mid now : Option (List ℕ)) (before between after
         );
       }
     where
-      one_byte : (k b : ℕ) → Reads mid now (Got k) (b ∷ []) → Gives mid now (b ∷ [])
+      one_byte : (k b : ℕ) → ReadsPiece mid now (Got k) (b ∷ []) → Gives mid now (b ∷ [])
       one_byte k b reads = let one : k ≡ 1 = let l = reads.0 in let m = reads.1 in omega (arith, l, m) in subst (λ j. Gives mid now (take j (b ∷ []))) one reads.2
 
-  pub read_long : (k b : ℕ) → n ≡ limit → Reads mid now (Got k) (b ∷ []) → IsRead limit old now before after s stage m TooLong
+  pub read_long : (k b : ℕ) → n ≡ limit → ReadsPiece mid now (Got k) (b ∷ []) → IsRead limit old now before after s stage m TooLong
   read_long k b full reads = record {
     taken = so_far.taken ++ b ∷ [];
     gives = gives_more old mid now so_far.taken (b ∷ []) so_far.gives
@@ -271,13 +253,9 @@ single [] e = absurd (omega (arith, e))
 single (x ∷ []) e = refl
 single (x ∷ y ∷ xs) e = absurd (omega (arith, e))
 
--- before the first byte
-pub taking_start : (old : Option (List ℕ)) → IsTaking old old new_lexer Beginning 0
-taking_start old = record { taken = []; gives = gives_none old; counted = refl; so_far = so_far_start }
-
 module _ (limit m : ℕ) (old mid now : Option (List ℕ)) (before between after : ℕ) (s : Lexer) (stage : Stage) (n : ℕ) (h : IsLooping old mid before between s stage n)
     (later : between ≤ after) where
-  pub ends_here : (piece : List ℕ) (new : Lexer) (next : Stage) (result : ReadEnd) → n ≤ limit → Reads mid now SourceEnd piece → TakesEnd s stage new next result
+  pub ends_here : (piece : List ℕ) (new : Lexer) (next : Stage) (result : ReadEnd) → n ≤ limit → ReadsPiece mid now SourceEnd piece → TakesEnd s stage new next result
       → IsRead limit old now before after new next m result
   ends_here piece new next result few = read_end limit m old mid now before between after s stage n h.taking few h.rising later piece new next result
 
@@ -285,16 +263,16 @@ module _ (limit m : ℕ) (old mid now : Option (List ℕ)) (before between after
   fails_here few = read_failed limit m old mid now before between after s stage n h.taking few h.rising later
 
   -- a read of one byte, in a piece of one byte
-  one_read : (k : ℕ) (piece : List ℕ) → length piece ≡ 1 → Reads mid now (Got k) piece → Reads mid now (Got k) (get_or piece 0 0 ∷ [])
-  one_read k piece e = subst (λ p. Reads mid now (Got k) p) (single piece e)
+  one_read : (k : ℕ) (piece : List ℕ) → length piece ≡ 1 → ReadsPiece mid now (Got k) piece → ReadsPiece mid now (Got k) (get_or piece 0 0 ∷ [])
+  one_read k piece e = subst (λ p. ReadsPiece mid now (Got k) p) (single piece e)
 
-  pub refused_at : (k : ℕ) (piece : List ℕ) (next : Stage) (new : Lexer) → n < limit → length piece ≡ 1 → Reads mid now (Got k) piece
+  pub refused_at : (k : ℕ) (piece : List ℕ) (next : Stage) (new : Lexer) → n < limit → length piece ≡ 1 → ReadsPiece mid now (Got k) piece
       → (code : LineStop) (reason : Reason) → code ≡ LineRefused reason → TakesByte s stage (get_or piece 0 0) new next (Err code) → IsRead limit old now before after new next m (Refused reason)
   refused_at k piece next new room e reads code reason is step =
       read_refused limit m old mid now before between after s stage n h.taking (omega (arith, room)) h.rising later k (get_or piece 0 0) next new reason room (one_read k piece e reads)
       (subst (λ x. TakesByte s stage (get_or piece 0 0) new next (Err x)) is step)
 
-  pub no_memory_at : (k : ℕ) (piece : List ℕ) (next : Stage) (new : Lexer) → n < limit → length piece ≡ 1 → Reads mid now (Got k) piece
+  pub no_memory_at : (k : ℕ) (piece : List ℕ) (next : Stage) (new : Lexer) → n < limit → length piece ≡ 1 → ReadsPiece mid now (Got k) piece
       → IsRead limit old now before after new next m NoMemory
   no_memory_at k piece next new room e reads =
       let r = one_read k piece e reads in
@@ -305,11 +283,11 @@ module _ (limit m : ℕ) (old mid now : Option (List ℕ)) (before between after
         ends = tt;
       }
 
-  pub long_here : (k : ℕ) (piece : List ℕ) → n ≡ limit → length piece ≡ 1 → Reads mid now (Got k) piece → IsRead limit old now before after s stage m TooLong
+  pub long_here : (k : ℕ) (piece : List ℕ) → n ≡ limit → length piece ≡ 1 → ReadsPiece mid now (Got k) piece → IsRead limit old now before after s stage m TooLong
   long_here k piece full e reads =
       read_long limit m old mid now before between after s stage n h.taking (omega (arith, full)) h.rising later k (get_or piece 0 0) full (one_read k piece e reads)
 
-  pub loop_more : (k : ℕ) (piece : List ℕ) (next : Stage) (new : Lexer) → n < limit → length piece ≡ 1 → Reads mid now (Got k) piece
+  pub loop_more : (k : ℕ) (piece : List ℕ) (next : Stage) (new : Lexer) → n < limit → length piece ≡ 1 → ReadsPiece mid now (Got k) piece
       → TakesByte s stage (get_or piece 0 0) new next (Ok tt) → IsLooping old now before after new next (n + 1)
   loop_more k piece next new room e reads step = record {
     taking = taking_more limit m old mid now before between after s stage n h.taking (omega (arith, room)) h.rising later k (get_or piece 0 0) next new (one_read k piece e reads) step;
@@ -317,7 +295,7 @@ module _ (limit m : ℕ) (old mid now : Option (List ℕ)) (before between after
   }
 
   -- the judge has taken its last line
-  pub paused_at : (k : ℕ) (piece : List ℕ) (next : Stage) (new : Lexer) → n < limit → length piece ≡ 1 → Reads mid now (Got k) piece
+  pub paused_at : (k : ℕ) (piece : List ℕ) (next : Stage) (new : Lexer) → n < limit → length piece ≡ 1 → ReadsPiece mid now (Got k) piece
       → TakesByte s stage (get_or piece 0 0) new next (Ok tt) → m ≡ n + 1 → IsRead limit old now before after new next m Paused
   paused_at k piece next new room e reads step counted =
       let l = loop_more k piece next new room e reads step in record {

@@ -10,10 +10,10 @@ use Rattle.check_terms.specs.Judging.{names_box}
 use Rattle.document_terms.specs.declared.claim.Claim.{Claim}
 use Rattle.verdict_terms.specs.Reasons.{range}
 use Rattle.verdict_terms.specs.Numbers.{coordinates}
-use Rattle.verdict_terms.specs.Stages.{take_line}
+use Rattle.verdict_terms.specs.Stages.{take_box_line}
 use Rattle.verdict_terms.specs.Stages.Stage.{Taking}
 use Rattle.verdict_terms.proofs.PlacesTold.{set_push}
-use Rattle.document_check.specs.Takings.{IsTaken}
+use Rattle.document_check.specs.Takings.{AreBoxesTaken}
 
 -- all numbers behind the first
 pub all_behind : (numbers : List ℕ) → take (length numbers - 1) (drop 1 numbers) ≡ drop 1 numbers
@@ -32,7 +32,7 @@ there_by instance n named =
 
 module _ (instance : PlainInstance) (taken places : List ℕ) where
   pub taken_late : (numbers : List ℕ) → length numbers ≡ dims instance + 1 → names_box instance (get_or numbers 0 0) ≡ true → list_all (λ u. nat_lt u (get_or numbers 0 0 - 1)) taken ≡ false
-      → (claim : Claim) (value : ℕ) → take_line instance claim value taken places numbers ≡ Err range
+      → (claim : Claim) (value : ℕ) → take_box_line instance claim value taken places numbers ≡ Err range
   taken_late [] count named late claim value = absurd (omega (arith, count))
   taken_late (zero ∷ ns) count named late claim value = absurd (cc (named))
   taken_late (suc v ∷ ns) count named late claim value =
@@ -41,7 +41,7 @@ module _ (instance : PlainInstance) (taken places : List ℕ) where
 
   pub taken_next : (numbers : List ℕ) → length numbers ≡ dims instance + 1 → names_box instance (get_or numbers 0 0) ≡ true → list_all (λ u. nat_lt u (get_or numbers 0 0 - 1)) taken ≡ true
       → coordinates (drop 1 numbers) ≡ Ok (drop 1 numbers)
-      → (claim : Claim) (value : ℕ) → take_line instance claim value taken places numbers ≡ Ok (Taking instance claim value (taken ++ (get_or numbers 0 0 - 1) ∷ []) (places ++ drop 1 numbers))
+      → (claim : Claim) (value : ℕ) → take_box_line instance claim value taken places numbers ≡ Ok (Taking instance claim value (taken ++ (get_or numbers 0 0 - 1) ∷ []) (places ++ drop 1 numbers))
   taken_next [] count named before good claim value = absurd (omega (arith, count))
   taken_next (zero ∷ ns) count named before good claim value = absurd (cc (named))
   taken_next (suc v ∷ ns) count named before good claim value =
@@ -53,7 +53,7 @@ module _ (instance : PlainInstance) (taken places : List ℕ) where
   module _ (numbers more more_places : List ℕ) (count : length numbers ≡ dims instance + 1) (named : names_box instance (get_or numbers 0 0) ≡ true)
       (before : list_all (λ u. nat_lt u (get_or numbers 0 0 - 1)) taken ≡ true) (are : more ≡ taken ++ (get_or numbers 0 0 - 1) ∷ []) (are_places : more_places ≡ places ++ drop 1 numbers) where
     pub taken_line : coordinates (drop 1 numbers) ≡ Ok (drop 1 numbers) → (claim : Claim) (value : ℕ)
-        → take_line instance claim value taken places numbers ≡ Ok (Taking instance claim value more more_places)
+        → take_box_line instance claim value taken places numbers ≡ Ok (Taking instance claim value more more_places)
     taken_line good claim value =
         taken_next numbers count named before good claim value
         ∙ (ap (λ x. Ok (Taking instance claim value x (places ++ drop 1 numbers))) (sym are) ∙ ap (λ x. Ok (Taking instance claim value more x)) (sym are_places))
@@ -61,7 +61,7 @@ module _ (instance : PlainInstance) (taken places : List ℕ) where
     longer : length more ≡ suc (length taken)
     longer = ap length are ∙ (length-append taken ((get_or numbers 0 0 - 1) ∷ []) ∙ omega arith)
 
-    pub taken_kept : IsTaken instance taken places → IsTaken instance more more_places
+    pub taken_kept : AreBoxesTaken instance taken places → AreBoxesTaken instance more more_places
     taken_kept held = record {
       set = subst (IsBoxSet instance) (sym are) (set_push instance taken (get_or numbers 0 0 - 1) held.set (there_by instance (get_or numbers 0 0) named) before);
       enough =

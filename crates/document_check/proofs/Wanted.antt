@@ -1,28 +1,11 @@
 -- Numbers that are read one after another.
-use Rattle.std.proofs.Common.{◌≡◌, ℕ, zero, suc, ◌+◌, ◌<◌, refl, sym, ap, subst, arith, List, [], ◌∷◌, ◌++◌, length, get_or, nat_eq, true, Option, Some, None, Result, Ok, Err}
+use Rattle.std.proofs.Common.{◌≡◌, ℕ, zero, suc, ◌+◌, ◌<◌, refl, sym, ap, subst, arith, List, [], ◌∷◌, length, get_or, nat_eq, true, Option, Some, None, Ok, Err}
 use Rattle.std.proofs.lemmas.Bool.{eq-eqb}
 use Rattle.text_terms.specs.Lines.{number_of, same_bytes}
 use Rattle.text_terms.specs.Texts.{◌>>=◌}
 use Rattle.verdict_terms.specs.declared.reason.Reason.{Reason}
 use Rattle.verdict_terms.specs.Reasons.{form}
 use Rattle.verdict_terms.specs.Numbers.{wanted, wanted_by, all_wanted, numbers_line}
-
--- a word more that is a number
-pub wanted_more : (words : List (List ℕ)) (ns : List ℕ) (word : List ℕ) (n : ℕ) → all_wanted words ≡ Ok ns → wanted word ≡ Ok n → all_wanted (words ++ word ∷ []) ≡ Ok (ns ++ n ∷ [])
-wanted_more [] ns word n e f = go ns e
-  where
-    go : (ns : List ℕ) → ◌≡◌ {A = Result (List ℕ) Reason} (Ok []) (Ok ns) → all_wanted (word ∷ []) ≡ Ok (ns ++ n ∷ [])
-    go ns e = let same : [] ≡ ns = cc (e) in subst (λ l. all_wanted (word ∷ []) ≡ Ok (l ++ n ∷ [])) same (rw f refl)
-wanted_more (w ∷ words) ns word n e f = go (wanted w) refl (all_wanted words) refl e (λ ms g. wanted_more words ms word n g f)
-  where
-    go : (r : Result ℕ Reason) → wanted w ≡ r → (s : Result (List ℕ) Reason) → all_wanted words ≡ s → ◌≡◌ {A = Result (List ℕ) Reason} (r >>= λ m. s >>= λ ms. Ok (m ∷ ms)) (Ok ns)
-        → ((ms : List ℕ) → all_wanted words ≡ Ok ms → all_wanted (words ++ word ∷ []) ≡ Ok (ms ++ n ∷ []))
-        → (wanted w >>= λ m. all_wanted (words ++ word ∷ []) >>= λ ms. Ok (m ∷ ms)) ≡ Ok (ns ++ n ∷ [])
-    go (Err x) a s b h rest = absurd (cc (h))
-    go (Ok m) a (Err x) b h rest = absurd (cc (h))
-    go (Ok m) a (Ok ms) b h rest =
-        let same : m ∷ ms ≡ ns = cc (h) in
-        rw (a, rest ms b) (ap (λ l. Ok (l ++ n ∷ [])) same)
 
 -- a word that is none is of another form, wherever it stands
 is_form : (w : Option ℕ) (reason : Reason) → wanted_by w ≡ Err reason → reason ≡ form

@@ -13,16 +13,17 @@ abbrev pub most_bytes : ℕ
 most_bytes = 1099511627776
 
 -- the bytes are the whole text, or end in the line feed of the refused line
-abbrev pub IsEnough : Option (List ℕ) → List ℕ → Refusal → Type 0
-IsEnough left taken refusal = EndsRefused taken refusal ⊎ IsAtEnd left
+abbrev pub AreBytesEnough : Option (List ℕ) → List ℕ → Refusal → Type 0
+AreBytesEnough left taken refusal = EndsRefused taken refusal ⊎ IsAtEnd left
 
--- Verified: the whole input is a document of the claim. Refused: by the bytes taken, of which none stands behind the refused line. Too long, or a
--- read fault: no line that was whole before is refused. Want of memory is the one free answer.
+-- Verified: the whole input is a document of the claim. Refused: by the bytes taken, of which none
+-- stands behind the refused line. Too long, or a read fault: no line that was whole before is
+-- refused. Want of memory is the one free answer.
 abbrev pub Comes : Option (List ℕ) → ℕ → ℕ → List ℕ → CheckEnd → Type 0
 Comes left before now taken (Verified claim) = (document_verdict taken ≡ Ok claim) × (length taken ≤ most_bytes) × IsAtEnd left
 Comes left before now taken (Refused line reason) =
     (document_verdict taken ≡ Err (record { line = line; reason = reason })) × (length taken ≤ most_bytes)
-    × IsEnough left taken (record { line = line; reason = reason })
+    × AreBytesEnough left taken (record { line = line; reason = reason })
 Comes left before now taken TooLong = (most_bytes < length taken) × NoneRefused (take most_bytes taken)
 Comes left before now taken ReadFault = Rose before now × NoneRefused taken
 Comes left before now taken NoMemory = Unit {0}

@@ -14,14 +14,14 @@ has_open (Some code) nodes = false
 has_open None [] = false
 has_open None (node ∷ nodes) = true
 
-abbrev pub inner_tree : PlainRefuter → Tree
-inner_tree r = InnerTree (subset r.instance r.keep) r.checked.nodes
+abbrev pub shown_inner_tree : PlainRefuter → Tree
+shown_inner_tree r = InnerTree (subset r.instance r.keep) r.checked.nodes
 
 abbrev pub is_inner_open : PlainRefuter → Bool
 is_inner_open r = has_open r.checked.refused r.checked.nodes
 
-abbrev pub outer_tree : PlainOuter → Tree
-outer_tree o =
+abbrev pub shown_outer_tree : PlainOuter → Tree
+shown_outer_tree o =
     elim o.tree [
       | ForBins k view ↦ BinTree o.instance k (open_nodes (bins_with k) view)
       | ForValue y view ↦ ValueTree o.instance y (open_nodes choices_with view)

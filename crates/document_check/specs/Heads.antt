@@ -16,12 +16,12 @@ abbrev pub held_parts : Result Parts ReadTextError → Parts
 held_parts (Ok parts) = parts
 held_parts (Err error) = no_parts
 
-abbrev pub IsHeld : Result Parts ReadTextError → Type 0
-IsHeld parts = parts ≡ Ok (held_parts parts)
+abbrev pub IsHeldHead : Result Parts ReadTextError → Type 0
+IsHeldHead parts = parts ≡ Ok (held_parts parts)
 
 -- a reader of no line before the first one
 abbrev pub IsHeldBehind : Option SolvingJob → Result Parts ReadTextError → Type 0
-IsHeldBehind (Some job) parts = IsHeld parts
+IsHeldBehind (Some job) parts = IsHeldHead parts
 IsHeldBehind None parts = parts ≡ Ok no_parts
 
 -- behind the result line, behind the first line, or at the beginning

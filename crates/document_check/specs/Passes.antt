@@ -1,4 +1,5 @@
--- A pass over a document, phase by phase: each phase goes on from where the last one left the source, behind any bytes that were taken before.
+-- A pass over a document, phase by phase: each phase goes on from where the last one left the
+-- source, behind any bytes that were taken before.
 use Rattle.std.specs.Prelude.{ℕ, ◌+◌, ◌≤◌, List, Option, Some, None, Result, Ok, Err}
 use Rattle.document_terms.specs.declared.claim.Claim.{Claim}
 use Rattle.verdict_terms.specs.declared.reason.Reason.TheVariants.{TooShort}
@@ -20,7 +21,8 @@ abbrev pub end_of : Option Claim → ℕ → CheckEnd
 end_of (Some claim) n = Verified claim
 end_of None n = Refused (n + 1) TooShort
 
--- what the rest of a document comes to: `first` is what the source told, and `start` its count of faults, before the first byte
+-- what the rest of a document comes to: `first` is what the source told, and `start` its count of
+-- faults, before the first byte
 abbrev pub IsCheckedFrom : Option (List ℕ) → Option (List ℕ) → ℕ → ℕ → Position → Stage → CheckEnd → Type 0
 IsCheckedFrom old left before now at stage result =
     (first : Option (List ℕ)) (start : ℕ) → start ≤ before → IsTaking first old at.lexer stage at.count → IsChecked first left start now result

@@ -4,7 +4,7 @@ use Rattle.packing_terms.specs.Tokens.{PlainToken}
 use Rattle.document_terms.specs.declared.claim.Claim.{Claim}
 use Rattle.check_terms.specs.declared.answers.FeedVerdict.{FeedVerdict}
 use Rattle.check_terms.specs.declared.answers.FeedVerdict.TheVariants.{More, Done, Refused}
-use Rattle.verdict_terms.specs.Stages.{Stage, tree_line, grown}
+use Rattle.verdict_terms.specs.Stages.{Stage, tree_line, grown_tree}
 use Rattle.verdict_terms.specs.Stages.Stage.{Proving, Refuting, Ending}
 use Rattle.verdict_terms.specs.Trees.{Tree, begun, refuted_by, tree_dims, tree_after, is_whole}
 use Rattle.document_check.specs.declared.judge.LineStop.{LineStop}
@@ -13,10 +13,10 @@ use Rattle.document_check.specs.declared.tree.TreeStep.{TreeStep}
 use Rattle.document_check.specs.declared.tree.TreeStep.TheVariants.{Proof, Tokens, Whole, Stopped}
 
 -- a token that was fed: the tree with it, and whether a node is still open; or why it is refused
-abbrev pub Grows : Tree → PlainToken → Tree → Bool → FeedVerdict → Type 0
-Grows old t new opens More = (tree_after old t ≡ Ok new) × (is_whole new ≡ false) × (opens ≡ true)
-Grows old t new opens Done = (tree_after old t ≡ Ok new) × (is_whole new ≡ true)
-Grows old t new opens (Refused code) = tree_after old t ≡ Err code
+abbrev pub IsFed : Tree → PlainToken → Tree → Bool → FeedVerdict → Type 0
+IsFed old t new opens More = (tree_after old t ≡ Ok new) × (is_whole new ≡ false) × (opens ≡ true)
+IsFed old t new opens Done = (tree_after old t ≡ Ok new) × (is_whole new ≡ true)
+IsFed old t new opens (Refused code) = tree_after old t ≡ Err code
 
 -- where the document stands; behind a refused token it stands nowhere
 abbrev pub tree_stage : TreeStep → Claim → ℕ → Tree → Stage
@@ -51,9 +51,10 @@ pub record IsTreeHeld (step : TreeStep) (tree : Tree) (opens : Bool) (dims : ℕ
   pub least : 2 ≤ dims
   pub most : dims ≤ 4
 
--- a line that was taken where a token is wanted: the tree with it, and whether it is whole; or why it is refused
+-- a line that was taken where a token is wanted: the tree with it, and whether it is whole; or why
+-- it is refused
 abbrev pub TakesToken : Tree → List (List ℕ) → Tree → Bool → Result Bool LineStop → Type 0
 TakesToken old words new opens (Ok whole) =
-    ((claim : Claim) → tree_line claim old words ≡ Ok (grown claim new)) × (is_whole new ≡ whole) × (refuted_by new ≡ refuted_by old) × (whole ≡ false → opens ≡ true)
+    ((claim : Claim) → tree_line claim old words ≡ Ok (grown_tree claim new)) × (is_whole new ≡ whole) × (refuted_by new ≡ refuted_by old) × (whole ≡ false → opens ≡ true)
 TakesToken old words new opens (Err (LineRefused reason)) = (claim : Claim) → tree_line claim old words ≡ Err reason
 TakesToken old words new opens (Err NoMemory) = Unit {0}

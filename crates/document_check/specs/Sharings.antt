@@ -28,7 +28,8 @@ abbrev pub is_outside : Option Reason → Bool
 is_outside (Some (OutsideAt v i)) = true
 is_outside _ = false
 
--- what is kept: a coordinate in each dimension for each bin number, and each of these is small enough
+-- what is kept: a coordinate in each dimension for each bin number, and each of these is small
+-- enough
 pub record AreShares (instance : PlainInstance) (k : ℕ) (bins places : List ℕ) : Type 0 where
   pub enough : length places ≡ length bins * dims instance
   pub below : All (λ b. b < k) bins

@@ -1,4 +1,4 @@
-// The places of the boxes of all bins.
+//! The places of the boxes of all bins.
 ghost use Rattle.std.specs.Prelude.{◌≡◌, ◌*◌, ◌<◌, ◌≤◌, All, IfOk, OnOk, length, [], ◌∷◌};
 ghost use Rattle.packing_terms.specs.Packing.{dims, box_count};
 ghost use Rattle.packing_terms.specs.Goals.{in_bin, places_of};
@@ -58,8 +58,10 @@ fn bin_reason(
 ) -> Result<Option<Reason>, NoMemory>
     requires count { length bins.now ≡ box_count instance.now }
     requires placed { length places.now ≡ box_count instance.now * dims instance.now }
-    ensures { IfOk result (λ r. r ≡ groups_reason (bin_group instance.now bins.now places.now bin ∷ [])) }
+    ensures { IfOk result (λ r. r ≡ groups_reason
+        (bin_group instance.now bins.now places.now bin ∷ [])) }
 {
+    // For the proof alone: tells the limits of the instance.
     let _most_boxes = instance.len();
     boxes_in(bins, bin, keep)?;
     if keep.is_empty() {
@@ -80,8 +82,8 @@ fn is_outside(reason: Option<Reason>) -> bool
     }
 }
 
-/// Why the places of the boxes of so many bins are refused, if they are: the first box that leaves the
-/// container, by bins and numbers, and only where none does the first two that overlap.
+/// Why the places of the boxes of so many bins are refused, if they are: the first box that leaves
+/// the container, by bins and numbers, and only where none does the first two that overlap.
 pub fn bins_reason(
     alloc: Global,
     instance: &Instance,

@@ -1,4 +1,4 @@
-// The check of a document.
+//! The check of a document.
 ghost use Rattle.std.specs.Prelude.{◌≡◌};
 ghost use Rattle.verdict_terms.specs.Stages.{claimed};
 ghost use Rattle.document_check.specs.Checked.{IsChecked};
@@ -40,7 +40,8 @@ fn check_claimed<S: Source>(
 ) -> CheckEnd
     requires at { IsPosition at.old }
     requires ranged { IsRanged head.now.instance head.now.claim }
-    ensures { IsCheckedFrom (S.left input.old) (S.left input.new) (S.faults input.old) (S.faults input.new)
+    ensures { IsCheckedFrom (S.left input.old) (S.left input.new) (S.faults input.old)
+        (S.faults input.new)
         at.old (claimed head.now.instance head.now.claim) result }
 {
     let instance = &head.instance;
@@ -73,13 +74,15 @@ fn check_claimed<S: Source>(
     }
 }
 
-/// Reads a document to its end or to the line feed of its first refused line, and no further, in one pass.
+/// Reads a document to its end or to the line feed of its first refused line, and no further, in
+/// one pass.
 ///
-/// `TooLong` and `ReadFault` come only where no line that was whole before is refused, and `ReadFault` only where
-/// the source's count of faults rose. It holds the instance, the places of its boxes, the open nodes of one tree
-/// and the words of one line.
+/// `TooLong` and `ReadFault` come only where no line that was whole before is refused, and
+/// `ReadFault` only where the source's count of faults rose. It holds the instance, the places of
+/// its boxes, the open nodes of one tree and the words of one line.
 pub fn check_document<S: Source>(alloc: Global, input: &mut S) -> CheckEnd
-    ensures { IsChecked (S.left input.old) (S.left input.new) (S.faults input.old) (S.faults input.new) result }
+    ensures { IsChecked (S.left input.old) (S.left input.new) (S.faults input.old)
+        (S.faults input.new) result }
 {
     let mut at = Position::start();
     match read_head(alloc, input, &mut at) {

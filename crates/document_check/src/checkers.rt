@@ -1,8 +1,8 @@
-// The checkers of trees, as the readers of a document take them.
+//! The checkers of trees, as the readers of a document take them.
 ghost use Rattle.std.specs.Prelude.{◌≡◌, true};
 ghost use Rattle.proof_tree.specs.Plain.{plain_token};
-ghost use Rattle.document_check.specs.Proofs.{Grows};
-ghost use Rattle.document_check.specs.Checkers.{inner_tree, is_inner_open, outer_tree, is_outer_open};
+ghost use Rattle.document_check.specs.Proofs.{IsFed};
+ghost use Rattle.document_check.specs.Checkers.{shown_inner_tree, is_inner_open, shown_outer_tree, is_outer_open};
 
 use crate::tree::TreeChecker;
 use check_terms::FeedVerdict;
@@ -11,26 +11,28 @@ use proof_tree::Token;
 use refutation_check::Refuter;
 
 impl<'a> TreeChecker for Refuter<'a> {
-    ghost tree = { inner_tree };
+    ghost tree = { shown_inner_tree };
 
     ghost is_open = { is_inner_open };
 
     fn feed(&mut self, token: &Token) -> FeedVerdict
         requires { is_inner_open self.old ≡ true }
-        ensures { Grows (inner_tree self.old) (plain_token token.now) (inner_tree self.new) (is_inner_open self.new) result }
+        ensures { IsFed (shown_inner_tree self.old) (plain_token token.now)
+            (shown_inner_tree self.new) (is_inner_open self.new) result }
     {
         Refuter::feed(self, token)
     }
 }
 
 impl<'a> TreeChecker for OuterRefuter<'a> {
-    ghost tree = { outer_tree };
+    ghost tree = { shown_outer_tree };
 
     ghost is_open = { is_outer_open };
 
     fn feed(&mut self, token: &Token) -> FeedVerdict
         requires { is_outer_open self.old ≡ true }
-        ensures { Grows (outer_tree self.old) (plain_token token.now) (outer_tree self.new) (is_outer_open self.new) result }
+        ensures { IsFed (shown_outer_tree self.old) (plain_token token.now)
+            (shown_outer_tree self.new) (is_outer_open self.new) result }
     {
         OuterRefuter::feed(self, token)
     }

@@ -1,4 +1,4 @@
-// The claim of a result line.
+//! The claim of a result line.
 ghost use Rattle.std.specs.Prelude.{◌≡◌, ◌≤◌, ◌<◌, ℕ, ◌^◌, drop, length, codes, IfOk, slice_index_or, [], Ok};
 ghost use Rattle.std.specs.declared.result.Result.{Result};
 ghost use Rattle.packing_terms.specs.Packing.{PlainInstance};
@@ -9,7 +9,7 @@ ghost use Rattle.document_terms.specs.declared.claim.Claim.TheVariants.{LeastHei
 ghost use Rattle.document_terms.specs.declared.claim.SolvingJob.TheVariants.{Fit, Strip, Bins, Knapsack};
 ghost use Rattle.verdict_terms.specs.Results.{none_claim, one_claim, two_claim, claim_of};
 ghost use Rattle.verdict_terms.specs.Trees.{map_ok};
-ghost use Rattle.document_check.specs.Words.{fit_word};
+ghost use Rattle.document_check.specs.Words.{claimed_fit};
 ghost use Rattle.verdict_terms.specs.Stages.{rest_of};
 
 use crate::words::{FORM, RANGE, is_same, number_at};
@@ -28,6 +28,7 @@ fn none_claim(line: &LineLexer, claim: Claim) -> Result<Claim, Reason>
     requires { 2 ≤ length line.now.held.words }
     ensures { result ≡ none_claim claim (slice_index_or line.now.held.words 1 []) }
 {
+    // For the proof alone: tells the limits of the line's words.
     let _count = line.word_count();
     if is_same(line.word(1), b"none") {
         Ok(claim)
@@ -42,8 +43,10 @@ fn one_number(line: &LineLexer, key: &[u8], low: u128, high: u128) -> Result<u64
     requires small { high < 2 ^ 64 }
     ensures limit { IfOk result (λ n. n ≤ high) }
     ensures number { (make : ℕ → PlainClaim) → map_ok make result
-        ≡ one_claim key.now low high make (slice_index_or line.now.held.words 1 []) (slice_index_or line.now.held.words 2 []) }
+        ≡ one_claim key.now low high make (slice_index_or line.now.held.words 1 [])
+        (slice_index_or line.now.held.words 2 []) }
 {
+    // For the proof alone: tells the limits of the line's words.
     let _count = line.word_count();
     if !is_same(line.word(1), key) {
         return Err(FORM);
@@ -62,8 +65,10 @@ fn two_numbers(line: &LineLexer, high: u128) -> Result<(u64, u64), Reason>
     requires small { high < 2 ^ 64 }
     ensures limit { IfOk result (λ p. (p.0 ≤ high) × (p.1 ≤ high)) }
     ensures numbers { (make : ℕ → ℕ → PlainClaim) → map_ok (λ (p : ℕ × ℕ). make p.0 p.1) result
-        ≡ two_claim high make (slice_index_or line.now.held.words 1 []) (slice_index_or line.now.held.words 2 []) (slice_index_or line.now.held.words 3 []) }
+        ≡ two_claim high make (slice_index_or line.now.held.words 1 [])
+        (slice_index_or line.now.held.words 2 []) (slice_index_or line.now.held.words 3 []) }
 {
+    // For the proof alone: tells the limits of the line's words.
     let _count = line.word_count();
     if !is_same(line.word(1), b"between") {
         return Err(FORM);
@@ -80,17 +85,18 @@ fn two_numbers(line: &LineLexer, high: u128) -> Result<(u64, u64), Reason>
 // What `fit` claims.
 fn fit_claim(line: &LineLexer) -> Result<Claim, Reason>
     requires { 1 ≤ length line.now.held.words }
-    ensures { (instance : PlainInstance) → result ≡ claim_of Fit instance (rest_of line.now.held.words) }
+    ensures { (instance : PlainInstance)
+        → result ≡ claim_of Fit instance (rest_of line.now.held.words) }
 {
     if line.word_count() == 2 {
-        return fit_word(line.word(1));
+        return claimed_fit(line.word(1));
     }
     Err(FORM)
 }
 
 // What one word claims of `fit`.
-fn fit_word(word: &[u8]) -> Result<Claim, Reason>
-    ensures { result ≡ fit_word word.now }
+fn claimed_fit(word: &[u8]) -> Result<Claim, Reason>
+    ensures { result ≡ claimed_fit word.now }
 {
     if is_same(word, b"yes") {
         return Ok(Claim::Fitting);
@@ -132,7 +138,8 @@ fn height_between(line: &LineLexer) -> Result<Claim, Reason>
 // What `strip` claims.
 fn strip_claim(line: &LineLexer) -> Result<Claim, Reason>
     requires { 1 ≤ length line.now.held.words }
-    ensures { (instance : PlainInstance) → result ≡ claim_of Strip instance (rest_of line.now.held.words) }
+    ensures { (instance : PlainInstance)
+        → result ≡ claim_of Strip instance (rest_of line.now.held.words) }
 {
     let words = line.word_count();
     if words == 2 {
@@ -211,7 +218,8 @@ fn value_between(line: &LineLexer) -> Result<Claim, Reason>
 // What `knapsack` claims.
 fn knapsack_claim(line: &LineLexer) -> Result<Claim, Reason>
     requires { 1 ≤ length line.now.held.words }
-    ensures { (instance : PlainInstance) → result ≡ claim_of Knapsack instance (rest_of line.now.held.words) }
+    ensures { (instance : PlainInstance)
+        → result ≡ claim_of Knapsack instance (rest_of line.now.held.words) }
 {
     let words = line.word_count();
     if words == 3 {

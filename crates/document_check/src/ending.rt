@@ -1,6 +1,6 @@
-// The last line of a document.
+//! The last line of a document.
 ghost use Rattle.std.specs.Prelude.{◌≡◌, not, true, false, None, IsTrue};
-ghost use Rattle.text_terms.specs.Feeding.{told};
+ghost use Rattle.text_terms.specs.Feeding.{ended_line};
 ghost use Rattle.verdict_terms.specs.Stages.{late_line};
 ghost use Rattle.verdict_terms.specs.Stages.Stage.{Ending};
 ghost use Rattle.document_check.specs.Reading.{Judges, IsAt, ended_claim};
@@ -33,12 +33,17 @@ impl Model for EndReader {
 
     ghost Value = { PlainJudge };
 
-    ghost view = { λ e. record { stage = end_stage e.claim e.tree_dims e.is_ended; takes = true; behind = None } };
+    ghost view = { λ e. record {
+      stage = end_stage e.claim e.tree_dims e.is_ended;
+      takes = true;
+      behind = None;
+    } };
 
     ghost invariant = { λ e. AreDims e.tree_dims };
 }
 
-// Why a line where `end` is wanted is refused: a token comes too late behind a tree, and has no place behind places.
+// Why a line where `end` is wanted is refused: a token comes too late behind a tree, and has no
+// place behind places.
 fn late_line(alloc: Global, line: &LineLexer, tree_dims: Option<u32>) -> Reason
     requires dims { AreDims tree_dims }
     requires good { line.now.held.bad ≡ false }
@@ -100,6 +105,7 @@ impl LineJudge for EndReader {
         ensures behind { IsTrue result → IsAt self.now.behind self.now.stage }
         ensures never { result ≡ false }
     {
+        // For the proof alone: opens what contracts see into the fields.
         let _is_ended = self.is_ended;
         false
     }

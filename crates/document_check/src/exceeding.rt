@@ -1,4 +1,4 @@
-// The one token of a document that claims `none`.
+//! The one token of a document that claims `none`.
 ghost use Rattle.std.specs.Prelude.{◌≡◌, ◌≤◌, not, true, false, Some, IsTrue};
 ghost use Rattle.packing_terms.specs.Packing.{dims};
 ghost use Rattle.document_terms.specs.declared.claim.Claim.{Claim as PlainClaim};
@@ -24,7 +24,9 @@ use verdict_terms::Reason;
 // Whether the box exceeds the container in the dimension, one of the first so many.
 fn test_side(instance: &Instance, dim_count: u32, box_no: u32, dim: u32) -> Result<(), Reason>
     requires { dim_count ≤ dims instance.now }
-    ensures { (claim : PlainClaim) → map_ok (λ u. Ending claim (Some (dims instance.now))) result ≡ exceeding_token instance.now claim dim_count (TooLarge box_no dim) }
+    ensures { (claim : PlainClaim)
+        → map_ok (λ u. Ending claim (Some (dims instance.now))) result
+        ≡ exceeding_token instance.now claim dim_count (TooLarge box_no dim) }
 {
     if (box_no < 1) | (instance.len() < box_no) | (dim < 1) | (dim_count < dim) {
         return Err(RANGE);
@@ -41,7 +43,9 @@ fn test_side(instance: &Instance, dim_count: u32, box_no: u32, dim: u32) -> Resu
 // Whether the token says so of a box.
 fn test_token(instance: &Instance, dim_count: u32, token: &Token) -> Result<(), Reason>
     requires { dim_count ≤ dims instance.now }
-    ensures { (claim : PlainClaim) → map_ok (λ u. Ending claim (Some (dims instance.now))) result ≡ exceeding_token instance.now claim dim_count (plain_token token.now) }
+    ensures { (claim : PlainClaim)
+        → map_ok (λ u. Ending claim (Some (dims instance.now))) result
+        ≡ exceeding_token instance.now claim dim_count (plain_token token.now) }
 {
     match token {
         Token::TooLarge { box_no, dim } => test_side(instance, dim_count, *box_no, *dim),
@@ -140,6 +144,7 @@ impl<'a> LineJudge for ExceedingReader<'a> {
         if is_blank(line) {
             return Ok(());
         }
+        // For the proof alone: opens what contracts see into the fields.
         let _is_whole = self.is_whole;
         if line.bad_byte() {
             return Err(LineStop::Refused(FORM));
@@ -163,6 +168,7 @@ impl<'a> LineJudge for ExceedingReader<'a> {
     fn ended(&self) -> Option<Claim>
         ensures { result ≡ ended_claim self.now.stage }
     {
+        // For the proof alone: opens what contracts see into the fields.
         let _is_whole = self.is_whole;
         None
     }

@@ -1,4 +1,4 @@
-// The places of sets of boxes.
+//! The places of sets of boxes.
 ghost use Rattle.std.specs.Prelude.{◌≡◌, ◌*◌, ◌≤◌, ◌<◌, ◌++◌, All, length, [], ◌∷◌};
 ghost use Rattle.packing_terms.specs.Packing.{dims, box_count};
 ghost use Rattle.check_terms.specs.Placing.{place_verdict};
@@ -24,6 +24,7 @@ pub fn group_reason(set: &Instance, keep: &[u32], places: &[u32]) -> Option<Reas
     requires places { length places.now ≡ box_count set.now * dims set.now }
     ensures { result ≡ groups_reason ((keep.now, place_verdict set.now places.now) ∷ []) }
 {
+    // For the proof alone: tells the limits of the set's instance.
     let _most_dims = set.dims();
     match check_places(set, places) {
         PlaceVerdict::Good => None,

@@ -1,13 +1,13 @@
-// The lines of a document up to its result line.
+//! The lines of a document up to its result line.
 ghost use Rattle.std.specs.Prelude.{◌≡◌, ◌≤◌, ◌<◌, length, not, Ok, None, true, IsTrue, IfOk};
 ghost use Rattle.text_terms.specs.Texts.{no_parts};
-ghost use Rattle.text_terms.specs.Feeding.{told};
+ghost use Rattle.text_terms.specs.Feeding.{ended_line};
 ghost use Rattle.verdict_terms.specs.Stages.{claimed, job_named, filled_line, is_result, rest_of, result_line};
 ghost use Rattle.verdict_terms.specs.Stages.Stage.{Beginning, Reading};
 ghost use Rattle.verdict_terms.specs.Trees.{map_ok};
 ghost use Rattle.document_check.specs.Reading.{Judges, IsAt, ended_claim};
 ghost use Rattle.document_check.specs.Ranges.{IsRanged};
-ghost use Rattle.document_check.specs.Heads.{held_parts, IsHeld, IsClaimedAs, IsRangedClaim, TakesText};
+ghost use Rattle.document_check.specs.Heads.{held_parts, IsHeldHead, IsClaimedAs, IsRangedClaim, TakesText};
 
 use crate::claim::read_claim;
 use crate::judge::{LineJudge, LineStop};
@@ -48,7 +48,8 @@ fn job_named(word: &[u8]) -> Result<SolvingJob, Reason>
 
 // The job of the first line.
 fn read_job(line: &LineLexer) -> Result<SolvingJob, Reason>
-    ensures { map_ok (λ job. Reading job no_parts) result ≡ filled_line Beginning (told line.now.held) }
+    ensures { map_ok (λ job. Reading job no_parts) result
+        ≡ filled_line Beginning (ended_line line.now.held) }
 {
     if line.bad_byte() {
         return Err(FORM);
@@ -64,9 +65,10 @@ fn read_job(line: &LineLexer) -> Result<SolvingJob, Reason>
 
 // The instance that was read, with the claim of the result line.
 fn read_result(job: SolvingJob, reader: InstanceReader, line: &LineLexer) -> Result<Claimed, Reason>
-    requires held { IsHeld reader }
+    requires held { IsHeldHead reader }
     requires some { 1 ≤ length line.now.held.words }
-    ensures claimed { map_ok (λ (c : Claimed). claimed c.instance c.claim) result ≡ result_line job (held_parts reader) (rest_of line.now.held.words) }
+    ensures claimed { map_ok (λ (c : Claimed). claimed c.instance c.claim) result
+        ≡ result_line job (held_parts reader) (rest_of line.now.held.words) }
     ensures ranged { IfOk result (λ c. IsRanged c.instance c.claim) }
 {
     let instance = match reader.finish(0) {
@@ -80,9 +82,10 @@ fn read_result(job: SolvingJob, reader: InstanceReader, line: &LineLexer) -> Res
 
 // Takes a line of the instance text. A reader that can't go on is replaced by a new one.
 fn take_text(alloc: Global, reader: &mut InstanceReader, line: &LineLexer) -> Result<(), LineStop>
-    requires { IsHeld reader.old }
-    ensures held { IsHeld reader.new }
-    ensures text { TakesText (held_parts reader.old) (told line.now.held) (held_parts reader.new) result }
+    requires { IsHeldHead reader.old }
+    ensures held { IsHeldHead reader.new }
+    ensures text { TakesText (held_parts reader.old) (ended_line line.now.held)
+        (held_parts reader.new) result }
 {
     let stop = match reader.line(line) {
         Ok(()) => return Ok(()),
@@ -112,7 +115,11 @@ impl Model for HeadReader {
 
     ghost Value = { PlainJudge };
 
-    ghost view = { λ h. record { stage = head_stage h.job h.reader h.claimed; takes = is_open h.claimed; behind = None } };
+    ghost view = { λ h. record {
+      stage = head_stage h.job h.reader h.claimed;
+      takes = is_open h.claimed;
+      behind = None;
+    } };
 
     ghost invariant = { λ h. IsHeldBehind h.job h.reader × IsRangedClaim h.claimed };
 }
@@ -187,6 +194,7 @@ impl LineJudge for HeadReader {
     fn ended(&self) -> Option<Claim>
         ensures { result ≡ ended_claim self.now.stage }
     {
+        // For the proof alone: opens what contracts see into the fields.
         let _is_claimed = self.claimed.is_some();
         None
     }

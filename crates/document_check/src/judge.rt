@@ -1,4 +1,4 @@
-// The lines of a document, taken one by one from a source.
+//! The lines of a document, taken one by one from a source.
 ghost use Rattle.std.specs.Prelude.{◌≡◌, ◌≤◌, ◌<◌, ◌+◌, ◌^◌, ℕ, Bool, true, false, not, IsTrue, Option};
 ghost use Rattle.text_terms.specs.Feeding.{new_lexer};
 ghost use Rattle.verdict_terms.specs.Stages.{Stage};
@@ -63,7 +63,8 @@ pub const MOST_BYTES: u64 = 1 << 40;
 fn take_byte<J: LineJudge>(judge: &mut J, lexer: &mut LineLexer, byte: u8) -> Result<(), LineStop>
     requires number { lexer.old.number < 2 ^ 63 }
     requires takes { J.takes judge.old ≡ true }
-    ensures byte { TakesByte lexer.old (J.stage judge.old) byte lexer.new (J.stage judge.new) result }
+    ensures byte { TakesByte lexer.old (J.stage judge.old) byte lexer.new (J.stage judge.new)
+        result }
     ensures number { lexer.new.number ≤ lexer.old.number + 1 }
     ensures behind { J.behind judge.new ≡ J.behind judge.old }
 {
@@ -93,9 +94,9 @@ fn take_end<J: LineJudge>(judge: &mut J, lexer: &mut LineLexer) -> ReadEnd
 /// Reads a document byte by byte, behind the bytes that were taken before, up to its first refused
 /// line, and gives each line to the judge as it ends.
 ///
-/// No byte behind the line feed of a refused line is taken. `TooLong` and `ReadFault` come only where
-/// no line that was whole before is refused, and `ReadFault` only where the source's faults rose.
-/// `Paused` leaves what is held as another judge needs it.
+/// No byte behind the line feed of a refused line is taken. `TooLong` and `ReadFault` come only
+/// where no line that was whole before is refused, and `ReadFault` only where the source's faults
+/// rose. `Paused` leaves what is held as another judge needs it.
 pub fn take_lines<S: Source, J: LineJudge>(
     input: &mut S,
     judge: &mut J,
@@ -110,7 +111,8 @@ pub fn take_lines<S: Source, J: LineJudge>(
     ensures number { lexer.new.number ≤ count.new + 1 }
     ensures paused_number { result ≡ Paused → lexer.new.number ≤ count.new }
     ensures few { count.new ≤ MOST_BYTES }
-    ensures read { IsReadBehind MOST_BYTES (S.left input.old) (S.left input.new) (S.faults input.old) (S.faults input.new) lexer.old (J.stage judge.old) count.old
+    ensures read { IsReadBehind MOST_BYTES (S.left input.old) (S.left input.new)
+        (S.faults input.old) (S.faults input.new) lexer.old (J.stage judge.old) count.old
         lexer.new (J.stage judge.new) count.new result }
 {
     let mut piece = [0u8; 1];

@@ -1,4 +1,4 @@
-// The numbers of a line.
+//! The numbers of a line.
 ghost use Rattle.std.specs.Prelude.{◌≡◌, ◌≤◌, ◌<◌, IfOk, length};
 ghost use Rattle.verdict_terms.specs.Numbers.{numbers_line};
 ghost use Rattle.document_check.specs.Words.{items_of};

@@ -1,4 +1,4 @@
-// The rest of a document behind its result line, phase by phase.
+//! The rest of a document behind its result line, phase by phase.
 ghost use Rattle.std.specs.Prelude.{◌≡◌, ◌≤◌, true, Some, []};
 ghost use Rattle.packing_terms.specs.Packing.{dims, box_count};
 ghost use Rattle.packing_terms.specs.Limits.{most_height};
@@ -33,13 +33,15 @@ fn check_end<S: Source>(
 ) -> CheckEnd
     requires at { IsPosition at.old }
     requires dims { AreDims tree_dims }
-    ensures { IsCheckedFrom (S.left input.old) (S.left input.new) (S.faults input.old) (S.faults input.new)
+    ensures { IsCheckedFrom (S.left input.old) (S.left input.new) (S.faults input.old)
+        (S.faults input.new)
         at.old (Ending claim tree_dims) result }
 {
     let mut judge = EndReader::new(alloc, claim, tree_dims);
     match give_lines(input, at, &mut judge) {
         Some(end) => end,
         None => {
+            // For the proof alone: tells that it never pauses.
             let _never = judge.is_paused();
             unreachable!()
         }
@@ -60,7 +62,8 @@ fn check_tree<S: Source, C: TreeChecker + Drop>(
     requires most { dims ≤ 4 }
     requires takes { judge.takes ≡ true }
     requires behind { judge.behind ≡ Some (Ending claim (Some dims)) }
-    ensures { IsCheckedFrom (S.left input.old) (S.left input.new) (S.faults input.old) (S.faults input.new)
+    ensures { IsCheckedFrom (S.left input.old) (S.left input.new) (S.faults input.old)
+        (S.faults input.new)
         at.old judge.stage result }
 {
     match give_lines(input, at, &mut judge) {
@@ -84,7 +87,8 @@ fn check_proof<S: Source, C: TreeChecker + Drop>(
     requires same_dims { dims ≡ tree_dims (refuted_by (C.tree checker)) }
     requires begun { begun (refuted_by (C.tree checker)) ≡ C.tree checker }
     requires opens { C.is_open checker ≡ true }
-    ensures { IsCheckedFrom (S.left input.old) (S.left input.new) (S.faults input.old) (S.faults input.new)
+    ensures { IsCheckedFrom (S.left input.old) (S.left input.new) (S.faults input.old)
+        (S.faults input.new)
         at.old (Proving claim (refuted_by (C.tree checker))) result }
 {
     let judge = TreeReader::at_proof(alloc, claim, dims, checker);
@@ -105,7 +109,8 @@ fn check_tokens<S: Source, C: TreeChecker + Drop>(
     requires most { dims ≤ 4 }
     requires same_dims { dims ≡ tree_dims (refuted_by (C.tree checker)) }
     requires opens { C.is_open checker ≡ true }
-    ensures { IsCheckedFrom (S.left input.old) (S.left input.new) (S.faults input.old) (S.faults input.new)
+    ensures { IsCheckedFrom (S.left input.old) (S.left input.new) (S.faults input.old)
+        (S.faults input.new)
         at.old (Refuting claim (C.tree checker)) result }
 {
     let judge = TreeReader::at_tokens(alloc, claim, dims, checker);
@@ -121,7 +126,8 @@ fn check_misfit<S: Source>(
     instance: &Instance,
 ) -> CheckEnd
     requires { IsPosition at.old }
-    ensures { IsCheckedFrom (S.left input.old) (S.left input.new) (S.faults input.old) (S.faults input.new)
+    ensures { IsCheckedFrom (S.left input.old) (S.left input.new) (S.faults input.old)
+        (S.faults input.new)
         at.old (Proving claim (ToFit instance.now)) result }
 {
     let dims = instance.dims();
@@ -143,7 +149,8 @@ fn check_few_bins<S: Source>(
     requires at { IsPosition at.old }
     requires sides { SidesFit instance.now }
     requires few { refuted ≤ box_count instance.now }
-    ensures { IsCheckedFrom (S.left input.old) (S.left input.new) (S.faults input.old) (S.faults input.new)
+    ensures { IsCheckedFrom (S.left input.old) (S.left input.new) (S.faults input.old)
+        (S.faults input.new)
         at.old (Proving claim (ToFitIn instance.now refuted)) result }
 {
     let dims = instance.dims();
@@ -163,7 +170,8 @@ fn check_high_value<S: Source>(
     refuted: u64,
 ) -> CheckEnd
     requires { IsPosition at.old }
-    ensures { IsCheckedFrom (S.left input.old) (S.left input.new) (S.faults input.old) (S.faults input.new)
+    ensures { IsCheckedFrom (S.left input.old) (S.left input.new) (S.faults input.old)
+        (S.faults input.new)
         at.old (Refuting claim (begun (ToReach instance.now refuted))) result }
 {
     let dims = instance.dims();
@@ -181,8 +189,10 @@ pub fn check_fitting<S: Source>(
     instance: &Instance,
 ) -> CheckEnd
     requires { IsPosition at.old }
-    ensures { IsCheckedFrom (S.left input.old) (S.left input.new) (S.faults input.old) (S.faults input.new)
-        at.old (Placing instance.now Claim.Fitting (to_refute instance.now Claim.Fitting) []) result }
+    ensures { IsCheckedFrom (S.left input.old) (S.left input.new) (S.faults input.old)
+        (S.faults input.new)
+        at.old (Placing instance.now Claim.Fitting (to_refute instance.now Claim.Fitting) [])
+        result }
 {
     match read_places(alloc, input, at, instance, instance, Claim::Fitting) {
         Some(end) => end,
@@ -198,7 +208,8 @@ pub fn check_not_fitting<S: Source>(
     instance: &Instance,
 ) -> CheckEnd
     requires { IsPosition at.old }
-    ensures { IsCheckedFrom (S.left input.old) (S.left input.new) (S.faults input.old) (S.faults input.new)
+    ensures { IsCheckedFrom (S.left input.old) (S.left input.new) (S.faults input.old)
+        (S.faults input.new)
         at.old (Refuting Claim.NotFitting (begun (ToFit instance.now))) result }
 {
     let dims = instance.dims();
@@ -208,7 +219,8 @@ pub fn check_not_fitting<S: Source>(
     }
 }
 
-// The places of all boxes in the one container, `proof`, a tree that they don't fit in the other, and `end`.
+// The places of all boxes in the one container, `proof`, a tree that they don't fit in the other,
+// and `end`.
 fn check_placed<S: Source>(
     alloc: Global,
     input: &mut S,
@@ -220,7 +232,8 @@ fn check_placed<S: Source>(
 ) -> CheckEnd
     requires at { IsPosition at.old }
     requires says { placed claim (to_refute instance.now claim) ≡ Proving claim (ToFit lower.now) }
-    ensures { IsCheckedFrom (S.left input.old) (S.left input.new) (S.faults input.old) (S.faults input.new)
+    ensures { IsCheckedFrom (S.left input.old) (S.left input.new) (S.faults input.old)
+        (S.faults input.new)
         at.old (Placing held.now claim (to_refute instance.now claim) []) result }
 {
     match read_places(alloc, input, at, instance, held, claim) {
@@ -242,9 +255,12 @@ pub fn check_heights<S: Source>(
     requires at { IsPosition at.old }
     requires high { reached ≤ most_height }
     requires low { refuted ≤ most_height }
-    requires says { placed claim (to_refute instance.now claim) ≡ Proving claim (ToFit (with_last_side instance.now refuted)) }
-    ensures { IsCheckedFrom (S.left input.old) (S.left input.new) (S.faults input.old) (S.faults input.new)
-        at.old (Placing (with_last_side instance.now reached) claim (to_refute instance.now claim) []) result }
+    requires says { placed claim (to_refute instance.now claim)
+        ≡ Proving claim (ToFit (with_last_side instance.now refuted)) }
+    ensures { IsCheckedFrom (S.left input.old) (S.left input.new) (S.faults input.old)
+        (S.faults input.new)
+        at.old (Placing (with_last_side instance.now reached) claim (to_refute instance.now claim)
+        []) result }
 {
     let Ok(held) = instance.with_last_side(alloc, reached) else {
         return CheckEnd::NoMemory;
@@ -266,7 +282,8 @@ pub fn check_exceeding<S: Source>(
 ) -> CheckEnd
     requires at { IsPosition at.old }
     requires few { dim_count ≤ dims instance.now }
-    ensures { IsCheckedFrom (S.left input.old) (S.left input.new) (S.faults input.old) (S.faults input.new)
+    ensures { IsCheckedFrom (S.left input.old) (S.left input.new) (S.faults input.old)
+        (S.faults input.new)
         at.old (Exceeding instance.now claim dim_count) result }
 {
     match read_exceeding(alloc, input, at, instance, claim, dim_count) {
@@ -275,7 +292,8 @@ pub fn check_exceeding<S: Source>(
     }
 }
 
-/// The places of all boxes in so many bins, `proof`, a tree that refutes another number of bins, and `end`.
+/// The places of all boxes in so many bins, `proof`, a tree that refutes another number of bins,
+/// and `end`.
 pub fn check_bins<S: Source>(
     alloc: Global,
     input: &mut S,
@@ -287,8 +305,10 @@ pub fn check_bins<S: Source>(
 ) -> CheckEnd
     requires at { IsPosition at.old }
     requires few { refuted ≤ box_count instance.now }
-    requires says { placed claim (to_refute instance.now claim) ≡ Proving claim (ToFitIn instance.now refuted) }
-    ensures { IsCheckedFrom (S.left input.old) (S.left input.new) (S.faults input.old) (S.faults input.new)
+    requires says { placed claim (to_refute instance.now claim)
+        ≡ Proving claim (ToFitIn instance.now refuted) }
+    ensures { IsCheckedFrom (S.left input.old) (S.left input.new) (S.faults input.old)
+        (S.faults input.new)
         at.old (Sharing instance.now claim bin_count [] []) result }
 {
     match read_shares(alloc, input, at, instance, claim, bin_count) {
@@ -309,7 +329,8 @@ pub fn check_values<S: Source>(
 ) -> CheckEnd
     requires at { IsPosition at.old }
     requires says { to_refute instance.now claim ≡ ToReach instance.now refuted }
-    ensures { IsCheckedFrom (S.left input.old) (S.left input.new) (S.faults input.old) (S.faults input.new)
+    ensures { IsCheckedFrom (S.left input.old) (S.left input.new) (S.faults input.old)
+        (S.faults input.new)
         at.old (Taking instance.now claim reached [] []) result }
 {
     match read_taken(alloc, input, at, instance, claim, reached) {

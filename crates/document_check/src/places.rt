@@ -1,7 +1,7 @@
-// The places of a document.
+//! The places of a document.
 ghost use Rattle.std.specs.Prelude.{◌≡◌, ◌*◌, ◌≤◌, ◌++◌, length, not, true, [], Some, IsTrue};
 ghost use Rattle.packing_terms.specs.Packing.{dims, box_count};
-ghost use Rattle.text_terms.specs.Feeding.{told};
+ghost use Rattle.text_terms.specs.Feeding.{ended_line};
 ghost use Rattle.verdict_terms.specs.Numbers.{are_coordinates};
 ghost use Rattle.verdict_terms.specs.Stages.{placed, to_refute, places_reason};
 ghost use Rattle.verdict_terms.specs.Stages.Stage.{Placing};
@@ -131,6 +131,7 @@ impl<'a> LineJudge for PlaceReader<'a> {
         if is_blank(line) {
             return Ok(());
         }
+        // For the proof alone: opens what contracts see into the fields.
         let _are_placed = self.are_placed;
         if line.bad_byte() {
             return Err(LineStop::Refused(FORM));
@@ -163,6 +164,7 @@ impl<'a> LineJudge for PlaceReader<'a> {
     fn ended(&self) -> Option<Claim>
         ensures { result ≡ ended_claim self.now.stage }
     {
+        // For the proof alone: opens what contracts see into the fields.
         let _are_placed = self.are_placed;
         None
     }

@@ -1,4 +1,4 @@
-// Where the reading of a document stands, and the reading of the lines of one judge.
+//! Where the reading of a document stands, and the reading of the lines of one judge.
 ghost use Rattle.std.specs.Prelude.{◌≡◌, ◌+◌, ◌<◌, ◌^◌, true, false, None};
 ghost use Rattle.text_terms.specs.Feeding.{new_lexer};
 ghost use Rattle.document_check.specs.Reading.{IsAt};
@@ -11,7 +11,8 @@ use instance_text::LineLexer;
 use pack_streams::Source;
 use verdict_terms::Reason;
 
-/// Where the reading of a document stands: what is held of the line begun, and how many bytes were taken.
+/// Where the reading of a document stands: what is held of the line begun, and how many bytes were
+/// taken.
 #[derive(Drop)]
 pub struct Position {
     pub lexer: LineLexer,
@@ -55,7 +56,8 @@ pub fn give_lines<S: Source, J: LineJudge>(
     ensures at { result ≡ None → IsPosition at.new }
     ensures paused { result ≡ None → J.takes judge.new ≡ false }
     ensures behind { result ≡ None → IsAt (J.behind judge.old) (J.stage judge.new) }
-    ensures goes { Goes (S.left input.old) (S.left input.new) (S.faults input.old) (S.faults input.new)
+    ensures goes { Goes (S.left input.old) (S.left input.new) (S.faults input.old)
+        (S.faults input.new)
         at.old (J.stage judge.old) at.new (J.stage judge.new) result }
 {
     match take_lines(input, judge, &mut at.lexer, &mut at.count) {

@@ -1,4 +1,4 @@
-// The bins of a document.
+//! The bins of a document.
 ghost use Rattle.std.specs.Prelude.{◌≡◌, ◌+◌, ◌&&◌, length, nat_le, not, true, [], Some, IsTrue};
 ghost use Rattle.packing_terms.specs.Packing.{dims};
 ghost use Rattle.verdict_terms.specs.Stages.{placed, to_refute};
@@ -94,12 +94,14 @@ impl<'a> Model for ShareReader<'a> {
     ghost Value = { PlainJudge };
 
     ghost view = { λ s. record {
-      stage = share_stage s.instance.now s.claim s.bin_count s.bins.items s.places.items s.is_shared;
+      stage = share_stage s.instance.now s.claim s.bin_count s.bins.items s.places.items
+          s.is_shared;
       takes = not s.is_shared;
       behind = Some (placed s.claim (to_refute s.instance.now s.claim));
     } };
 
-    ghost invariant = { λ s. IsShared s.instance.now s.bin_count s.bins.items s.places.items s.is_shared };
+    ghost invariant = { λ s. IsShared s.instance.now s.bin_count s.bins.items s.places.items
+        s.is_shared };
 }
 
 impl<'a> ShareReader<'a> {
@@ -151,6 +153,7 @@ impl<'a> LineJudge for ShareReader<'a> {
         if is_blank(line) {
             return Ok(());
         }
+        // For the proof alone: opens what contracts see into the fields.
         let _is_shared = self.is_shared;
         if line.bad_byte() {
             return Err(LineStop::Refused(FORM));
@@ -188,6 +191,7 @@ impl<'a> LineJudge for ShareReader<'a> {
     fn ended(&self) -> Option<Claim>
         ensures { result ≡ ended_claim self.now.stage }
     {
+        // For the proof alone: opens what contracts see into the fields.
         let _is_shared = self.is_shared;
         None
     }

@@ -1,4 +1,4 @@
-// What shows that a claim is reached: places, bins, taken boxes, a box that exceeds the container.
+//! What shows that a claim is reached: places, bins, taken boxes, a box that exceeds the container.
 ghost use Rattle.std.specs.Prelude.{◌≡◌, ◌≤◌, None, Some, [], IfOk};
 ghost use Rattle.packing_terms.specs.Packing.{dims};
 ghost use Rattle.verdict_terms.specs.Stages.{claimed, placed, to_refute};
@@ -29,7 +29,8 @@ pub fn read_head<S: Source>(
     requires { IsPosition at.old }
     ensures at { IfOk result (λ c. IsPosition at.new) }
     ensures ranged { IfOk result (λ c. IsRanged c.instance c.claim) }
-    ensures goes { GoesBehind (S.left input.old) (S.left input.new) (S.faults input.old) (S.faults input.new) at.old at.new result }
+    ensures goes { GoesBehind (S.left input.old) (S.left input.new) (S.faults input.old)
+        (S.faults input.new) at.old at.new result }
 {
     let mut head = HeadReader::new(alloc);
     if let Some(end) = give_lines(input, at, &mut head) {
@@ -41,7 +42,8 @@ pub fn read_head<S: Source>(
     }
 }
 
-/// The places of all boxes in a container that may have another last side. `None` tells that they are a packing.
+/// The places of all boxes in a container that may have another last side. `None` tells that they
+/// are a packing.
 pub fn read_places<S: Source>(
     alloc: Global,
     input: &mut S,
@@ -52,8 +54,10 @@ pub fn read_places<S: Source>(
 ) -> Option<CheckEnd>
     requires { IsPosition at.old }
     ensures at { result ≡ None → IsPosition at.new }
-    ensures goes { Goes (S.left input.old) (S.left input.new) (S.faults input.old) (S.faults input.new)
-        at.old (Placing held.now claim (to_refute instance.now claim) []) at.new (placed claim (to_refute instance.now claim)) result }
+    ensures goes { Goes (S.left input.old) (S.left input.new) (S.faults input.old)
+        (S.faults input.new)
+        at.old (Placing held.now claim (to_refute instance.now claim) []) at.new
+        (placed claim (to_refute instance.now claim)) result }
 {
     let mut judge = PlaceReader::new(alloc, instance, held, claim);
     give_lines(input, at, &mut judge)
@@ -71,11 +75,14 @@ pub fn read_shares<S: Source>(
     requires { IsPosition at.old }
     ensures at { result ≡ None → IsPosition at.new }
     ensures sides { result ≡ None → HaveSides (placed claim (to_refute instance.now claim)) }
-    ensures goes { Goes (S.left input.old) (S.left input.new) (S.faults input.old) (S.faults input.new)
-        at.old (Sharing instance.now claim bin_count [] []) at.new (placed claim (to_refute instance.now claim)) result }
+    ensures goes { Goes (S.left input.old) (S.left input.new) (S.faults input.old)
+        (S.faults input.new)
+        at.old (Sharing instance.now claim bin_count [] []) at.new
+        (placed claim (to_refute instance.now claim)) result }
 {
     let mut judge = ShareReader::new(alloc, instance, claim, bin_count);
     let end = give_lines(input, at, &mut judge);
+    // For the proof alone: tells that no side exceeds the container's where all bins were taken.
     let _are_shared = judge.are_shared();
     end
 }
@@ -91,14 +98,17 @@ pub fn read_taken<S: Source>(
 ) -> Option<CheckEnd>
     requires { IsPosition at.old }
     ensures at { result ≡ None → IsPosition at.new }
-    ensures goes { Goes (S.left input.old) (S.left input.new) (S.faults input.old) (S.faults input.new)
-        at.old (Taking instance.now claim value [] []) at.new (Refuting claim (begun (to_refute instance.now claim))) result }
+    ensures goes { Goes (S.left input.old) (S.left input.new) (S.faults input.old)
+        (S.faults input.new)
+        at.old (Taking instance.now claim value [] []) at.new
+        (Refuting claim (begun (to_refute instance.now claim))) result }
 {
     let mut judge = TakeReader::new(alloc, instance, claim, value);
     give_lines(input, at, &mut judge)
 }
 
-/// The token that a box exceeds the container in one of the first so many dimensions. `None` tells that it does.
+/// The token that a box exceeds the container in one of the first so many dimensions. `None` tells
+/// that it does.
 pub fn read_exceeding<S: Source>(
     alloc: Global,
     input: &mut S,
@@ -110,8 +120,10 @@ pub fn read_exceeding<S: Source>(
     requires at { IsPosition at.old }
     requires few { dim_count ≤ dims instance.now }
     ensures at { result ≡ None → IsPosition at.new }
-    ensures goes { Goes (S.left input.old) (S.left input.new) (S.faults input.old) (S.faults input.new)
-        at.old (Exceeding instance.now claim dim_count) at.new (Ending claim (Some (dims instance.now))) result }
+    ensures goes { Goes (S.left input.old) (S.left input.new) (S.faults input.old)
+        (S.faults input.new)
+        at.old (Exceeding instance.now claim dim_count) at.new
+        (Ending claim (Some (dims instance.now))) result }
 {
     let mut judge = ExceedingReader::new(alloc, instance, claim, dim_count);
     give_lines(input, at, &mut judge)

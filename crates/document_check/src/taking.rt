@@ -1,4 +1,4 @@
-// The taken boxes of a document.
+//! The taken boxes of a document.
 ghost use Rattle.std.specs.Prelude.{◌≡◌, ◌+◌, ◌≤◌, length, nat_lt, not, true, [], Some, IsTrue};
 ghost use Rattle.std.specs.List.{list_all};
 ghost use Rattle.check_terms.specs.Judging.{names_box};
@@ -8,7 +8,7 @@ ghost use Rattle.verdict_terms.specs.Stages.{taken_reason, to_refute};
 ghost use Rattle.verdict_terms.specs.Stages.Stage.{Taking, Refuting};
 ghost use Rattle.verdict_terms.specs.Trees.{begun};
 ghost use Rattle.document_check.specs.Reading.{Judges, IsAt, ended_claim};
-ghost use Rattle.document_check.specs.Takings.{IsTaken, TakesBox, IsReasonOf};
+ghost use Rattle.document_check.specs.Takings.{AreBoxesTaken, TakesBox, IsReasonOf};
 
 use crate::groups::group_reason;
 use crate::judge::{LineJudge, LineStop};
@@ -45,10 +45,11 @@ fn take_box(
     places: &mut Vec<u32>,
     numbers: &[u128],
 ) -> Result<(), LineStop>
-    requires held { IsTaken instance.now taken.old.items places.old.items }
+    requires held { AreBoxesTaken instance.now taken.old.items places.old.items }
     requires count { length numbers.now ≡ dims instance.now + 1 }
-    ensures kept { IsTaken instance.now taken.new.items places.new.items }
-    ensures takes { TakesBox instance.now taken.old.items places.old.items numbers.now taken.new.items places.new.items result }
+    ensures kept { AreBoxesTaken instance.now taken.new.items places.new.items }
+    ensures takes { TakesBox instance.now taken.old.items places.old.items numbers.now
+        taken.new.items places.new.items result }
 {
     let number = numbers[0];
     if !names_box(instance, number) {
@@ -86,9 +87,10 @@ fn reason_of(
     taken: &[u32],
     places: &[u32],
 ) -> Result<Option<Reason>, LineStop>
-    requires { IsTaken instance.now taken.now places.now }
+    requires { AreBoxesTaken instance.now taken.now places.now }
     ensures { IsReasonOf (taken_reason instance.now value taken.now places.now) result }
 {
+    // For the proof alone: tells the limits of the instance.
     let _most_boxes = instance.len();
     if !taken.is_empty() {
         let Ok(set) = instance.subset(alloc, taken) else {
@@ -124,7 +126,7 @@ impl<'a> Model for TakeReader<'a> {
     ghost use Rattle.verdict_terms.specs.Stages.Stage.{Refuting};
     ghost use Rattle.verdict_terms.specs.Trees.{begun};
     ghost use Rattle.document_check.specs.Reading.{PlainJudge};
-    ghost use Rattle.document_check.specs.Takings.{take_stage, IsTaken};
+    ghost use Rattle.document_check.specs.Takings.{take_stage, AreBoxesTaken};
 
     ghost Value = { PlainJudge };
 
@@ -134,7 +136,7 @@ impl<'a> Model for TakeReader<'a> {
       behind = Some (Refuting t.claim (begun (to_refute t.instance.now t.claim)));
     } };
 
-    ghost invariant = { λ t. IsTaken t.instance.now t.taken.items t.places.items };
+    ghost invariant = { λ t. AreBoxesTaken t.instance.now t.taken.items t.places.items };
 }
 
 impl<'a> TakeReader<'a> {
@@ -173,6 +175,7 @@ impl<'a> LineJudge for TakeReader<'a> {
         if is_blank(line) {
             return Ok(());
         }
+        // For the proof alone: opens what contracts see into the fields.
         let _is_taken = self.is_taken;
         if line.bad_byte() {
             return Err(LineStop::Refused(FORM));
@@ -211,6 +214,7 @@ impl<'a> LineJudge for TakeReader<'a> {
     fn ended(&self) -> Option<Claim>
         ensures { result ≡ ended_claim self.now.stage }
     {
+        // For the proof alone: opens what contracts see into the fields.
         let _is_taken = self.is_taken;
         None
     }

@@ -1,10 +1,10 @@
-// The tree of a document, line by line.
+//! The tree of a document, line by line.
 ghost use Rattle.std.specs.Prelude.{◌≡◌, ◌≤◌, Bool, true, false, not, Some, IsTrue};
 ghost use Rattle.proof_tree.specs.Plain.{plain_token};
 ghost use Rattle.verdict_terms.specs.Stages.Stage.{Proving, Refuting, Ending};
 ghost use Rattle.verdict_terms.specs.Trees.{Tree, begun, refuted_by, tree_dims};
 ghost use Rattle.document_check.specs.Reading.{Judges, IsAt, ended_claim};
-ghost use Rattle.document_check.specs.Proofs.{Grows, TakesToken};
+ghost use Rattle.document_check.specs.Proofs.{IsFed, TakesToken};
 
 use crate::judge::{LineJudge, LineStop};
 use crate::words::{FORM, is_blank, is_word};
@@ -27,7 +27,8 @@ pub trait TreeChecker {
     /// Takes a token.
     fn feed(&mut self, token: &Token) -> FeedVerdict
         requires { is_open self.old ≡ true }
-        ensures { Grows (tree self.old) (plain_token token.now) (tree self.new) (is_open self.new) result };
+        ensures { IsFed (tree self.old) (plain_token token.now) (tree self.new) (is_open self.new)
+            result };
 }
 
 // Takes a line where a token is wanted, and tells whether the tree is whole behind it.
@@ -42,7 +43,8 @@ fn take_token<C: TreeChecker>(
     requires same_dims { dims ≡ tree_dims (refuted_by (C.tree checker.old)) }
     requires opens { C.is_open checker.old ≡ true }
     requires good { line.now.held.bad ≡ false }
-    ensures { TakesToken (C.tree checker.old) line.now.held.words (C.tree checker.new) (C.is_open checker.new) result }
+    ensures { TakesToken (C.tree checker.old) line.now.held.words (C.tree checker.new)
+        (C.is_open checker.new) result }
 {
     if is_word(line, b"end") {
         return Err(LineStop::Refused(Reason::TooShort));
@@ -199,6 +201,7 @@ impl<C: TreeChecker> LineJudge for TreeReader<C> {
     fn ended(&self) -> Option<Claim>
         ensures { result ≡ ended_claim self.now.stage }
     {
+        // For the proof alone: opens what contracts see into the fields.
         let _step = self.step;
         None
     }

@@ -1,21 +1,20 @@
 -- A line that is told by its first 12 words, each by its first 21 bytes, is the same token.
-use Rattle.std.proofs.Common.{◌≡◌, ℕ, zero, suc, ◌+◌, ◌*◌, ◌<◌, ◌≤◌, ◌⊎◌, inl, inr, refl, sym, ap, ap₂, subst, ◌∙◌, arith, Bool, true, false, cond, not, ◌&&◌, ◌==◌, List, [], ◌∷◌, take, map, length, Option, Some, None, Result, Ok, Err, codes}
-use Rattle.std.proofs.lemmas.Bool.{ne_eqb, and_right}
-use Rattle.std.proofs.lemmas.List.{length-map}
+use Rattle.std.proofs.Common.{◌≡◌, ℕ, suc, ◌+◌, ◌*◌, ◌<◌, ◌≤◌, ◌⊎◌, inl, inr, refl, sym, ap, ap₂, ◌∙◌, arith, Bool, true, false, cond, List, [], ◌∷◌, take, map, length, Option, Some, None, codes}
+use Rattle.std.proofs.lemmas.Bool.{ne_eqb}
 use Rattle.packing_terms.specs.declared.ScaleFn.{ScaleFn}
-use Rattle.packing_terms.specs.declared.ScaleFn.TheVariants.{Id, Step, Cut, Count}
+use Rattle.packing_terms.specs.declared.ScaleFn.TheVariants.{Id}
 use Rattle.packing_terms.specs.Tokens.{PlainToken}
-use Rattle.packing_terms.specs.Tokens.PlainToken.{Apart, Order, Rules, TooLarge, Scales, Assign, Choose, SetRefuted, ValueShort, GlobalScales}
-use Rattle.text_terms.specs.Lines.{Line, cut_line, cut_words, number_of, same_bytes}
+use Rattle.packing_terms.specs.Tokens.PlainToken.{Apart, Order, Rules, TooLarge, Scales, Assign, Choose, ValueShort, GlobalScales}
+use Rattle.text_terms.specs.Lines.{cut_words, same_bytes}
 use Rattle.text_terms.proofs.Cut.{same_front, number_front, count_cases}
-use Rattle.document_terms.specs.TokenLines.{most_parameter, line_token, TokenLinesAreTold, at_most, parameter, in_front, parameters, with_parameter, named_function, functions, tuple_of, of_none, of_one, of_two, of_three, set_token, token_of}
+use Rattle.document_terms.specs.TokenLines.{most_parameter, TokenLinesAreTold, at_most, parameter, in_front, parameters, named_function, functions, tuple_of, of_none, of_one, of_two, of_three, set_token, token_of}
 
 -- the words behind the first, as they are told
-abbrev cut_rest : List (List ℕ) → List (List ℕ)
+abbrev pub cut_rest : List (List ℕ) → List (List ℕ)
 cut_rest words = take 11 (map (take 21) words)
 
 -- what is the same for words cut to 21 bytes, and one thing for 11 words and more
-cut_by : {B : Type 0} (f : List (List ℕ) → B) (r : B) (words : List (List ℕ)) → f (map (take 21) words) ≡ f words → ((us : List (List ℕ)) → 11 ≤ length us → f us ≡ r)
+pub cut_by : {B : Type 0} (f : List (List ℕ) → B) (r : B) (words : List (List ℕ)) → f (map (take 21) words) ≡ f words → ((us : List (List ℕ)) → 11 ≤ length us → f us ≡ r)
     → f (cut_rest words) ≡ f words
 cut_by f r words same many = go (count_cases words)
   where
@@ -129,7 +128,7 @@ tuple_cut d make words few = cut_by (λ us. tuple_of d make (functions us)) None
     many : (us : List (List ℕ)) → 11 ≤ length us → tuple_of d make (functions us) ≡ None
     many us l = by_functions us l (functions us) refl
 
-token_cut : (d : ℕ) (word : List ℕ) (words : List (List ℕ)) → d ≤ 4 → token_of d (take 21 word ∷ cut_rest words) ≡ token_of d (word ∷ words)
+pub token_cut : (d : ℕ) (word : List ℕ) (words : List (List ℕ)) → d ≤ 4 → token_of d (take 21 word ∷ cut_rest words) ≡ token_of d (word ∷ words)
 unfolding token_of
 token_cut d word words few =
     rw (

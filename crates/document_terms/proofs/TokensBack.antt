@@ -1,6 +1,5 @@
 -- The words of a token are read back as the token.
-use Rattle.std.proofs.Common.{◌≡◌, ℕ, ◌≤◌, refl, sym, ap, ap₂, ◌∙◌, arith, Bool, true, false, cond, List, [], ◌∷◌, ◌++◌, length, Option, Some, None, codes}
-use Rattle.std.specs.Prelude.{nat_le, ◌==◌}
+use Rattle.std.proofs.Common.{◌≡◌, ℕ, refl, ap, ap₂, ◌∙◌, arith, cond, List, [], ◌∷◌, length, Option, Some, None, codes}
 use Rattle.std.specs.List.{flat_map}
 use Rattle.std.specs.Fmt.{decimal}
 use Rattle.std.proofs.lemmas.Bool.{le-leb, eq-eqb}
@@ -8,9 +7,9 @@ use Rattle.packing_terms.specs.declared.ScaleFn.{ScaleFn}
 use Rattle.packing_terms.specs.declared.ScaleFn.TheVariants.{Id, Step, Cut, Count}
 use Rattle.packing_terms.specs.Tokens.{PlainToken}
 use Rattle.packing_terms.specs.Tokens.PlainToken.{Apart, Order, Rules, TooLarge, Scales, Assign, Choose, SetRefuted, ValueShort, GlobalScales}
-use Rattle.text_terms.specs.Lines.{number_of, same_bytes}
+use Rattle.text_terms.specs.Lines.{same_bytes}
 use Rattle.text_terms.proofs.Spelled.{number_decimal}
-use Rattle.document_terms.specs.TokenLines.{most_parameter, at_most, parameter, in_front, parameters, with_parameter, named_function, functions, tuple_of, of_none, of_one, of_two, of_three, set_token, token_of, function_words, token_words, IsParameter, AreWritten, IsWritten, TokensAreReadBack}
+use Rattle.document_terms.specs.TokenLines.{most_parameter, at_most, parameter, in_front, parameters, with_parameter, functions, tuple_of, of_one, of_two, of_three, set_token, token_of, function_words, IsParameter, AreWritten, TokensAreReadBack}
 
 parameter_back : (n : ℕ) → IsParameter n → parameter (decimal n) ≡ Some n
 parameter_back n h = ap (at_most most_parameter) (number_decimal n (omega (arith, h))) ∙ ap (λ b. cond b (Some n) None) (le-leb n most_parameter h)

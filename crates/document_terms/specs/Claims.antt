@@ -45,7 +45,8 @@ result_words NoBins = codes "none" ∷ []
 result_words (GreatestValue v) = codes "greatest" ∷ decimal v ∷ []
 result_words (ValueBetween a b) = codes "between" ∷ decimal a ∷ decimal b ∷ []
 
--- the least height lies above the one number and is at most the other: the instance fits at the other, and only at heights above the one
+-- the least height lies above the one number and is at most the other: the instance fits at the
+-- other, and only at heights above the one
 pub record IsHeightBetween (instance : PlainInstance) (a b : ℕ) : Type 0 where
   pub above : (h : ℕ) → Fits (with_last_side instance h) → a < h
   pub fits : Fits (with_last_side instance b)

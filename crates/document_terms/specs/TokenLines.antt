@@ -1,5 +1,6 @@
--- Token lines: the token that the words of a line are, in an instance with so many dimensions, and the words of a token.
-use Rattle.std.specs.Prelude.{ℕ, ◌≡◌, ◌≤◌, ◌==◌, cond, Bool, true, false, List, [], ◌∷◌, length, map, Option, Some, None, nat_le, codes}
+-- Token lines: the token that the words of a line are, in an instance with so many dimensions, and
+-- the words of a token.
+use Rattle.std.specs.Prelude.{ℕ, ◌≡◌, ◌≤◌, ◌==◌, cond, true, false, List, [], ◌∷◌, length, Option, Some, None, nat_le, codes}
 use Rattle.std.specs.List.{flat_map}
 use Rattle.std.specs.Fmt.{decimal}
 use Rattle.packing_terms.specs.declared.ScaleFn.{ScaleFn}
@@ -132,22 +133,22 @@ abbrev pub IsWrittenTuple : ℕ → List ScaleFn → Type 0
 IsWrittenTuple d fs = (length fs ≡ d) × AreWritten fs
 
 -- a token that has a line with d dimensions
-abbrev pub IsWritten : ℕ → PlainToken → Type 0
-IsWritten d (Apart i u v) = IsParameter i × IsParameter u × IsParameter v
-IsWritten d (Order i u v) = IsParameter i × IsParameter u × IsParameter v
-IsWritten d Rules = Unit {0}
-IsWritten d (TooLarge v i) = IsParameter v × IsParameter i
-IsWritten d (Scales fs) = IsWrittenTuple d fs
-IsWritten d (Assign v) = IsParameter v
-IsWritten d (Choose v) = IsParameter v
-IsWritten d (SetRefuted None) = Unit {0}
-IsWritten d (SetRefuted (Some b)) = IsParameter b
-IsWritten d ValueShort = Unit {0}
-IsWritten d (GlobalScales fs) = IsWrittenTuple d fs
+abbrev pub HasLine : ℕ → PlainToken → Type 0
+HasLine d (Apart i u v) = IsParameter i × IsParameter u × IsParameter v
+HasLine d (Order i u v) = IsParameter i × IsParameter u × IsParameter v
+HasLine d Rules = Unit {0}
+HasLine d (TooLarge v i) = IsParameter v × IsParameter i
+HasLine d (Scales fs) = IsWrittenTuple d fs
+HasLine d (Assign v) = IsParameter v
+HasLine d (Choose v) = IsParameter v
+HasLine d (SetRefuted None) = Unit {0}
+HasLine d (SetRefuted (Some b)) = IsParameter b
+HasLine d ValueShort = Unit {0}
+HasLine d (GlobalScales fs) = IsWrittenTuple d fs
 
 -- the words of a token are read back as the token
 abbrev pub TokensAreReadBack : Type 0
-TokensAreReadBack = (d : ℕ) (t : PlainToken) → IsWritten d t → token_of d (token_words t) ≡ Some t
+TokensAreReadBack = (d : ℕ) (t : PlainToken) → HasLine d t → token_of d (token_words t) ≡ Some t
 
 -- a line that is told by its first 12 words, each by its first 21 bytes, is the same token
 abbrev pub TokenLinesAreTold : Type 0

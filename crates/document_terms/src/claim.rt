@@ -1,4 +1,4 @@
-// The job that a document answers, and what its result line says.
+//! The job that a document answers, and what its result line says.
 
 /// A job that is answered by a document.
 #[derive(Clone, Copy, Debug, PartialEq, Eq)]

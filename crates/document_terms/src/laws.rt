@@ -1,13 +1,14 @@
-// What the definitions promise, each the contract of a function with an empty body.
+//! What the definitions promise, each the contract of a function with an empty body.
 ghost use Rattle.document_terms.specs.TokenLines.{TokenLinesAreTold, TokensAreReadBack};
 
-/// A line that is told by its first 12 words, each by its first 21 bytes, is the same token, or none, as the line itself.
+/// A line that is told by its first 12 words, each by its first 21 bytes, is the same token, or
+/// none, as the line itself.
 pub fn token_lines_are_told()
     ensures { TokenLinesAreTold }
 {}
 
-/// The words of a token are read back as the token, where its parameters are at most 4,294,967,295 and its tuple has a function
-/// for each dimension.
+/// The words of a token are read back as the token, where its parameters are at most 4,294,967,295
+/// and its tuple has a function for each dimension.
 pub fn tokens_are_read_back()
     ensures { TokensAreReadBack }
 {}

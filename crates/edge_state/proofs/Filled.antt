@@ -2,11 +2,11 @@
 use Rattle.std.proofs.Common.{◌≡◌, ℕ, zero, suc, ◌+◌, ◌/◌, ◌%◌, ◌<◌, ◌≤◌, ◌⊎◌, inl, inr, refl, sym, ap, ◌∙◌, arith, Bool, true, false, not, cond, ◌&&◌, eqb, ltb, List, [], ◌∷◌, length, get_or, replicate}
 use Rattle.std.proofs.Math.ListN.{set, length-set}
 use Rattle.std.proofs.lemmas.List.{get_or-set_same, get_or-set_other, length-replicate}
-use Rattle.std.proofs.lemmas.Bool.{cases_Bool, cases_eq, cases_lt, true≢false, lt-ltb, ltb-true}
+use Rattle.std.proofs.lemmas.Bool.{cases_eq, cases_lt, true≢false, lt-ltb, le-ltb}
 use Rattle.std.proofs.lemmas.Nat.Bits.{bit_at-zero}
 use Rattle.edge_state.specs.BitRows.{row_has}
 use Rattle.edge_state.specs.RowTables.{PlainTable, filled_table, IsRowSet}
-use Rattle.edge_state.specs.Edges.{is_other}
+use Rattle.edge_state.specs.Edges.{is_other_box}
 use Rattle.edge_state.proofs.Tables.{without_own}
 
 -- one row more without its own box
@@ -21,17 +21,17 @@ own_rest at s t u test rest set_one k h =
 
 pub own_each : (n at : ℕ) (s t u : PlainTable) → ((k : ℕ) → k < length s.rows → (x : ℕ) → row_has (get_or s.rows k []) x ≡ ltb x n)
     → at < length t.rows → length t.rows ≡ length s.rows
-    → ((k : ℕ) → k < at → (x : ℕ) → row_has (get_or t.rows k []) x ≡ is_other n (k / 3 % n) x)
+    → ((k : ℕ) → k < at → (x : ℕ) → row_has (get_or t.rows k []) x ≡ is_other_box n (k / 3 % n) x)
     → ((k : ℕ) → at ≤ k → get_or t.rows k [] ≡ get_or s.rows k [])
     → IsRowSet t u at (λ x. row_has (get_or t.rows at []) x && not (eqb x (at / 3 % n)))
-    → (k : ℕ) → k < at + 1 → (x : ℕ) → row_has (get_or u.rows k []) x ≡ is_other n (k / 3 % n) x
+    → (k : ℕ) → k < at + 1 → (x : ℕ) → row_has (get_or u.rows k []) x ≡ is_other_box n (k / 3 % n) x
 own_each n at s t u every there count each rest set_one k h x =
     ap (λ (q : PlainTable). row_has (get_or q.rows k []) x) set_one.made ∙ go (cases_eq k at)
   where
     all : row_has (get_or t.rows at []) x ≡ ltb x n
     all = ap (λ (r : List ℕ). row_has r x) (rest at (omega arith)) ∙ every at (rw (← count) there) x
 
-    go : (k ≡ at) ⊎ (k ≡ at → ⊥) → row_has (get_or (set t.rows at set_one.row) k []) x ≡ is_other n (k / 3 % n) x
+    go : (k ≡ at) ⊎ (k ≡ at → ⊥) → row_has (get_or (set t.rows at set_one.row) k []) x ≡ is_other_box n (k / 3 % n) x
     go (inl e) = rw (e, get_or-set_same t.rows at set_one.row [] there) (without_own n at x (get_or t.rows at []) set_one.row all (set_one.has x))
     go (inr ne) = rw (get_or-set_other t.rows at k set_one.row [] ne) (each k (omega (arith, ne)) x)
 
@@ -41,13 +41,6 @@ same_at zero k r h = absurd (omega arith)
 same_at (suc n) zero r h = refl
 same_at (suc n) (suc k) r h = same_at n k r (omega arith)
 
-beyond : (x n : ℕ) → n ≤ x → ltb x n ≡ false
-beyond x n h = go (cases_Bool (ltb x n))
-  where
-    go : (ltb x n ≡ true) ⊎ (ltb x n ≡ false) → ltb x n ≡ false
-    go (inl k) = absurd (omega (arith, ltb-true x n k))
-    go (inr k) = k
-
 -- the row of all boxes in the words that are kept
 kept_words : (n : ℕ) (row : List ℕ) (wide : Bool) (x : ℕ) → n ≤ 128 → (wide ≡ false → n ≤ 64) → row_has row x ≡ ltb x n
     → row_has (get_or row 0 0 ∷ cond wide (get_or row 1 0) 0 ∷ []) x ≡ ltb x n
@@ -56,8 +49,8 @@ kept_words n row wide x few narrow all = go (x / 64) wide refl narrow
     go : (j : ℕ) (b : Bool) → x / 64 ≡ j → (b ≡ false → n ≤ 64) → row_has (get_or row 0 0 ∷ cond b (get_or row 1 0) 0 ∷ []) x ≡ ltb x n
     go zero b e f = rw e (rw e at all)
     go (suc zero) true e f = rw e (rw e at all)
-    go (suc zero) false e f = rw (e, bit_at-zero (x % 64)) (sym (beyond x n (let h = f refl in omega (arith, e, h))))
-    go (suc (suc j)) b e f = rw (e, bit_at-zero (x % 64)) (sym (beyond x n (omega (arith, e, few))))
+    go (suc zero) false e f = rw (e, bit_at-zero (x % 64)) (sym (le-ltb x n (let h = f refl in omega (arith, e, h))))
+    go (suc (suc j)) b e f = rw (e, bit_at-zero (x % 64)) (sym (le-ltb x n (omega (arith, e, few))))
 
 pub filled_count : (count : ℕ) (row : List ℕ) (wide : Bool) (t : PlainTable) → t ≡ filled_table count row wide → length t.rows ≡ count
 filled_count count row wide t e = ap (λ (q : PlainTable). length q.rows) e ∙ length-replicate {A = List ℕ} count _

@@ -3,31 +3,31 @@ use Rattle.std.proofs.Common.{◌≡◌, ℕ, zero, suc, ◌*◌, ◌/◌, ◌%�
 use Rattle.std.proofs.Math.ListN.{set}
 use Rattle.std.proofs.lemmas.List.{get_or_past, length-replicate}
 use Rattle.std.specs.Int.{bit_not, w64}
-use Rattle.edge_state.specs.RowTables.{PlainTable, paired, IsRowSet}
+use Rattle.edge_state.specs.RowTables.{PlainTable, paired_words, IsRowSet}
 use Rattle.edge_state.specs.BitRows.{row_has}
 use Rattle.edge_state.proofs.RowBits.{with_has, without_has}
 use Rattle.edge_state.proofs.Tables.{at_any}
 
-pub length_paired : (xs ys : List ℕ) → length (paired xs ys) ≡ length xs
+pub length_paired : (xs ys : List ℕ) → length (paired_words xs ys) ≡ length xs
 length_paired [] ys = refl
 length_paired (x ∷ xs) ys = ap suc (length_paired xs (drop 1 ys))
 
 -- the two words of a row
-pub paired_at : (xs ys : List ℕ) (at : ℕ) → at < length xs → get_or (paired xs ys) at [] ≡ get_or xs at 0 ∷ get_or ys at 0 ∷ []
+pub paired_at : (xs ys : List ℕ) (at : ℕ) → at < length xs → get_or (paired_words xs ys) at [] ≡ get_or xs at 0 ∷ get_or ys at 0 ∷ []
 paired_at [] ys at h = absurd (omega arith)
 paired_at (x ∷ xs) ys zero h = refl
 paired_at (x ∷ xs) [] (suc at) h = paired_at xs [] at (omega arith)
 paired_at (x ∷ xs) (y ∷ ys) (suc at) h = paired_at xs ys at (omega arith)
 
 -- a word is written
-pub paired_first : (xs ys : List ℕ) (at w : ℕ) → paired (set xs at w) ys ≡ set (paired xs ys) at (w ∷ get_or ys at 0 ∷ [])
+pub paired_first : (xs ys : List ℕ) (at w : ℕ) → paired_words (set xs at w) ys ≡ set (paired_words xs ys) at (w ∷ get_or ys at 0 ∷ [])
 paired_first [] ys zero w = refl
 paired_first [] ys (suc at) w = refl
 paired_first (x ∷ xs) ys zero w = refl
 paired_first (x ∷ xs) [] (suc at) w = ap (λ (r : List (List ℕ)). (x ∷ 0 ∷ []) ∷ r) (paired_first xs [] at w)
 paired_first (x ∷ xs) (y ∷ ys) (suc at) w = ap (λ (r : List (List ℕ)). (x ∷ y ∷ []) ∷ r) (paired_first xs ys at w)
 
-pub paired_second : (xs ys : List ℕ) (at w : ℕ) → at < length ys → paired xs (set ys at w) ≡ set (paired xs ys) at (get_or xs at 0 ∷ w ∷ [])
+pub paired_second : (xs ys : List ℕ) (at w : ℕ) → at < length ys → paired_words xs (set ys at w) ≡ set (paired_words xs ys) at (get_or xs at 0 ∷ w ∷ [])
 paired_second xs [] at w h = absurd (omega arith)
 paired_second [] (y ∷ ys) zero w h = refl
 paired_second [] (y ∷ ys) (suc at) w h = refl
@@ -35,37 +35,37 @@ paired_second (x ∷ xs) (y ∷ ys) zero w h = refl
 paired_second (x ∷ xs) (y ∷ ys) (suc at) w h = ap (λ (r : List (List ℕ)). (x ∷ y ∷ []) ∷ r) (paired_second xs ys at w (omega arith))
 
 -- rows that are all the same
-pub paired_alike : (n a b : ℕ) → paired (replicate n a) (replicate n b) ≡ replicate n (a ∷ b ∷ [])
+pub paired_alike : (n a b : ℕ) → paired_words (replicate n a) (replicate n b) ≡ replicate n (a ∷ b ∷ [])
 paired_alike zero a b = refl
 paired_alike (suc n) a b = ap (λ (r : List (List ℕ)). (a ∷ b ∷ []) ∷ r) (paired_alike n a b)
 
-pub paired_narrow : (n a : ℕ) → paired (replicate n a) [] ≡ replicate n (a ∷ 0 ∷ [])
+pub paired_narrow : (n a : ℕ) → paired_words (replicate n a) [] ≡ replicate n (a ∷ 0 ∷ [])
 paired_narrow zero a = refl
 paired_narrow (suc n) a = ap (λ (r : List (List ℕ)). (a ∷ 0 ∷ []) ∷ r) (paired_narrow n a)
 
 -- a word of a row
-pub word_first : (xs ys : List ℕ) (at part x : ℕ) → at < length xs → part ≡ 0 → x ≡ get_or xs at x → x ≡ get_or (get_or (paired xs ys) at []) part 0
+pub word_first : (xs ys : List ℕ) (at part x : ℕ) → at < length xs → part ≡ 0 → x ≡ get_or xs at x → x ≡ get_or (get_or (paired_words xs ys) at []) part 0
 word_first xs ys at part x h e is = rw (e, paired_at xs ys at h) (sym (at_any xs at x 0 h is))
 
 pub word_second : (xs ys : List ℕ) (at part x : ℕ) → at < length xs → at < length ys → part ≡ 1 → x ≡ get_or ys at x
-    → x ≡ get_or (get_or (paired xs ys) at []) part 0
+    → x ≡ get_or (get_or (paired_words xs ys) at []) part 0
 word_second xs ys at part x h k e is = rw (e, paired_at xs ys at h) (sym (at_any ys at x 0 k is))
 
-pub word_none : (xs ys : List ℕ) (at part : ℕ) → at < length xs → (part ≡ 0 → ⊥) → (part ≡ 1 → length ys ≤ at) → 0 ≡ get_or (get_or (paired xs ys) at []) part 0
+pub word_none : (xs ys : List ℕ) (at part : ℕ) → at < length xs → (part ≡ 0 → ⊥) → (part ≡ 1 → length ys ≤ at) → 0 ≡ get_or (get_or (paired_words xs ys) at []) part 0
 word_none xs ys at zero h first second = absurd (first refl)
 word_none xs ys at (suc zero) h first second = rw (paired_at xs ys at h) (sym (get_or_past ys at 0 (second refl)))
 word_none xs ys at (suc (suc part)) h first second = rw (paired_at xs ys at h) refl
 
-pub two_words : (xs ys : List ℕ) (at : ℕ) → at < length xs → length (get_or (paired xs ys) at []) ≡ 2
+pub two_words : (xs ys : List ℕ) (at : ℕ) → at < length xs → length (get_or (paired_words xs ys) at []) ≡ 2
 two_words xs ys at h = rw (paired_at xs ys at h) refl
 
 -- a table after one word was written
 pub put_first : (xs ys : List ℕ) (at part w : ℕ) → at < length xs → part ≡ 0
-    → paired (set xs at w) ys ≡ set (paired xs ys) at (set (get_or (paired xs ys) at []) part w)
+    → paired_words (set xs at w) ys ≡ set (paired_words xs ys) at (set (get_or (paired_words xs ys) at []) part w)
 put_first xs ys at part w h e = paired_first xs ys at w ∙ rw (e, paired_at xs ys at h) refl
 
 pub put_second : (xs ys : List ℕ) (at part w : ℕ) → at < length xs → at < length ys → part ≡ 1
-    → paired xs (set ys at w) ≡ set (paired xs ys) at (set (get_or (paired xs ys) at []) part w)
+    → paired_words xs (set ys at w) ≡ set (paired_words xs ys) at (set (get_or (paired_words xs ys) at []) part w)
 put_second xs ys at part w h k e = paired_second xs ys at w k ∙ rw (e, paired_at xs ys at h) refl
 
 -- a number put into a row or taken out
@@ -92,6 +92,6 @@ the_table rows seconds = record { rows = rows; seconds = seconds }
 
 -- rows that are all the same, some of their words kept
 pub filled : (xs ys : List ℕ) (n a b k : ℕ) (wide : Bool) → xs ≡ replicate n a → ys ≡ replicate k b → k ≡ cond wide n 0
-    → the_table (paired xs ys) (length ys) ≡ record { rows = replicate n (a ∷ cond wide b 0 ∷ []); seconds = cond wide n 0 }
+    → the_table (paired_words xs ys) (length ys) ≡ record { rows = replicate n (a ∷ cond wide b 0 ∷ []); seconds = cond wide n 0 }
 filled xs ys n a b k true e f g = rw (e, f, g, paired_alike n a b, length-replicate {A = ℕ} n b) refl
 filled xs ys n a b k false e f g = rw (e, f, g, paired_narrow n a) refl

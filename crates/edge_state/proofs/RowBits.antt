@@ -8,7 +8,8 @@ use Rattle.std.proofs.lemmas.Nat.Bits.{bit_at_and, bit_at_or, bit_at_xor, bit_at
 use Rattle.std.proofs.lemmas.Bool.{cases_Bool, cases_eq, cases_lt, eqb-true, eq-eqb}
 use Rattle.std.specs.Int.{bit_at, bit_not, w64, trailing_zeros}
 use Rattle.std.specs.Int.Count.{ones}
-use Rattle.edge_state.specs.BitRows.{row_has, members_below, IsLeast, AreZipped}
+use Rattle.std.proofs.Math.Bool.{and-true}
+use Rattle.edge_state.specs.BitRows.{row_has, members_below, IsLeastMember, AreZipped}
 
 pub eqb_false : (a b : ℕ) → (a ≡ b → ⊥) → eqb a b ≡ false
 eqb_false a b ne = go (cases_Bool (eqb a b))
@@ -32,10 +33,6 @@ or_none false = refl
 and_none : (b : Bool) → false ≡ b && false
 and_none true = refl
 and_none false = refl
-
-and_all : (b : Bool) → b ≡ b && true
-and_all true = refl
-and_all false = refl
 
 bit_cases : (a : ℕ) → a < 2 → (a ≡ 0) ⊎ (a ≡ 1)
 bit_cases zero h = inl refl
@@ -110,9 +107,9 @@ module _ (ws : List ℕ) (n : ℕ) (there : n / 64 < length ws) where
             get_or-set_same ws (n / 64) w 0 there,
             bit_at_clear_other w64 (slice_index ws (n / 64)) (n % 64) small (x % 64) (mod_below x 64 (omega arith)) f,
           )
-          (and_all _)
+          (sym (and-true _))
       go (inr e) _ =
-          rw (eqb_false x n (λ q. e (ap (λ y. y / 64) q)), get_or-set_other ws (n / 64) (x / 64) w 0 e) (and_all _)
+          rw (eqb_false x n (λ q. e (ap (λ y. y / 64) q)), get_or-set_other ws (n / 64) (x / 64) w 0 e) (sym (and-true _))
 
 -- what holds of each word holds of each number
 module _ (r a b : List ℕ) where
@@ -256,10 +253,10 @@ one_less p q x n e h l rest = go (cases_eq n x)
     go (inl f) =
         let a : q n ≡ false = e n ∙ (rw (eq-eqb n x f) (sym (and_none (p n)))) in
         let b : p n ≡ true = rw f h in
-        let same : members_below q n ≡ members_below p n = members_same q p n (λ y k. e y ∙ (rw (eqb_false y x (λ g. absurd (omega (arith, f, g, k)))) (sym (and_all (p y))))) in
+        let same : members_below q n ≡ members_below p n = members_same q p n (λ y k. e y ∙ (rw (eqb_false y x (λ g. absurd (omega (arith, f, g, k)))) (and-true (p y)))) in
         rw (a, b, same) (omega arith)
     go (inr f) =
-        let a : q n ≡ p n = e n ∙ (rw (eqb_false n x f) (sym (and_all (p n)))) in
+        let a : q n ≡ p n = e n ∙ (rw (eqb_false n x f) (and-true (p n))) in
         rw a (add_same (cond (p n) 1 0) (members_below q n) (members_below p n) (rest (omega (arith, f))))
 
 -- one member less
@@ -277,7 +274,7 @@ members_fewer p q x n e h l = less (members_below q n) (members_below p n) (memb
 
 -- the first word that isn't 0 has the least member
 pub first_has : (ws : List ℕ) (i : ℕ) → ((j : ℕ) → j < i → slice_index ws j ≡ 0) → 0 < slice_index ws i → slice_index ws i < 2 ^ 64
-    → IsLeast ws (64 * i + trailing_zeros w64 (slice_index ws i))
+    → IsLeastMember ws (64 * i + trailing_zeros w64 (slice_index ws i))
 first_has ws i none some fits = record {
   there = rw (word_of (trailing_zeros w64 (slice_index ws i)) low.0, bit_of (trailing_zeros w64 (slice_index ws i)) low.0, low.1) refl;
   least = λ y h. go y h (cases_lt (y / 64) i);

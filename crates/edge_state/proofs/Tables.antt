@@ -3,24 +3,18 @@ use Rattle.std.proofs.Common.{◌≡◌, ◌≢◌, ℕ, zero, suc, ◌+◌, ◌
 use Rattle.std.proofs.Math.ListN.{set, length-set}
 use Rattle.std.proofs.lemmas.List.{get_or-set_same, get_or-set_other}
 use Rattle.std.proofs.lemmas.Nat.{same_from_place, mul-add-lt, div-mul-add, mod-mul-add}
-use Rattle.std.proofs.lemmas.Bool.{cases_Bool, cases_eq, and_parts, or_cases, eqb-true, eq-eqb, or_left, and_from, lt-ltb, ltb-true}
+use Rattle.std.proofs.lemmas.Bool.{cases_Bool, cases_eq, and_parts, or_cases, eqb-true, eq-eqb, or_left, and_from, lt-ltb, ltb-true, or_right}
+use Rattle.std.proofs.Math.Bool.{and-true}
 use Rattle.packing_terms.specs.declared.Rel.{Rel}
 use Rattle.packing_terms.specs.declared.Rel.TheVariants.{Overlap, Before, After}
 use Rattle.packing_terms.specs.declared.Exclusion.{Exclusion}
 use Rattle.packing_terms.specs.Relations.{mirror}
-use Rattle.packing_terms.specs.Exclusions.{is_same_rel, is_at, is_of, excludes, Exclusions, IsPlaceAmong}
-use Rattle.rule_terms.specs.Steps.{at_pair}
-use Rattle.packing_terms.proofs.Sets.{mirror_twice, excludes_symmetric, same_rel}
+use Rattle.packing_terms.specs.Exclusions.{is_same_rel, is_at, is_of, excludes, Exclusions, IsEdgeAmong, exclusion_at}
+use Rattle.packing_terms.proofs.Sets.{mirror_twice, excludes_symmetric, same_rel, same_bool}
 use Rattle.relation_table.specs.Masks.{mask_has}
 use Rattle.edge_state.specs.BitRows.{row_has}
-use Rattle.edge_state.specs.Edges.{is_other, rel_number, row_index, row_at, ShowsRows}
+use Rattle.edge_state.specs.Edges.{is_other_box, rel_number, row_index, row_at, ShowsRows}
 use Rattle.edge_state.proofs.RowBits.{eqb_false}
-
--- a pair of bools that are true together are one
-pub same_bool : (a b : Bool) → (a ≡ true → b ≡ true) → (b ≡ true → a ≡ true) → a ≡ b
-same_bool true b f g = sym (f refl)
-same_bool false true f g = g refl
-same_bool false false f g = refl
 
 -- what is excluded at a pair is excluded mirrored
 pub excludes_mirror : (es : List Exclusion) (i u v : ℕ) (r : Rel) → excludes es i u v (mirror r) ≡ excludes es i v u r
@@ -28,16 +22,6 @@ excludes_mirror es i u v r =
     same_bool _ _
     (λ h. subst (λ (x : Rel). excludes es i v u x ≡ true) (mirror_twice r) (excludes_symmetric es i u v (mirror r) h))
     (λ h. excludes_symmetric es i v u r h)
-
--- at its own place an exclusion is its relation
-pub is_of_here : (e : Exclusion) (r : Rel) → e.u ≢ e.v → is_of e e.dim e.u e.v r ≡ is_same_rel e.rel r
-is_of_here e r ne =
-    same_bool _ _ (λ h. go (or_cases _ _ h))
-    (λ h. or_left (is_at e e.dim e.u e.v r) _ (and_from _ _ (and_from _ _ (and_from _ _ (eq-eqb e.dim e.dim refl) (eq-eqb e.u e.u refl)) (eq-eqb e.v e.v refl)) h))
-  where
-    go : (is_at e e.dim e.u e.v r ≡ true) ⊎ (is_at e e.dim e.v e.u (mirror r) ≡ true) → is_same_rel e.rel r ≡ true
-    go (inl k) = (and_parts _ _ k).1
-    go (inr k) = absurd (ne (eqb-true _ _ (and_parts _ _ (and_parts _ _ (and_parts _ _ k).0).0).1))
 
 -- two rows with one index are one row
 number_small : (r : Rel) → rel_number r < 3
@@ -74,10 +58,10 @@ pub row_of_index : (n i u : ℕ) (r : Rel) → u < n → row_index n i u r / 3 %
 row_of_index n i u r h = rw (div-mul-add (i * n + u) 3 (rel_number r) (number_small r)) (mod-mul-add i n u h)
 
 -- in the row of its first box an exclusion is its second box
-pub is_of_first : (i u v x : ℕ) (rel : Rel) → u ≢ v → is_of (at_pair i u v rel) i u x rel ≡ eqb x v
+pub is_of_first : (i u v x : ℕ) (rel : Rel) → u ≢ v → is_of (exclusion_at i u v rel) i u x rel ≡ eqb x v
 is_of_first i u v x rel ne = same_bool _ _ (λ h. go (or_cases _ _ h)) back
   where
-    go : (is_at (at_pair i u v rel) i u x rel ≡ true) ⊎ (is_at (at_pair i u v rel) i x u (mirror rel) ≡ true) → eqb x v ≡ true
+    go : (is_at (exclusion_at i u v rel) i u x rel ≡ true) ⊎ (is_at (exclusion_at i u v rel) i x u (mirror rel) ≡ true) → eqb x v ≡ true
     go (inl k) = eq-eqb x v (sym (eqb-true v x (and_parts _ _ (and_parts _ _ k).0).1))
     go (inr k) = absurd (ne (sym (eqb-true v u (and_parts _ _ (and_parts _ _ k).0).1)))
 
@@ -86,17 +70,17 @@ is_of_first i u v x rel ne = same_bool _ _ (λ h. go (or_cases _ _ h)) back
     own Before = refl
     own After = refl
 
-    back : eqb x v ≡ true → is_of (at_pair i u v rel) i u x rel ≡ true
+    back : eqb x v ≡ true → is_of (exclusion_at i u v rel) i u x rel ≡ true
     back h =
         let e : v ≡ x = sym (eqb-true x v h) in
-        or_left (is_at (at_pair i u v rel) i u x rel) _
+        or_left (is_at (exclusion_at i u v rel) i u x rel) _
         (and_from _ _ (and_from _ _ (and_from _ _ (eq-eqb i i refl) (eq-eqb u u refl)) (eq-eqb v x e)) (own rel))
 
 -- in the row of its second box it is its first
-pub is_of_second : (i u v x : ℕ) (rel : Rel) → u ≢ v → is_of (at_pair i u v rel) i v x (mirror rel) ≡ eqb x u
+pub is_of_second : (i u v x : ℕ) (rel : Rel) → u ≢ v → is_of (exclusion_at i u v rel) i v x (mirror rel) ≡ eqb x u
 is_of_second i u v x rel ne = same_bool _ _ (λ h. go (or_cases _ _ h)) back
   where
-    go : (is_at (at_pair i u v rel) i v x (mirror rel) ≡ true) ⊎ (is_at (at_pair i u v rel) i x v (mirror (mirror rel)) ≡ true) → eqb x u ≡ true
+    go : (is_at (exclusion_at i u v rel) i v x (mirror rel) ≡ true) ⊎ (is_at (exclusion_at i u v rel) i x v (mirror (mirror rel)) ≡ true) → eqb x u ≡ true
     go (inl k) = absurd (ne (eqb-true u v (and_parts _ _ (and_parts _ _ (and_parts _ _ k).0).0).1))
     go (inr k) = eq-eqb x u (sym (eqb-true u x (and_parts _ _ (and_parts _ _ (and_parts _ _ k).0).0).1))
 
@@ -105,22 +89,18 @@ is_of_second i u v x rel ne = same_bool _ _ (λ h. go (or_cases _ _ h)) back
     own Before = refl
     own After = refl
 
-    right : (a b : Bool) → b ≡ true → (a || b) ≡ true
-    right true b h = refl
-    right false b h = h
-
-    back : eqb x u ≡ true → is_of (at_pair i u v rel) i v x (mirror rel) ≡ true
+    back : eqb x u ≡ true → is_of (exclusion_at i u v rel) i v x (mirror rel) ≡ true
     back h =
         let e : u ≡ x = sym (eqb-true x u h) in
-        right (is_at (at_pair i u v rel) i v x (mirror rel)) (is_at (at_pair i u v rel) i x v (mirror (mirror rel)))
+        or_right (is_at (exclusion_at i u v rel) i v x (mirror rel)) (is_at (exclusion_at i u v rel) i x v (mirror (mirror rel)))
         (and_from _ _ (and_from _ _ (and_from _ _ (eq-eqb i i refl) (eq-eqb u x e)) (eq-eqb v v refl)) (own rel))
 
 -- in other rows it is nothing
 pub is_of_elsewhere : (n i u v j a b : ℕ) (rel r : Rel) → u < n → v < n → a < n
-    → row_index n j a r ≢ row_index n i u rel → row_index n j a r ≢ row_index n i v (mirror rel) → is_of (at_pair i u v rel) j a b r ≡ false
-is_of_elsewhere n i u v j a b rel r hu hv ha p q = go (cases_Bool (is_of (at_pair i u v rel) j a b r))
+    → row_index n j a r ≢ row_index n i u rel → row_index n j a r ≢ row_index n i v (mirror rel) → is_of (exclusion_at i u v rel) j a b r ≡ false
+is_of_elsewhere n i u v j a b rel r hu hv ha p q = go (cases_Bool (is_of (exclusion_at i u v rel) j a b r))
   where
-    hit : (is_at (at_pair i u v rel) j a b r ≡ true) ⊎ (is_at (at_pair i u v rel) j b a (mirror r) ≡ true) → ⊥
+    hit : (is_at (exclusion_at i u v rel) j a b r ≡ true) ⊎ (is_at (exclusion_at i u v rel) j b a (mirror r) ≡ true) → ⊥
     hit (inl k) =
         let k1 = and_parts _ _ k in
         let k2 = and_parts _ _ k1.0 in
@@ -139,14 +119,14 @@ is_of_elsewhere n i u v j a b rel r hu hv ha p q = go (cases_Bool (is_of (at_pai
         let e4 : mirror rel ≡ r = ap mirror e3 ∙ mirror_twice r in
         q (rw (e1, e2, e4) refl)
 
-    go : (is_of (at_pair i u v rel) j a b r ≡ true) ⊎ (is_of (at_pair i u v rel) j a b r ≡ false) → is_of (at_pair i u v rel) j a b r ≡ false
+    go : (is_of (exclusion_at i u v rel) j a b r ≡ true) ⊎ (is_of (exclusion_at i u v rel) j a b r ≡ false) → is_of (exclusion_at i u v rel) j a b r ≡ false
     go (inl h) = absurd (hit (or_cases _ _ h))
     go (inr h) = h
 
 -- two rows are written where the exclusions differ
-pub shows_set : (d n : ℕ) (rows : List (List ℕ)) (X Y : Exclusions) (i u v : ℕ) (rel : Rel) (w y : List ℕ) → ShowsRows d n rows X → IsPlaceAmong d n i u v
-    → ((x : ℕ) → row_has w x ≡ is_other n u x && not (Y i u x rel))
-    → ((x : ℕ) → row_has y x ≡ is_other n v x && not (Y i v x (mirror rel)))
+pub shows_set : (d n : ℕ) (rows : List (List ℕ)) (X Y : Exclusions) (i u v : ℕ) (rel : Rel) (w y : List ℕ) → ShowsRows d n rows X → IsEdgeAmong d n i u v
+    → ((x : ℕ) → row_has w x ≡ is_other_box n u x && not (Y i u x rel))
+    → ((x : ℕ) → row_has y x ≡ is_other_box n v x && not (Y i v x (mirror rel)))
     → ((j a b : ℕ) (r : Rel) → a < n → row_index n j a r ≢ row_index n i u rel → row_index n j a r ≢ row_index n i v (mirror rel) → Y j a b r ≡ X j a b r)
     → ShowsRows d n (set (set rows (row_index n i u rel) w) (row_index n i v (mirror rel)) y) Y
 shows_set d n rows X Y i u v rel w y shows place here there others = record {
@@ -163,7 +143,7 @@ shows_set d n rows X Y i u v rel w y shows place here there others = record {
     go : (j a b : ℕ) (r : Rel) → j < d → a < n
         → (row_index n j a r ≡ row_index n i v (mirror rel)) ⊎ (row_index n j a r ≡ row_index n i v (mirror rel) → ⊥)
         → (row_index n j a r ≡ row_index n i u rel) ⊎ (row_index n j a r ≡ row_index n i u rel → ⊥)
-        → row_has (row_at n (set (set rows (row_index n i u rel) w) (row_index n i v (mirror rel)) y) j a r) b ≡ is_other n a b && not (Y j a b r)
+        → row_has (row_at n (set (set rows (row_index n i u rel) w) (row_index n i v (mirror rel)) y) j a r) b ≡ is_other_box n a b && not (Y j a b r)
     go j a b r hj ha (inl e) _ =
         let s = one_row n j a i v r (mirror rel) ha place.second e in
         rw (s.0, s.1, s.2) (rw (get_or-set_same (set rows (row_index n i u rel) w) (row_index n i v (mirror rel)) y [] second) (there b))
@@ -174,7 +154,7 @@ shows_set d n rows X Y i u v rel w y shows place here there others = record {
     go j a b r hj ha (inr ne) (inr ne') =
         rw (get_or-set_other (set rows (row_index n i u rel) w) (row_index n i v (mirror rel)) (row_index n j a r) y [] ne)
         (rw (get_or-set_other rows (row_index n i u rel) (row_index n j a r) w [] ne')
-        (shows.has j a b r hj ha ∙ ap (λ z. is_other n a b && not z) (sym (others j a b r ha ne' ne))))
+        (shows.has j a b r hj ha ∙ ap (λ z. is_other_box n a b && not z) (sym (others j a b r ha ne' ne))))
 
 -- an element that is there, whatever stands for a missing one
 pub at_any : {A : Type 0} (l : List A) (i : ℕ) (x d : A) → i < length l → x ≡ get_or l i x → get_or l i d ≡ x
@@ -183,7 +163,7 @@ at_any (y ∷ ys) zero x d h e = sym e
 at_any (y ∷ ys) (suc i) x d h e = at_any ys i x d (omega arith) e
 
 -- another box is one that is there
-pub other_from : (n u v : ℕ) → v < n → u ≢ v → is_other n u v ≡ true
+pub other_from : (n u v : ℕ) → v < n → u ≢ v → is_other_box n u v ≡ true
 other_from n u v h ne = rw (lt-ltb v n h, eqb_false v u (λ e. ne (sym e))) refl
 
 pub below_none : (x : ℕ) → false ≡ ltb x 0
@@ -200,22 +180,14 @@ below_one_more x v = same_bool _ _ (λ h. forth (or_cases _ _ h)) (λ h. back (l
     forth (inl h) = let l = ltb-true x v h in lt-ltb x (v + 1) (omega arith)
     forth (inr h) = let e = eqb-true x v h in lt-ltb x (v + 1) (omega arith)
 
-    right : (a b : Bool) → b ≡ true → (a || b) ≡ true
-    right true b h = refl
-    right false b h = h
-
     back : x < v + 1 → (x ≡ v) ⊎ (x ≡ v → ⊥) → (ltb x v || eqb x v) ≡ true
-    back h (inl e) = right (ltb x v) (eqb x v) (eq-eqb x v e)
+    back h (inl e) = or_right (ltb x v) (eqb x v) (eq-eqb x v e)
     back h (inr ne) = or_left (ltb x v) (eqb x v) (lt-ltb x v (omega (arith, ne)))
 
 -- a row of all boxes but its own
 pub without_own : (n at x : ℕ) (row w : List ℕ) → row_has row x ≡ ltb x n → row_has w x ≡ row_has row x && not (eqb x (at / 3 % n))
-    → row_has w x ≡ is_other n (at / 3 % n) x
+    → row_has w x ≡ is_other_box n (at / 3 % n) x
 without_own n at x row w all made = made ∙ ap (λ b. b && not (eqb x (at / 3 % n))) all
-
-and_true : (b : Bool) → b && true ≡ b
-and_true true = refl
-and_true false = refl
 
 -- a mask from which each relation was taken that isn't kept
 pub mask_kept : (m1 m2 m3 : ℕ) (o b a : Bool) → ((r : Rel) → mask_has m1 r ≡ mask_has 7 r && (not (is_same_rel Overlap r) || o))
@@ -223,7 +195,7 @@ pub mask_kept : (m1 m2 m3 : ℕ) (o b a : Bool) → ((r : Rel) → mask_has m1 r
     → ((r : Rel) → mask_has m3 r ≡ mask_has m2 r && (not (is_same_rel After r) || a))
     → (mask_has m3 Overlap ≡ o) × (mask_has m3 Before ≡ b) × (mask_has m3 After ≡ a)
 mask_kept m1 m2 m3 o b a h1 h2 h3 = (
-  h3 Overlap ∙ (ap (λ z. z && true) (h2 Overlap ∙ (ap (λ z. z && true) (h1 Overlap) ∙ and_true o)) ∙ and_true o),
-  h3 Before ∙ (ap (λ z. z && true) (h2 Before ∙ ap (λ z. z && b) (h1 Before)) ∙ and_true b),
+  h3 Overlap ∙ (ap (λ z. z && true) (h2 Overlap ∙ (ap (λ z. z && true) (h1 Overlap) ∙ and-true o)) ∙ and-true o),
+  h3 Before ∙ (ap (λ z. z && true) (h2 Before ∙ ap (λ z. z && b) (h1 Before)) ∙ and-true b),
   h3 After ∙ ap (λ z. z && a) (h2 After ∙ (ap (λ z. z && true) (h1 After))),
 )

@@ -2,15 +2,16 @@
 use Rattle.std.specs.Prelude.{ℕ, ◌≡◌, List, [], ◌∷◌, Bool, drop, replicate, set, slice_index, if◌then◌else◌}
 use Rattle.edge_state.specs.BitRows.{row_has}
 
--- the rows in two words, and how many of them are kept with their second word: all or none; a word that isn't kept is 0
+-- the rows in two words, and how many of them are kept with their second word: all or none; a word
+-- that isn't kept is 0
 pub record PlainTable : Type 0 where
   pub rows : List (List ℕ)
   pub seconds : ℕ
 
 -- the first words of the rows beside the second ones
-abbrev pub paired : List ℕ → List ℕ → List (List ℕ)
-paired [] seconds = []
-paired (x ∷ xs) seconds = (x ∷ slice_index seconds 0 ∷ []) ∷ paired xs (drop 1 seconds)
+abbrev pub paired_words : List ℕ → List ℕ → List (List ℕ)
+paired_words [] seconds = []
+paired_words (x ∷ xs) seconds = (x ∷ slice_index seconds 0 ∷ []) ∷ paired_words xs (drop 1 seconds)
 
 -- so many times a row, with its second word only where that is wanted
 abbrev pub filled_table : ℕ → List ℕ → Bool → PlainTable

@@ -1,11 +1,11 @@
 //! A set of numbers below 64 * K, in K words.
 ghost use Rattle.std.specs.Prelude.{◌≡◌, ◌==◌, ◌<◌, ◌≤◌, ◌*◌, ◌&&◌, ◌||◌, not, true, false, ℕ, [], ◌∷◌, slice_index, MatchOption};
-ghost use Rattle.edge_state.specs.BitRows.{IsRowWidth, row_has, members_below, IsLeast};
+ghost use Rattle.edge_state.specs.BitRows.{IsRowWidth, row_has, members_below, IsLeastMember};
 
 use std::marker::Model;
 
-/// A set of numbers below 64 * K. Its calls go over the words by fixed indices, so that a set of few words stays in
-/// registers.
+/// A set of numbers below 64 * K. Its calls go over the words by fixed indices, so that a set of
+/// few words stays in registers.
 ///
 /// It is seen as its words: number x is in it where bit x % 64 of word x / 64 is set.
 #[derive(Clone, Copy, Debug, PartialEq, Eq)]
@@ -158,7 +158,8 @@ impl<const K: usize> BitRow<K> {
     #[inline]
     pub fn first(&self) -> Option<u32>
         requires { IsRowWidth K }
-        ensures least { MatchOption result ((x : ℕ) → row_has self.now x ≡ false) (IsLeast self.now) }
+        ensures least { MatchOption result ((x : ℕ) → row_has self.now x ≡ false)
+            (IsLeastMember self.now) }
         ensures limit { MatchOption result (Unit {0}) (λ x. x < 64 * K) }
     {
         for i in 0..K {

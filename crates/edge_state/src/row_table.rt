@@ -8,9 +8,11 @@ use box_instances::NoMemory;
 use std::alloc::Global;
 use std::marker::Model;
 
-/// A list of rows, each a set of numbers below 64, or below 128 where the rows have a second word: all have one, or none.
+/// A list of rows, each a set of numbers below 64, or below 128 where the rows have a second word:
+/// all have one, or none.
 ///
-/// It is seen as the rows in two words, with the count of second words that are kept; a word that isn't kept is 0.
+/// It is seen as the rows in two words, with the count of second words that are kept; a word that
+/// isn't kept is 0.
 #[derive(Drop)]
 pub struct RowTable {
     first: Vec<u64>,
@@ -19,12 +21,12 @@ pub struct RowTable {
 
 impl Model for RowTable {
     ghost use Rattle.std.specs.Prelude.{length};
-    ghost use Rattle.edge_state.specs.RowTables.{PlainTable, paired};
+    ghost use Rattle.edge_state.specs.RowTables.{PlainTable, paired_words};
 
     ghost Value = { PlainTable };
 
     ghost view = { λ t. record {
-      rows = paired t.first.items t.second.items;
+      rows = paired_words t.first.items t.second.items;
       seconds = length t.second.items;
     } };
 }
@@ -120,7 +122,8 @@ impl RowTable {
     pub fn row<const K: usize>(&self, at: usize) -> BitRow<K>
         requires width { IsRowWidth K }
         requires at { at < length self.now.rows }
-        ensures within { (x : ℕ) → x < 64 * K → row_has result x ≡ row_has (slice_index_or self.now.rows at []) x }
+        ensures within { (x : ℕ) → x < 64 * K
+            → row_has result x ≡ row_has (slice_index_or self.now.rows at []) x }
         ensures beyond { (x : ℕ) → 64 * K ≤ x → row_has result x ≡ false }
     {
         BitRow::of_words(self.word(at, 0), self.word(at, 1))

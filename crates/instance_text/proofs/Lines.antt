@@ -1,9 +1,9 @@
 -- What lines add.
-use Rattle.std.proofs.Common.{◌≡◌, ℕ, ◌+◌, ◌-◌, min, ◌<◌, ◌≤◌, Bool, true, false, ◌&&◌, eqb, List, [], ◌∷◌, ◌++◌, take, drop, map, replicate, length, get_or, arith, refl, sym, ap, subst, ◌∙◌, Option, Some, None, Result, Ok, Err, inl, inr, ◌⊎◌}
+use Rattle.std.proofs.Common.{◌≡◌, ℕ, ◌+◌, ◌-◌, min, ◌<◌, ◌≤◌, Bool, true, false, List, [], ◌∷◌, ◌++◌, take, drop, map, replicate, length, arith, refl, sym, ap, subst, ◌∙◌, Option, Some, None, Result, Ok, Err, inl, inr}
 use Rattle.std.specs.Prelude.{Vec, nat_le, ◌==◌}
 use Rattle.std.specs.declared.alloc.Global.{Global}
-use Rattle.std.proofs.lemmas.Bool.{cases_eq, eq-eqb, ne_eqb, or_left, or_right, and_from, and_right, lt-leb, le-leb}
-use Rattle.std.proofs.lemmas.List.{drop-drop, length-drop, length-map, length-replicate, take_more, map_push}
+use Rattle.std.proofs.lemmas.Bool.{eq-eqb, or_left, or_right, and_from, lt-leb, le-leb}
+use Rattle.std.proofs.lemmas.List.{drop-drop, length-drop, length-map, length-replicate}
 use Rattle.smallvec.specs.SmallVec.{SmallVec}
 use Rattle.packing_terms.specs.Packing.{PlainBox}
 use Rattle.packing_terms.specs.Limits.{most_boxes, most_side}
@@ -26,22 +26,6 @@ length_fits format d n (inr (inl h)) = or_right (n == d) _ (or_left _ _ (eq-eqb 
 length_fits format d n (inr (inr h)) =
     let e = h.1 in
     or_right (n == d) _ (or_right (n == d + 2) _ (and_from (format == 2) (n == d + 4) (eq-eqb format 2 h.0) (eq-eqb n (d + 4) (omega (arith, e)))))
-
--- a `box` line has none of the three numbers of words
-pub length_misses : (format d n : ℕ) → 0 < n → (n ≡ d + 1 → ⊥) → (n ≡ d + 3 → ⊥) → (format ≡ 2 → n ≡ d + 5 → ⊥) → is_box_length format d (n - 1) ≡ false
-length_misses format d n some one three five = go (cases_eq format 2)
-  where
-    both : (eqb (n - 1) d ≡ false) × (eqb (n - 1) (d + 2) ≡ false)
-    both = (ne_eqb (n - 1) d (λ e. one (omega (arith, e, some))), ne_eqb (n - 1) (d + 2) (λ e. three (omega (arith, e, some))))
-
-    go : (format ≡ 2) ⊎ (format ≡ 2 → ⊥) → is_box_length format d (n - 1) ≡ false
-    go (inl f) =
-        let e : eqb (n - 1) (d + 4) ≡ false = ne_eqb (n - 1) (d + 4) (λ e. five f (omega (arith, e, some))) in
-        let l : ((format == 2) && eqb (n - 1) (d + 4)) ≡ false = and_right (format == 2) (eqb (n - 1) (d + 4)) e in
-        rw (both.0, both.1, l) refl
-    go (inr f) =
-        let e : (format == 2) ≡ false = ne_eqb format 2 f in
-        rw (both.0, both.1, e) refl
 
 -- a count that is told is the number of words, where that is at most 12
 pub same_ending : (format d count n : ℕ) → HasEnding format (d + 1) count → d ≤ 4 → 1 ≤ n → n ≡ min 12 count → HasEnding format (d + 1) n
@@ -119,10 +103,6 @@ module _ (format room from : ℕ) (words : List (List ℕ)) where
   pub ending_read : (value times : ℕ) → false ≡ has_times_alone format (drop from words) → value_of (drop from words) ≡ Ok value
       → times_of room (drop (from + 2) words) ≡ Ok times → ending_of format room (drop from words) ≡ Ok (record { value = value; times = times })
   ending_read value times a v t = rw (sym a, v, later (Ok times) t) refl
-
--- the limits beside some numbers, one more
-pub limits_more : (f : ℕ → ℕ) (xs : List ℕ) (i : ℕ) → i < length xs → map f (take i xs) ++ f (get_or xs i 0) ∷ [] ≡ map f (take (i + 1) xs)
-limits_more f xs i l = sym (ap (map f) (take_more xs i 0 l) ∙ map_push f (take i xs) (get_or xs i 0))
 
 -- the parts of a reader without an error stay within the limits
 pub keeps_good : (error : Option ReadTextError) (format : ℕ) (container : SmallVec ℕ) (has_kerf : Bool) (kerf : SmallVec ℕ) (boxes : Vec BoxItem Global) (line : Line) (more : Parts)

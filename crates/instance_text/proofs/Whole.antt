@@ -1,6 +1,6 @@
 -- A text that is read byte by byte.
 use Rattle.std.proofs.Common.{◌≡◌, ℕ, ◌+◌, ◌<◌, ◌≤◌, Bool, true, false, cond, List, [], ◌∷◌, drop, length, get_or, arith, refl, sym, ap, subst, ◌∙◌, Result, Ok, Err, inl, inr, ◌⊎◌}
-use Rattle.std.proofs.lemmas.Bool.{cond-true, cond-false}
+use Rattle.std.proofs.lemmas.Bool.{cond-true}
 use Rattle.std.proofs.lemmas.List.{drop_more, drop_all}
 use Rattle.instance_text.specs.declared.lexer.LexStep.TheVariants.{More, Line}
 use Rattle.instance_text.specs.Steps.{step_of}
@@ -15,7 +15,7 @@ use Rattle.text_terms.proofs.Good.{texts_are_instances}
 use Rattle.text_terms.proofs.Texts.{texts_are_fed}
 use Rattle.instance_text.specs.declared.reader.ReadTextError.{ReadTextError}
 use Rattle.instance_text.specs.declared.reader.ReadTextError.TheVariants.{Fault, NoMemory}
-use Rattle.instance_text.specs.Reading.{Steps, Answers, ReadsAs, as_read, finished}
+use Rattle.instance_text.specs.Reading.{Steps, Answers, ReadsAs, as_read, finished_instance}
 
 -- what is held so far and the bytes that are left give what is read
 abbrev pub IsReading : Lexer → Result Parts ReadTextError → List ℕ → Result PlainInstance TextFault → Type 0
@@ -24,12 +24,6 @@ IsReading s (Err error) rest read = ⊥
 
 pub reading_start : (text : List ℕ) → IsReading new_lexer (Ok no_parts) text (text_instance text)
 reading_start text = texts_are_fed text
-
-pub reading_more : (b : ℕ) (s : Lexer) (r : Result Parts ReadTextError) (rest : List ℕ) (read : Result PlainInstance TextFault)
-    → is_line_feed b ≡ false → IsReading s r (b ∷ rest) read → IsReading (feed b s) r rest read
-reading_more b s (Ok parts) rest read e h =
-    sym (cond-false (is_line_feed b) (take_line parts (feed b s) >>= λ m. feed_all (feed b s) m rest) (feed_all (feed b s) parts rest) e) ∙ h
-reading_more b s (Err error) rest read e h = h
 
 -- a line that gives t leaves new; the rest goes on from there by f
 added : (t : Result Parts TextFault) (new : Result Parts ReadTextError) (y : Unit {0}) (f : Parts → Result PlainInstance TextFault) (read : Result PlainInstance TextFault)
@@ -66,12 +60,6 @@ line_first : (b : ℕ) (s : Lexer) (parts : Parts) (rest : List ℕ) (read : Res
     → feed_all s parts (b ∷ rest) ≡ read → (take_line parts (feed b s) >>= λ m. feed_all (feed b s) m rest) ≡ read
 line_first b s parts rest read e h =
     sym (cond-true (is_line_feed b) (take_line parts (feed b s) >>= λ m. feed_all (feed b s) m rest) (feed_all (feed b s) parts rest) e) ∙ h
-
-pub line_more : (b : ℕ) (s : Lexer) (r new : Result Parts ReadTextError) (y : Unit {0}) (rest : List ℕ) (read : Result PlainInstance TextFault)
-    → is_line_feed b ≡ true → IsReading s r (b ∷ rest) read → Steps r (feed b s) new → Answers new (Ok y) → IsReading (feed b s) new rest read
-line_more b s (Ok parts) new y rest read e h steps answers =
-    added (take_line parts (feed b s)) new y (λ m. feed_all (feed b s) m rest) read (λ r. IsReading (feed b s) r rest read) (line_first b s parts rest read e h) steps answers (λ m g. g)
-line_more b s (Err error) new y rest read e h steps answers = absurd h
 
 pub line_stop : (b : ℕ) (s : Lexer) (r new : Result Parts ReadTextError) (error : ReadTextError) (rest : List ℕ) (read : Result PlainInstance TextFault)
     → is_line_feed b ≡ true → IsReading s r (b ∷ rest) read → Steps r (feed b s) new → Answers {Y = Unit {0}} new (Err error) → ReadsAs read (Err error)
@@ -111,7 +99,7 @@ last_stop s (Ok parts) new error read e h steps answers =
 last_stop s (Err error) new f read e h steps answers = absurd h
 
 pub whole_read : (r : Result Parts ReadTextError) (n : ℕ) (read : Result PlainInstance TextFault) (result : Result PlainInstance ReadTextError)
-    → IsRead r n read → result ≡ finished r n → ReadsAs read result
+    → IsRead r n read → result ≡ finished_instance r n → ReadsAs read result
 whole_read (Ok parts) n read result h e =
     let P : Result PlainInstance ReadTextError → Type 0 = ReadsAs read in subst P (sym e) (as_it_is (at_end parts n) read h)
 whole_read (Err error) n read result h e = absurd h

@@ -9,9 +9,9 @@ use Rattle.box_instances.specs.Plain.{plain_box}
 use Rattle.text_terms.specs.declared.fault.TextFault.{TextFault}
 use Rattle.text_terms.specs.Texts.{Parts, Ending as PlainEnding, IsWithinLimits, at_end}
 use Rattle.text_terms.specs.Feeding.{Lexer, take_line}
-use Rattle.instance_text.specs.declared.reading.Added.{Added}
-use Rattle.instance_text.specs.declared.reading.Added.TheVariants.{Nothing, Format, Container, Kerf, Items}
-use Rattle.instance_text.specs.declared.reading.Ending.{Ending}
+use Rattle.instance_text.specs.declared.parts.Added.{Added}
+use Rattle.instance_text.specs.declared.parts.Added.TheVariants.{Nothing, Format, Container, Kerf, Items}
+use Rattle.instance_text.specs.declared.parts.Ending.{Ending}
 use Rattle.instance_text.specs.declared.reader.ReadTextError.{ReadTextError}
 use Rattle.instance_text.specs.declared.reader.ReadTextError.TheVariants.{Fault, NoMemory}
 
@@ -32,9 +32,9 @@ abbrev pub HasEnding : ℕ → ℕ → ℕ → Type 0
 HasEnding format from n = (n ≡ from) ⊎ ((n ≡ from + 2) ⊎ ((format ≡ 2) × (n ≡ from + 4)))
 
 -- what is given, seen by view, is what reading gives
-abbrev pub Gives : {X Y : Type 0} → (X → Y) → Result X ℕ → Result Y ℕ → Type 0
-Gives view (Ok x) read = read ≡ Ok (view x)
-Gives view (Err code) read = read ≡ Err code
+abbrev pub IsReadAs : {X Y : Type 0} → (X → Y) → Result X ℕ → Result Y ℕ → Type 0
+IsReadAs view (Ok x) read = read ≡ Ok (view x)
+IsReadAs view (Err code) read = read ≡ Err code
 
 abbrev pub parts_of : ℕ → List ℕ → Bool → List ℕ → List BoxItem → Parts
 parts_of format container has_kerf kerf boxes =
@@ -65,9 +65,9 @@ Answers (Err e) (Err f) = f ≡ e
 Answers _ _ = ⊥
 
 -- the instance of what is held after n lines, or the error that is kept
-abbrev pub finished : Result Parts ReadTextError → ℕ → Result PlainInstance ReadTextError
-finished (Ok parts) n = as_read (at_end parts n)
-finished (Err error) n = Err error
+abbrev pub finished_instance : Result Parts ReadTextError → ℕ → Result PlainInstance ReadTextError
+finished_instance (Ok parts) n = as_read (at_end parts n)
+finished_instance (Err error) n = Err error
 
 -- what is read, unless memory was refused
 abbrev pub ReadsAs : {X : Type 0} → Result X TextFault → Result X ReadTextError → Type 0

@@ -1,4 +1,4 @@
-// What is held of a line that is fed byte by byte.
+//! What is held of a line that is fed byte by byte.
 ghost use Rattle.std.specs.Prelude.{◌≡◌, ◌<◌, ◌≤◌, ◌+◌, min, length, slice_index_or, [], ◌∷◌, ◌++◌, take};
 ghost use Rattle.text_terms.specs.Feeding.{no_line, end_word, add_content, add_byte};
 ghost use Rattle.instance_text.specs.Plain.{plain_words, AreCounted};
@@ -7,7 +7,8 @@ use arrayvec::ArrayVec;
 use std::marker::Model;
 use std::mem;
 
-/// What is held of a line begun, or of the line that ended last: at most 12 words of at most 21 bytes.
+/// What is held of a line begun, or of the line that ended last: at most 12 words of at most 21
+/// bytes.
 #[derive(Drop)]
 pub struct HeldLine {
     bad: bool,

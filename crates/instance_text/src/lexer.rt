@@ -1,4 +1,4 @@
-// Lines, fed byte by byte.
+//! Lines, fed byte by byte.
 ghost use Rattle.std.specs.Prelude.{◌≡◌, ◌<◌, ◌≤◌, ◌+◌, ◌^◌, ◌==◌, ◌↔◌, IsTrue, true, slice_index_or, []};
 ghost use Rattle.text_terms.specs.Feeding.{new_lexer, held_of, end_line, feed, finish};
 ghost use Rattle.text_terms.specs.Lines.{is_line_feed};
@@ -17,8 +17,9 @@ pub enum LexStep {
 
 /// The lines of a text, fed byte by byte.
 ///
-/// It holds of a line at most 12 words of at most 21 bytes, and takes no memory. The laws of `text_terms` say that feeding a
-/// whole text tells its lines. Contracts see it as the step's record of plain lists and numbers.
+/// It holds of a line at most 12 words of at most 21 bytes, and takes no memory. The laws of
+/// `text_terms` say that feeding a whole text tells its lines. Contracts see it as the step's
+/// record of plain lists and numbers.
 #[derive(Drop)]
 pub struct LineLexer {
     number: u64,
@@ -101,7 +102,8 @@ impl LineLexer {
         self.number
     }
 
-    /// After `Line`, whether the line has a byte other than tab, space and 33 to 126 before its comment.
+    /// After `Line`, whether the line has a byte other than tab, space and 33 to 126 before its
+    /// comment.
     pub fn bad_byte(&self) -> bool
         ensures { result ≡ self.now.held.bad }
     {
@@ -116,7 +118,8 @@ impl LineLexer {
         self.held.count()
     }
 
-    /// After `Line`, word `k` of the line, counted from 0, or its first 21 bytes where it is longer.
+    /// After `Line`, word `k` of the line, counted from 0, or its first 21 bytes where it is
+    /// longer.
     pub fn word(&self, k: u32) -> &[u8]
         requires counted { k < self.now.held.count }
         requires held { k < 12 }

@@ -1,12 +1,12 @@
-//! Instance texts: read byte by byte and line by line, with the line and the code of the first fault, and written in their
-//! one spelling.
+//! Instance texts: read byte by byte and line by line, with the line and the code of the first
+//! fault, and written in their one spelling.
 #![tactic(auto)]
 
 mod codes;
 mod held;
 mod lexer;
+mod parts;
 mod reader;
-mod reading;
 mod writing;
 
 pub use lexer::{LexStep, LineLexer};

@@ -1,3 +1,5 @@
+//! Tests of instance texts: the first fault of each, their spellings, and the calls of the lexer
+//! and the reader.
 use crate::{
     InstanceReader, LexStep, LineLexer, ReadTextError, TextFault, read_instance, write_instance,
 };
@@ -5,7 +7,8 @@ use pack_streams::{MemorySink, WriteFault, WriteStep};
 use std::alloc::{AllocError, Global};
 use std::test::Fail;
 
-// The line of the fault of a text and its code, or how many boxes it has and 0. Want of memory is code 255.
+// The line of the fault of a text and its code, or how many boxes it has and 0. Want of memory is
+// code 255.
 fn told(alloc: Global, text: &[u8]) -> (u64, u8) {
     match read_instance(alloc, text) {
         Ok(instance) => (instance.len() as u64, 0),
@@ -109,8 +112,8 @@ fn the_tests_of_a_line_have_their_order(rt: HostRuntime) -> Result<(), Fail> {
     Ok(())
 }
 
-// Texts behind a line `format 2` and a line `container 5 7`, each with the line of its fault and the code, or with the
-// number of boxes and 0.
+// Texts behind a line `format 2` and a line `container 5 7`, each with the line of its fault and
+// the code, or with the number of boxes and 0.
 const FORMAT_2: [(&[u8], u64, u8); 24] = [
     (
         b"kerf 2 0\nbox 1 2 value 3 times 2\nbox 3 4 times 1\n",

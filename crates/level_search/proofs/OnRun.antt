@@ -1,27 +1,12 @@
 -- Whoever follows a run of levels stays on it.
-use Rattle.std.proofs.Common.{◌≡◌, ℕ, ◌<◌, ◌≤◌, inl, inr, refl, sym, ap, subst, ◌∙◌, arith, Bool, true, false, if◌then◌else◌}
-use Rattle.tree_terms.specs.Levels.{PlainLevel, PlacedBy, RefutedBy, SpentAt, PlainReached, distance, halfway, moved, is_over, run_levels, IsBetween}
+use Rattle.std.proofs.Common.{◌≡◌, ℕ, ◌<◌, ◌≤◌, inl, inr, sym, ap, subst, ◌∙◌, arith, true, if◌then◌else◌}
+use Rattle.tree_terms.specs.Levels.{PlainLevel, PlacedBy, RefutedBy, SpentAt, PlainReached, distance, halfway, moved, is_run_over, run_levels, IsLevelBetween}
 use Rattle.tree_terms.proofs.Runs.{not_over, halfway_between, run_ends, run_goes_on}
 use Rattle.level_search.specs.Runs.{IsNext}
 
 -- how many decisions are left at most
 abbrev pub decisions_left : PlainReached → ℕ
 decisions_left r = if r.spent then 0 else distance r
-
-left_unspent : (r : PlainReached) → r.spent ≡ false → decisions_left r ≡ distance r
-left_unspent r e = ap (λ (s : Bool). if s then 0 else distance r) e
-
-fewer_left : (r : PlainReached) (a : PlainLevel) → is_over r ≡ false → decisions_left (moved r (halfway r) a) < decisions_left r
-fewer_left r a h = go a (not_over r h).0 (not_over r h).1
-  where
-    go : (a : PlainLevel) → r.spent ≡ false → 2 ≤ distance r → decisions_left (moved r (halfway r) a) < decisions_left r
-    go (PlacedBy ns) e l = let x = left_unspent r e in let y = left_unspent (moved r (halfway r) (PlacedBy ns)) e in omega (arith, x, y, l)
-    go (RefutedBy ts) e l = let x = left_unspent r e in let y = left_unspent (moved r (halfway r) (RefutedBy ts)) e in omega (arith, x, y, l)
-    go SpentAt e l = let x = left_unspent r e in omega (arith, x, l)
-
-pub fewer_after : (r s : PlainReached) (level : ℕ) (a : PlainLevel) → IsNext r level → s ≡ moved r level a → decisions_left s < decisions_left r
-fewer_after r s level a next e =
-    subst (λ (x : PlainReached). decisions_left x < decisions_left r) (sym (e ∙ ap (λ (k : ℕ). moved r k a) next.1)) (fewer_left r a next.0)
 
 pub run_stays : (answer : ℕ → PlainLevel) (r : PlainReached) (level : ℕ) → IsNext r level → run_levels answer (moved r level (answer level)) ≡ run_levels answer r
 run_stays answer r level next = ap (λ (k : ℕ). run_levels answer (moved r k (answer k))) next.1 ∙ sym (run_goes_on answer r next.0)
@@ -33,14 +18,11 @@ pub record IsOnRun (answer : ℕ → PlainLevel) (low high : ℕ) (first r : Pla
   pub placed : (low ≤ r.placed) × (r.placed ≤ high)
 
 module _ (answer : ℕ → PlainLevel) (low high : ℕ) (first : PlainReached) where
-  pub on_run_first : (low ≤ first.refuted) × (first.refuted ≤ high) → (low ≤ first.placed) × (first.placed ≤ high) → IsOnRun answer low high first first
-  on_run_first f p = record { run = refl; refuted = f; placed = p }
-
   -- the next level lies strictly between
   pub next_inside : (r : PlainReached) (level : ℕ) → IsOnRun answer low high first r → IsNext r level → (low < level) × (level < high)
   next_inside r level on next = rw next.1 (go (halfway_between r (not_over r next.0).1))
     where
-      go : IsBetween r (halfway r) → (low < halfway r) × (halfway r < high)
+      go : IsLevelBetween r (halfway r) → (low < halfway r) × (halfway r < high)
       go (inl (x, y)) = let a = on.refuted.0 in let b = on.placed.1 in (omega (arith, a, x), omega (arith, b, y))
       go (inr (x, y)) = let a = on.placed.0 in let b = on.refuted.1 in (omega (arith, a, x), omega (arith, b, y))
 
@@ -66,5 +48,5 @@ module _ (answer : ℕ → PlainLevel) (low high : ℕ) (first : PlainReached) w
       stays_placed SpentAt = on.placed
 
   -- where it goes no further, it is the end of the run
-  pub run_told : (r : PlainReached) → IsOnRun answer low high first r → is_over r ≡ true → r ≡ run_levels answer first
+  pub run_told : (r : PlainReached) → IsOnRun answer low high first r → is_run_over r ≡ true → r ≡ run_levels answer first
   run_told r on over = sym (run_ends answer r over) ∙ on.run

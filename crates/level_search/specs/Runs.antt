@@ -4,7 +4,7 @@
 --      |-------------|--------|--------|--------|--------|
 use Rattle.std.specs.Prelude.{ℕ, ◌≡◌, List, false}
 use Rattle.packing_terms.specs.Tokens.{PlainToken}
-use Rattle.tree_terms.specs.Levels.{PlainLevel, PlacedBy, RefutedBy, SpentAt, PlainReached, halfway, is_over}
+use Rattle.tree_terms.specs.Levels.{PlainLevel, PlacedBy, RefutedBy, SpentAt, PlainReached, halfway, is_run_over}
 use Rattle.proof_tree.specs.Plain.{plain_tokens}
 use Rattle.level_search.specs.declared.level.Level.{Level}
 use Rattle.level_search.specs.declared.level.Level.TheVariants.{Fits, Refuted, Spent}
@@ -26,4 +26,4 @@ first_two refuted tokens placed numbers = record { refuted = refuted; tokens = t
 
 -- the run isn't over, and this level is decided next
 abbrev pub IsNext : PlainReached → ℕ → Type 0
-IsNext r level = (is_over r ≡ false) × (level ≡ halfway r)
+IsNext r level = (is_run_over r ≡ false) × (level ≡ halfway r)

@@ -1,4 +1,4 @@
-// What is answered at a level, and how far a run of levels comes.
+//! What is answered at a level, and how far a run of levels comes.
 ghost use Rattle.std.specs.Prelude.{◌≡◌};
 ghost use Rattle.tree_terms.specs.Levels.{level_by};
 ghost use Rattle.proof_tree.specs.Plain.{plain_outcome};
@@ -6,7 +6,8 @@ ghost use Rattle.level_search.specs.Runs.{plain_level};
 
 use proof_tree::{Outcome, Token};
 
-/// What is answered at a level: numbers that show it, tokens that refute it, or that its tree is past the budget.
+/// What is answered at a level: numbers that show it, tokens that refute it, or that its tree is
+/// past the budget.
 #[derive(Drop)]
 pub enum Level {
     Fits(Vec<u32>),
@@ -14,8 +15,8 @@ pub enum Level {
     Spent,
 }
 
-/// How far a run of levels came: its refuted level with the tokens that refute it, its placed level with the numbers that show
-/// it, and whether a decision was spent.
+/// How far a run of levels came: its refuted level with the tokens that refute it, its placed level
+/// with the numbers that show it, and whether a decision was spent.
 #[derive(Drop)]
 pub struct Reached {
     pub refuted: u64,
@@ -25,7 +26,8 @@ pub struct Reached {
     pub spent: bool,
 }
 
-/// The answer at a level by the outcome of its tree: a yes shows it, a no refutes it, and past the budget it is spent.
+/// The answer at a level by the outcome of its tree: a yes shows it, a no refutes it, and past the
+/// budget it is spent.
 pub fn level_of(outcome: Outcome) -> Level
     ensures { plain_level result ≡ level_by (plain_outcome outcome) }
 {

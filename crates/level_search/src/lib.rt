@@ -1,4 +1,5 @@
-//! Runs of levels: the bisection between a level that is refuted and one that is placed, whatever answers a level.
+//! Runs of levels: the bisection between a level that is refuted and one that is placed, whatever
+//! answers a level.
 #![tactic(auto)]
 
 mod laws;

@@ -1,6 +1,6 @@
-// A run of levels, followed decision by decision.
+//! A run of levels, followed decision by decision.
 ghost use Rattle.std.specs.Prelude.{◌≡◌, true, MatchOption};
-ghost use Rattle.tree_terms.specs.Levels.{is_over, halfway, moved};
+ghost use Rattle.tree_terms.specs.Levels.{is_run_over, halfway, moved};
 ghost use Rattle.proof_tree.specs.Plain.{plain_tokens};
 ghost use Rattle.level_search.specs.Runs.{plain_level, plain_reached, first_two, IsNext};
 
@@ -10,7 +10,8 @@ use proof_tree::Token;
 impl Reached {
     /// The first two levels of a run: the tokens refute the one, and the numbers show the other.
     pub fn starting(refuted: u64, tokens: Vec<Token>, placed: u64, numbers: Vec<u32>) -> Reached
-        ensures { plain_reached result ≡ first_two refuted (plain_tokens tokens.items) placed numbers.items }
+        ensures { plain_reached result
+            ≡ first_two refuted (plain_tokens tokens.items) placed numbers.items }
     {
         Reached {
             refuted,
@@ -23,15 +24,16 @@ impl Reached {
 
     // Whether the run ends here.
     fn is_over(&self) -> bool
-        ensures { result ≡ is_over (plain_reached self.now) }
+        ensures { result ≡ is_run_over (plain_reached self.now) }
     {
         self.spent || self.refuted.abs_diff(self.placed) < 2
     }
 
-    /// The level that is decided next: the one halfway between the two, rounded down. None comes exactly where the run is over: a
-    /// decision was spent, or the two levels are neighbours.
+    /// The level that is decided next: the one halfway between the two, rounded down. None comes
+    /// exactly where the run is over: a decision was spent, or the two levels are neighbours.
     pub fn next_level(&self) -> Option<u64>
-        ensures { MatchOption result (is_over (plain_reached self.now) ≡ true) (IsNext (plain_reached self.now)) }
+        ensures { MatchOption result (is_run_over (plain_reached self.now) ≡ true)
+            (IsNext (plain_reached self.now)) }
     {
         if self.is_over() {
             return None;
@@ -39,8 +41,8 @@ impl Reached {
         Some(self.refuted.min(self.placed) + self.refuted.abs_diff(self.placed) / 2)
     }
 
-    /// Where the run stands after the answer at a level: a level that is reached is the next placed one, and one that isn't the next
-    /// refuted one.
+    /// Where the run stands after the answer at a level: a level that is reached is the next placed
+    /// one, and one that isn't the next refuted one.
     pub fn after(self, level: u64, answer: Level) -> Reached
         ensures { plain_reached result ≡ moved (plain_reached self) level (plain_level answer) }
     {

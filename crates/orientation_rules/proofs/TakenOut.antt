@@ -4,10 +4,10 @@ use Rattle.packing_terms.specs.declared.Rel.{Rel}
 use Rattle.packing_terms.specs.declared.Rel.TheVariants.{Overlap, Before, After}
 use Rattle.packing_terms.specs.declared.Exclusion.{Exclusion}
 use Rattle.packing_terms.specs.Relations.{mirror}
-use Rattle.packing_terms.specs.Exclusions.{excludes, is_of}
+use Rattle.packing_terms.specs.Exclusions.{excludes, is_of, exclusion_at}
 use Rattle.packing_terms.specs.Closure.{IsSubset}
 use Rattle.packing_terms.proofs.Sets.{of_own, mirror_twice, excludes_symmetric}
-use Rattle.rule_terms.specs.Steps.{at_pair, with_exclusion}
+use Rattle.rule_terms.specs.Steps.{with_exclusion}
 use Rattle.rule_terms.specs.Applied.{narrowed_by, narrowed}
 use Rattle.rule_terms.proofs.Applied.{with_cases, with_keeps, with_own}
 use Rattle.orientation_rules.specs.Kept.{IsTakenOut, taken, mirror_taken}
@@ -21,24 +21,24 @@ module _ (i u v : ℕ) (keep : Rel → Bool) where
       → (excludes es j a b r ≡ true) ⊎ IsTakenOut i u v keep j a b r
   by_cases es q j a b r = go (keep q) refl
     where
-      told : keep q ≡ false → (excludes es j a b r ≡ true) ⊎ (is_of (at_pair i u v q) j a b r ≡ true) → (excludes es j a b r ≡ true) ⊎ IsTakenOut i u v keep j a b r
+      told : keep q ≡ false → (excludes es j a b r ≡ true) ⊎ (is_of (exclusion_at i u v q) j a b r ≡ true) → (excludes es j a b r ≡ true) ⊎ IsTakenOut i u v keep j a b r
       told k (inl f) = inl f
-      told k (inr f) = inr (of_own (IsTakenOut i u v keep) turned (at_pair i u v q) j a b r f (taken q k))
+      told k (inr f) = inr (of_own (IsTakenOut i u v keep) turned (exclusion_at i u v q) j a b r f (taken q k))
 
-      go : (x : Bool) → keep q ≡ x → excludes (cond x es (with_exclusion es (at_pair i u v q))) j a b r ≡ true
+      go : (x : Bool) → keep q ≡ x → excludes (cond x es (with_exclusion es (exclusion_at i u v q))) j a b r ≡ true
           → (excludes es j a b r ≡ true) ⊎ IsTakenOut i u v keep j a b r
       go true k h = inl h
-      go false k h = told k (with_cases es (at_pair i u v q) j a b r h)
+      go false k h = told k (with_cases es (exclusion_at i u v q) j a b r h)
 
   by_keeps : (es : List Exclusion) (q : Rel) → IsSubset (excludes es) (excludes (narrowed_by es i u v keep q))
   by_keeps es q = go (keep q)
     where
-      go : (x : Bool) → IsSubset (excludes es) (excludes (cond x es (with_exclusion es (at_pair i u v q))))
+      go : (x : Bool) → IsSubset (excludes es) (excludes (cond x es (with_exclusion es (exclusion_at i u v q))))
       go true j a b r h = h
-      go false j a b r h = with_keeps es (at_pair i u v q) j a b r h
+      go false j a b r h = with_keeps es (exclusion_at i u v q) j a b r h
 
   by_own : (es : List Exclusion) (q : Rel) → keep q ≡ false → excludes (narrowed_by es i u v keep q) i u v q ≡ true
-  by_own es q k = rw k (with_own es (at_pair i u v q))
+  by_own es q k = rw k (with_own es (exclusion_at i u v q))
 
   later : (es : List Exclusion) → IsSubset (excludes (narrowed_by es i u v keep Overlap)) (excludes (narrowed es i u v keep))
   later es j a b r h =

@@ -3,24 +3,23 @@ use Rattle.std.proofs.Common.{◌≡◌, ℕ, suc, pred, ◌-◌, ◌<◌, ◌�
 use Rattle.std.specs.Prelude.{nat_le, nat_lt}
 use Rattle.std.specs.List.{list_any}
 use Rattle.std.proofs.lemmas.Bool.{true≢false, cases_eq, and_parts, and_from, leb-true, eq-eqb, or_left, or_right}
-use Rattle.packing_terms.specs.declared.ScaleFn.{ScaleFn}
 use Rattle.packing_terms.specs.Packing.{PlainInstance, box_count}
-use Rattle.packing_terms.specs.Tokens.PlainToken.{Assign, SetRefuted, GlobalScales}
+use Rattle.packing_terms.specs.Tokens.PlainToken.{Assign, SetRefuted}
 use Rattle.packing_terms.specs.OuterRefutation.{has_box, placements}
 use Rattle.packing_terms.specs.OuterPaths.{bins_with, On, Inside}
-use Rattle.check_terms.specs.declared.answers.RefuseCode.{RefuseCode}
+use Rattle.packing_terms.proofs.WithBoxes.{placements_count}
 use Rattle.check_terms.specs.declared.answers.RefuseCode.TheVariants.{Range, Choice, «Set»}
-use Rattle.check_terms.specs.Judging.{unless, names_box, tuple_refusal}
+use Rattle.check_terms.specs.Judging.{unless, names_box}
 use Rattle.outer_check.specs.declared.path.Frame.{Frame}
 use Rattle.outer_check.specs.declared.goal.Goal.TheVariants.{Bins}
 use Rattle.outer_check.specs.declared.step.Step.TheVariants.{Refuse, Close, Enter, Begin}
 use Rattle.outer_check.specs.Frames.{PlainPath, ArePath, AreSplits, is_decided, is_put, is_some_put, boxes_put, used_behind}
 use Rattle.outer_check.specs.Nodes.{path_below, HaveChildren, HaveUsed, bin_count}
 use Rattle.outer_check.specs.Outers.{AreOf}
-use Rattle.outer_check.specs.Steps.{IsStep}
+use Rattle.outer_check.specs.Steps.{IsTokenStep}
 use Rattle.outer_check.proofs.Ranges.{has_passing}
-use Rattle.outer_check.proofs.Views.{left_is, entered_is, closed_is}
-use Rattle.outer_check.proofs.Placed.{bins_at, used_is, placed_is, bin_is, placements_count}
+use Rattle.outer_check.proofs.Views.{entered_is, closed_is}
+use Rattle.outer_check.proofs.Placed.{bins_at, used_is, placed_is, bin_is}
 
 -- the numbers that name a box
 pub named : (instance : PlainInstance) (v : ℕ) → names_box instance v ≡ true → (1 ≤ v) × (v ≤ box_count instance)
@@ -86,10 +85,7 @@ module _ (instance : PlainInstance) (k : ℕ) (p : PlainPath) (same : p.boxes �
   decided : (v : ℕ) → 1 ≤ v → list_any (has_box (pred v)) (bins_at k p.frames) ≡ is_decided p.frames v
   decided v from = placed_is k p.boxes (pred v) p.frames path.splits are.0 ∙ ap (is_decided p.frames) (let e : suc (pred v) ≡ v = omega (arith, from) in e)
 
-  pub assign_range : (v : ℕ) → names_box instance v ≡ false → IsStep instance (Bins k) p.frames (Assign v) (Refuse Range)
-  assign_range v e = rw e refl
-
-  pub assign_taken : (v : ℕ) → names_box instance v ≡ true → is_decided p.frames v ≡ true → IsStep instance (Bins k) p.frames (Assign v) (Refuse Choice)
+  pub assign_taken : (v : ℕ) → names_box instance v ≡ true → is_decided p.frames v ≡ true → IsTokenStep instance (Bins k) p.frames (Assign v) (Refuse Choice)
   assign_taken v e d = rw (e, decided v (named instance v e).0 ∙ d) refl
 
   assign_ok : (v : ℕ) → names_box instance v ≡ true → is_decided p.frames v ≡ false
@@ -101,14 +97,14 @@ module _ (instance : PlainInstance) (k : ℕ) (p : PlainPath) (same : p.boxes �
       c ∙ (ap (bin_count k) (u ∙ sym (used_is k p.boxes p.frames path.splits are.0 are.1)) ∙ sym (placements_count k (bins_at k p.frames) (pred v)))
 
   pub assign_closed : (v used children : ℕ) → names_box instance v ≡ true → is_decided p.frames v ≡ false → used ≡ used_behind p.frames → children ≡ bin_count k used
-      → children ≡ 0 → IsStep instance (Bins k) p.frames (Assign v) Close
+      → children ≡ 0 → IsTokenStep instance (Bins k) p.frames (Assign v) Close
   assign_closed v used children e d u c none = (
     assign_ok v e d,
     closed_is (bins_with k) [] p.frames v (sym none ∙ counted v used children u c) are.0,
   )
 
   pub assign_split : (v used children : ℕ) → names_box instance v ≡ true → is_decided p.frames v ≡ false → used ≡ used_behind p.frames → children ≡ bin_count k used
-      → (children ≡ 0 → ⊥) → IsStep instance (Bins k) p.frames (Assign v) (Enter v children used)
+      → (children ≡ 0 → ⊥) → IsTokenStep instance (Bins k) p.frames (Assign v) (Enter v children used)
   assign_split v used children e d u c some = (
     assign_ok v e d,
     entered_is (bins_with k) [] p.frames v children used (counted v used children u c) (omega (arith, some)),
@@ -121,12 +117,12 @@ module _ (instance : PlainInstance) (k : ℕ) (p : PlainPath) (same : p.boxes �
     },
   )
 
-  pub bin_refused : (b used : ℕ) → used ≡ used_behind p.frames → (nat_le 1 b && nat_le b used) ≡ false → IsStep instance (Bins k) p.frames (SetRefuted (Some b)) (Refuse «Set»)
+  pub bin_refused : (b used : ℕ) → used ≡ used_behind p.frames → (nat_le 1 b && nat_le b used) ≡ false → IsTokenStep instance (Bins k) p.frames (SetRefuted (Some b)) (Refuse «Set»)
   bin_refused b used u e =
       let l = used_is k p.boxes p.frames path.splits are.0 are.1 in
       ap (λ m. unless (nat_le 1 b && nat_le b m) «Set» None) (l ∙ sym u) ∙ ap (λ t. unless t «Set» None) e
 
-  pub bin_begun : (b used : ℕ) → used ≡ used_behind p.frames → (nat_le 1 b && nat_le b used) ≡ true → IsStep instance (Bins k) p.frames (SetRefuted (Some b)) (Begin (b - 1))
+  pub bin_begun : (b used : ℕ) → used ≡ used_behind p.frames → (nat_le 1 b && nat_le b used) ≡ true → IsTokenStep instance (Bins k) p.frames (SetRefuted (Some b)) (Begin (b - 1))
   bin_begun b used u e =
       let l = used_is k p.boxes p.frames path.splits are.0 are.1 in
       let q = and_parts (nat_le 1 b) (nat_le b used) e in
@@ -140,9 +136,3 @@ module _ (instance : PlainInstance) (k : ℕ) (p : PlainPath) (same : p.boxes �
         subst (λ n. 1 ≤ length (boxes_put n p.frames (b - 1))) same
             (boxes_some p.boxes p.frames (b - 1) path.splits (used_put p.boxes k p.frames (b - 1) path.splits are.0 are.1 (omega (arith, from, to, u)))),
       )
-
-  pub scales_refused : (fs : List ScaleFn) (code : RefuseCode) → Some code ≡ tuple_refusal instance k fs → IsStep instance (Bins k) p.frames (GlobalScales fs) (Refuse code)
-  scales_refused fs code e = sym e
-
-  pub scales_closed : (fs : List ScaleFn) → None ≡ tuple_refusal instance k fs → IsStep instance (Bins k) p.frames (GlobalScales fs) Close
-  scales_closed fs e = (sym e, left_is (bins_with k) [] p.frames are.0)

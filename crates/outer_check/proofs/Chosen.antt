@@ -5,7 +5,7 @@ use Rattle.packing_terms.specs.Packing.{PlainInstance, box_count}
 use Rattle.packing_terms.specs.OuterRefutation.{Choice, no_choice, has_box, insert_box, with_taken, with_left, undecided}
 use Rattle.packing_terms.specs.OuterPaths.{choices_with}
 use Rattle.outer_check.specs.declared.path.Frame.{Frame}
-use Rattle.outer_check.specs.Frames.{AreSplits, AreApart, is_decided, is_put, boxes_put}
+use Rattle.outer_check.specs.Frames.{AreSplits, HaveDistinctBoxes, is_decided, is_put, boxes_put}
 use Rattle.outer_check.specs.Nodes.{node_below, HaveChildren}
 use Rattle.outer_check.proofs.Ranges.{has_passing, filter_same, filter_none}
 use Rattle.outer_check.proofs.Placed.{put_one}
@@ -23,7 +23,7 @@ two_children c d v (suc (suc n)) l = absurd (omega (arith, l))
 child_small : (n : ℕ) (f : Frame) (frames : List Frame) → AreSplits n (f ∷ frames) → HaveChildren choices_with no_choice (f ∷ frames) → f.child < 2
 child_small n f frames splits counted = let a = splits.2 in let b = counted.0 in omega (arith, a, b)
 
-pub taken_is : (n : ℕ) (frames : List Frame) → AreSplits n frames → AreApart frames → HaveChildren choices_with no_choice frames
+pub taken_is : (n : ℕ) (frames : List Frame) → AreSplits n frames → HaveDistinctBoxes frames → HaveChildren choices_with no_choice frames
     → (choice_at frames).taken ≡ boxes_put n frames 0
 taken_is n [] splits apart counted = sym (filter_none 0 n)
 taken_is n (f ∷ frames) splits apart counted =
@@ -37,7 +37,7 @@ taken_is n (f ∷ frames) splits apart counted =
     go (inl (c, e)) = ap (λ (x : Choice). x.taken) e ∙ ap (λ m. if m == 0 then insert_box (pred f.box_no) (choice_at frames).taken else (choice_at frames).taken) (sym c)
     go (inr (c, e)) = ap (λ (x : Choice). x.taken) e ∙ ap (λ m. if m == 0 then insert_box (pred f.box_no) (choice_at frames).taken else (choice_at frames).taken) (sym c)
 
-pub left_is : (n : ℕ) (frames : List Frame) → AreSplits n frames → AreApart frames → HaveChildren choices_with no_choice frames
+pub left_is : (n : ℕ) (frames : List Frame) → AreSplits n frames → HaveDistinctBoxes frames → HaveChildren choices_with no_choice frames
     → (choice_at frames).left ≡ boxes_put n frames 1
 left_is n [] splits apart counted = sym (filter_none 0 n)
 left_is n (f ∷ frames) splits apart counted =
@@ -75,7 +75,7 @@ put_somewhere n v (f ∷ frames) splits counted =
     go (suc zero) l t = by_other t (is_put frames 0 v) (is_put frames 1 v)
     go (suc (suc m)) l t = absurd (omega (arith, l))
 
-pub decided_is : (n v : ℕ) (frames : List Frame) → v < n → AreSplits n frames → AreApart frames → HaveChildren choices_with no_choice frames
+pub decided_is : (n v : ℕ) (frames : List Frame) → v < n → AreSplits n frames → HaveDistinctBoxes frames → HaveChildren choices_with no_choice frames
     → (has_box v (choice_at frames).taken || has_box v (choice_at frames).left) ≡ is_decided frames (suc v)
 decided_is n v frames l splits apart counted =
     ap₂ (λ a b. has_box v a || has_box v b) (taken_is n frames splits apart counted) (left_is n frames splits apart counted)
@@ -83,7 +83,7 @@ decided_is n v frames l splits apart counted =
     ∙ put_somewhere n v frames splits counted)
 
 -- the boxes that are neither in nor out
-pub undecided_is : (instance : PlainInstance) (frames : List Frame) → AreSplits (box_count instance) frames → AreApart frames → HaveChildren choices_with no_choice frames
+pub undecided_is : (instance : PlainInstance) (frames : List Frame) → AreSplits (box_count instance) frames → HaveDistinctBoxes frames → HaveChildren choices_with no_choice frames
     → undecided instance (choice_at frames) ≡ filter (λ v. not (is_decided frames (suc v))) (range_with_len 0 (box_count instance))
 undecided_is instance frames splits apart counted =
     filter_same (λ v. not (has_box v (choice_at frames).taken || has_box v (choice_at frames).left)) (λ v. not (is_decided frames (suc v))) 0 (box_count instance)

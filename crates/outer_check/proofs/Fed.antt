@@ -1,8 +1,7 @@
 -- An outer refuter after a token, and how long its path is.
-use Rattle.std.proofs.Common.{◌≡◌, ℕ, ◌≤◌, suc, refl, sym, ap, ◌∙◌, arith, List, [], ◌∷◌, length, Option, Some, None, Ok, Err}
+use Rattle.std.proofs.Common.{◌≡◌, ℕ, ◌≤◌, suc, refl, ap, arith, List, [], ◌∷◌, length, Option}
 use Rattle.packing_terms.specs.declared.Exclusion.{Exclusion}
 use Rattle.packing_terms.specs.Packing.{PlainInstance, box_count}
-use Rattle.packing_terms.specs.Tokens.{PlainToken}
 use Rattle.packing_terms.specs.OuterRefutation.{no_choice}
 use Rattle.packing_terms.specs.OuterPaths.{bins_with, choices_with}
 use Rattle.check_terms.specs.declared.answers.RefuseCode.{RefuseCode}
@@ -14,23 +13,8 @@ use Rattle.outer_check.specs.declared.place.Place.{Place}
 use Rattle.outer_check.specs.declared.place.Place.TheVariants.{AtNode, InSet, AtEnd}
 use Rattle.outer_check.specs.Frames.{PlainPath, ArePath}
 use Rattle.outer_check.specs.Nodes.{node_below, path_below}
-use Rattle.outer_check.specs.Outers.{tree_seen, view_by, inside_view, view_length, path_length, fed, fed_by}
-use Rattle.outer_check.specs.Taking.{IsTaken}
+use Rattle.outer_check.specs.Outers.{tree_seen, view_by, inside_view, view_length, path_length}
 use Rattle.outer_check.proofs.Paths.{few_splits}
-
-module _ (instance : PlainInstance) (goal : Goal) (path path' : PlainPath) (place place' : Place) (inner inner' : PlainRefuter) (t : PlainToken) where
-  pub fed_on : IsTaken instance goal path place inner t path' place' inner' (Ok tt)
-      → record { instance = instance; tree = tree_seen goal path'.frames place' inner'; refused = None } ≡ fed (record { instance = instance; tree = tree_seen goal path.frames place inner; refused = None }) t
-  fed_on h =
-      ap (λ tree. record { instance = instance; tree = tree; refused = None }) h.1
-      ∙ sym (ap (λ r. fed_by None r (record { instance = instance; tree = tree_seen goal path.frames place inner; refused = None }) t) h.0)
-
-  pub fed_refused : (code : RefuseCode) → IsTaken instance goal path place inner t path' place' inner' (Err code)
-      → record { instance = instance; tree = tree_seen goal path'.frames place' inner'; refused = Some code }
-      ≡ fed (record { instance = instance; tree = tree_seen goal path.frames place inner; refused = None }) t
-  fed_refused code h =
-      ap (λ tree. record { instance = instance; tree = tree; refused = Some code }) h.1
-      ∙ sym (ap (λ r. fed_by None r (record { instance = instance; tree = tree_seen goal path.frames place inner; refused = None }) t) h.0)
 
 path_same : {Node : Type 0} (below : Node → ℕ → List Node) (root : Node) (frames : List Frame) → length (path_below below root frames) ≡ length frames
 path_same below root [] = refl

@@ -28,7 +28,7 @@ use Rattle.outer_check.specs.Frames.{PlainPath, is_put, boxes_put, next_frames}
 use Rattle.outer_check.specs.Nodes.{node_below, path_below, HaveChildren, HaveUsed}
 use Rattle.outer_check.specs.Outers.{inside_view, view_by, tree_seen, tree_refusal, tree_after, judged_at, ForBins, ForValue, AreOf, IsOpenAt, IsGoing}
 use Rattle.outer_check.specs.declared.step.Step.TheVariants.{Close}
-use Rattle.outer_check.specs.Steps.{standing, place_behind, IsStep}
+use Rattle.outer_check.specs.Steps.{standing, place_behind, IsTokenStep}
 use Rattle.outer_check.specs.Taking.{IsTaken}
 use Rattle.outer_check.proofs.Views.{left_is, next_children}
 
@@ -267,7 +267,7 @@ module _ (instance : PlainInstance) (goal : Goal) (path : PlainPath) (place : Pl
 
 -- an outer node is closed
 pub closed_node : (instance : PlainInstance) (goal : Goal) (path path' : PlainPath) (place place' : Place) (inner : PlainRefuter) (t : PlainToken) → place ≡ AtNode
-    → IsGoing instance goal path place inner → IsStep instance goal path.frames t Close
+    → IsGoing instance goal path place inner → IsTokenStep instance goal path.frames t Close
     → path' ≡ record path { frames = next_frames path.frames } → place' ≡ place_behind (next_frames path.frames) → IsTaken instance goal path place inner t path' place' inner (Ok tt)
 closed_node instance goal path path' place place' inner t there going step e f =
     subst (λ p. IsTaken instance goal path p inner t path' place' inner (Ok tt)) (sym there) (
@@ -282,11 +282,11 @@ closed_node instance goal path path' place place' inner t there going step e f =
     opens_by [] = tt
     opens_by (f ∷ frames) = tt
 
-    told : (g : Goal) → AreOf g path.frames → IsStep instance g path.frames t Close → tree_refusal instance (tree_seen g path.frames AtNode inner) t ≡ None
+    told : (g : Goal) → AreOf g path.frames → IsTokenStep instance g path.frames t Close → tree_refusal instance (tree_seen g path.frames AtNode inner) t ≡ None
     told (Bins k) are s = s.0
     told (Value y) are s = s.0
 
-    seen : (g : Goal) → AreOf g path.frames → IsStep instance g path.frames t Close
+    seen : (g : Goal) → AreOf g path.frames → IsTokenStep instance g path.frames t Close
         → tree_seen g (next_frames path.frames) (place_behind (next_frames path.frames)) inner ≡ tree_after (tree_seen g path.frames AtNode inner) t
     seen (Bins k) are s = ap (λ v. ForBins k v) (stands (bins_with k) [] inner (next_frames path.frames) ∙ sym s.1)
     seen (Value y) are s = ap (λ v. ForValue y v) (stands choices_with no_choice inner (next_frames path.frames) ∙ sym s.1)

@@ -1,13 +1,12 @@
 -- The open nodes that a judged token leaves.
-use Rattle.std.proofs.Common.{◌≡◌, ℕ, refl, sym, ap, ◌∙◌, true, false, List, [], ◌∷◌, ◌++◌, Option, Some, None, Result, Ok, Err}
+use Rattle.std.proofs.Common.{◌≡◌, ℕ, refl, sym, ap, true, List, [], ◌∷◌, ◌++◌, Option, Some, None, Ok}
 use Rattle.std.specs.Prelude.{◌↔◌}
 use Rattle.std.proofs.lemmas.Bool.{true≢false}
-use Rattle.packing_terms.specs.declared.Exclusion.{Exclusion}
 use Rattle.packing_terms.specs.Packing.{PlainInstance}
 use Rattle.packing_terms.specs.Tokens.{PlainToken}
 use Rattle.packing_terms.specs.OuterRefutation.{Bins as UsedBins, Choice as BoxChoice}
 use Rattle.packing_terms.specs.OuterFeeding.{OpenNode, Outer, Inner, bin_children, choice_children}
-use Rattle.packing_terms.specs.OuterPaths.{PathNode, OuterView, Whole, On, At, Inside, open_nodes, view_after, bins_with, bin_step, choices_with, choice_step}
+use Rattle.packing_terms.specs.OuterPaths.{OuterView, Whole, On, At, Inside, open_nodes, view_after, bins_with, bin_step, choices_with, choice_step}
 use Rattle.packing_terms.proofs.OuterViews.{bins_view, value_view}
 use Rattle.check_terms.specs.declared.answers.RefuseCode.{RefuseCode}
 use Rattle.check_terms.specs.OuterJudging.{bin_refusal, value_refusal}

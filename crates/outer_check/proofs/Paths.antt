@@ -1,5 +1,5 @@
 -- Splits on a path, and the boxes that they put into a child.
-use Rattle.std.proofs.Common.{◌≡◌, ◌≢◌, ℕ, zero, suc, pred, ◌+◌, ◌<◌, ◌≤◌, ◌⊎◌, inl, inr, refl, sym, ap, ap₂, ◌∙◌, arith, Bool, true, false, ◌||◌, ◌&&◌, ◌==◌, if◌then◌else◌, List, [], ◌∷◌, ◌++◌, map, length, reverse, take, get_or, ◌-◌, ◌^◌}
+use Rattle.std.proofs.Common.{◌≡◌, ◌≢◌, ℕ, suc, pred, ◌+◌, ◌<◌, ◌≤◌, ◌⊎◌, inl, inr, refl, sym, ap, ap₂, ◌∙◌, arith, Bool, true, false, ◌||◌, ◌&&◌, ◌==◌, if◌then◌else◌, List, [], ◌∷◌, ◌++◌, map, length, reverse, take, get_or, ◌-◌, ◌^◌}
 use Rattle.std.specs.List.{list_any, filter, range_with_len, AllByRecursion}
 use Rattle.std.proofs.lemmas.Bool.{true≢false, cases_Bool, eq-eqb}
 use Rattle.std.proofs.lemmas.List.{length-map, length-append, reverse-append, take_more}
@@ -8,8 +8,9 @@ use Rattle.std.proofs.Math.Seq.{take-length}
 use Rattle.std.proofs.lemmas.List.Elements.{filter-append}
 use Rattle.packing_terms.specs.Rules.{AreBoxesAmong}
 use Rattle.packing_terms.proofs.Boxes.{boxes_few}
+use Rattle.packing_terms.proofs.Ranges.{numbers_more}
 use Rattle.outer_check.specs.declared.path.Frame.{Frame}
-use Rattle.outer_check.specs.Frames.{PlainPath, ArePath, AreSplits, AreApart, is_decided, is_put, is_some_put, boxes_put}
+use Rattle.outer_check.specs.Frames.{PlainPath, ArePath, AreSplits, HaveDistinctBoxes, is_decided, is_put, is_some_put, boxes_put}
 
 pub any_reverse : {A : Type 0} (p : A → Bool) (xs : List A) → list_any p (reverse xs) ≡ list_any p xs
 any_reverse p [] = refl
@@ -60,7 +61,7 @@ undecided_differs n (f ∷ frames) box_no from splits e = go (cases_Bool (f.box_
     )
 
 -- so the boxes of the splits are distinct, and there are as many splits as boxes at most
-distinct_boxes : (n : ℕ) (frames : List Frame) → AreSplits n frames → AreApart frames → AreBoxesAmong n (map (λ (f : Frame). pred f.box_no) frames)
+distinct_boxes : (n : ℕ) (frames : List Frame) → AreSplits n frames → HaveDistinctBoxes frames → AreBoxesAmong n (map (λ (f : Frame). pred f.box_no) frames)
 distinct_boxes n [] splits apart = tt
 distinct_boxes n (f ∷ frames) splits apart = (
   (let a = splits.0 in let b = splits.1 in omega (arith, a, b)),
@@ -81,14 +82,9 @@ entered p box_no children used h from to new some fits = record {
   apart = (new, h.apart);
 }
 
-range_snoc : (a n : ℕ) → range_with_len a (suc n) ≡ range_with_len a n ++ (a + n) ∷ []
-range_snoc a zero = ap (λ x. x ∷ []) (let e : a ≡ a + 0 = omega arith in e)
-range_snoc a (suc n) =
-    ap (λ l. a ∷ l) (range_snoc (a + 1) n ∙ ap (λ x. range_with_len (a + 1) n ++ x ∷ []) (let e : a + 1 + n ≡ a + suc n = omega arith in e))
-
 pub range_more : (p : ℕ → Bool) (v : ℕ) → filter p (range_with_len 0 (v + 1)) ≡ filter p (range_with_len 0 v) ++ (if p v then v ∷ [] else [])
 range_more p v =
-    ap (λ m. filter p (range_with_len 0 m)) (let e : v + 1 ≡ suc v = omega arith in e) ∙ (ap (filter p) (range_snoc 0 v ∙ ap (λ x. range_with_len 0 v ++ x ∷ []) (let e : 0 + v ≡ v = omega arith in e)) ∙ (filter-append p (range_with_len 0 v) (v ∷ []) ∙ ap (λ l. filter p (range_with_len 0 v) ++ l) (go (p v) refl)))
+    ap (filter p) (numbers_more v) ∙ (filter-append p (range_with_len 0 v) (v ∷ []) ∙ ap (λ l. filter p (range_with_len 0 v) ++ l) (go (p v) refl))
   where
     go : (b : Bool) → p v ≡ b → filter p (v ∷ []) ≡ (if b then v ∷ [] else [])
     go true e = rw e refl
@@ -101,11 +97,6 @@ newest_is xs d some =
     let n : k + 1 ≡ length xs = omega (arith, some) in
     let all : take k xs ++ get_or xs k d ∷ [] ≡ xs = sym (take_more xs k d (omega (arith, some))) ∙ (ap (λ m. take m xs) n ∙ take-length xs) in
     ap reverse (sym all) ∙ reverse-append (take k xs) (get_or xs k d ∷ [])
-
--- the next child of a split
-pub next_path : (boxes : ℕ) (f : Frame) (frames : List Frame) → ArePath (record { boxes = boxes; frames = f ∷ frames }) → suc f.child < f.children
-    → ArePath (record { boxes = boxes; frames = record f { child = suc f.child } ∷ frames })
-next_path boxes f frames h more = record { splits = (h.splits.0, h.splits.1, more, h.splits.3, h.splits.4); apart = h.apart }
 
 -- one box more is looked at
 pub put_more : (frames : List Frame) (child v : ℕ) (kept pushed : List ℕ) (put : Bool) → kept ≡ boxes_put v frames child → put ≡ is_put frames child v

@@ -1,77 +1,19 @@
 -- The node for bins that the splits lead to: how many bins are used, the boxes of each, and which boxes have a bin.
-use Rattle.std.proofs.Common.{◌≡◌, ℕ, zero, suc, pred, ◌+◌, ◌<◌, ◌≤◌, ◌⊎◌, inl, inr, refl, sym, ap, subst, ◌∙◌, arith, Bool, true, false, ◌||◌, ◌&&◌, ◌==◌, ltb, if◌then◌else◌, List, [], ◌∷◌, ◌++◌, length, get_or, map}
+use Rattle.std.proofs.Common.{◌≡◌, ℕ, zero, suc, pred, ◌<◌, ◌≤◌, ◌⊎◌, inl, inr, refl, sym, ap, subst, ◌∙◌, arith, Bool, true, false, ◌||◌, ◌&&◌, ◌==◌, if◌then◌else◌, List, [], ◌∷◌, ◌++◌, length, get_or}
 use Rattle.std.specs.List.{list_any, filter, range_with_len}
 use mathlib.Core.Path.{fun_ext}
-use Rattle.std.proofs.lemmas.Bool.{true≢false, cases_lt, cases_Bool, eqb-true, eq-eqb, ne_eqb}
-use Rattle.std.proofs.lemmas.List.{length-append, get_or_append_left, get_or-append-add}
-use Rattle.std.proofs.lemmas.List.FromFn.{length-map-range_with_len, get_or-map-range_with_len}
-use Rattle.packing_terms.specs.OuterRefutation.{Bins, insert_box, has_box, with_box, placements}
+use Rattle.std.proofs.lemmas.Bool.{true≢false, cases_Bool, eqb-true, eq-eqb, ne_eqb}
+use Rattle.std.proofs.lemmas.List.{length-append}
+use Rattle.std.proofs.Math.Bool.{and-true, and-false}
+use Rattle.packing_terms.specs.OuterRefutation.{Bins, insert_box, has_box, with_box}
 use Rattle.packing_terms.specs.OuterPaths.{bins_with}
+use Rattle.packing_terms.proofs.WithBoxes.{with_length, with_own, any_with, with_other, any_new, child_is}
 use Rattle.outer_check.specs.declared.path.Frame.{Frame}
-use Rattle.outer_check.specs.Frames.{AreSplits, AreApart, is_decided, is_put, boxes_put, used_behind}
-use Rattle.outer_check.specs.Nodes.{node_below, HaveChildren, HaveUsed, bin_count}
+use Rattle.outer_check.specs.Frames.{AreSplits, HaveDistinctBoxes, is_decided, is_put, boxes_put, used_behind}
+use Rattle.outer_check.specs.Nodes.{node_below, HaveChildren, HaveUsed}
 use Rattle.outer_check.proofs.Ranges.{insert_passes, filter_none}
 
--- the children of a node for bins
-used_part : (bins : Bins) (v : ℕ) → length (map (λ c. with_box bins c v) (range_with_len 0 (length bins))) ≡ length bins
-used_part bins v = length-map-range_with_len (λ c. with_box bins c v) 0 (length bins)
-
-pub placements_count : (k : ℕ) (bins : Bins) (v : ℕ) → length (placements k bins v) ≡ bin_count k (length bins)
-placements_count k bins v =
-    length-append (map (λ c. with_box bins c v) (range_with_len 0 (length bins))) (if ltb (length bins) k then (bins ++ (v ∷ []) ∷ []) ∷ [] else [])
-    ∙ (ap (λ n. n + length (if ltb (length bins) k then (bins ++ (v ∷ []) ∷ []) ∷ [] else [])) (used_part bins v) ∙ go (ltb (length bins) k))
-  where
-    go : (t : Bool) → length bins + length (if t then (bins ++ (v ∷ []) ∷ []) ∷ [] else []) ≡ (if t then suc (length bins) else length bins)
-    go true = omega arith
-    go false = omega arith
-
--- a child puts the box into a used bin, or into a new one
-pub child_is : (k : ℕ) (bins d : Bins) (v b : ℕ) → b < length (placements k bins v)
-    → ((b < length bins) × (get_or (placements k bins v) b d ≡ with_box bins b v))
-    ⊎ ((b ≡ length bins) × (get_or (placements k bins v) b d ≡ bins ++ (v ∷ []) ∷ []))
-child_is k bins d v b l = go (cases_lt b (length bins)) (ltb (length bins) k) refl
-  where
-    go : (b < length bins) ⊎ (length bins ≤ b) → (t : Bool) → ltb (length bins) k ≡ t
-        → ((b < length bins) × (get_or (placements k bins v) b d ≡ with_box bins b v))
-        ⊎ ((b ≡ length bins) × (get_or (placements k bins v) b d ≡ bins ++ (v ∷ []) ∷ []))
-    go (inl m) t e = inl (
-      m,
-      get_or_append_left (map (λ c. with_box bins c v) (range_with_len 0 (length bins))) (if ltb (length bins) k then (bins ++ (v ∷ []) ∷ []) ∷ [] else []) d b
-          (let u = used_part bins v in omega (arith, m, u))
-          ∙ get_or-map-range_with_len (λ c. with_box bins c v) 0 (length bins) b b d m (omega arith),
-    )
-    go (inr m) true e =
-        let n : length (placements k bins v) ≡ suc (length bins) = placements_count k bins v ∙ ap (λ x. if x then suc (length bins) else length bins) e in
-        let same : b ≡ length bins = omega (arith, l, m, n) in
-        inr (
-          same,
-          ap (λ x. get_or (map (λ c. with_box bins c v) (range_with_len 0 (length bins)) ++ (if x then (bins ++ (v ∷ []) ∷ []) ∷ [] else [])) b d) e
-              ∙ (ap (λ x. get_or (map (λ c. with_box bins c v) (range_with_len 0 (length bins)) ++ (bins ++ (v ∷ []) ∷ []) ∷ []) x d)
-              (let u = used_part bins v in let s : b ≡ length (map (λ c. with_box bins c v) (range_with_len 0 (length bins))) + 0 = omega (arith, u, same) in s)
-              ∙ get_or-append-add (map (λ c. with_box bins c v) (range_with_len 0 (length bins))) ((bins ++ (v ∷ []) ∷ []) ∷ []) 0 d),
-        )
-    go (inr m) false e =
-        let n : length (placements k bins v) ≡ length bins = placements_count k bins v ∙ ap (λ x. if x then suc (length bins) else length bins) e in
-        absurd (omega (arith, l, m, n))
-
 -- ---- one box more
-
-with_box_length : (bins : Bins) (b v : ℕ) → length (with_box bins b v) ≡ length bins
-with_box_length [] b v = refl
-with_box_length (us ∷ bins) zero v = refl
-with_box_length (us ∷ bins) (suc b) v = ap suc (with_box_length bins b v)
-
-with_box_own : (bins : Bins) (b v : ℕ) → b < length bins → get_or (with_box bins b v) b [] ≡ insert_box v (get_or bins b [])
-with_box_own [] b v l = absurd (omega (arith, l))
-with_box_own (us ∷ bins) zero v l = refl
-with_box_own (us ∷ bins) (suc b) v l = with_box_own bins b v (omega (arith, l))
-
-with_box_other : (bins : Bins) (b c v : ℕ) → (b ≡ c → ⊥) → get_or (with_box bins b v) c [] ≡ get_or bins c []
-with_box_other [] b c v ne = refl
-with_box_other (us ∷ bins) zero zero v ne = absurd (ne refl)
-with_box_other (us ∷ bins) zero (suc c) v ne = refl
-with_box_other (us ∷ bins) (suc b) zero v ne = refl
-with_box_other (us ∷ bins) (suc b) (suc c) v ne = with_box_other bins b c v (λ e. ne (ap suc e))
 
 new_own : (bins : Bins) (v : ℕ) → get_or (bins ++ (v ∷ []) ∷ []) (length bins) [] ≡ insert_box v (get_or bins (length bins) [])
 new_own [] v = refl
@@ -82,40 +24,6 @@ new_other [] zero v ne = absurd (ne refl)
 new_other [] (suc c) v ne = refl
 new_other (us ∷ bins) zero v ne = refl
 new_other (us ∷ bins) (suc c) v ne = new_other bins c v (λ e. ne (ap suc e))
-
-swap_or : (a b c : Bool) → (a || (b || c)) ≡ (b || (a || c))
-swap_or true true c = refl
-swap_or true false c = refl
-swap_or false true c = refl
-swap_or false false c = refl
-
-insert_has : (v u : ℕ) (us : List ℕ) → has_box u (insert_box v us) ≡ ((v == u) || has_box u us)
-insert_has v u [] = refl
-insert_has v u (x ∷ us) = go (ltb v x) (insert_has v u us)
-  where
-    go : (b : Bool) → has_box u (insert_box v us) ≡ ((v == u) || has_box u us)
-        → has_box u (if b then v ∷ x ∷ us else x ∷ insert_box v us) ≡ ((v == u) || ((x == u) || has_box u us))
-    go true rest = refl
-    go false rest = ap (λ r. (x == u) || r) rest ∙ swap_or (x == u) (v == u) (has_box u us)
-
-with_box_has : (bins : Bins) (b v u : ℕ) → b < length bins → list_any (has_box u) (with_box bins b v) ≡ ((v == u) || list_any (has_box u) bins)
-with_box_has [] b v u l = absurd (omega (arith, l))
-with_box_has (us ∷ bins) zero v u l =
-    ap (λ r. r || list_any (has_box u) bins) (insert_has v u us) ∙ or_assoc (v == u) (has_box u us) (list_any (has_box u) bins)
-  where
-    or_assoc : (a b c : Bool) → ((a || b) || c) ≡ (a || (b || c))
-    or_assoc true b c = refl
-    or_assoc false b c = refl
-with_box_has (us ∷ bins) (suc b) v u l =
-    ap (λ r. has_box u us || r) (with_box_has bins b v u (omega (arith, l))) ∙ swap_or (has_box u us) (v == u) (list_any (has_box u) bins)
-
-new_has : (bins : Bins) (v u : ℕ) → list_any (has_box u) (bins ++ (v ∷ []) ∷ []) ≡ ((v == u) || list_any (has_box u) bins)
-new_has [] v u = flat (v == u)
-  where
-    flat : (a : Bool) → ((a || false) || false) ≡ (a || false)
-    flat true = refl
-    flat false = refl
-new_has (us ∷ bins) v u = ap (λ r. has_box u us || r) (new_has bins v u) ∙ swap_or (has_box u us) (v == u) (list_any (has_box u) bins)
 
 -- ---- the node that the splits lead to
 
@@ -148,16 +56,8 @@ put_one n b f frames from to new = go (f.child == b)
 
     test : (t : Bool) → ◌≡◌ {A = ℕ → Bool} (λ v. ((f.box_no == suc v) && t) || is_put frames b v)
         (if t then (λ v. (pred f.box_no == v) || is_put frames b v) else (λ v. is_put frames b v))
-    test true = fun_ext (λ v. ap (λ x. x || is_put frames b v) (and_true (f.box_no == suc v) ∙ sym (pred_is f.box_no v from)))
-      where
-        and_true : (x : Bool) → (x && true) ≡ x
-        and_true true = refl
-        and_true false = refl
-    test false = fun_ext (λ v. ap (λ x. x || is_put frames b v) (and_false (f.box_no == suc v)))
-      where
-        and_false : (x : Bool) → (x && false) ≡ false
-        and_false true = refl
-        and_false false = refl
+    test true = fun_ext (λ v. ap (λ x. x || is_put frames b v) (and-true (f.box_no == suc v) ∙ sym (pred_is f.box_no v from)))
+    test false = fun_ext (λ v. ap (λ x. x || is_put frames b v) (and-false (f.box_no == suc v)))
 
     go : (t : Bool) → (if t then insert_box (pred f.box_no) (boxes_put n frames b) else boxes_put n frames b)
         ≡ filter (λ v. ((f.box_no == suc v) && t) || is_put frames b v) (range_with_len 0 n)
@@ -178,10 +78,10 @@ module _ (k : ℕ) where
       go (child_is k (bins_at frames) (bins_at frames) (pred f.box_no) f.child (let a = splits.2 in let b = counted.0 in omega (arith, a, b)))
     where
       go : ((f.child < length (bins_at frames)) × (bins_at (f ∷ frames) ≡ with_box (bins_at frames) f.child (pred f.box_no)))
-          ⊎ ((f.child ≡ length (bins_at frames)) × (bins_at (f ∷ frames) ≡ bins_at frames ++ (pred f.box_no ∷ []) ∷ []))
+          ⊎ ((f.child ≡ length (bins_at frames)) × (length (bins_at frames) < k) × (bins_at (f ∷ frames) ≡ bins_at frames ++ (pred f.box_no ∷ []) ∷ []))
           → length (bins_at (f ∷ frames)) ≡ used_behind (f ∷ frames)
-      go (inl (l, e)) = ap length e ∙ (with_box_length (bins_at frames) f.child (pred f.box_no) ∙ (let u = used.0 in omega (arith, l, u)))
-      go (inr (l, e)) = ap length e ∙ (let a = length-append (bins_at frames) ((pred f.box_no ∷ []) ∷ []) in let u = used.0 in omega (arith, l, a, u))
+      go (inl (l, e)) = ap length e ∙ (with_length (bins_at frames) f.child (pred f.box_no) ∙ (let u = used.0 in omega (arith, l, u)))
+      go (inr (l, _, e)) = ap length e ∙ (let a = length-append (bins_at frames) ((pred f.box_no ∷ []) ∷ []) in let u = used.0 in omega (arith, l, a, u))
 
   -- whether a box has a bin
   pub placed_is : (n v : ℕ) (frames : List Frame) → AreSplits n frames → HaveChildren (bins_with k) [] frames
@@ -193,13 +93,13 @@ module _ (k : ℕ) where
       ∙ ap (λ b. b || is_decided frames (suc v)) (pred_is f.box_no v splits.0))
     where
       go : ((f.child < length (bins_at frames)) × (bins_at (f ∷ frames) ≡ with_box (bins_at frames) f.child (pred f.box_no)))
-          ⊎ ((f.child ≡ length (bins_at frames)) × (bins_at (f ∷ frames) ≡ bins_at frames ++ (pred f.box_no ∷ []) ∷ []))
+          ⊎ ((f.child ≡ length (bins_at frames)) × (length (bins_at frames) < k) × (bins_at (f ∷ frames) ≡ bins_at frames ++ (pred f.box_no ∷ []) ∷ []))
           → list_any (has_box v) (bins_at (f ∷ frames)) ≡ ((pred f.box_no == v) || list_any (has_box v) (bins_at frames))
-      go (inl (l, e)) = ap (list_any (has_box v)) e ∙ with_box_has (bins_at frames) f.child (pred f.box_no) v l
-      go (inr (l, e)) = ap (list_any (has_box v)) e ∙ new_has (bins_at frames) (pred f.box_no) v
+      go (inl (l, e)) = ap (list_any (has_box v)) e ∙ any_with v (pred f.box_no) (bins_at frames) f.child l
+      go (inr (l, _, e)) = ap (list_any (has_box v)) e ∙ any_new v (pred f.box_no) (bins_at frames)
 
   -- the boxes of a bin
-  pub bin_is : (n b : ℕ) (frames : List Frame) → AreSplits n frames → AreApart frames → HaveChildren (bins_with k) [] frames
+  pub bin_is : (n b : ℕ) (frames : List Frame) → AreSplits n frames → HaveDistinctBoxes frames → HaveChildren (bins_with k) [] frames
       → get_or (bins_at frames) b [] ≡ boxes_put n frames b
   bin_is n b [] splits apart counted = sym (filter_none 0 n)
   bin_is n b (f ∷ frames) splits apart counted =
@@ -214,15 +114,15 @@ module _ (k : ℕ) where
       by_test c false e own other = other (λ h. true≢false (sym (eq-eqb f.child b h) ∙ e))
 
       go : ((f.child < length (bins_at frames)) × (bins_at (f ∷ frames) ≡ with_box (bins_at frames) f.child (pred f.box_no)))
-          ⊎ ((f.child ≡ length (bins_at frames)) × (bins_at (f ∷ frames) ≡ bins_at frames ++ (pred f.box_no ∷ []) ∷ []))
+          ⊎ ((f.child ≡ length (bins_at frames)) × (length (bins_at frames) < k) × (bins_at (f ∷ frames) ≡ bins_at frames ++ (pred f.box_no ∷ []) ∷ []))
           → get_or (bins_at (f ∷ frames)) b [] ≡ (if f.child == b then insert_box (pred f.box_no) (get_or (bins_at frames) b []) else get_or (bins_at frames) b [])
       go (inl (l, e)) =
           ap (λ c. get_or c b []) e
           ∙ by_test (with_box (bins_at frames) f.child (pred f.box_no)) (f.child == b) refl
           (λ h. subst (λ c. get_or (with_box (bins_at frames) f.child (pred f.box_no)) c [] ≡ insert_box (pred f.box_no) (get_or (bins_at frames) c [])) h
-          (with_box_own (bins_at frames) f.child (pred f.box_no) l))
-          (λ h. with_box_other (bins_at frames) f.child b (pred f.box_no) h)
-      go (inr (l, e)) =
+          (with_own (bins_at frames) f.child (pred f.box_no) l))
+          (λ h. with_other (bins_at frames) f.child b (pred f.box_no) (λ m. h (sym m)))
+      go (inr (l, _, e)) =
           ap (λ c. get_or c b []) e
           ∙ by_test (bins_at frames ++ (pred f.box_no ∷ []) ∷ []) (f.child == b) refl
           (λ h. subst (λ c. get_or (bins_at frames ++ (pred f.box_no ∷ []) ∷ []) c [] ≡ insert_box (pred f.box_no) (get_or (bins_at frames) c [])) (sym l ∙ h)

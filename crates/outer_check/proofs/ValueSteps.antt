@@ -4,6 +4,7 @@ use Rattle.std.specs.Prelude.{nat_le, nat_lt, ◌==◌}
 use Rattle.std.specs.List.{filter, range_with_len}
 use Rattle.std.proofs.lemmas.Bool.{true≢false, lt-ltb, le-ltb, le-leb}
 use Rattle.std.proofs.lemmas.List.Sums.{sum_by-append}
+use Rattle.std.proofs.Math.Bool.{and-false}
 use Rattle.packing_terms.specs.Packing.{PlainInstance, box_count, value}
 use Rattle.packing_terms.specs.Goals.{worth}
 use Rattle.packing_terms.specs.Tokens.PlainToken.{Choose, SetRefuted, ValueShort}
@@ -17,7 +18,7 @@ use Rattle.outer_check.specs.declared.step.Step.TheVariants.{Refuse, Close, Ente
 use Rattle.outer_check.specs.Frames.{PlainPath, ArePath, AreSplits, is_decided, is_put, is_some_put, boxes_put, open_boxes}
 use Rattle.outer_check.specs.Nodes.{path_below}
 use Rattle.outer_check.specs.Outers.{AreOf}
-use Rattle.outer_check.specs.Steps.{IsStep}
+use Rattle.outer_check.specs.Steps.{IsTokenStep}
 use Rattle.outer_check.proofs.Paths.{range_more}
 use Rattle.outer_check.proofs.Ranges.{filter_same, filter_none}
 use Rattle.outer_check.proofs.Views.{left_is, entered_is}
@@ -44,11 +45,7 @@ nowhere (f ∷ frames) child v e = go (f.child == child) e (nowhere frames child
     go : (t : Bool) → (t || is_some_put frames child) ≡ false → (is_some_put frames child ≡ false → is_put frames child v ≡ false)
         → (((f.box_no == suc v) && t) || is_put frames child v) ≡ false
     go true h rest = absurd (true≢false h)
-    go false h rest = ap (λ b. b || is_put frames child v) (and_false (f.box_no == suc v)) ∙ rest h
-      where
-        and_false : (x : Bool) → (x && false) ≡ false
-        and_false true = refl
-        and_false false = refl
+    go false h rest = ap (λ b. b || is_put frames child v) (and-false (f.box_no == suc v)) ∙ rest h
 
 none_put : (n : ℕ) (frames : List Frame) (child : ℕ) → is_some_put frames child ≡ false → boxes_put n frames child ≡ []
 none_put n frames child e = filter_same (λ v. is_put frames child v) (λ v. false) 0 n (λ u l m. nowhere frames child u e) ∙ filter_none 0 n
@@ -70,21 +67,21 @@ module _ (instance : PlainInstance) (y : ℕ) (p : PlainPath) (same : p.boxes �
   free : (v : ℕ) → names_box instance v ≡ true → (not (has_box (pred v) (choice_at p.frames).taken) && not (has_box (pred v) (choice_at p.frames).left)) ≡ not (is_decided p.frames v)
   free v e = neither (has_box (pred v) (choice_at p.frames).taken) (has_box (pred v) (choice_at p.frames).left) ∙ ap not (decided v (named instance v e).0 (named instance v e).1)
 
-  pub choose_taken : (v : ℕ) → names_box instance v ≡ true → is_decided p.frames v ≡ true → IsStep instance (OfValue y) p.frames (Choose v) (Refuse Choice)
+  pub choose_taken : (v : ℕ) → names_box instance v ≡ true → is_decided p.frames v ≡ true → IsTokenStep instance (OfValue y) p.frames (Choose v) (Refuse Choice)
   choose_taken v e d = rw (e, free v e ∙ ap not d) refl
 
-  pub choose_split : (v : ℕ) → names_box instance v ≡ true → is_decided p.frames v ≡ false → IsStep instance (OfValue y) p.frames (Choose v) (Enter v 2 0)
+  pub choose_split : (v : ℕ) → names_box instance v ≡ true → is_decided p.frames v ≡ false → IsTokenStep instance (OfValue y) p.frames (Choose v) (Enter v 2 0)
   choose_split v e d = (
     rw (e, free v e ∙ ap not d) refl,
     entered_is choices_with no_choice p.frames v 2 0 refl (omega arith),
     record { from = (named instance v e).0; to = (named instance v e).1; new = d; some = omega arith; are = (refl, are) },
   )
 
-  pub set_refused : is_some_put p.frames 0 ≡ false → IsStep instance (OfValue y) p.frames (SetRefuted None) (Refuse «Set»)
+  pub set_refused : is_some_put p.frames 0 ≡ false → IsTokenStep instance (OfValue y) p.frames (SetRefuted None) (Refuse «Set»)
   set_refused e =
       ap (λ us. unless (nat_le 1 (length us)) «Set» None) (taken_is (box_count instance) p.frames splits path.apart are ∙ none_put (box_count instance) p.frames 0 e)
 
-  pub set_begun : is_some_put p.frames 0 ≡ true → IsStep instance (OfValue y) p.frames (SetRefuted None) (Begin 0)
+  pub set_begun : is_some_put p.frames 0 ≡ true → IsTokenStep instance (OfValue y) p.frames (SetRefuted None) (Begin 0)
   set_begun e =
       let t = taken_is (box_count instance) p.frames splits path.apart are in
       let some : 1 ≤ length (boxes_put (box_count instance) p.frames 0) = boxes_some (box_count instance) p.frames 0 splits e in (
@@ -100,12 +97,12 @@ module _ (instance : PlainInstance) (y : ℕ) (p : PlainPath) (same : p.boxes �
       (ap (worth instance) (undecided_is instance p.frames splits path.apart are) ∙ sym b)
 
   pub short_refused : (taken rest : ℕ) → taken ≡ worth instance (boxes_put (box_count instance) p.frames 0) → rest ≡ worth instance (open_boxes (box_count instance) p.frames)
-      → y ≤ taken + rest → IsStep instance (OfValue y) p.frames ValueShort (Refuse Value)
+      → y ≤ taken + rest → IsTokenStep instance (OfValue y) p.frames ValueShort (Refuse Value)
   short_refused taken rest a b l =
       ap (λ m. unless (nat_lt m y) Value None) (most_is taken rest a b) ∙ ap (λ t. unless t Value None) (le-ltb (taken + rest) y l)
 
   pub short_closed : (taken rest : ℕ) → taken ≡ worth instance (boxes_put (box_count instance) p.frames 0) → rest ≡ worth instance (open_boxes (box_count instance) p.frames)
-      → taken + rest < y → IsStep instance (OfValue y) p.frames ValueShort Close
+      → taken + rest < y → IsTokenStep instance (OfValue y) p.frames ValueShort Close
   short_closed taken rest a b l = (
     ap (λ m. unless (nat_lt m y) Value None) (most_is taken rest a b) ∙ ap (λ t. unless t Value None) (lt-ltb (taken + rest) y l),
     left_is choices_with no_choice p.frames are,

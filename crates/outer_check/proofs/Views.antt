@@ -4,7 +4,7 @@ use Rattle.std.proofs.lemmas.Bool.{cases_lt, lt-ltb, le-ltb}
 use Rattle.std.proofs.lemmas.List.{drop_more, drop_all}
 use Rattle.packing_terms.specs.OuterPaths.{leave, enter}
 use Rattle.outer_check.specs.declared.path.Frame.{Frame}
-use Rattle.outer_check.specs.Frames.{next_frames, first_of}
+use Rattle.outer_check.specs.Frames.{next_frames, first_split}
 use Rattle.outer_check.specs.declared.place.Place.TheVariants.{AtNode}
 use Rattle.outer_check.specs.Steps.{standing, place_behind}
 use Rattle.outer_check.specs.Nodes.{node_below, path_below, HaveChildren}
@@ -37,11 +37,11 @@ module _ {Node : Type 0} (below : Node → ℕ → List Node) (root : Node) wher
 
   -- a split by a box with children, and one without
   pub entered_is : (frames : List Frame) (box_no children used : ℕ) → children ≡ length (below (node_below below root frames) box_no) → 1 ≤ children
-      → enter below (path_below below root frames) (node_below below root frames) box_no ≡ standing below root (first_of box_no children used ∷ frames) AtNode
+      → enter below (path_below below root frames) (node_below below root frames) box_no ≡ standing below root (first_split box_no children used ∷ frames) AtNode
   entered_is frames box_no children used counted some = go (below (node_below below root frames) box_no) refl
     where
       go : (l : List Node) → below (node_below below root frames) box_no ≡ l
-          → enter below (path_below below root frames) (node_below below root frames) box_no ≡ standing below root (first_of box_no children used ∷ frames) AtNode
+          → enter below (path_below below root frames) (node_below below root frames) box_no ≡ standing below root (first_split box_no children used ∷ frames) AtNode
       go [] e = absurd (let c = ap length e in omega (arith, c, counted, some))
       go (n ∷ more) e = rw (enter, e) refl
 

@@ -1,5 +1,6 @@
--- The splits on the path to the current node of an outer tree, the newest first, as a refuter holds them: of each its box, which of its children the
--- path goes on to, how many it has, and for bins how many are used at its node.
+-- The splits on the path to the current node of an outer tree, the newest first, as a refuter holds
+-- them: of each its box, which of its children the path goes on to, how many it has, and for bins
+-- how many are used at its node.
 use Rattle.std.specs.Prelude.{ℕ, ◌≡◌, suc, ◌<◌, ◌≤◌, ◌==◌, ◌&&◌, ◌^◌, Bool, true, false, not, max, nat_lt, if◌then◌else◌, List, [], ◌∷◌}
 use Rattle.std.specs.List.{list_any, filter, range_with_len}
 use Rattle.packing_terms.specs.Limits.{IsBoxCount}
@@ -11,8 +12,8 @@ pub record PlainPath : Type 0 where
   pub frames : List Frame
 
 -- a split by the box of the text, on to the first of so many children
-abbrev pub first_of : ℕ → ℕ → ℕ → Frame
-first_of box_no children used = record { box_no = box_no; child = 0; children = children; used = used }
+abbrev pub first_split : ℕ → ℕ → ℕ → Frame
+first_split box_no children used = record { box_no = box_no; child = 0; children = children; used = used }
 
 -- whether some split is by the box of the text
 abbrev pub is_decided : List Frame → ℕ → Bool
@@ -50,14 +51,14 @@ AreSplits n [] = Unit {0}
 AreSplits n (f ∷ frames) = (1 ≤ f.box_no) × (f.box_no ≤ n) × (f.child < f.children) × (f.children < 2 ^ 32) × AreSplits n frames
 
 -- no split is by the box of an older one
-abbrev pub AreApart : List Frame → Type 0
-AreApart [] = Unit {0}
-AreApart (f ∷ frames) = (is_decided frames f.box_no ≡ false) × AreApart frames
+abbrev pub HaveDistinctBoxes : List Frame → Type 0
+HaveDistinctBoxes [] = Unit {0}
+HaveDistinctBoxes (f ∷ frames) = (is_decided frames f.box_no ≡ false) × HaveDistinctBoxes frames
 
 -- the splits are by boxes that are there, each by another one
 pub record ArePath (p : PlainPath) : Type 0 where
   pub splits : AreSplits p.boxes p.frames
-  pub apart : AreApart p.frames
+  pub apart : HaveDistinctBoxes p.frames
 
 -- what a path keeps: room for a split by each box
 pub record IsKept (p : PlainPath) (capacity : ℕ) : Type 0 where

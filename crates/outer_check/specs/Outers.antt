@@ -1,5 +1,6 @@
--- What an outer refuter is seen as: the tree that is fed as the definition has it (the path to the current node, with the number of closed children of
--- each split on it; behind the token of a refuted set the open nodes of its inner tree), and the refusal if there was one.
+-- What an outer refuter is seen as: the tree that is fed as the definition has it (the path to the
+-- current node, with the number of closed children of each split on it; behind the token of a
+-- refuted set the open nodes of its inner tree), and the refusal if there was one.
 use Rattle.std.specs.Prelude.{ℕ, ◌≡◌, ◌≤◌, Bool, true, false, List, [], ◌∷◌, length, Option, Some, None, Result, Ok, Err}
 use Rattle.packing_terms.specs.declared.Exclusion.{Exclusion}
 use Rattle.packing_terms.specs.Packing.{PlainInstance, box_count}
@@ -99,7 +100,8 @@ abbrev pub inside_view : {Node : Type 0} → List (PathNode Node) → Node → L
 inside_view path node keep [] = On path (At node)
 inside_view path node keep (es ∷ behind) = On path (Inside keep es behind)
 
--- the view of a tree by the splits on the path, where it stands, and what the refuter of inner trees holds
+-- the view of a tree by the splits on the path, where it stands, and what the refuter of inner
+-- trees holds
 abbrev pub view_by : {Node : Type 0} → (Node → ℕ → List Node) → Node → List Frame → Place → PlainRefuter → OuterView Node
 view_by below root frames AtNode inner = On (path_below below root frames) (At (node_below below root frames))
 view_by below root frames InSet inner =
@@ -115,7 +117,8 @@ abbrev pub AreOf : Goal → List Frame → Type 0
 AreOf (Bins k) frames = HaveChildren (bins_with k) [] frames × HaveUsed k frames
 AreOf (Value y) frames = HaveChildren choices_with no_choice frames
 
--- for bins no box exceeds the container, and they are at most as many as the boxes of the largest instance
+-- for bins no box exceeds the container, and they are at most as many as the boxes of the largest
+-- instance
 abbrev pub CanBeRefuted : PlainInstance → Goal → Type 0
 CanBeRefuted instance (Bins k) = SidesFit instance × (k ≤ most_boxes)
 CanBeRefuted instance (Value y) = Unit {0}

@@ -12,7 +12,7 @@ use Rattle.outer_check.specs.declared.goal.Goal.{Goal}
 use Rattle.outer_check.specs.declared.goal.Goal.TheVariants.{Bins, Value}
 use Rattle.outer_check.specs.declared.step.Step.{Step}
 use Rattle.outer_check.specs.declared.step.Step.TheVariants.{Refuse, Close, Enter, Begin}
-use Rattle.outer_check.specs.Frames.{first_of, next_frames, is_decided, boxes_put}
+use Rattle.outer_check.specs.Frames.{first_split, next_frames, is_decided, boxes_put}
 use Rattle.outer_check.specs.Nodes.{node_below, path_below}
 use Rattle.outer_check.specs.declared.place.Place.{Place}
 use Rattle.outer_check.specs.declared.place.Place.TheVariants.{AtNode, AtEnd}
@@ -29,7 +29,7 @@ pub record IsEntry (goal : Goal) (n : ℕ) (frames : List Frame) (box_no childre
   pub to : box_no ≤ n
   pub new : is_decided frames box_no ≡ false
   pub some : 1 ≤ children
-  pub are : AreOf goal (first_of box_no children used ∷ frames)
+  pub are : AreOf goal (first_split box_no children used ∷ frames)
 
 -- the view of a tree that stands at an outer node, or at its end
 abbrev pub standing : {Node : Type 0} → (Node → ℕ → List Node) → Node → List Frame → Place → OuterView Node
@@ -37,23 +37,23 @@ standing below root frames AtNode = On (path_below below root frames) (At (node_
 standing below root frames _ = Whole
 
 -- what a step does to the view of the tree
-abbrev pub Leads : {Node : Type 0} → Goal → (Node → ℕ → List Node) → Node → ℕ → List Frame → Option RefuseCode → OuterStep → Step → Type 0
-Leads goal below root n frames refusal step (Refuse code) = refusal ≡ Some code
-Leads goal below root n frames refusal step Close =
+abbrev pub StepLeadsTo : {Node : Type 0} → Goal → (Node → ℕ → List Node) → Node → ℕ → List Frame → Option RefuseCode → OuterStep → Step → Type 0
+StepLeadsTo goal below root n frames refusal step (Refuse code) = refusal ≡ Some code
+StepLeadsTo goal below root n frames refusal step Close =
     (refusal ≡ None) × (stepped below (path_below below root frames) (node_below below root frames) step
     ≡ standing below root (next_frames frames) (place_behind (next_frames frames)))
-Leads goal below root n frames refusal step (Enter box_no children used) =
+StepLeadsTo goal below root n frames refusal step (Enter box_no children used) =
     (refusal ≡ None) × (stepped below (path_below below root frames) (node_below below root frames) step
-    ≡ standing below root (first_of box_no children used ∷ frames) AtNode) × IsEntry goal n frames box_no children used
-Leads goal below root n frames refusal step (Begin child) =
+    ≡ standing below root (first_split box_no children used ∷ frames) AtNode) × IsEntry goal n frames box_no children used
+StepLeadsTo goal below root n frames refusal step (Begin child) =
     (refusal ≡ None) × (stepped below (path_below below root frames) (node_below below root frames) step
     ≡ On (path_below below root frames) (Inside (boxes_put n frames child) [] [])) × (1 ≤ length (boxes_put n frames child))
 
 -- the step of a token at the node that the splits lead to
-abbrev pub IsStep : PlainInstance → Goal → List Frame → PlainToken → Step → Type 0
-IsStep instance (Bins k) frames t step =
-    Leads (Bins k) (bins_with k) [] (box_count instance) frames (bin_refusal instance k (Outer (node_below (bins_with k) [] frames)) t)
+abbrev pub IsTokenStep : PlainInstance → Goal → List Frame → PlainToken → Step → Type 0
+IsTokenStep instance (Bins k) frames t step =
+    StepLeadsTo (Bins k) (bins_with k) [] (box_count instance) frames (bin_refusal instance k (Outer (node_below (bins_with k) [] frames)) t)
     (bin_step (node_below (bins_with k) [] frames) t) step
-IsStep instance (Value y) frames t step =
-    Leads (Value y) choices_with no_choice (box_count instance) frames (value_refusal instance y (Outer (node_below choices_with no_choice frames)) t)
+IsTokenStep instance (Value y) frames t step =
+    StepLeadsTo (Value y) choices_with no_choice (box_count instance) frames (value_refusal instance y (Outer (node_below choices_with no_choice frames)) t)
     (choice_step (node_below choices_with no_choice frames) t) step

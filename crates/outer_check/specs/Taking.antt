@@ -9,7 +9,8 @@ use Rattle.outer_check.specs.declared.place.Place.{Place}
 use Rattle.outer_check.specs.Frames.{PlainPath}
 use Rattle.outer_check.specs.Outers.{tree_seen, tree_refusal, tree_after, IsGoing}
 
--- Accepted, the tree is that of the definition and goes on; refused, it is as it was, and the code is that of the first test that failed.
+-- Accepted, the tree is that of the definition and goes on; refused, it is as it was, and the code
+-- is that of the first test that failed.
 abbrev pub IsTaken : PlainInstance → Goal → PlainPath → Place → PlainRefuter → PlainToken → PlainPath → Place → PlainRefuter → Result (Unit {0}) RefuseCode → Type 0
 IsTaken instance goal path place inner t path' place' inner' (Ok u) =
     (tree_refusal instance (tree_seen goal path.frames place inner) t ≡ None)

@@ -1,4 +1,4 @@
-// What the steps of an outer refuter are, as the contract of a function with an empty body.
+//! What the steps of an outer refuter are, as the contract of a function with an empty body.
 ghost use Rattle.std.specs.Prelude.{◌≡◌, ◌↔◌, ℕ, [], true};
 ghost use Rattle.packing_terms.specs.Packing.{PlainInstance};
 ghost use Rattle.packing_terms.specs.Tokens.{PlainToken};
@@ -8,15 +8,19 @@ ghost use Rattle.check_terms.specs.OuterJudging.{bin_refusal, value_refusal};
 ghost use Rattle.check_terms.specs.Checking.{bins_after, value_after};
 ghost use Rattle.outer_check.specs.Outers.{judged_at, left_open, is_whole_view};
 
-/// The open nodes behind a token are those of the definition: a token is refused with the code of its judgement, and an
-/// accepted one leaves the open nodes of the path behind it. No node is open exactly where the tree is whole.
+/// The open nodes behind a token are those of the definition: a token is refused with the code of
+/// its judgement, and an accepted one leaves the open nodes of the path behind it. No node is open
+/// exactly where the tree is whole.
 pub fn outer_steps_leave_the_open_nodes()
     ensures bins { (instance : PlainInstance) (k : ℕ) (view : OuterView UsedBins) (t : PlainToken)
         → bins_after instance k (open_nodes (bins_with k) view) t
-        ≡ left_open (judged_at (bin_refusal instance k) view t) (open_nodes (bins_with k) (view_after (bins_with k) bin_step view t)) }
-    ensures value { (instance : PlainInstance) (goal : ℕ) (view : OuterView BoxChoice) (t : PlainToken)
+        ≡ left_open (judged_at (bin_refusal instance k) view t)
+        (open_nodes (bins_with k) (view_after (bins_with k) bin_step view t)) }
+    ensures value { (instance : PlainInstance) (goal : ℕ) (view : OuterView BoxChoice)
+        (t : PlainToken)
         → value_after instance goal (open_nodes choices_with view) t
-        ≡ left_open (judged_at (value_refusal instance goal) view t) (open_nodes choices_with (view_after choices_with choice_step view t)) }
+        ≡ left_open (judged_at (value_refusal instance goal) view t)
+        (open_nodes choices_with (view_after choices_with choice_step view t)) }
     ensures whole_bins { (k : ℕ) (view : OuterView UsedBins)
         → (open_nodes (bins_with k) view ≡ []) ↔ (is_whole_view view ≡ true) }
     ensures whole_value { (view : OuterView BoxChoice)

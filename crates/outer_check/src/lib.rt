@@ -1,4 +1,5 @@
-//! Whether tokens refute that boxes fit in so many bins, or that they reach a value, taken one by one.
+//! Whether tokens refute that boxes fit in so many bins, or that they reach a value, taken one by
+//! one.
 #![tactic(auto)]
 
 mod goal;

@@ -1,9 +1,9 @@
-// The splits on the path to the current node of an outer tree.
+//! The splits on the path to the current node of an outer tree.
 ghost use Rattle.std.specs.Prelude.{◌≡◌, ◌≤◌, ◌<◌, ◌&&◌, ◌==◌, ◌∷◌, ◌++◌, [], suc, false, length, if◌then◌else◌, IfOk, MatchOption, vec_capacity};
 ghost use Rattle.std.specs.List.{list_any};
 ghost use Rattle.packing_terms.specs.Limits.{IsBoxCount, most_boxes};
 ghost use Rattle.outer_check.specs.declared.path.Frame.{Frame as PlainFrame};
-ghost use Rattle.outer_check.specs.Frames.{ArePath, first_of, is_decided, is_put, is_some_put, boxes_put, used_behind, next_frames, is_some_frame, IsNewest};
+ghost use Rattle.outer_check.specs.Frames.{ArePath, first_split, is_decided, is_put, is_some_put, boxes_put, used_behind, next_frames, is_some_frame, IsNewest};
 
 use box_instances::NoMemory;
 use std::alloc::Global;
@@ -53,7 +53,8 @@ fn has_split(frames: &[Frame], box_no: u32) -> bool
 
 // Whether one of the splits puts the box into its child of this number.
 fn has_put(frames: &[Frame], box_no: u32, child: u32) -> bool
-    ensures { result ≡ list_any (λ (f : PlainFrame). (f.box_no == box_no) && (f.child == child)) frames.now }
+    ensures { result ≡ list_any (λ (f : PlainFrame). (f.box_no == box_no) && (f.child == child))
+        frames.now }
 {
     for frame in frames {
         if (frame.box_no == box_no) & (frame.child == child) {
@@ -141,7 +142,8 @@ impl Path {
     // The newest split.
     fn newest(&self) -> Option<Frame>
         ensures path { ArePath self.now }
-        ensures newest { MatchOption result (self.now.frames ≡ []) (λ frame. IsNewest self.now.frames frame) }
+        ensures newest { MatchOption result (self.now.frames ≡ [])
+            (λ frame. IsNewest self.now.frames frame) }
     {
         let count = self.frames.len();
         if count == 0 {
@@ -176,9 +178,10 @@ impl Path {
         requires new { is_decided self.old.frames box_no ≡ false }
         requires some { 1 ≤ children }
         ensures { self.new ≡ record self.old {
-          frames = first_of box_no children used ∷ self.old.frames;
+          frames = first_split box_no children used ∷ self.old.frames;
         } }
     {
+        // For the proof alone: tells the limits of the path.
         let _boxes = self.boxes();
         self.push(Frame {
             box_no,
@@ -188,7 +191,8 @@ impl Path {
         });
     }
 
-    /// Goes on to the next child of the newest split that has one, and answers whether there is one.
+    /// Goes on to the next child of the newest split that has one, and answers whether there is
+    /// one.
     pub fn leave(&mut self) -> bool
         ensures path { self.new ≡ record self.old { frames = next_frames self.old.frames } }
         ensures answer { result ≡ is_some_frame (next_frames self.old.frames) }

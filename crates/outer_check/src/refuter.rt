@@ -1,4 +1,4 @@
-// An outer tree that is checked token by token.
+//! An outer tree that is checked token by token.
 ghost use Rattle.std.specs.Prelude.{◌≡◌, ◌≤◌, IfOk, None, length};
 ghost use Rattle.packing_terms.specs.Packing.{box_count};
 ghost use Rattle.proof_tree.specs.Plain.{plain_token};
@@ -18,10 +18,10 @@ use std::marker::Model;
 /// Checks an outer refutation token by token: that an instance doesn't fit in so many bins, or
 /// doesn't reach a value. It takes all its memory when it is made.
 ///
-/// It is seen as the goal with the path to the current node, each split with the number of its closed
-/// children, behind the token of a refuted set with the open nodes of the inner tree and the boxes of
-/// that tree, and the refusal if there was one. It holds at most n splits for n boxes, and beside
-/// them the nodes of one inner tree.
+/// It is seen as the goal with the path to the current node, each split with the number of its
+/// closed children, behind the token of a refuted set with the open nodes of the inner tree and the
+/// boxes of that tree, and the refusal if there was one. It holds at most n splits for n boxes, and
+/// beside them the nodes of one inner tree.
 #[derive(Drop)]
 pub struct OuterRefuter<'a> {
     instance: &'a Instance,
@@ -45,7 +45,8 @@ impl<'a> Model for OuterRefuter<'a> {
       refused = r.refused;
     } };
 
-    ghost invariant = { λ r. IsHeld r.instance.now r.goal r.path r.place r.inner r.refused (vec_capacity r.keep) };
+    ghost invariant = { λ r. IsHeld r.instance.now r.goal r.path r.place r.inner r.refused
+        (vec_capacity r.keep) };
 }
 
 impl<'a> OuterRefuter<'a> {
@@ -118,6 +119,7 @@ impl<'a> OuterRefuter<'a> {
         ensures value { result ≡ is_whole self.now }
         ensures limits { path_length self.now ≤ box_count self.now.instance }
     {
+        // For the proof alone: tells the limits of the path.
         let _boxes = self.path.boxes();
         self.refused.is_none() & (self.place == Place::AtEnd)
     }

@@ -1,4 +1,4 @@
-// What a token does at an outer node.
+//! What a token does at an outer node.
 ghost use Rattle.std.specs.Prelude.{◌≡◌, ◌≤◌, ◌<◌, ◌+◌, if◌then◌else◌, Some, None};
 ghost use Rattle.packing_terms.specs.Packing.{box_count, value};
 ghost use Rattle.packing_terms.specs.Goals.{worth};
@@ -10,7 +10,7 @@ ghost use Rattle.outer_check.specs.declared.goal.Goal.TheVariants.{Bins as Plain
 ghost use Rattle.outer_check.specs.Frames.{boxes_put, open_boxes};
 ghost use Rattle.outer_check.specs.Nodes.{bin_count};
 ghost use Rattle.outer_check.specs.Outers.{AreOf};
-ghost use Rattle.outer_check.specs.Steps.{IsStep};
+ghost use Rattle.outer_check.specs.Steps.{IsTokenStep};
 
 use crate::path::Path;
 use box_instances::Instance;
@@ -44,7 +44,8 @@ fn names_box(instance: &Instance, box_no: u32) -> bool
 fn scales_step(instance: &Instance, path: &Path, bins: u32, tuple: &[ScaleFn]) -> Step
     requires few { bins ≤ most_boxes }
     requires are { AreOf (PlainBins bins) path.now.frames }
-    ensures { IsStep instance.now (PlainBins bins) path.now.frames (PlainGlobalScales tuple.now) result }
+    ensures { IsTokenStep instance.now (PlainBins bins) path.now.frames
+        (PlainGlobalScales tuple.now) result }
 {
     match judge_tuple(instance, tuple, bins) {
         Some(code) => Step::Refuse(code),
@@ -64,8 +65,10 @@ fn assign_step(instance: &Instance, path: &Path, bins: u32, box_no: u32) -> Step
     requires boxes { path.now.boxes ≡ box_count instance.now }
     requires few { bins ≤ most_boxes }
     requires are { AreOf (PlainBins bins) path.now.frames }
-    ensures { IsStep instance.now (PlainBins bins) path.now.frames (PlainAssign box_no) result }
+    ensures { IsTokenStep instance.now (PlainBins bins) path.now.frames (PlainAssign box_no)
+        result }
 {
+    // For the proof alone: tells the limits of the path.
     let _boxes = path.boxes();
     if !names_box(instance, box_no) {
         return Step::Refuse(RefuseCode::Range);
@@ -89,8 +92,10 @@ fn assign_step(instance: &Instance, path: &Path, bins: u32, box_no: u32) -> Step
 fn bin_step(instance: &Instance, path: &Path, bins: u32, bin: u32) -> Step
     requires boxes { path.now.boxes ≡ box_count instance.now }
     requires are { AreOf (PlainBins bins) path.now.frames }
-    ensures { IsStep instance.now (PlainBins bins) path.now.frames (PlainSetRefuted (Some bin)) result }
+    ensures { IsTokenStep instance.now (PlainBins bins) path.now.frames (PlainSetRefuted (Some bin))
+        result }
 {
+    // For the proof alone: tells the limits of the path.
     let _boxes = path.boxes();
     if !((1 <= bin) & (bin <= path.used())) {
         return Step::Refuse(RefuseCode::Set);
@@ -103,7 +108,8 @@ pub fn step_for_bins(instance: &Instance, path: &Path, bins: u32, token: &Token)
     requires boxes { path.now.boxes ≡ box_count instance.now }
     requires few { bins ≤ most_boxes }
     requires are { AreOf (PlainBins bins) path.now.frames }
-    ensures { IsStep instance.now (PlainBins bins) path.now.frames (plain_token token.now) result }
+    ensures { IsTokenStep instance.now (PlainBins bins) path.now.frames (plain_token token.now)
+        result }
 {
     match token {
         Token::GlobalScales(tuple) => scales_step(instance, path, bins, tuple.as_slice()),
@@ -115,7 +121,8 @@ pub fn step_for_bins(instance: &Instance, path: &Path, bins: u32, token: &Token)
 
 // The value of the boxes that are in.
 fn taken_worth(instance: &Instance, path: &Path) -> u64
-    ensures value { result ≡ worth instance.now (boxes_put (box_count instance.now) path.now.frames 0) }
+    ensures value { result ≡ worth instance.now
+        (boxes_put (box_count instance.now) path.now.frames 0) }
     ensures limit { result ≤ 128000000000 }
 {
     let mut total: u64 = 0;
@@ -127,7 +134,8 @@ fn taken_worth(instance: &Instance, path: &Path) -> u64
 
 // The value of the boxes that are neither in nor out.
 fn undecided_worth(instance: &Instance, path: &Path) -> u64
-    ensures value { result ≡ worth instance.now (open_boxes (box_count instance.now) path.now.frames) }
+    ensures value { result ≡ worth instance.now
+        (open_boxes (box_count instance.now) path.now.frames) }
     ensures limit { result ≤ 128000000000 }
 {
     let mut total: u64 = 0;
@@ -144,6 +152,7 @@ fn value_where(instance: &Instance, v: u32, test: bool) -> u64
     ensures limit { result ≤ 1000000000 }
     ensures boxes { box_count instance.now ≤ most_boxes }
 {
+    // For the proof alone: tells the limits of the instance.
     let _count = instance.len();
     let value = instance.value(v);
     if test { value } else { 0 }
@@ -153,8 +162,9 @@ fn value_where(instance: &Instance, v: u32, test: bool) -> u64
 fn short_step(instance: &Instance, path: &Path, value: u64) -> Step
     requires boxes { path.now.boxes ≡ box_count instance.now }
     requires are { AreOf (PlainValue value) path.now.frames }
-    ensures { IsStep instance.now (PlainValue value) path.now.frames PlainValueShort result }
+    ensures { IsTokenStep instance.now (PlainValue value) path.now.frames PlainValueShort result }
 {
+    // For the proof alone: tells the limits of the path.
     let _boxes = path.boxes();
     let most = taken_worth(instance, path) + undecided_worth(instance, path);
     if most >= value {
@@ -167,8 +177,10 @@ fn short_step(instance: &Instance, path: &Path, value: u64) -> Step
 fn choose_step(instance: &Instance, path: &Path, value: u64, box_no: u32) -> Step
     requires boxes { path.now.boxes ≡ box_count instance.now }
     requires are { AreOf (PlainValue value) path.now.frames }
-    ensures { IsStep instance.now (PlainValue value) path.now.frames (PlainChoose box_no) result }
+    ensures { IsTokenStep instance.now (PlainValue value) path.now.frames (PlainChoose box_no)
+        result }
 {
+    // For the proof alone: tells the limits of the path.
     let _boxes = path.boxes();
     if !names_box(instance, box_no) {
         return Step::Refuse(RefuseCode::Range);
@@ -187,8 +199,10 @@ fn choose_step(instance: &Instance, path: &Path, value: u64, box_no: u32) -> Ste
 fn set_step(instance: &Instance, path: &Path, value: u64) -> Step
     requires boxes { path.now.boxes ≡ box_count instance.now }
     requires are { AreOf (PlainValue value) path.now.frames }
-    ensures { IsStep instance.now (PlainValue value) path.now.frames (PlainSetRefuted None) result }
+    ensures { IsTokenStep instance.now (PlainValue value) path.now.frames (PlainSetRefuted None)
+        result }
 {
+    // For the proof alone: tells the limits of the path.
     let _boxes = path.boxes();
     if !path.is_some_put(0) {
         return Step::Refuse(RefuseCode::Set);
@@ -200,7 +214,8 @@ fn set_step(instance: &Instance, path: &Path, value: u64) -> Step
 pub fn step_for_value(instance: &Instance, path: &Path, value: u64, token: &Token) -> Step
     requires boxes { path.now.boxes ≡ box_count instance.now }
     requires are { AreOf (PlainValue value) path.now.frames }
-    ensures { IsStep instance.now (PlainValue value) path.now.frames (plain_token token.now) result }
+    ensures { IsTokenStep instance.now (PlainValue value) path.now.frames (plain_token token.now)
+        result }
 {
     match token {
         Token::ValueShort => short_step(instance, path, value),

@@ -1,4 +1,4 @@
-// What a token makes of the parts of an outer refuter.
+//! What a token makes of the parts of an outer refuter.
 ghost use Rattle.std.specs.Prelude.{◌≡◌, ◌≤◌, length, [], vec_capacity};
 ghost use Rattle.packing_terms.specs.Packing.{PlainInstance, box_count};
 ghost use Rattle.check_terms.specs.Checking.{starting};
@@ -7,7 +7,7 @@ ghost use Rattle.outer_check.specs.declared.goal.Goal.{Goal as PlainGoal};
 ghost use Rattle.outer_check.specs.declared.place.Place.TheVariants.{AtNode, InSet};
 ghost use Rattle.outer_check.specs.Frames.{next_frames, boxes_put};
 ghost use Rattle.outer_check.specs.Outers.{CanBeRefuted, IsGoing, AreOf};
-ghost use Rattle.outer_check.specs.Steps.{IsStep, place_behind};
+ghost use Rattle.outer_check.specs.Steps.{IsTokenStep, place_behind};
 ghost use Rattle.outer_check.specs.Taking.{IsTaken};
 
 use crate::goal::Goal;
@@ -36,7 +36,7 @@ fn step_of(instance: &Instance, goal: Goal, path: &Path, token: &Token) -> Step
     requires boxes { path.now.boxes ≡ box_count instance.now }
     requires can { CanBeRefuted instance.now goal }
     requires are { AreOf goal path.now.frames }
-    ensures { IsStep instance.now goal path.now.frames (plain_token token.now) result }
+    ensures { IsTokenStep instance.now goal path.now.frames (plain_token token.now) result }
 {
     match goal {
         Goal::Bins(bins) => step_for_bins(instance, path, bins, token),
@@ -52,8 +52,10 @@ fn take_inner(
     token: &Token,
 ) -> Result<(), RefuseCode>
     requires { place.old ≡ InSet }
-    ensures { (instance : PlainInstance) (goal : PlainGoal) → IsGoing instance goal path.old place.old inner.old
-        → IsTaken instance goal path.old place.old inner.old (plain_token token.now) path.new place.new inner.new result }
+    ensures { (instance : PlainInstance) (goal : PlainGoal)
+        → IsGoing instance goal path.old place.old inner.old
+        → IsTaken instance goal path.old place.old inner.old (plain_token token.now) path.new
+        place.new inner.new result }
 {
     match inner.feed(token) {
         FeedVerdict::More => Ok(()),
@@ -96,7 +98,8 @@ fn take_outer(
     requires going { IsGoing instance.now goal path.old place.old inner.old }
     requires there { place.old ≡ AtNode }
     requires room { path.old.boxes ≤ vec_capacity keep.old }
-    ensures taken { IsTaken instance.now goal path.old place.old inner.old (plain_token token.now) path.new place.new inner.new result }
+    ensures taken { IsTaken instance.now goal path.old place.old inner.old (plain_token token.now)
+        path.new place.new inner.new result }
     ensures room { vec_capacity keep.new ≡ vec_capacity keep.old }
 {
     match step_of(instance, goal, path, token) {
@@ -120,8 +123,8 @@ fn take_outer(
     }
 }
 
-/// A token, where nothing was refused: it is refused and leaves the tree, or the tree is that behind
-/// it.
+/// A token, where nothing was refused: it is refused and leaves the tree, or the tree is that
+/// behind it.
 pub fn take(
     instance: &Instance,
     goal: Goal,
@@ -134,7 +137,8 @@ pub fn take(
     requires can { CanBeRefuted instance.now goal }
     requires going { IsGoing instance.now goal path.old place.old inner.old }
     requires room { path.old.boxes ≤ vec_capacity keep.old }
-    ensures taken { IsTaken instance.now goal path.old place.old inner.old (plain_token token.now) path.new place.new inner.new result }
+    ensures taken { IsTaken instance.now goal path.old place.old inner.old (plain_token token.now)
+        path.new place.new inner.new result }
     ensures room { vec_capacity keep.new ≡ vec_capacity keep.old }
 {
     match *place {

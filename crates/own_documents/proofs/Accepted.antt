@@ -15,6 +15,7 @@ use Rattle.document_terms.specs.TokenLines.{token_words}
 use Rattle.text_terms.specs.Form.{IsNumber}
 use Rattle.text_terms.specs.Spelling.{instance_words}
 use Rattle.text_terms.proofs.Spelled.{AreWords, number_decimal}
+use Rattle.text_terms.proofs.Back.{word_decimal, is_decimal}
 use Rattle.document_terms.specs.declared.claim.SolvingJob.{SolvingJob}
 use Rattle.document_terms.specs.declared.claim.SolvingJob.TheVariants.{Fit, Strip, Bins, Knapsack}
 use Rattle.document_terms.specs.declared.claim.Claim.{Claim}
@@ -28,7 +29,7 @@ use Rattle.answer_terms.specs.Shown.{Shows, ShowsHeight, ShowsBins, ShowsValue, 
 use Rattle.own_documents.specs.Own.{ShownClaimsHaveDocuments, OwnDocumentsAreVerified}
 use Rattle.answer_terms.proofs.Shown.{answers_shown}
 use Rattle.verdict_terms.proofs.FormGiven.{documents_have_form}
-use Rattle.own_documents.proofs.Filled.{AreFilled, word_decimal, filled_append, clean_text, filled_text, filled_instance, instance_form}
+use Rattle.own_documents.proofs.Filled.{AreFilled, filled_append, clean_text, filled_text, filled_instance, instance_form}
 use Rattle.own_documents.proofs.Written.{IsBounded, internal_bounded, HaveLines, tokens_filled, tokens_are_lines, refuted_written, large_written}
 use Rattle.own_documents.proofs.OuterWritten.{bins_written, value_written}
 use Rattle.own_documents.proofs.Numbered.{bins_filled, bins_shared, taken_filled, taken_taken}
@@ -96,7 +97,7 @@ proved_filled front tokens h k =
     filled_append front ((codes "proof" ∷ []) ∷ token_lines tokens) h back
 
 pub decimal_number : (low high n : ℕ) → low ≤ n → n ≤ high → high < 10 ^ 19 → IsNumber low high (decimal n) n
-decimal_number low high n l h small = record { number = number_decimal n (omega arith); least = l; most = h }
+decimal_number low high n l h small = is_decimal low high n l h (omega arith)
 
 -- ---- fit
 

@@ -1,17 +1,15 @@
 -- Lines of words, as they are written, are read as these words.
-use Rattle.std.proofs.Common.{◌≡◌, ℕ, zero, suc, ◌+◌, ◌^◌, ◌<◌, ◌≤◌, refl, ap, sym, subst, ◌∙◌, arith, Bool, true, false, cond, codes, List, [], ◌∷◌, ◌++◌, map, append-nil, length, get_or}
+use Rattle.std.proofs.Common.{◌≡◌, ℕ, zero, suc, ◌+◌, ◌<◌, ◌≤◌, refl, ap, sym, subst, ◌∙◌, arith, Bool, true, false, cond, codes, List, [], ◌∷◌, ◌++◌, map, append-nil, length, get_or}
 use Rattle.std.specs.List.{list_any, range_with_len}
 use Rattle.std.specs.Fmt.{decimal}
-use Rattle.std.proofs.lemmas.Fmt.{decimal_nonempty}
-use Rattle.std.specs.Prelude.{◌==◌}
 use Rattle.packing_terms.specs.Packing.{PlainBox, PlainInstance, no_box, dims}
-use Rattle.packing_terms.specs.Limits.{IsInstance, IsBox, most_side}
+use Rattle.packing_terms.specs.Limits.{IsInstance, IsBox}
 use Rattle.text_terms.specs.Lines.{content, is_bad, words_of, text_lines}
 use Rattle.text_terms.specs.Texts.{is_none}
 use Rattle.text_terms.specs.Form.{AreClean, filled_lines, HasForm, IsInstanceText}
-use Rattle.text_terms.specs.Spelling.{spaced, lines_text, has_gap, instance_words, instance_text, value_words, box_words}
-use Rattle.text_terms.proofs.Spelled.{AreWords, AreLines, line_spaced, lines_spaced, decimal_is}
-use Rattle.text_terms.proofs.Back.{read_back}
+use Rattle.text_terms.specs.Spelling.{spaced, lines_text, has_gap, instance_words, instance_text, box_words}
+use Rattle.text_terms.proofs.Spelled.{AreWords, AreLines, line_spaced, lines_spaced}
+use Rattle.text_terms.proofs.Back.{read_back, AreSmall, word_decimal, words_decimal, words_box}
 use Rattle.text_terms.proofs.FormTold.{texts_have_form}
 use Rattle.answer_terms.specs.Answers.{Lines}
 
@@ -56,38 +54,15 @@ filled_text lines h = ap filled_lines (lines_spaced lines (filled_lines_are line
 
 -- ---- words of numbers
 
-pub word_decimal : (n : ℕ) → n < 2 ^ 64 → (words : List (List ℕ)) → AreWords words → AreWords (decimal n ∷ words)
-word_decimal n small words all = (decimal_nonempty n small, (decimal_is n small).plain, all)
-
-abbrev AreSmall : List ℕ → Type 0
-AreSmall ns = (i : ℕ) → i < length ns → get_or ns i 0 ≤ most_side
-
-words_decimal : (ns : List ℕ) (words : List (List ℕ)) → AreSmall ns → AreWords words → AreWords (map decimal ns ++ words)
-words_decimal [] words small more = more
-words_decimal (n ∷ ns) words small more =
-    let s = small zero (omega arith) in
-    word_decimal n (omega (arith, s)) (map decimal ns ++ words) (words_decimal ns words (λ i h. small (suc i) (omega (arith, h))) more)
-
 numbers_plain : (ns : List ℕ) → AreSmall ns → AreWords (map decimal ns)
 numbers_plain ns small = subst AreWords (append-nil (map decimal ns)) (words_decimal ns [] small tt)
 
 -- ---- the lines of an instance
 
-value_plain : (value : ℕ) → value < 2 ^ 64 → AreWords (value_words value)
-value_plain value small = elim (value == 1) as (λ t. AreWords (cond t [] (codes "value" ∷ decimal value ∷ []))) [
-  | true ↦ tt
-  | false ↦ (omega arith, refl, word_decimal value small [] tt)
-]
-
-box_plain : (d : ℕ) (kerfs : List ℕ) (item : PlainBox) → IsBox d kerfs item → AreWords (box_words item)
-box_plain d kerfs item good =
-    let v = good.value in
-    (omega arith, refl, words_decimal item.sides (value_words item.value) (λ i l. (let s = good.sides i l in omega (arith, s))) (value_plain item.value (omega (arith, v))))
-
 boxes_filled : (d : ℕ) (kerfs : List ℕ) (boxes : List PlainBox) → ((v : ℕ) → v < length boxes → IsBox d kerfs (get_or boxes v no_box)) → AreFilled (map box_words boxes)
 boxes_filled d kerfs [] good = tt
 boxes_filled d kerfs (item ∷ boxes) good =
-    (box_plain d kerfs item (good zero (omega arith)), refl, boxes_filled d kerfs boxes (λ v h. good (suc v) (omega (arith, h))))
+    (words_box d kerfs item (good zero (omega arith)), refl, boxes_filled d kerfs boxes (λ v h. good (suc v) (omega (arith, h))))
 
 pub filled_instance : (instance : PlainInstance) → IsInstance instance → AreFilled (instance_words instance)
 filled_instance instance limits = go (has_gap instance.kerfs)

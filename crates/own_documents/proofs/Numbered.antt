@@ -9,18 +9,20 @@ use Rattle.std.proofs.lemmas.List.{length-map}
 use Rattle.std.proofs.lemmas.List.FromFn.{length-range_with_len, get_or-range_with_len, length-map-range_with_len, get_or-map-range_with_len, fill_by_all}
 use Rattle.packing_terms.specs.Packing.{PlainInstance, dims, box_count, place, no_box, IsPacking}
 use Rattle.packing_terms.specs.Goals.{subset, in_bin, places_of, IsBinPacking, IsBoxSet}
-use Rattle.packing_terms.proofs.InBins.{joined_at, length_joined, place_of}
+use Rattle.packing_terms.proofs.InBins.{joined_at, place_of}
 use Rattle.packing_terms.proofs.Members.{any_at, in_filter, in_range, IsIn}
-use Rattle.rule_terms.specs.Rounds.{below}
+use Rattle.packing_terms.proofs.Lengths.{length_parts}
+use Rattle.packing_terms.specs.Sums.{below}
 use Rattle.tree_terms.specs.OuterTrees.{index_where, coordinates_at, choice_numbers}
 use Rattle.tree_terms.specs.OuterSearch.{bins_in, places_in, AreBinNumbers, AreTakenNumbers}
 use Rattle.tree_terms.proofs.BinNumbers.{index_found}
 use Rattle.text_terms.specs.Texts.{is_none}
 use Rattle.text_terms.proofs.Spelled.{AreWords, is_plain, number_decimal}
+use Rattle.text_terms.proofs.Back.{word_decimal}
 use Rattle.verdict_terms.specs.Numbers.{most_coordinate}
 use Rattle.verdict_terms.specs.Form.{AreNumberedLines, AreShared, AreTaken}
 use Rattle.answer_terms.specs.Answers.{Lines, bin_lines, take_lines}
-use Rattle.own_documents.proofs.Filled.{AreFilled, word_decimal, filled_range}
+use Rattle.own_documents.proofs.Filled.{AreFilled, filled_range}
 use Rattle.own_documents.proofs.Written.{IsBounded}
 use Rattle.own_documents.proofs.Placed.{coordinates_plain, coordinates_are, rows_again}
 
@@ -156,7 +158,7 @@ module _ (instance : PlainInstance) (taken places : List ℕ) where
   row_length j = let e = length-map-range_with_len (λ i. get_or places (j * dims instance + i) 0) 0 (dims instance) in omega (arith, e)
 
   numbers_length : length (choice_numbers instance taken places) ≡ length taken * (dims instance + 1)
-  numbers_length = length_joined row (dims instance + 1) row_length (below (length taken)) ∙ ap (λ n. n * (dims instance + 1)) (length-range_with_len 0 (length taken))
+  numbers_length = length_parts row (dims instance + 1) row_length (below (length taken)) ∙ ap (λ n. n * (dims instance + 1)) (length-range_with_len 0 (length taken))
 
   number_at : (j i : ℕ) → j < length taken → i < dims instance + 1 → get_or (choice_numbers instance taken places) (j * (dims instance + 1) + i) 0 ≡ get_or (row j) i 0
   number_at j i l m =

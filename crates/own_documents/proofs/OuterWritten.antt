@@ -1,5 +1,5 @@
 -- The tokens of an outer refutation have lines. A node never holds more boxes than there are, since each that is placed was in no bin before.
-use Rattle.std.proofs.Common.{◌≡◌, ℕ, zero, suc, pred, ◌+◌, ◌*◌, ◌<◌, ◌≤◌, ◌⊎◌, inl, inr, Bool, true, false, ◌||◌, refl, ap, subst, ◌∙◌, arith, List, [], ◌∷◌, ◌++◌, map, length, eqb, ltb, if◌then◌else◌}
+use Rattle.std.proofs.Common.{◌≡◌, ℕ, zero, suc, pred, ◌+◌, ◌*◌, ◌<◌, ◌≤◌, ◌⊎◌, inl, inr, Bool, true, false, ◌||◌, refl, ap, subst, ◌∙◌, arith, List, [], ◌∷◌, ◌++◌, map, length, eqb, if◌then◌else◌}
 use Rattle.std.specs.Prelude.{nat_lt, slice_index_or}
 use Rattle.std.specs.List.{list_any, range_with_len}
 use Rattle.std.proofs.lemmas.Bool.{cases_lt, eq-eqb, or_left, or_right}
@@ -7,32 +7,13 @@ use Rattle.std.proofs.lemmas.List.{length-map}
 use Rattle.packing_terms.specs.Packing.{PlainInstance, dims, box_count, no_box}
 use Rattle.packing_terms.specs.Goals.{subset}
 use Rattle.packing_terms.specs.Limits.{most_boxes}
-use Rattle.packing_terms.specs.Scales.{sum_below}
+use Rattle.packing_terms.specs.Sums.{sum_below}
 use Rattle.packing_terms.specs.Tokens.{PlainToken}
 use Rattle.packing_terms.specs.OuterRefutation.{Bins, insert_box, has_box, with_box, placements, bin_named, Choice, with_taken, RefutesBins, RefutesValue, none_left, by_scales, by_set, by_box, by_value, IsBinRefutation, IsValueRefutation}
-use Rattle.tree_terms.proofs.BinSearch.{has_inserted}
+use Rattle.packing_terms.proofs.WithBoxes.{has_inserted, any_with, any_new, inserted_length}
 use Rattle.own_documents.proofs.Written.{HaveLines, lines_joined, IsBounded, tuple_written, refuted_written}
 
 -- ---- a box more in the bins
-
-left_out : (a b c : Bool) → (b || (a || c)) ≡ (a || (b || c))
-left_out true true c = refl
-left_out true false c = refl
-left_out false true c = refl
-left_out false false c = refl
-
-grouped : (a b c : Bool) → ((a || b) || c) ≡ (a || (b || c))
-grouped true b c = refl
-grouped false b c = refl
-
-any_with : (u v : ℕ) (bins : Bins) (b : ℕ) → b < length bins → list_any (has_box u) (with_box bins b v) ≡ (eqb v u || list_any (has_box u) bins)
-any_with u v [] b l = absurd (omega (arith, l))
-any_with u v (us ∷ bins) zero l = ap (λ x. x || list_any (has_box u) bins) (has_inserted u v us) ∙ grouped (eqb v u) (has_box u us) (list_any (has_box u) bins)
-any_with u v (us ∷ bins) (suc b) l = ap (λ x. has_box u us || x) (any_with u v bins b (omega (arith, l))) ∙ left_out (eqb v u) (has_box u us) (list_any (has_box u) bins)
-
-any_new : (u v : ℕ) (bins : Bins) → list_any (has_box u) (bins ++ (v ∷ []) ∷ []) ≡ (eqb v u || list_any (has_box u) bins)
-any_new u v [] = grouped (eqb v u) false false
-any_new u v (us ∷ bins) = ap (λ x. has_box u us || x) (any_new u v bins) ∙ left_out (eqb v u) (has_box u us) (list_any (has_box u) bins)
 
 -- ---- how many of the first n numbers pass
 
@@ -71,14 +52,6 @@ tally_more (suc n) p q v l f t h = go (cases_lt v n) (tally_more n p q v)
         let b : one_where (p n) ≡ 0 = ap one_where (subst (λ x. p x ≡ false) e f) in
         let c : one_where (q n) ≡ 1 = ap one_where (subst (λ x. q x ≡ true) e t) in
         omega (arith, a, b, c)
-
-inserted_length : (v : ℕ) (us : List ℕ) → length (insert_box v us) ≡ suc (length us)
-inserted_length v [] = refl
-inserted_length v (u ∷ us) = go (ltb v u) (inserted_length v us)
-  where
-    go : (b : Bool) → length (insert_box v us) ≡ suc (length us) → length (if b then v ∷ u ∷ us else u ∷ insert_box v us) ≡ suc (suc (length us))
-    go true rest = refl
-    go false rest = omega (arith, rest)
 
 same_box : (v : ℕ) → eqb v v ≡ true
 same_box v = eq-eqb v v refl

@@ -6,13 +6,15 @@ use Rattle.std.proofs.Math.Nat.{mod-lt, div-lt_iff_lt-mul}
 use Rattle.std.specs.Fmt.{decimal}
 use Rattle.std.proofs.lemmas.List.FromFn.{length-range_with_len, get_or-range_with_len, length-map-range_with_len, get_or-map-range_with_len, fill_by_all}
 use Rattle.packing_terms.specs.Packing.{PlainInstance, dims, box_count, place, IsPacking}
-use Rattle.packing_terms.proofs.InBins.{joined_at, length_joined}
-use Rattle.rule_terms.specs.Rounds.{below}
+use Rattle.packing_terms.proofs.InBins.{joined_at}
+use Rattle.packing_terms.proofs.Lengths.{length_parts}
+use Rattle.packing_terms.specs.Sums.{below}
 use Rattle.text_terms.proofs.Spelled.{AreWords, number_decimal}
+use Rattle.text_terms.proofs.Back.{word_decimal}
 use Rattle.verdict_terms.specs.Numbers.{most_coordinate}
 use Rattle.verdict_terms.specs.Form.{AreCoordinates, ArePlaceLines, ArePlaced}
 use Rattle.answer_terms.specs.Answers.{Lines, place_lines}
-use Rattle.own_documents.proofs.Filled.{AreFilled, word_decimal, filled_range}
+use Rattle.own_documents.proofs.Filled.{AreFilled, filled_range}
 use Rattle.own_documents.proofs.Written.{IsBounded}
 
 -- the words of numbers that are coordinates
@@ -58,7 +60,7 @@ rows_again d n xs some count =
     row v = map (λ i. get_or xs (v * d + i) 0) (below d)
 
     long : length (flat_map row (below n)) ≡ n * d
-    long = length_joined row d (λ v. length-map-range_with_len (λ i. get_or xs (v * d + i) 0) 0 d) (below n) ∙ ap (λ m. m * d) (length-range_with_len 0 n)
+    long = length_parts row d (λ v. length-map-range_with_len (λ i. get_or xs (v * d + i) 0) 0 d) (below n) ∙ ap (λ m. m * d) (length-range_with_len 0 n)
 
     each : (k : ℕ) → k < n * d → get_or (flat_map row (below n)) k 0 ≡ get_or xs k 0
     each k h =

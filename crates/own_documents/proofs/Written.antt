@@ -14,16 +14,17 @@ use Rattle.packing_terms.specs.Tokens.PlainToken.{Apart, Order, Rules, TooLarge,
 use Rattle.packing_terms.specs.Refutation.{Refutes, by_rules, by_side, by_scales, by_apart, by_order, IsNamed, IsTooLarge}
 use Rattle.text_terms.specs.Texts.{is_none}
 use Rattle.text_terms.proofs.Spelled.{AreWords}
-use Rattle.document_terms.specs.TokenLines.{IsParameter, AreWritten, IsWrittenTuple, IsWritten, function_words, token_words}
+use Rattle.text_terms.proofs.Back.{word_decimal}
+use Rattle.document_terms.specs.TokenLines.{IsParameter, AreWritten, IsWrittenTuple, HasLine, function_words, token_words}
 use Rattle.verdict_terms.specs.Form.{AreTokenLines}
 use Rattle.document_terms.proofs.TokensBack.{tokens_are_read_back}
 use Rattle.answer_terms.specs.Answers.{token_lines}
-use Rattle.own_documents.proofs.Filled.{AreFilled, word_decimal}
+use Rattle.own_documents.proofs.Filled.{AreFilled}
 
 -- each token has a line with d dimensions
 abbrev pub HaveLines : ℕ → List PlainToken → Type 0
 HaveLines d [] = Unit {0}
-HaveLines d (t ∷ ts) = IsWritten d t × HaveLines d ts
+HaveLines d (t ∷ ts) = HasLine d t × HaveLines d ts
 
 pub lines_joined : (d : ℕ) (z xs ys : List PlainToken) → z ≡ xs ++ ys → HaveLines d xs → HaveLines d ys → HaveLines d z
 lines_joined d z xs ys e h k = subst (HaveLines d) (sym e) (go xs h)
@@ -50,7 +51,7 @@ two_plain x y h k = word_decimal x (omega (arith, h)) (decimal y ∷ []) (one_pl
 three_plain : (x y z : ℕ) → IsParameter x → IsParameter y → IsParameter z → AreWords (decimal x ∷ decimal y ∷ decimal z ∷ [])
 three_plain x y z h k l = word_decimal x (omega (arith, h)) (decimal y ∷ decimal z ∷ []) (two_plain y z k l)
 
-token_plain : (d : ℕ) (t : PlainToken) → IsWritten d t → AreWords (token_words t) × (is_none (token_words t) ≡ false)
+token_plain : (d : ℕ) (t : PlainToken) → HasLine d t → AreWords (token_words t) × (is_none (token_words t) ≡ false)
 token_plain d (Apart i u v) h = ((omega arith, refl, three_plain i u v h.0 h.1 h.2), refl)
 token_plain d (Order i u v) h = ((omega arith, refl, three_plain i u v h.0 h.1 h.2), refl)
 token_plain d Rules h = ((omega arith, refl, tt), refl)
@@ -114,7 +115,7 @@ named_written instance i u v b n =
     let d = b.dimensions in let m = b.boxes in let t = n.dim_to in let r = n.rising in let w = n.v_to in
     (omega (arith, d, t), omega (arith, m, r, w), omega (arith, m, w))
 
-pub large_written : (instance : PlainInstance) (v i : ℕ) → IsBounded instance → IsTooLarge instance v i → IsWritten (dims instance) (TooLarge v i)
+pub large_written : (instance : PlainInstance) (v i : ℕ) → IsBounded instance → IsTooLarge instance v i → HasLine (dims instance) (TooLarge v i)
 large_written instance v i b h =
     let d = b.dimensions in let m = b.boxes in let t = h.box_to in let s = h.dim_to in (omega (arith, m, t), omega (arith, d, s))
 

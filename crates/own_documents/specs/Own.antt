@@ -1,4 +1,5 @@
--- The verdict on the documents of answers: the checker's definitions meet those of the solver here, and nowhere else.
+-- The verdict on the documents of answers: the checker's definitions meet those of the solver here,
+-- and nowhere else.
 use Rattle.std.specs.Prelude.{ℕ, ◌≡◌, Bool, List, Ok}
 use Rattle.packing_terms.specs.Packing.{PlainInstance}
 use Rattle.packing_terms.specs.Limits.{IsInstance}

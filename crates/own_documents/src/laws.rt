@@ -1,7 +1,8 @@
-// What the definitions promise, each the contract of a function with an empty body.
+//! What the definitions promise, each the contract of a function with an empty body.
 ghost use Rattle.own_documents.specs.Own.{ShownClaimsHaveDocuments, OwnDocumentsAreVerified, UndecidedIsRefused};
 
-/// Where numbers and tokens show a claim, the text with them is a document of the claim, whoever found them.
+/// Where numbers and tokens show a claim, the text with them is a document of the claim, whoever
+/// found them.
 pub fn shown_claims_have_documents()
     ensures { ShownClaimsHaveDocuments }
 {}

@@ -1,4 +1,5 @@
-//! `pack`: decides whether boxes fit a container and checks documents, over the streams of the process.
+//! `pack`: decides whether boxes fit a container and checks documents, over the streams of the
+//! process.
 #![tactic(auto)]
 
 use pack_command::run;
@@ -37,6 +38,7 @@ fn command_words(rt: &HostRuntime) -> io::Result<Vec<String>> {
 
 // Tells that memory was refused.
 fn out_of_memory<E: Sink>(err: &mut E) -> ExitCode {
+    // Nothing is left to be told where this fails.
     let _told = write_all(err, b"pack: out of memory\n");
     ExitCode::from(6)
 }

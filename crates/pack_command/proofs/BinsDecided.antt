@@ -3,7 +3,7 @@ use Rattle.std.proofs.Common.{ℕ, ◌≡◌, inl, inr, Bool, true, false, refl,
 use Rattle.std.proofs.lemmas.Bool.{true≢false}
 use Rattle.packing_terms.specs.Packing.{PlainInstance}
 use Rattle.packing_terms.specs.Limits.{IsInstance}
-use Rattle.tree_terms.specs.ClassTree.{first_large}
+use Rattle.tree_terms.specs.ClassTree.{first_too_large_box}
 use Rattle.tree_terms.specs.Levels.{PlainReached, bin_run}
 use Rattle.tree_terms.proofs.FirstFound.{first_large_is}
 use Rattle.tree_terms.proofs.SpentRuns.{bins_spent}
@@ -15,7 +15,7 @@ use Rattle.answer_terms.specs.Solved.{solved, bins_answer, reached_claim}
 use Rattle.answer_terms.proofs.Shown.{answers_shown}
 use Rattle.answer_terms.proofs.True.{answers_true}
 use Rattle.pack_streams.specs.Moves.{Gains}
-use Rattle.work_share.specs.declared.settings.Settings.{Settings}
+use Rattle.text_terms.specs.declared.job.Settings.{Settings}
 use Rattle.pack_command.specs.Answered.{answer_for}
 use Rattle.pack_command.specs.FewestBins.{AreBinsDecided}
 
@@ -24,18 +24,18 @@ module _ (settings : Settings) (instance : PlainInstance) (limits : IsInstance i
   run = bin_run instance settings.budget settings.scales
 
   -- the answer, by the first box that is too large, and by whether a decision was spent
-  by_large : (p : Option (ℕ × ℕ)) → first_large instance ≡ p → solved Bins settings.budget settings.scales instance ≡ bins_answer p run
+  by_large : (p : Option (ℕ × ℕ)) → first_too_large_box instance ≡ p → solved Bins settings.budget settings.scales instance ≡ bins_answer p run
   unfolding solved
   by_large p e = ap (λ (q : Option (ℕ × ℕ)). bins_answer q run) e
 
-  by_spent : (b : Bool) → first_large instance ≡ None → run.spent ≡ b
+  by_spent : (b : Bool) → first_too_large_box instance ≡ None → run.spent ≡ b
       → solved Bins settings.budget settings.scales instance
       ≡ Claimed (reached_claim b (LeastBins run.placed) (BinsBetween run.refuted run.placed)) run.numbers run.tokens
   by_spent b e s =
       by_large None e
       ∙ ap (λ (x : Bool). Claimed (reached_claim x (LeastBins run.placed) (BinsBetween run.refuted run.placed)) run.numbers run.tokens) s
 
-  reached : (b : Bool) → first_large instance ≡ None → run.spent ≡ b
+  reached : (b : Bool) → first_too_large_box instance ≡ None → run.spent ≡ b
       → Gains old new (answer_text instance (Claimed (reached_claim b (LeastBins run.placed) (BinsBetween run.refuted run.placed)) run.numbers run.tokens))
       → AreBinsDecided instance settings old new
       (status_of (Claimed (reached_claim b (LeastBins run.placed) (BinsBetween run.refuted run.placed)) run.numbers run.tokens))
@@ -70,7 +70,7 @@ module _ (settings : Settings) (instance : PlainInstance) (limits : IsInstance i
         written = g;
       }))
 
-  by_first : (p : Option (ℕ × ℕ)) → first_large instance ≡ p → Gains old new (answer_text instance (bins_answer p run))
+  by_first : (p : Option (ℕ × ℕ)) → first_too_large_box instance ≡ p → Gains old new (answer_text instance (bins_answer p run))
       → AreBinsDecided instance settings old new (status_of (bins_answer p run))
   by_first (Some p) e g =
       let none = answers_true Bins settings.budget settings.scales instance NoBins _ _ limits (by_large (Some p) e) in
@@ -87,4 +87,4 @@ module _ (settings : Settings) (instance : PlainInstance) (limits : IsInstance i
   -- the answer of `bins` is the least number of bins, two numbers between which it lies, or none
   pub bins_decided : Gains old new (answer_for Bins settings instance).text → AreBinsDecided instance settings old new (answer_for Bins settings instance).status
   unfolding solved
-  bins_decided g = by_first (first_large instance) refl g
+  bins_decided g = by_first (first_too_large_box instance) refl g

@@ -3,12 +3,12 @@ use Rattle.std.proofs.Common.{ℕ, ◌≡◌, ◌≤◌, ◌+◌, ◌-◌, min, 
 use Rattle.std.specs.Result.{is_err}
 use Rattle.pack_streams.specs.Faults.{Rose}
 use Rattle.std.proofs.lemmas.Bool.{true≢false}
-use Rattle.std.proofs.lemmas.List.{drop-take, drop-drop, drop-append-le, take-append-drop, length-take, length-take-le, take-take, take-append-le, append_cancel_left}
+use Rattle.std.proofs.lemmas.List.{drop-take, drop-drop, drop-append-le, take-append-drop, length-take, length-take-le, take-take, append_cancel_left}
 use Rattle.std.proofs.Math.Seq.{take-append_seam, take-length}
 use Rattle.std.specs.Io.KnownBytes.{append_known}
 use Rattle.pack_streams.specs.Moves.{Gains}
 use Rattle.pack_streams.specs.Writing.{GainsPart, Writes}
-use Rattle.pack_command.specs.Fronts.{part_of, shown, cut_like, IsFront}
+use Rattle.pack_command.specs.Fronts.{part_of, shown, IsToldFront}
 
 -- the part of a block is what is left of its front
 part_is : (block : List ℕ) (start end : ℕ) → start ≤ end → part_of block start end ≡ drop start (take end block)
@@ -64,24 +64,8 @@ abbrev is_told : Option (List ℕ) → Bool
 is_told None = false
 is_told (Some xs) = true
 
-pub front_same : (a : Option (List ℕ)) → IsFront a a
-front_same None = refl
-front_same (Some xs) = ap Some (take-length xs)
-
-front_le : (xs ys : List ℕ) → take (length xs) ys ≡ xs → length xs ≤ length ys
-front_le xs ys e =
-    let count : min (length xs) (length ys) ≡ length xs = sym (length-take (length xs) ys) ∙ ap length e in
-    omega (arith, count)
-
-pub front_more : (a b c : Option (List ℕ)) (bytes : List ℕ) → IsFront a b → Gains b c bytes → IsFront a c
-front_more None b c bytes front gains = refl
-front_more (Some xs) None c bytes front gains = absurd (true≢false (sym (ap is_told front)))
-front_more (Some xs) (Some ys) c bytes front gains =
-    let e : take (length xs) ys ≡ xs = ap of_some front in
-    ap (cut_like (Some xs)) gains ∙ ap Some (take-append-le (length xs) ys bytes (front_le xs ys e) ∙ e)
-
 -- the sink behind took a part of the text, where what it took and what is held back is a part of the text
-pub part_behind : (w v : Option (List ℕ)) (held text : List ℕ) → IsFront w v → GainsPart w (append_known v held) text → GainsPart w v text
+pub part_behind : (w v : Option (List ℕ)) (held text : List ℕ) → IsToldFront w v → GainsPart w (append_known v held) text → GainsPart w v text
 part_behind None None held text front part = (0, refl)
 part_behind None (Some ys) held text front part = absurd (true≢false (ap is_told part.1))
 part_behind (Some xs) None held text front part = absurd (true≢false (sym (ap is_told front)))
@@ -114,7 +98,7 @@ whole_part w v text gains = (length text, gains ∙ ap (append_known w) (sym (ta
 
 -- a failed text through a front is a failed text to the sink behind it
 pub behind_err : {E : Type 0} (w s v : Option (List ℕ)) (held : List ℕ) (f g h : ℕ) (text : List ℕ) (e d : E)
-    → s ≡ w → g ≡ f → IsFront w v → Writes {E = E} s (append_known v held) g h text (Err e) → Writes {E = E} w v f h text (Err d)
+    → s ≡ w → g ≡ f → IsToldFront w v → Writes {E = E} s (append_known v held) g h text (Err e) → Writes {E = E} w v f h text (Err d)
 behind_err w s v held f g h text e d p q front t =
     let rose : Rose g h = t.cause in
     record {
@@ -126,7 +110,7 @@ behind_err w s v held f g h text e d p q front t =
 
 -- a whole text through a front, and then what is held back, or a part of it
 pub behind_end : {E : Type 0} (w s u v : Option (List ℕ)) (block : List ℕ) (start end : ℕ) (f g h k : ℕ) (text : List ℕ) (r : Result (Unit {0}) E)
-    → s ≡ w → g ≡ f → IsFront w v → Writes {E = E} s u g h text (Ok tt) → shown v block start end ≡ u → OnOk r (start ≡ end)
+    → s ≡ w → g ≡ f → IsToldFront w v → Writes {E = E} s u g h text (Ok tt) → shown v block start end ≡ u → OnOk r (start ≡ end)
     → h ≤ k → OnErr r (Rose h k) → Writes {E = E} w v f k text r
 behind_end w s u v block start end f g h k text (Ok x) p q front t same none count rose =
     let gains : v ≡ append_known w text =

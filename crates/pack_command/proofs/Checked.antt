@@ -5,43 +5,27 @@ use Rattle.document_terms.specs.declared.claim.Claim.{Claim}
 use Rattle.pack_streams.specs.Moves.{Gives, Gains}
 use Rattle.document_terms.specs.declared.claim.SolvingJob.{SolvingJob}
 use Rattle.pack_words.specs.declared.job.JobWords.{JobWords}
-use Rattle.work_share.specs.declared.settings.Settings.{Settings}
+use Rattle.pack_words.proofs.Walking.{some_inj}
+use Rattle.text_terms.specs.declared.job.Settings.{Settings}
 use Rattle.verdict_terms.specs.Documents.{Refusal, document_verdict, verdict_line}
 use Rattle.verdict_terms.specs.Form.{IsDocument}
 use Rattle.verdict_terms.proofs.Stays.{refusals_stay}
 use Rattle.verdict_terms.proofs.FormGiven.{documents_have_form}
 use Rattle.verdict_terms.proofs.True.{documents_are_true}
 use Rattle.verdict_terms.specs.Fed.{NoneRefused}
-use Rattle.document_check.specs.Checked.{most_bytes, IsEnough}
+use Rattle.document_check.specs.Checked.{most_bytes, AreBytesEnough}
 use Rattle.pack_command.specs.declared.stop.Stop.{Stop}
-use Rattle.pack_command.specs.declared.stop.Stop.TheVariants.{WriteFault}
-use Rattle.pack_command.specs.declared.words.Asked.{Asked}
-use Rattle.pack_command.specs.declared.words.Asked.TheVariants.{Solving}
-use Rattle.pack_command.specs.Asked.{solving_job, AsksToSolve, AsksCheck, AsksToMake, IsAsked}
-use Rattle.pack_command.specs.Checks.{verdict_status, IsReached, IsFound, IsJudged, IsUnjudged, IsExactly, IsClaimed}
+use Rattle.pack_command.specs.Asked.{solving_job, AsksToSolve, AsksCheck}
+use Rattle.pack_command.specs.Checks.{verdict_status, HasVerdict, IsVerdictFound, IsVerdictWritten, IsExactly, IsClaimed}
 use Rattle.pack_command.specs.Ends.{IsDone, IsUndone}
-use Rattle.pack_command.specs.Generated.{made_for, IsMadeCut}
-use Rattle.pack_command.specs.Run.{IsWritten, IsStopped, IsCutShort}
-use Rattle.pack_command.proofs.Written.{some_same, taken_all}
+use Rattle.pack_command.specs.Run.{IsWritten, IsStopped}
+use Rattle.pack_command.proofs.Written.{taken_all}
 use Rattle.pack_command.proofs.Generating.{no_solve, no_check}
-
--- what was asked is the solving job with these settings
-pub asks_solving : (words : List (String Global)) (asked : Asked) (job : SolvingJob) (settings : Settings) → IsAsked words (Ok asked) → asked ≡ Solving job settings
-    → AsksToSolve words job settings
-asks_solving words asked job settings asks is = subst (λ a. IsAsked words (Ok a)) is asks
-
-pub written_done : (words : List (String Global)) (old new sunk_old sunk_new : Option (List ℕ)) (status : ℕ)
-    → IsWritten words old new sunk_old sunk_new status → IsDone words old new sunk_old sunk_new status
-written_done words old new sunk_old sunk_new status w = inl w
-
-pub cut_undone : (words : List (String Global)) (old new sunk_old sunk_new : Option (List ℕ))
-    → IsCutShort words old new sunk_old sunk_new → IsUndone words old new sunk_old sunk_new WriteFault
-cut_undone words old new sunk_old sunk_new cut = inl cut
 
 -- no words ask for a solving job and for a check
 pub one_job : (words : List (String Global)) (job : SolvingJob) (settings : Settings) → AsksToSolve words job settings → AsksCheck words → ⊥
 one_job words job settings solve check =
-    let same : solve.asked ≡ check.asked = some_same _ _ (sym solve.is ∙ check.is) in
+    let same : solve.asked ≡ check.asked = some_inj (sym solve.is ∙ check.is) in
     let none : None ≡ Some job = sym (ap (λ (w : JobWords). solving_job w.job) same ∙ ap solving_job check.job) ∙ solve.job_is in
     absurd (cc (none))
 
@@ -59,7 +43,7 @@ solved_undone words old new sunk_old sunk_new stop job settings asks (inr (inl c
 solved_undone words old new sunk_old sunk_new stop job settings asks (inr (inr u)) = absurd (no_solve words u.number u.settings job settings u.asked asks)
 
 pub judged_done : (words : List (String Global)) (old new sunk_old sunk_new : Option (List ℕ)) (status : ℕ) → AsksCheck words
-    → IsDone words old new sunk_old sunk_new status → IsJudged old new sunk_old sunk_new status
+    → IsDone words old new sunk_old sunk_new status → IsVerdictWritten old new sunk_old sunk_new status
 judged_done words old new sunk_old sunk_new status asks (inl w) = absurd (one_job words w.answered.job w.answered.settings w.answered.asked asks)
 judged_done words old new sunk_old sunk_new status asks (inr (inl c)) = c.1
 judged_done words old new sunk_old sunk_new status asks (inr (inr m)) = absurd (no_check words m.number m.settings m.asked asks)
@@ -67,23 +51,23 @@ judged_done words old new sunk_old sunk_new status asks (inr (inr m)) = absurd (
 -- what was taken, and the rest of the bytes
 told_rest : (old left : Option (List ℕ)) (taken bytes : List ℕ) → old ≡ Some bytes → Gives old left taken → (rest : List ℕ) × (bytes ≡ taken ++ rest)
 told_rest old None taken bytes is gives = absurd (cc (is, gives))
-told_rest old (Some rest) taken bytes is gives = (rest, some_same _ _ (sym is ∙ gives))
+told_rest old (Some rest) taken bytes is gives = (rest, some_inj (sym is ∙ gives))
 
 -- the verdict that was reached is that of all bytes
 reached_verdict : (old left : Option (List ℕ)) (taken bytes : List ℕ) (verdict : Result Claim Refusal) → old ≡ Some bytes → Gives old left taken
-    → IsReached left taken verdict → document_verdict bytes ≡ verdict
+    → HasVerdict left taken verdict → document_verdict bytes ≡ verdict
 reached_verdict old left taken bytes (Ok claim) is gives reached =
     ap document_verdict (sym (taken_all old left taken bytes is gives reached.2)) ∙ reached.0
 reached_verdict old left taken bytes (Err refusal) is gives reached = by_enough reached.2
   where
-    by_enough : IsEnough left taken refusal → document_verdict bytes ≡ Err refusal
+    by_enough : AreBytesEnough left taken refusal → document_verdict bytes ≡ Err refusal
     by_enough (inl ends) =
         let rest = told_rest old left taken bytes is gives in
         ap document_verdict rest.1 ∙ refusals_stay taken rest.0 refusal reached.0 ends
     by_enough (inr ended) = ap document_verdict (sym (taken_all old left taken bytes is gives ended)) ∙ reached.0
 
 pub judged_exactly : (old new sunk_old sunk_new : Option (List ℕ)) (status : ℕ) (bytes : List ℕ) → old ≡ Some bytes
-    → IsJudged old new sunk_old sunk_new status → IsExactly bytes sunk_old sunk_new status
+    → IsVerdictWritten old new sunk_old sunk_new status → IsExactly bytes sunk_old sunk_new status
 judged_exactly old new sunk_old sunk_new status bytes is judged =
     let found = judged.found in
     let same : document_verdict bytes ≡ judged.verdict = reached_verdict old new found.taken bytes judged.verdict is found.gives found.reached in
@@ -94,17 +78,17 @@ judged_exactly old new sunk_old sunk_new status bytes is judged =
 
 -- no verdict is reached on more bytes than are read, where no whole line within these is refused
 pub judged_within : (old new sunk_old sunk_new : Option (List ℕ)) (status : ℕ) (bytes : List ℕ) → old ≡ Some bytes → most_bytes < length bytes
-    → NoneRefused (take most_bytes bytes) → IsJudged old new sunk_old sunk_new status → ⊥
+    → NoneRefused (take most_bytes bytes) → IsVerdictWritten old new sunk_old sunk_new status → ⊥
 judged_within old new sunk_old sunk_new status bytes is past none judged = go judged.verdict judged.found
   where
     whole : (taken : List ℕ) → length taken ≤ most_bytes → taken ≡ bytes → ⊥
     whole taken few same = omega (arith, few, past, ap length same)
 
-    go : (verdict : Result Claim Refusal) → IsFound old new verdict → ⊥
+    go : (verdict : Result Claim Refusal) → IsVerdictFound old new verdict → ⊥
     go (Ok claim) found = whole found.taken found.reached.1 (taken_all old new found.taken bytes is found.gives found.reached.2)
     go (Err refusal) found = by_enough found.reached.2
       where
-        by_enough : IsEnough new found.taken refusal → ⊥
+        by_enough : AreBytesEnough new found.taken refusal → ⊥
         by_enough (inr ended) = whole found.taken found.reached.1 (taken_all old new found.taken bytes is found.gives ended)
         by_enough (inl ends) =
             let rest = told_rest old new found.taken bytes is found.gives in
@@ -116,10 +100,10 @@ judged_within old new sunk_old sunk_new status bytes is past none judged = go ju
 
 -- a verified document shows its claim, and that is true
 pub judged_claimed : (old new sunk_old sunk_new : Option (List ℕ)) (status : ℕ) → status ≡ 0
-    → IsJudged old new sunk_old sunk_new status → IsClaimed old new sunk_old sunk_new
+    → IsVerdictWritten old new sunk_old sunk_new status → IsClaimed old new sunk_old sunk_new
 judged_claimed old new sunk_old sunk_new status zero judged = go judged.verdict judged.found (sym judged.status_is ∙ zero) judged.line
   where
-    go : (verdict : Result Claim Refusal) → IsFound old new verdict → verdict_status verdict ≡ 0 → Gains sunk_old sunk_new (verdict_line verdict)
+    go : (verdict : Result Claim Refusal) → IsVerdictFound old new verdict → verdict_status verdict ≡ 0 → Gains sunk_old sunk_new (verdict_line verdict)
         → IsClaimed old new sunk_old sunk_new
     go (Ok claim) found ok line =
         let document : IsDocument found.taken claim = (documents_have_form found.taken claim).0 found.reached.0 in

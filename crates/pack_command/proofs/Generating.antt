@@ -10,43 +10,42 @@ use Rattle.document_terms.specs.declared.claim.SolvingJob.{SolvingJob}
 use Rattle.document_terms.specs.declared.claim.SolvingJob.TheVariants.{Fit}
 use Rattle.answer_terms.specs.Solved.{JobAnswer, solved}
 use Rattle.pack_streams.specs.Moves.{Gains}
-use Rattle.pack_words.specs.declared.job.Job.{Job}
-use Rattle.pack_words.specs.declared.job.Job.TheVariants.{Check, Make}
+use Rattle.text_terms.specs.declared.job.Job.TheVariants.{Check, Make}
 use Rattle.pack_words.specs.declared.job.JobWords.{JobWords}
-use Rattle.work_share.specs.declared.settings.Settings.{Settings}
+use Rattle.pack_words.proofs.Walking.{some_inj}
+use Rattle.text_terms.specs.declared.job.Settings.{Settings}
 use Rattle.pack_command.specs.Answered.{answer_for, branchings, class_bound, IsAnswerStatus, IsDecided}
 use Rattle.pack_command.specs.Asked.{solving_job, AsksToSolve, AsksCheck, AsksToMake}
 use Rattle.pack_command.specs.Ends.{IsDone, IsUndone}
 use Rattle.pack_command.specs.Generated.{made_for, IsMade, IsMadeCut, IsExactlyMade}
 use Rattle.pack_command.specs.Run.{Asks, IsStopped}
-use Rattle.pack_command.specs.Stops.{status_of}
+use Rattle.pack_command.specs.Stops.{stop_status}
 use Rattle.pack_command.specs.declared.stop.Stop.{Stop}
 use Rattle.pack_command.specs.declared.stop.Stop.TheVariants.{Words, TooLong, Text, ReadFault, WriteFault, NoMemory}
 use Rattle.pack_command.proofs.Decided.{fit_decided}
-use Rattle.pack_command.proofs.Written.{some_same}
 
 -- no words ask for `make` and for another job
 pub no_solve : (words : List (String Global)) (number : ℕ) (settings : Settings) (job : SolvingJob) (others : Settings)
     → AsksToMake words number settings → AsksToSolve words job others → ⊥
 no_solve words number settings job others make solve =
-    let same : make.asked ≡ solve.asked = some_same _ _ (sym make.is ∙ solve.is) in
+    let same : make.asked ≡ solve.asked = some_inj (sym make.is ∙ solve.is) in
     let none : None ≡ Some job = sym (sym (ap (λ (w : JobWords). solving_job w.job) same) ∙ ap solving_job make.job) ∙ solve.job_is in
     absurd (cc (none))
 
 pub no_check : (words : List (String Global)) (number : ℕ) (settings : Settings) → AsksToMake words number settings → AsksCheck words → ⊥
 no_check words number settings make check =
-    let same : make.asked ≡ check.asked = some_same _ _ (sym make.is ∙ check.is) in
+    let same : make.asked ≡ check.asked = some_inj (sym make.is ∙ check.is) in
     let both : Make ≡ Check = sym make.job ∙ (ap (λ (w : JobWords). w.job) same ∙ check.job) in
     absurd (cc (both))
 
 number_same : (words : List (String Global)) (n m : ℕ) (a b : Settings) → AsksToMake words n a → AsksToMake words m b → n ≡ m
 number_same words n m a b x y =
-    let same : x.asked ≡ y.asked = some_same _ _ (sym x.is ∙ y.is) in
+    let same : x.asked ≡ y.asked = some_inj (sym x.is ∙ y.is) in
     sym x.with_number ∙ (ap (λ (w : JobWords). w.number) same ∙ y.with_number)
 
 settings_same : (words : List (String Global)) (n m : ℕ) (a b : Settings) → AsksToMake words n a → AsksToMake words m b → a ≡ b
 settings_same words n m a b x y =
-    let same : x.asked ≡ y.asked = some_same _ _ (sym x.is ∙ y.is) in
+    let same : x.asked ≡ y.asked = some_inj (sym x.is ∙ y.is) in
     sym x.with_settings ∙ (ap (λ (w : JobWords). w.settings) same ∙ y.with_settings)
 
 -- ---- the answer is true
@@ -155,13 +154,13 @@ module _ (words : List (String Global)) (old new sunk_old sunk_new : Option (Lis
   never_unmade stop (inr (inr u)) = cut stop u.number u.settings u.cut
 
   -- in particular by no failed read
-  pub never_broken_off : (stop : Stop) → IsUndone words old new sunk_old sunk_new stop → ¬ (status_of stop ≡ 4)
-  never_broken_off stop undone four = never_unmade stop undone (λ e. other (ap status_of e)) (λ e. further (ap status_of e))
+  pub never_broken_off : (stop : Stop) → IsUndone words old new sunk_old sunk_new stop → ¬ (stop_status stop ≡ 4)
+  never_broken_off stop undone four = never_unmade stop undone (λ e. other (ap stop_status e)) (λ e. further (ap stop_status e))
     where
-      other : status_of stop ≡ 5 → ⊥
+      other : stop_status stop ≡ 5 → ⊥
       other five = omega (arith, four, five)
 
-      further : status_of stop ≡ 6 → ⊥
+      further : stop_status stop ≡ 6 → ⊥
       further six = omega (arith, four, six)
 
 -- and an answer has another status than a failed read

@@ -1,12 +1,10 @@
 -- Lines of a number and coordinates, written piece by piece.
-use Rattle.std.proofs.Common.{◌≡◌, ℕ, ◌+◌, ◌*◌, ◌<◌, ◌≤◌, List, [], ◌∷◌, ◌++◌, map, arith, sym, ap, ◌∙◌, append_assoc, append-nil, get_or}
+use Rattle.std.proofs.Common.{◌≡◌, ℕ, ◌+◌, List, [], ◌∷◌, ◌++◌, map, arith, sym, ap, ◌∙◌, append_assoc, append-nil, get_or}
 use Rattle.std.specs.Fmt.{decimal}
 use Rattle.std.proofs.lemmas.List.{flat_map_more}
 use Rattle.std.proofs.lemmas.List.Concat.{flat_map-append}
 use Rattle.std.proofs.lemmas.List.FromFn.{map-range_with_len_more}
-use Rattle.std.proofs.lemmas.Nat.{mul-add-lt}
-use Rattle.std.proofs.Math.Nat.{mul_comm}
-use Rattle.rule_terms.specs.Rounds.{below}
+use Rattle.packing_terms.specs.Sums.{below}
 use Rattle.text_terms.specs.Spelling.{spaced, lines_text}
 use Rattle.instance_text.specs.Writing.{after_spaces}
 use Rattle.answer_terms.specs.Answers.{numbered_words}
@@ -33,7 +31,3 @@ pub numbered_more : (key : List ℕ) (d : ℕ) (numbers : List ℕ) (k : ℕ)
 numbered_more key d numbers k =
     sym (flat_map-append (λ words. spaced words ++ 10 ∷ []) (map (numbered_words key d numbers) (below k)) (numbered_words key d numbers k ∷ []))
     ∙ sym (ap lines_text (map-range_with_len_more (numbered_words key d numbers) 0 k k (omega arith)))
-
--- a line lies within the numbers
-pub line_within : (d n k size : ℕ) → n * (d + 1) ≤ size → k < n → k * (d + 1) + d < size
-line_within d n k size l h = let a = mul-add-lt k (d + 1) d n h (omega arith) in let b = mul_comm (d + 1) n in omega (arith, a, b, l)

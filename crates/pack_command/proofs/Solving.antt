@@ -4,7 +4,7 @@ use Rattle.std.proofs.Math.ListN.{length-set}
 use Rattle.packing_terms.specs.Packing.{PlainInstance, dims, box_count}
 use Rattle.packing_terms.specs.Goals.{with_last_side}
 use Rattle.tree_terms.specs.Trees.{PlainOutcome, Decided, Past, Yes, No, outcome, told}
-use Rattle.tree_terms.specs.ClassTree.{class_tree, first_large, first_too_wide}
+use Rattle.tree_terms.specs.ClassTree.{class_tree, first_too_large_box, first_too_wide}
 use Rattle.tree_terms.specs.Levels.{PlainReached, height_run, bin_run, value_run}
 use Rattle.tree_terms.proofs.FirstFound.{first_large_is, none_large_is, first_too_wide_is, none_too_wide_is}
 use Rattle.document_terms.specs.declared.claim.SolvingJob.TheVariants.{Fit as SolvesFit, Strip as SolvesStrip, Bins as SolvesBins, Knapsack as SolvesKnapsack}
@@ -21,7 +21,7 @@ use Rattle.bin_knapsack.specs.declared.choice.Choice.{Choice as FoundChoice}
 use Rattle.bin_knapsack.specs.declared.choice.Choice.TheVariants.{Greatest, Between as WorthBetween}
 use Rattle.bin_knapsack.specs.BinAnswers.{IsAnswer as IsBinsAnswer, AreTrueBins}
 use Rattle.bin_knapsack.specs.Choices.{IsAnswer as IsChoiceAnswer}
-use Rattle.work_share.specs.declared.settings.Settings.{Settings}
+use Rattle.text_terms.specs.declared.job.Settings.{Settings}
 use Rattle.pack_command.specs.Placed.{IsPlaced}
 use Rattle.pack_command.specs.declared.solution.Solution.TheVariants.{Fit, Strip, Bins, Knapsack}
 use Rattle.pack_command.specs.Solutions.{strip_found, bins_found, choice_found, IsPlacedStrip, ArePlacedBins, IsSolution}
@@ -72,7 +72,7 @@ module _ (instance : PlainInstance) where
   bins_placed (NoBin v i) budget scales a t = (a.there, a.in_range)
 
   bins_answered : (bins : FoundBins) (budget : ℕ) (scales : Bool) → IsBinsAnswer instance budget scales bins
-      → bins_found bins ≡ bins_answer (first_large instance) (bin_run instance budget scales)
+      → bins_found bins ≡ bins_answer (first_too_large_box instance) (bin_run instance budget scales)
   bins_answered (LeastCount bins numbers tokens) budget scales a =
       sym (ap (λ (p : Option (ℕ × ℕ)). bins_answer p (bin_run instance budget scales)) ((none_large_is instance).1 a.0)
       ∙ ap (λ (r : PlainReached). bins_answer None r) a.1)

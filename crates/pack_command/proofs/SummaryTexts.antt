@@ -1,5 +1,5 @@
 -- The summary of `make`, written piece by piece.
-use Rattle.std.proofs.Common.{◌≡◌, ℕ, List, [], ◌∷◌, ◌++◌, refl, sym, ap, ◌∙◌, append_assoc, append-nil, codes}
+use Rattle.std.proofs.Common.{◌≡◌, ℕ, List, [], ◌∷◌, ◌++◌, sym, ap, ◌∙◌, append_assoc, append-nil, codes}
 use Rattle.std.specs.Fmt.{decimal}
 use Rattle.std.proofs.lemmas.List.Concat.{flat_map-append}
 use Rattle.packing_terms.specs.Packing.{PlainInstance, box_count}
@@ -7,7 +7,6 @@ use Rattle.tree_terms.specs.Rank.{total_volume}
 use Rattle.tree_terms.specs.Trees.{PlainOutcome}
 use Rattle.text_terms.specs.Spelling.{spaced, lines_text}
 use Rattle.answer_terms.specs.Made.{made_words, fit_word, branching_words, made_text}
-use Rattle.pack_command.proofs.ResultTexts.{last_word}
 
 -- three words in a line, between pieces that are written as they are
 ends : (a b c : List ℕ)
@@ -22,13 +21,6 @@ pub made_line : (number : ℕ) (instance : PlainInstance) (n b : ℕ) (v : List 
     → codes "made " ++ (decimal n ++ (codes " boxes " ++ (decimal b ++ (codes " volume " ++ (v ++ codes "\n"))))) ≡ lines_text (made_words number instance ∷ [])
 made_line number instance n b v e f h =
     ap (λ t. codes "made " ++ t) (rw (e, f, h) (sym (ends (decimal number) (decimal (box_count instance)) (decimal (total_volume instance)))))
-
-pub count_line : (count : ℕ) → codes "branchings " ++ (decimal count ++ codes "\n") ≡ lines_text ((codes "branchings" ∷ decimal count ∷ []) ∷ [])
-count_line count = ap (λ t. codes "branchings " ++ t) (sym (last_word (decimal count)))
-
-pub past_line : (budget : ℕ)
-    → codes "branchings more than " ++ (decimal budget ++ codes "\n") ≡ lines_text ((codes "branchings" ∷ codes "more" ∷ codes "than" ∷ decimal budget ∷ []) ∷ [])
-past_line budget = ap (λ t. codes "branchings more than " ++ t) (sym (last_word (decimal budget)))
 
 -- the three lines together
 pub three_lines : (number : ℕ) (instance : PlainInstance) (budget : ℕ) (o : PlainOutcome)

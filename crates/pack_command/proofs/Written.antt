@@ -13,7 +13,8 @@ use Rattle.document_terms.specs.declared.claim.SolvingJob.TheVariants.{Fit, Stri
 use Rattle.answer_terms.specs.Solved.{JobAnswer}
 use Rattle.pack_streams.specs.Moves.{Gives, Gains}
 use Rattle.pack_words.specs.declared.job.JobWords.{JobWords}
-use Rattle.work_share.specs.declared.settings.Settings.{Settings}
+use Rattle.pack_words.proofs.Walking.{some_inj}
+use Rattle.text_terms.specs.declared.job.Settings.{Settings}
 use Rattle.pack_command.specs.Asked.{solving_job, AsksToSolve}
 use Rattle.pack_command.specs.Answered.{answer_for, IsDecided, IsEnough}
 use Rattle.pack_command.specs.Strips.{IsStripDecided}
@@ -25,9 +26,6 @@ use Rattle.pack_command.proofs.StripDecided.{strip_decided}
 use Rattle.pack_command.proofs.BinsDecided.{bins_decided}
 use Rattle.pack_command.proofs.ValueDecided.{value_decided}
 
-pub some_same : {A : Type 0} (x y : A) → Some x ≡ Some y → x ≡ y
-some_same x y e = cc
-
 ok_same : {A B : Type 0} (x y : A) (r : Result A B) → r ≡ Ok x → r ≡ Ok y → x ≡ y
 ok_same x y r e f = cc
 
@@ -35,7 +33,7 @@ ok_same x y r e f = cc
 pub taken_all : (old new : Option (List ℕ)) (bytes told : List ℕ) → old ≡ Some told → Gives old new bytes → IsAtEnd new → bytes ≡ told
 taken_all old None bytes told is gives end = absurd (cc (is, gives))
 taken_all old (Some rest) bytes told is gives end =
-    let whole : bytes ++ rest ≡ told = some_same _ _ (sym gives ∙ is) in
+    let whole : bytes ++ rest ≡ told = some_inj (sym gives ∙ is) in
     let none : bytes ++ rest ≡ bytes = ap (λ r. bytes ++ r) end ∙ append-nil bytes in
     sym none ∙ whole
 
@@ -43,19 +41,19 @@ taken_all old (Some rest) bytes told is gives end =
 pub taken_within : (old new : Option (List ℕ)) (bytes told : List ℕ) → old ≡ Some told → Gives old new bytes → length bytes ≤ length told
 taken_within old None bytes told is gives = absurd (cc (is, gives))
 taken_within old (Some rest) bytes told is gives =
-    let whole : bytes ++ rest ≡ told = some_same _ _ (sym gives ∙ is) in
+    let whole : bytes ++ rest ≡ told = some_inj (sym gives ∙ is) in
     omega (arith, ap length whole, length-append bytes rest)
 
 -- the words ask for one job
 job_same : (words : List (String Global)) (j k : SolvingJob) (a b : Settings) → AsksToSolve words j a → AsksToSolve words k b → j ≡ k
 job_same words j k a b x y =
-    let same : x.asked ≡ y.asked = some_same _ _ (sym x.is ∙ y.is) in
-    some_same _ _ (sym x.job_is ∙ (ap (λ (w : JobWords). solving_job w.job) same ∙ y.job_is))
+    let same : x.asked ≡ y.asked = some_inj (sym x.is ∙ y.is) in
+    some_inj (sym x.job_is ∙ (ap (λ (w : JobWords). solving_job w.job) same ∙ y.job_is))
 
 -- with one list of settings
 settings_same : (words : List (String Global)) (j k : SolvingJob) (a b : Settings) → AsksToSolve words j a → AsksToSolve words k b → a ≡ b
 settings_same words j k a b x y =
-    let same : x.asked ≡ y.asked = some_same _ _ (sym x.is ∙ y.is) in
+    let same : x.asked ≡ y.asked = some_inj (sym x.is ∙ y.is) in
     sym x.with_settings ∙ ap (λ (w : JobWords). w.settings) same ∙ y.with_settings
 
 module _ (words : List (String Global)) (old new sunk_old sunk_new : Option (List ℕ)) (status : ℕ) (settings : Settings) (told : List ℕ) (instance : PlainInstance)

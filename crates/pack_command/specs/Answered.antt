@@ -1,8 +1,9 @@
--- The answer of a solving job for an instance, under the settings of the words; and what that of `fit` says.
+-- The answer of a solving job for an instance, under the settings of the words; and what that of
+-- `fit` says.
 use Rattle.std.specs.Prelude.{ℕ, ◌+◌, ◌-◌, ◌*◌, ◌/◌, ◌^◌, ◌<◌, ◌≤◌, ◌≡◌, ◌⊎◌, List, []}
 use Rattle.std.specs.declared.option.Option.{Option}
 use Rattle.packing_terms.specs.Packing.{PlainInstance, dims, box_count, IsPacking, Fits}
-use Rattle.packing_terms.specs.Scales.{sum_below}
+use Rattle.packing_terms.specs.Sums.{sum_below}
 use Rattle.packing_terms.specs.Tokens.{PlainToken}
 use Rattle.packing_terms.specs.Refutation.{Refutes}
 use Rattle.tree_terms.specs.Trees.{outcome, count_of}
@@ -14,9 +15,10 @@ use Rattle.answer_terms.specs.Answers.{answer_text}
 use Rattle.answer_terms.specs.Answers.Answer.{Undecided, Claimed}
 use Rattle.answer_terms.specs.Solved.{JobAnswer, answer_of}
 use Rattle.pack_streams.specs.Moves.{Gains}
-use Rattle.work_share.specs.declared.settings.Settings.{Settings}
+use Rattle.text_terms.specs.declared.job.Settings.{Settings}
 
--- the answer that the job has for the instance, its status and its document; the number of workers has no part
+-- the answer that the job has for the instance, its status and its document; the number of workers
+-- has no part
 abbrev pub answer_for : SolvingJob → Settings → PlainInstance → JobAnswer
 answer_for job settings instance = answer_of job settings.budget settings.scales instance
 
@@ -36,7 +38,8 @@ pub record IsYes (instance : PlainInstance) (settings : Settings) (sunk_old sunk
   pub within : branchings settings instance ≤ settings.budget
   pub written : Gains sunk_old sunk_new (answer_text instance (Claimed Fitting places []))
 
--- no, with the tokens of a refutation, where the instance doesn't fit, and a count of branchings within the budget
+-- no, with the tokens of a refutation, where the instance doesn't fit, and a count of branchings
+-- within the budget
 pub record IsNo (instance : PlainInstance) (settings : Settings) (sunk_old sunk_new : Option (List ℕ)) (status : ℕ) : Type 0 where
   pub status_is : status ≡ 1
   pub none : ¬ Fits instance
@@ -61,8 +64,9 @@ IsDecided instance settings sunk_old sunk_new status =
 abbrev pub class_bound : PlainInstance → ℕ
 class_bound instance = 3 ^ (dims instance * box_count instance * (box_count instance - 1) / 2)
 
--- A budget that is enough for every tree that the job decides for the instance: for `fit` and each height of a strip its class tree, for each number of
--- bins its bin tree, for each value its choice tree.
+-- A budget that is enough for every tree that the job decides for the instance: for `fit` and each
+-- height of a strip its class tree, for each number of bins its bin tree, for each value its choice
+-- tree.
 abbrev pub IsEnough : SolvingJob → PlainInstance → ℕ → Type 0
 IsEnough Fit instance budget = class_bound instance ≤ budget + 1
 IsEnough Strip instance budget = class_bound instance ≤ budget + 1

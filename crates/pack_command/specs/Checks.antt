@@ -9,7 +9,7 @@ use Rattle.pack_streams.specs.Writing.{GainsPart}
 use Rattle.verdict_terms.specs.Documents.{Refusal, document_verdict, verdict_line}
 use Rattle.verdict_terms.specs.Fed.{NoneRefused}
 use Rattle.verdict_terms.specs.Form.{IsDocument}
-use Rattle.document_check.specs.Checked.{most_bytes, IsEnough}
+use Rattle.document_check.specs.Checked.{most_bytes, AreBytesEnough}
 use Rattle.pack_command.specs.declared.stop.Stop.{Stop}
 use Rattle.pack_command.specs.declared.stop.Stop.TheVariants.{Words, TooLong, Text, ReadFault, WriteFault, NoMemory}
 use Rattle.pack_command.specs.declared.verdict.Verdict.{Verdict}
@@ -25,16 +25,17 @@ abbrev pub verdict_status : Result Claim Refusal → ℕ
 verdict_status (Ok claim) = 0
 verdict_status (Err refusal) = 1
 
--- the bytes taken have the verdict: they are the whole input, or end in the line feed of the refused line
-abbrev pub IsReached : Option (List ℕ) → List ℕ → Result Claim Refusal → Type 0
-IsReached left taken (Ok claim) = (document_verdict taken ≡ Ok claim) × (length taken ≤ most_bytes) × IsAtEnd left
-IsReached left taken (Err refusal) = (document_verdict taken ≡ Err refusal) × (length taken ≤ most_bytes) × IsEnough left taken refusal
+-- the bytes taken have the verdict: they are the whole input, or end in the line feed of the
+-- refused line
+abbrev pub HasVerdict : Option (List ℕ) → List ℕ → Result Claim Refusal → Type 0
+HasVerdict left taken (Ok claim) = (document_verdict taken ≡ Ok claim) × (length taken ≤ most_bytes) × IsAtEnd left
+HasVerdict left taken (Err refusal) = (document_verdict taken ≡ Err refusal) × (length taken ≤ most_bytes) × AreBytesEnough left taken refusal
 
 -- a verdict was reached
-pub record IsFound (old new : Option (List ℕ)) (verdict : Result Claim Refusal) : Type 0 where
+pub record IsVerdictFound (old new : Option (List ℕ)) (verdict : Result Claim Refusal) : Type 0 where
   pub taken : List ℕ
   pub gives : Gives old new taken
-  pub reached : IsReached new taken verdict
+  pub reached : HasVerdict new taken verdict
 
 -- more bytes came than are read, and no line that was whole within these is refused
 pub record IsPastLimit (old new : Option (List ℕ)) : Type 0 where
@@ -51,7 +52,7 @@ pub record IsBrokenOff (old new : Option (List ℕ)) : Type 0 where
 
 -- the verdict, or why there is none
 abbrev pub IsVerdict : Option (List ℕ) → Option (List ℕ) → Result Verdict Stop → Type 0
-IsVerdict old new (Ok verdict) = IsFound old new (plain_verdict verdict)
+IsVerdict old new (Ok verdict) = IsVerdictFound old new (plain_verdict verdict)
 IsVerdict old new (Err TooLong) = IsPastLimit old new
 IsVerdict old new (Err ReadFault) = IsBrokenOff old new
 IsVerdict old new (Err NoMemory) = (taken : List ℕ) × Gives old new taken
@@ -60,26 +61,26 @@ IsVerdict old new (Err (Text fault)) = ⊥
 IsVerdict old new (Err WriteFault) = ⊥
 
 -- a verdict was reached, and its whole line was written
-pub record IsJudged (old new sunk_old sunk_new : Option (List ℕ)) (status : ℕ) : Type 0 where
+pub record IsVerdictWritten (old new sunk_old sunk_new : Option (List ℕ)) (status : ℕ) : Type 0 where
   pub verdict : Result Claim Refusal
-  pub found : IsFound old new verdict
+  pub found : IsVerdictFound old new verdict
   pub status_is : status ≡ verdict_status verdict
   pub line : Gains sunk_old sunk_new (verdict_line verdict)
 
 -- a verdict was reached, and a part at the front of its line was written
 pub record IsLineCut (old new sunk_old sunk_new : Option (List ℕ)) : Type 0 where
   pub verdict : Result Claim Refusal
-  pub found : IsFound old new verdict
+  pub found : IsVerdictFound old new verdict
   pub part : GainsPart sunk_old sunk_new (verdict_line verdict)
 
 -- why a check ended without the line of a verdict
-abbrev pub IsUnjudged : (old new sunk_old sunk_new : Option (List ℕ)) → Stop → Type 0
-IsUnjudged old new sunk_old sunk_new TooLong = IsPastLimit old new × (sunk_new ≡ sunk_old)
-IsUnjudged old new sunk_old sunk_new ReadFault = IsBrokenOff old new × (sunk_new ≡ sunk_old)
-IsUnjudged old new sunk_old sunk_new WriteFault = IsLineCut old new sunk_old sunk_new
-IsUnjudged old new sunk_old sunk_new NoMemory = ((taken : List ℕ) × Gives old new taken) × (sunk_new ≡ sunk_old)
-IsUnjudged old new sunk_old sunk_new Words = ⊥
-IsUnjudged old new sunk_old sunk_new (Text fault) = ⊥
+abbrev pub IsWithoutVerdict : (old new sunk_old sunk_new : Option (List ℕ)) → Stop → Type 0
+IsWithoutVerdict old new sunk_old sunk_new TooLong = IsPastLimit old new × (sunk_new ≡ sunk_old)
+IsWithoutVerdict old new sunk_old sunk_new ReadFault = IsBrokenOff old new × (sunk_new ≡ sunk_old)
+IsWithoutVerdict old new sunk_old sunk_new WriteFault = IsLineCut old new sunk_old sunk_new
+IsWithoutVerdict old new sunk_old sunk_new NoMemory = ((taken : List ℕ) × Gives old new taken) × (sunk_new ≡ sunk_old)
+IsWithoutVerdict old new sunk_old sunk_new Words = ⊥
+IsWithoutVerdict old new sunk_old sunk_new (Text fault) = ⊥
 
 -- verified or refused
 abbrev pub IsVerdictStatus : ℕ → Type 0
@@ -90,7 +91,8 @@ pub record IsExactly (bytes : List ℕ) (sunk_old sunk_new : Option (List ℕ)) 
   pub status_is : status ≡ verdict_status (document_verdict bytes)
   pub line : Gains sunk_old sunk_new (verdict_line (document_verdict bytes))
 
--- The whole input is a document, the claim of the line that was written is its own, and is true of the instance in it.
+-- The whole input is a document, the claim of the line that was written is its own, and is true of
+-- the instance in it.
 pub record IsClaimed (old new sunk_old sunk_new : Option (List ℕ)) : Type 0 where
   pub bytes : List ℕ
   pub taken : Gives old new bytes

@@ -3,7 +3,7 @@ use Rattle.std.specs.Prelude.{ℕ, ◌⊎◌, List, String}
 use Rattle.std.specs.declared.option.Option.{Option}
 use Rattle.std.specs.declared.alloc.Global.{Global}
 use Rattle.pack_command.specs.Asked.{AsksCheck}
-use Rattle.pack_command.specs.Checks.{IsJudged, IsUnjudged}
+use Rattle.pack_command.specs.Checks.{IsVerdictWritten, IsWithoutVerdict}
 use Rattle.pack_command.specs.Generated.{IsMade, IsUnmade}
 use Rattle.pack_command.specs.Run.{IsWritten, IsStopped}
 use Rattle.pack_command.specs.declared.stop.Stop.{Stop}
@@ -12,10 +12,10 @@ use Rattle.pack_command.specs.declared.stop.Stop.{Stop}
 abbrev pub IsDone : List (String Global) → (old new sunk_old sunk_new : Option (List ℕ)) → ℕ → Type 0
 IsDone words old new sunk_old sunk_new status =
     IsWritten words old new sunk_old sunk_new status
-    ⊎ ((AsksCheck words × IsJudged old new sunk_old sunk_new status) ⊎ IsMade words old new sunk_old sunk_new status)
+    ⊎ ((AsksCheck words × IsVerdictWritten old new sunk_old sunk_new status) ⊎ IsMade words old new sunk_old sunk_new status)
 
 -- why a job ended without
 abbrev pub IsUndone : List (String Global) → (old new sunk_old sunk_new : Option (List ℕ)) → Stop → Type 0
 IsUndone words old new sunk_old sunk_new stop =
     IsStopped words old new sunk_old sunk_new stop
-    ⊎ ((AsksCheck words × IsUnjudged old new sunk_old sunk_new stop) ⊎ IsUnmade words old new sunk_old sunk_new stop)
+    ⊎ ((AsksCheck words × IsWithoutVerdict old new sunk_old sunk_new stop) ⊎ IsUnmade words old new sunk_old sunk_new stop)

@@ -14,10 +14,10 @@ use Rattle.answer_terms.specs.Answers.Answer.{Claimed}
 use Rattle.answer_terms.specs.Solved.{none_answer}
 use Rattle.pack_streams.specs.Moves.{Gains}
 use Rattle.bin_knapsack.specs.BinAnswers.{HasLargeCount}
-use Rattle.work_share.specs.declared.settings.Settings.{Settings}
+use Rattle.text_terms.specs.declared.job.Settings.{Settings}
 
--- The least number of bins over all packings, with each box's bin and place and tokens that refute one bin less. No number of bins that was decided has
--- more branchings than the budget.
+-- The least number of bins over all packings, with each box's bin and place and tokens that refute
+-- one bin less. No number of bins that was decided has more branchings than the budget.
 pub record IsLeast (instance : PlainInstance) (settings : Settings) (sunk_old sunk_new : Option (List ℕ)) (status : ℕ) : Type 0 where
   pub status_is : status ≡ 0
   pub bins : ℕ
@@ -29,8 +29,8 @@ pub record IsLeast (instance : PlainInstance) (settings : Settings) (sunk_old su
   pub within : ¬ HasLargeCount instance settings.budget settings.scales
   pub written : Gains sunk_old sunk_new (answer_text instance (Claimed (LeastBins bins) numbers tokens))
 
--- Two numbers of bins between which the least one lies: a refuted one and a placed one, with both certificates. Some number of bins that was decided has
--- more branchings than the budget.
+-- Two numbers of bins between which the least one lies: a refuted one and a placed one, with both
+-- certificates. Some number of bins that was decided has more branchings than the budget.
 pub record IsBetween (instance : PlainInstance) (settings : Settings) (sunk_old sunk_new : Option (List ℕ)) (status : ℕ) : Type 0 where
   pub status_is : status ≡ 3
   pub refuted : ℕ

@@ -11,7 +11,7 @@ use Rattle.answer_terms.specs.Solved.{JobAnswer}
 use Rattle.pack_streams.specs.Moves.{Gains}
 use Rattle.pack_streams.specs.Writing.{GainsPart}
 use Rattle.proof_tree.specs.Plain.{plain_outcome}
-use Rattle.work_share.specs.declared.settings.Settings.{Settings}
+use Rattle.text_terms.specs.declared.job.Settings.{Settings}
 use Rattle.pack_command.specs.Answered.{branchings, class_bound}
 use Rattle.pack_command.specs.Asked.{AsksToMake}
 use Rattle.pack_command.specs.declared.summary.Made.{Made}

@@ -12,10 +12,10 @@ use Rattle.answer_terms.specs.Answers.{answer_text}
 use Rattle.answer_terms.specs.Answers.Answer.{Claimed}
 use Rattle.pack_streams.specs.Moves.{Gains}
 use Rattle.bin_knapsack.specs.Choices.{HasLargeWorth}
-use Rattle.work_share.specs.declared.settings.Settings.{Settings}
+use Rattle.text_terms.specs.declared.job.Settings.{Settings}
 
--- The greatest value over all sets of boxes that fit, with the taken boxes and their places and tokens that refute one more. No value that was decided
--- has more branchings than the budget.
+-- The greatest value over all sets of boxes that fit, with the taken boxes and their places and
+-- tokens that refute one more. No value that was decided has more branchings than the budget.
 pub record IsGreatest (instance : PlainInstance) (settings : Settings) (sunk_old sunk_new : Option (List ℕ)) (status : ℕ) : Type 0 where
   pub status_is : status ≡ 0
   pub value : ℕ
@@ -27,8 +27,8 @@ pub record IsGreatest (instance : PlainInstance) (settings : Settings) (sunk_old
   pub within : ¬ HasLargeWorth instance settings.budget settings.scales
   pub written : Gains sunk_old sunk_new (answer_text instance (Claimed (GreatestValue value) numbers tokens))
 
--- Two values between which the greatest one lies: a placed one and a refuted one, with both certificates. Some value that was decided has more
--- branchings than the budget.
+-- Two values between which the greatest one lies: a placed one and a refuted one, with both
+-- certificates. Some value that was decided has more branchings than the budget.
 pub record IsBetween (instance : PlainInstance) (settings : Settings) (sunk_old sunk_new : Option (List ℕ)) (status : ℕ) : Type 0 where
   pub status_is : status ≡ 3
   pub placed : ℕ

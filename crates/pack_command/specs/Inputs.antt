@@ -15,12 +15,12 @@ pub record IsWholeInput (old new : Option (List ℕ)) (bytes : List ℕ) : Type 
   pub within : length bytes ≤ 1048576
 
 -- the instance of the whole input, or why there is none
-abbrev pub IsRead : Option (List ℕ) → Option (List ℕ) → Result PlainInstance Stop → Type 0
-IsRead old new (Ok instance) =
+abbrev pub IsInputRead : Option (List ℕ) → Option (List ℕ) → Result PlainInstance Stop → Type 0
+IsInputRead old new (Ok instance) =
     (bytes : List ℕ) × IsWholeInput old new bytes × (text_instance bytes ≡ Ok instance)
-IsRead old new (Err (Text fault)) = (bytes : List ℕ) × IsWholeInput old new bytes × (text_instance bytes ≡ Err fault)
-IsRead old new (Err TooLong) = (bytes : List ℕ) × Gives old new bytes × (1048576 < length bytes)
-IsRead old new (Err ReadFault) = (bytes : List ℕ) × Gives old new bytes × (length bytes ≤ 1048576)
-IsRead old new (Err NoMemory) = (bytes : List ℕ) × Gives old new bytes
-IsRead old new (Err Words) = ⊥
-IsRead old new (Err WriteFault) = ⊥
+IsInputRead old new (Err (Text fault)) = (bytes : List ℕ) × IsWholeInput old new bytes × (text_instance bytes ≡ Err fault)
+IsInputRead old new (Err TooLong) = (bytes : List ℕ) × Gives old new bytes × (1048576 < length bytes)
+IsInputRead old new (Err ReadFault) = (bytes : List ℕ) × Gives old new bytes × (length bytes ≤ 1048576)
+IsInputRead old new (Err NoMemory) = (bytes : List ℕ) × Gives old new bytes
+IsInputRead old new (Err Words) = ⊥
+IsInputRead old new (Err WriteFault) = ⊥

@@ -9,12 +9,12 @@ use Rattle.verdict_terms.specs.declared.reason.Reason.{Reason}
 use Rattle.verdict_terms.specs.Reasons.{code_word, reason_words}
 
 -- a text, a number and a line feed
-abbrev pub numbered : List ℕ → ℕ → List ℕ
-numbered text number = text ++ (decimal number ++ 10 ∷ [])
+abbrev pub number_line : List ℕ → ℕ → List ℕ
+number_line text number = text ++ (decimal number ++ 10 ∷ [])
 
 -- a text, two numbers with a space between them and a line feed
-abbrev pub paired : List ℕ → ℕ → ℕ → List ℕ
-paired text first second = text ++ (decimal first ++ (32 ∷ (decimal second ++ 10 ∷ [])))
+abbrev pub pair_line : List ℕ → ℕ → ℕ → List ℕ
+pair_line text first second = text ++ (decimal first ++ (32 ∷ (decimal second ++ 10 ∷ [])))
 
 -- the end of the line of a refusal from the space before the reason on
 abbrev pub reason_end : Reason → List ℕ
@@ -27,11 +27,11 @@ code_end code = 32 ∷ (code_word code ++ 10 ∷ [])
 abbrev pub claim_text : Claim → List ℕ
 claim_text Fitting = codes "verified fit yes\n"
 claim_text NotFitting = codes "verified fit no\n"
-claim_text (LeastHeight h) = numbered (codes "verified strip least ") h
-claim_text (HeightBetween a b) = paired (codes "verified strip between ") a b
+claim_text (LeastHeight h) = number_line (codes "verified strip least ") h
+claim_text (HeightBetween a b) = pair_line (codes "verified strip between ") a b
 claim_text NoHeight = codes "verified strip none\n"
-claim_text (LeastBins k) = numbered (codes "verified bins least ") k
-claim_text (BinsBetween a b) = paired (codes "verified bins between ") a b
+claim_text (LeastBins k) = number_line (codes "verified bins least ") k
+claim_text (BinsBetween a b) = pair_line (codes "verified bins between ") a b
 claim_text NoBins = codes "verified bins none\n"
-claim_text (GreatestValue v) = numbered (codes "verified knapsack greatest ") v
-claim_text (ValueBetween a b) = paired (codes "verified knapsack between ") a b
+claim_text (GreatestValue v) = number_line (codes "verified knapsack greatest ") v
+claim_text (ValueBetween a b) = pair_line (codes "verified knapsack between ") a b

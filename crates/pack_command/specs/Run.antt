@@ -8,15 +8,16 @@ use Rattle.text_terms.specs.Texts.{text_instance}
 use Rattle.pack_streams.specs.Faults.{Rose}
 use Rattle.pack_streams.specs.Moves.{Gives, Gains}
 use Rattle.pack_streams.specs.Writing.{GainsPart}
-use Rattle.work_share.specs.declared.settings.Settings.{Settings}
+use Rattle.text_terms.specs.declared.job.Settings.{Settings}
 use Rattle.document_terms.specs.declared.claim.SolvingJob.{SolvingJob}
 use Rattle.pack_command.specs.Answered.{answer_for}
 use Rattle.pack_command.specs.Asked.{AsksToSolve, AsksNothing}
-use Rattle.pack_command.specs.Inputs.{IsWholeInput, IsRead}
+use Rattle.pack_command.specs.Inputs.{IsWholeInput, IsInputRead}
 use Rattle.pack_command.specs.declared.stop.Stop.{Stop}
 use Rattle.pack_command.specs.declared.stop.Stop.TheVariants.{Words, TooLong, Text, ReadFault, WriteFault, NoMemory}
 
--- the words ask for a solving job, the whole input is the text of an instance, and these are its status and its document
+-- the words ask for a solving job, the whole input is the text of an instance, and these are its
+-- status and its document
 pub record IsAnswered (words : List (String Global)) (old new : Option (List ℕ)) (status : ℕ) (document : List ℕ) : Type 0 where
   pub job : SolvingJob
   pub settings : Settings
@@ -43,9 +44,9 @@ Asks words = (job : SolvingJob) × (settings : Settings) × AsksToSolve words jo
 -- why a job ended without an answer, and what it took from the source and gave to the sink
 abbrev pub IsStopped : List (String Global) → (old new sunk_old sunk_new : Option (List ℕ)) → Stop → Type 0
 IsStopped words old new sunk_old sunk_new Words = AsksNothing words × (new ≡ old) × (sunk_new ≡ sunk_old)
-IsStopped words old new sunk_old sunk_new TooLong = Asks words × IsRead old new (Err TooLong) × (sunk_new ≡ sunk_old)
-IsStopped words old new sunk_old sunk_new (Text fault) = Asks words × IsRead old new (Err (Text fault)) × (sunk_new ≡ sunk_old)
-IsStopped words old new sunk_old sunk_new ReadFault = Asks words × IsRead old new (Err ReadFault) × (sunk_new ≡ sunk_old)
+IsStopped words old new sunk_old sunk_new TooLong = Asks words × IsInputRead old new (Err TooLong) × (sunk_new ≡ sunk_old)
+IsStopped words old new sunk_old sunk_new (Text fault) = Asks words × IsInputRead old new (Err (Text fault)) × (sunk_new ≡ sunk_old)
+IsStopped words old new sunk_old sunk_new ReadFault = Asks words × IsInputRead old new (Err ReadFault) × (sunk_new ≡ sunk_old)
 IsStopped words old new sunk_old sunk_new WriteFault = IsCutShort words old new sunk_old sunk_new
 IsStopped words old new sunk_old sunk_new NoMemory = ((bytes : List ℕ) × Gives old new bytes) × (sunk_new ≡ sunk_old)
 

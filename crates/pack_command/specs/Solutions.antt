@@ -13,7 +13,7 @@ use Rattle.bin_knapsack.specs.declared.bins.Bins.{Bins as FoundBins}
 use Rattle.bin_knapsack.specs.declared.bins.Bins.TheVariants.{Least as LeastCount, Between as CountBetween, NoneFits as NoBin}
 use Rattle.bin_knapsack.specs.declared.choice.Choice.{Choice as FoundChoice}
 use Rattle.bin_knapsack.specs.declared.choice.Choice.TheVariants.{Greatest, Between as WorthBetween}
-use Rattle.work_share.specs.declared.settings.Settings.{Settings}
+use Rattle.text_terms.specs.declared.job.Settings.{Settings}
 use Rattle.pack_command.specs.Placed.{IsPlaced}
 use Rattle.pack_command.specs.declared.solution.Solution.{Solution}
 use Rattle.pack_command.specs.declared.solution.Solution.TheVariants.{Fit, Strip, Bins, Knapsack}
@@ -45,7 +45,8 @@ answer_found (Knapsack choice) = choice_found choice
 abbrev pub AreAllPlaced : PlainInstance → List ℕ → Type 0
 AreAllPlaced instance places = length places ≡ box_count instance * dims instance
 
--- the places of a strip are as many as there are coordinates, and the box that is too wide is one of the instance
+-- the places of a strip are as many as there are coordinates, and the box that is too wide is one
+-- of the instance
 abbrev pub IsPlacedStrip : PlainInstance → FoundStrip → Type 0
 IsPlacedStrip instance (Least height places tokens) = AreAllPlaced instance places.items
 IsPlacedStrip instance (Between refuted tokens height places) = AreAllPlaced instance places.items
@@ -55,7 +56,8 @@ IsPlacedStrip instance (NoneFits v i) = (v < box_count instance) × (i < dims in
 abbrev pub AreAllInBins : PlainInstance → List ℕ → Type 0
 AreAllInBins instance numbers = length numbers ≡ box_count instance * (dims instance + 1)
 
--- the numbers for bins are as many as there are bins and coordinates, and the box that is too large is one of the instance
+-- the numbers for bins are as many as there are bins and coordinates, and the box that is too large
+-- is one of the instance
 abbrev pub ArePlacedBins : PlainInstance → FoundBins → Type 0
 ArePlacedBins instance (LeastCount bins numbers tokens) = AreAllInBins instance numbers.items
 ArePlacedBins instance (CountBetween refuted tokens bins numbers) = AreAllInBins instance numbers.items

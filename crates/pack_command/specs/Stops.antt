@@ -4,13 +4,13 @@ use Rattle.std.specs.Fmt.{decimal}
 use Rattle.pack_command.specs.declared.stop.Stop.{Stop}
 use Rattle.pack_command.specs.declared.stop.Stop.TheVariants.{Words, TooLong, Text, ReadFault, WriteFault, NoMemory}
 
-abbrev pub status_of : Stop → ℕ
-status_of Words = 2
-status_of TooLong = 2
-status_of (Text fault) = 2
-status_of ReadFault = 4
-status_of WriteFault = 5
-status_of NoMemory = 6
+abbrev pub stop_status : Stop → ℕ
+stop_status Words = 2
+stop_status TooLong = 2
+stop_status (Text fault) = 2
+stop_status ReadFault = 4
+stop_status WriteFault = 5
+stop_status NoMemory = 6
 
 abbrev pub message_of : Stop → List ℕ
 message_of Words = codes "usage: pack JOB [--workers N] [--budget B] [--scales yes|no] [--number X]\n"

@@ -13,10 +13,10 @@ use Rattle.answer_terms.specs.Answers.Answer.{Claimed}
 use Rattle.answer_terms.specs.Solved.{none_answer}
 use Rattle.pack_streams.specs.Moves.{Gains}
 use Rattle.strip_solver.specs.Strips.{HasLargeHeight}
-use Rattle.work_share.specs.declared.settings.Settings.{Settings}
+use Rattle.text_terms.specs.declared.job.Settings.{Settings}
 
--- The least height over all packings, with places that are a packing in it and tokens that refute the height below. No height that was decided has
--- more branchings than the budget.
+-- The least height over all packings, with places that are a packing in it and tokens that refute
+-- the height below. No height that was decided has more branchings than the budget.
 pub record IsLeast (instance : PlainInstance) (settings : Settings) (sunk_old sunk_new : Option (List ℕ)) (status : ℕ) : Type 0 where
   pub status_is : status ≡ 0
   pub height : ℕ
@@ -28,8 +28,8 @@ pub record IsLeast (instance : PlainInstance) (settings : Settings) (sunk_old su
   pub within : ¬ HasLargeHeight instance settings.budget settings.scales
   pub written : Gains sunk_old sunk_new (answer_text instance (Claimed (LeastHeight height) places tokens))
 
--- Two heights between which the least one lies: a refuted one and a placed one, with both certificates. Some height that was decided has more branchings
--- than the budget.
+-- Two heights between which the least one lies: a refuted one and a placed one, with both
+-- certificates. Some height that was decided has more branchings than the budget.
 pub record IsBetween (instance : PlainInstance) (settings : Settings) (sunk_old sunk_new : Option (List ℕ)) (status : ℕ) : Type 0 where
   pub status_is : status ≡ 3
   pub refuted : ℕ
@@ -43,7 +43,8 @@ pub record IsBetween (instance : PlainInstance) (settings : Settings) (sunk_old 
   pub past : HasLargeHeight instance settings.budget settings.scales
   pub written : Gains sunk_old sunk_new (answer_text instance (Claimed (HeightBetween refuted placed) places tokens))
 
--- There is no least height, because of the first box that exceeds the container in a dimension other than the last.
+-- There is no least height, because of the first box that exceeds the container in a dimension
+-- other than the last.
 pub record IsNone (instance : PlainInstance) (sunk_old sunk_new : Option (List ℕ)) (status : ℕ) : Type 0 where
   pub status_is : status ≡ 1
   pub none : ¬ ((height : ℕ) × IsLeastHeight instance height)

@@ -1,4 +1,4 @@
-// The documents that answer `bins`, in their one written spelling. Writing takes no memory.
+//! The documents that answer `bins`, in their one written spelling. Writing takes no memory.
 ghost use Rattle.std.specs.Prelude.{◌≡◌, ◌<◌, ◌*◌, ◌+◌, length};
 ghost use Rattle.packing_terms.specs.Packing.{dims, box_count};
 ghost use Rattle.packing_terms.specs.Limits.{IsInstance};
@@ -30,8 +30,10 @@ fn write_certificates<K: Sink>(
     tokens: &[Token],
 ) -> Written
     requires { AreAllInBins instance.now numbers.now }
-    ensures { Continues (K.written sink.old) (K.written sink.new) (K.faults sink.old) (K.faults sink.new)
-        (lines_text (proved_lines (bin_lines instance.now numbers.now) (plain_tokens tokens.now))) so_far result }
+    ensures { Continues (K.written sink.old) (K.written sink.new) (K.faults sink.old)
+        (K.faults sink.new)
+        (lines_text (proved_lines (bin_lines instance.now numbers.now) (plain_tokens tokens.now)))
+        so_far result }
 {
     let (boxes, dims) = (instance.len() as usize, instance.dims());
     let placed = write_all_numbered(sink, so_far, b"place", numbers, boxes, dims);
@@ -48,8 +50,10 @@ fn write_least<K: Sink>(
 ) -> Written
     requires limits { IsInstance instance.now }
     requires placed { AreAllInBins instance.now numbers.now }
-    ensures { Writes (K.written sink.old) (K.written sink.new) (K.faults sink.old) (K.faults sink.new)
-        (answer_text instance.now (Claimed (LeastBins bins) numbers.now (plain_tokens tokens.now))) result }
+    ensures { Writes (K.written sink.old) (K.written sink.new) (K.faults sink.old)
+        (K.faults sink.new)
+        (answer_text instance.now (Claimed (LeastBins bins) numbers.now (plain_tokens tokens.now)))
+        result }
 {
     let begun = write_opening(sink, b"answer bins\n", instance);
     let said = write_least_line(sink, begun, bins as u64);
@@ -68,8 +72,10 @@ fn write_between<K: Sink>(
 ) -> Written
     requires limits { IsInstance instance.now }
     requires placed { AreAllInBins instance.now numbers.now }
-    ensures { Writes (K.written sink.old) (K.written sink.new) (K.faults sink.old) (K.faults sink.new)
-        (answer_text instance.now (Claimed (BinsBetween refuted placed) numbers.now (plain_tokens tokens.now))) result }
+    ensures { Writes (K.written sink.old) (K.written sink.new) (K.faults sink.old)
+        (K.faults sink.new)
+        (answer_text instance.now
+        (Claimed (BinsBetween refuted placed) numbers.now (plain_tokens tokens.now))) result }
 {
     let begun = write_opening(sink, b"answer bins\n", instance);
     let said = write_between_line(sink, begun, refuted as u64, placed as u64);
@@ -82,7 +88,8 @@ fn write_none<K: Sink>(sink: &mut K, instance: &Instance, box_no: u32, dim: u32)
     requires limits { IsInstance instance.now }
     requires there { box_no < box_count instance.now }
     requires in_range { dim < dims instance.now }
-    ensures { Writes (K.written sink.old) (K.written sink.new) (K.faults sink.old) (K.faults sink.new)
+    ensures { Writes (K.written sink.old) (K.written sink.new) (K.faults sink.old)
+        (K.faults sink.new)
         (answer_text instance.now (none_answer NoBins (box_no, dim))) result }
 {
     let begun = write_opening(sink, b"answer bins\n", instance);
@@ -90,12 +97,13 @@ fn write_none<K: Sink>(sink: &mut K, instance: &Instance, box_no: u32, dim: u32)
     write_on(sink, said, b"end\n")
 }
 
-/// Writes the document of an answer of `bins`: the least number of bins or two between which it lies, with both certificates, or the box
-/// that no bin holds.
+/// Writes the document of an answer of `bins`: the least number of bins or two between which it
+/// lies, with both certificates, or the box that no bin holds.
 pub fn write_bins<K: Sink>(sink: &mut K, instance: &Instance, bins: &Bins) -> Written
     requires limits { IsInstance instance.now }
     requires placed { ArePlacedBins instance.now bins.now }
-    ensures { Writes (K.written sink.old) (K.written sink.new) (K.faults sink.old) (K.faults sink.new)
+    ensures { Writes (K.written sink.old) (K.written sink.new) (K.faults sink.old)
+        (K.faults sink.new)
         (answer_text instance.now (bins_found bins.now)) result }
 {
     match bins {

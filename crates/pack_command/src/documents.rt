@@ -1,11 +1,11 @@
-// The documents that answer `fit`, in their one written spelling. Writing takes no memory.
+//! The documents that answer `fit`, in their one written spelling. Writing takes no memory.
 ghost use Rattle.std.specs.Prelude.{◌≡◌, ◌<◌, ◌*◌, ◌∷◌, [], map, length};
 ghost use Rattle.std.specs.Fmt.{decimal};
 ghost use Rattle.packing_terms.specs.Packing.{dims, box_count, place};
 ghost use Rattle.packing_terms.specs.Limits.{IsInstance};
 ghost use Rattle.pack_streams.specs.Writing.{Continues, Writes};
 ghost use Rattle.text_terms.specs.Spelling.{instance_text, lines_text};
-ghost use Rattle.rule_terms.specs.Rounds.{below};
+ghost use Rattle.packing_terms.specs.Sums.{below};
 ghost use Rattle.document_terms.specs.declared.claim.Claim.TheVariants.{Fitting, NotFitting};
 ghost use Rattle.instance_text.specs.Writing.{after_spaces};
 ghost use Rattle.proof_tree.specs.Plain.{plain_tokens, plain_outcome};
@@ -19,7 +19,8 @@ use instance_text::write_instance;
 use pack_streams::{Sink, WriteFault, write_number, write_on};
 use proof_tree::{Outcome, Token, write_tokens_on};
 
-/// How writing went so far. Each call below writes where no fault came before, and else does nothing.
+/// How writing went so far. Each call below writes where no fault came before, and else does
+/// nothing.
 pub type Written = Result<(), WriteFault>;
 
 // Writes the coordinates of a box, each after a space.
@@ -32,8 +33,10 @@ fn write_coordinates<K: Sink>(
 ) -> Written
     requires one_each { length places.now ≡ box_count instance.now * dims instance.now }
     requires there { box_no < box_count instance.now }
-    ensures { Continues (K.written sink.old) (K.written sink.new) (K.faults sink.old) (K.faults sink.new)
-        (after_spaces (map (λ i. decimal (place instance.now places.now box_no i)) (below (dims instance.now)))) so_far result }
+    ensures { Continues (K.written sink.old) (K.written sink.new) (K.faults sink.old)
+        (K.faults sink.new)
+        (after_spaces (map (λ i. decimal (place instance.now places.now box_no i))
+        (below (dims instance.now)))) so_far result }
 {
     let dims = instance.dims();
     let mut now = so_far;
@@ -54,7 +57,8 @@ fn write_place<K: Sink>(
 ) -> Written
     requires one_each { length places.now ≡ box_count instance.now * dims instance.now }
     requires there { box_no < box_count instance.now }
-    ensures { Continues (K.written sink.old) (K.written sink.new) (K.faults sink.old) (K.faults sink.new)
+    ensures { Continues (K.written sink.old) (K.written sink.new) (K.faults sink.old)
+        (K.faults sink.new)
         (lines_text (place_words instance.now places.now box_no ∷ [])) so_far result }
 {
     let named = write_on(sink, so_far, b"place");
@@ -70,7 +74,8 @@ pub fn write_places<K: Sink>(
     places: &[u32],
 ) -> Written
     requires { length places.now ≡ box_count instance.now * dims instance.now }
-    ensures { Continues (K.written sink.old) (K.written sink.new) (K.faults sink.old) (K.faults sink.new)
+    ensures { Continues (K.written sink.old) (K.written sink.new) (K.faults sink.old)
+        (K.faults sink.new)
         (lines_text (place_lines instance.now places.now)) so_far result }
 {
     let mut now = so_far;
@@ -83,7 +88,8 @@ pub fn write_places<K: Sink>(
 /// Writes the lines of the instance.
 pub fn write_instance_on<K: Sink>(sink: &mut K, so_far: Written, instance: &Instance) -> Written
     requires { IsInstance instance.now }
-    ensures { Continues (K.written sink.old) (K.written sink.new) (K.faults sink.old) (K.faults sink.new)
+    ensures { Continues (K.written sink.old) (K.written sink.new) (K.faults sink.old)
+        (K.faults sink.new)
         (instance_text instance.now) so_far result }
 {
     match so_far {
@@ -96,7 +102,8 @@ pub fn write_instance_on<K: Sink>(sink: &mut K, so_far: Written, instance: &Inst
 fn write_yes<K: Sink>(sink: &mut K, instance: &Instance, places: &[u32]) -> Written
     requires limits { IsInstance instance.now }
     requires one_each { length places.now ≡ box_count instance.now * dims instance.now }
-    ensures { Writes (K.written sink.old) (K.written sink.new) (K.faults sink.old) (K.faults sink.new)
+    ensures { Writes (K.written sink.old) (K.written sink.new) (K.faults sink.old)
+        (K.faults sink.new)
         (answer_text instance.now (Claimed Fitting places.now [])) result }
 {
     let named = write_on(sink, Ok(()), b"answer fit\n");
@@ -109,7 +116,8 @@ fn write_yes<K: Sink>(sink: &mut K, instance: &Instance, places: &[u32]) -> Writ
 // Writes the document that says no, with a refutation.
 fn write_no<K: Sink>(sink: &mut K, instance: &Instance, tokens: &[Token]) -> Written
     requires { IsInstance instance.now }
-    ensures { Writes (K.written sink.old) (K.written sink.new) (K.faults sink.old) (K.faults sink.new)
+    ensures { Writes (K.written sink.old) (K.written sink.new) (K.faults sink.old)
+        (K.faults sink.new)
         (answer_text instance.now (Claimed NotFitting [] (plain_tokens tokens.now))) result }
 {
     let named = write_on(sink, Ok(()), b"answer fit\n");
@@ -122,7 +130,8 @@ fn write_no<K: Sink>(sink: &mut K, instance: &Instance, tokens: &[Token]) -> Wri
 // Writes the document that says that the budget was spent.
 fn write_undecided<K: Sink>(sink: &mut K, instance: &Instance) -> Written
     requires { IsInstance instance.now }
-    ensures { Writes (K.written sink.old) (K.written sink.new) (K.faults sink.old) (K.faults sink.new)
+    ensures { Writes (K.written sink.old) (K.written sink.new) (K.faults sink.old)
+        (K.faults sink.new)
         (answer_text instance.now Undecided) result }
 {
     let named = write_on(sink, Ok(()), b"answer fit\n");
@@ -130,11 +139,13 @@ fn write_undecided<K: Sink>(sink: &mut K, instance: &Instance) -> Written
     write_on(sink, shown, b"result undecided\nend\n")
 }
 
-/// Writes the document of an answer of `fit`: a yes with the place of each box, a no with its refutation, or undecided.
+/// Writes the document of an answer of `fit`: a yes with the place of each box, a no with its
+/// refutation, or undecided.
 pub fn write_fit<K: Sink>(sink: &mut K, instance: &Instance, outcome: &Outcome) -> Written
     requires limits { IsInstance instance.now }
     requires placed { IsPlaced instance.now (plain_outcome outcome.now) }
-    ensures { Writes (K.written sink.old) (K.written sink.new) (K.faults sink.old) (K.faults sink.new)
+    ensures { Writes (K.written sink.old) (K.written sink.new) (K.faults sink.old)
+        (K.faults sink.new)
         (answer_text instance.now (fit_answer (plain_outcome outcome.now))) result }
 {
     match outcome {

@@ -1,9 +1,9 @@
-// A sink that stands before another one and holds back up to 4,096 bytes.
+//! A sink that stands before another one and holds back up to 4,096 bytes.
 ghost use Rattle.std.specs.Prelude.{◌≡◌, ◌<◌, ◌≤◌, ◌+◌, ◌-◌, ◌++◌, ℕ, List, min, length, take, OnOk, OnErr};
 ghost use Rattle.pack_streams.specs.Faults.{Rose};
 ghost use Rattle.pack_streams.specs.Moves.{Gains};
 ghost use Rattle.pack_streams.specs.Writing.{Writes};
-ghost use Rattle.pack_command.specs.Fronts.{IsFront, part_of, shown};
+ghost use Rattle.pack_command.specs.Fronts.{IsToldFront, part_of, shown};
 ghost use Rattle.std.proofs.Props.{props};
 
 use pack_streams::{Sink, WriteAnswer, WriteFault};
@@ -12,7 +12,8 @@ use std::marker::{Brand, PhantomData};
 // What is offered to the sink behind at once.
 const BLOCK: usize = 4096;
 
-/// Which sink stands behind a front: the ghost name of the reference to it, and what was written to it at first.
+/// Which sink stands behind a front: the ghost name of the reference to it, and what was written to
+/// it at first.
 pub trait Behind {
     ghost use Rattle.std.specs.Prelude.{ℕ, List};
     ghost use Rattle.std.specs.declared.option.Option.{Option};
@@ -46,7 +47,7 @@ pub struct Front<'a, K: Sink, B: Behind> {
     pub end: usize,
     pub behind: PhantomData<B>,
     ghost same: { out.ghost_name ≡ B.name },
-    ghost since: { IsFront B.begun (K.written out.now) } by { Prim.hlevel props },
+    ghost since: { IsToldFront B.begun (K.written out.now) } by { Prim.hlevel props },
     ghost ordered: { start ≤ end },
     ghost within: { end ≤ 4096 },
 }
@@ -73,7 +74,8 @@ fn give_part<K: Sink>(out: &mut K, block: &[u8], start: usize, end: usize) -> us
     requires ordered { start ≤ end }
     requires within { end ≤ length block.now }
     ensures within { result ≤ end - start }
-    ensures moves { Gains (K.written out.old) (K.written out.new) (take result (part_of block.now start end)) }
+    ensures moves { Gains (K.written out.old) (K.written out.new)
+        (take result (part_of block.now start end)) }
     ensures count { K.faults out.old ≤ K.faults out.new }
     ensures cause { result < end - start → Rose (K.faults out.old) (K.faults out.new) }
 {
@@ -95,11 +97,13 @@ fn put(block: &mut [u8], end: usize, piece: &[u8]) -> usize
 impl<'a, K: Sink, B: Behind> Front<'a, K, B> {
     /// Gives what is held back to the sink behind. Where that fails, the rest is still held back.
     pub fn empty(&mut self) -> Result<(), WriteFault>
-        ensures shown { shown (K.written self.new.out.now) self.new.block self.new.start self.new.end
+        ensures shown { shown (K.written self.new.out.now) self.new.block self.new.start
+            self.new.end
             ≡ shown (K.written self.old.out.now) self.old.block self.old.start self.old.end }
         ensures empty { OnOk result (self.new.start ≡ self.new.end) }
         ensures count { K.faults self.old.out.now ≤ K.faults self.new.out.now }
-        ensures cause { OnErr result (Rose (K.faults self.old.out.now) (K.faults self.new.out.now)) }
+        ensures cause { OnErr result
+            (Rose (K.faults self.old.out.now) (K.faults self.new.out.now)) }
     {
         let taken = give_part(self.out, &self.block, self.start, self.end);
         self.start += taken;
@@ -113,11 +117,13 @@ impl<'a, K: Sink, B: Behind> Front<'a, K, B> {
 impl<'a, K: Sink, B: Behind> Front<'a, K, B> {
     // Empties the block where it is full.
     fn make_room(&mut self) -> Result<(), WriteFault>
-        ensures shown { shown (K.written self.new.out.now) self.new.block self.new.start self.new.end
+        ensures shown { shown (K.written self.new.out.now) self.new.block self.new.start
+            self.new.end
             ≡ shown (K.written self.old.out.now) self.old.block self.old.start self.old.end }
         ensures room { OnOk result (self.new.end < 4096) }
         ensures count { K.faults self.old.out.now ≤ K.faults self.new.out.now }
-        ensures cause { OnErr result (Rose (K.faults self.old.out.now) (K.faults self.new.out.now)) }
+        ensures cause { OnErr result
+            (Rose (K.faults self.old.out.now) (K.faults self.new.out.now)) }
     {
         if self.end < BLOCK {
             return Ok(());
@@ -129,11 +135,13 @@ impl<'a, K: Sink, B: Behind> Front<'a, K, B> {
     }
 }
 
-/// A front before the sink, which is named by the ghost name of the reference to it. Nothing is held back yet.
+/// A front before the sink, which is named by the ghost name of the reference to it. Nothing is
+/// held back yet.
 pub fn front_before<'a, K: Sink, B: Behind>(out: &'a mut K) -> Front<'a, K, B>
     requires name { out.ghost_name ≡ B.name }
     requires begun { K.written out.now ≡ B.begun }
-    ensures shown { shown (K.written result.out.now) result.block result.start result.end ≡ K.written out.entry.now }
+    ensures shown { shown (K.written result.out.now) result.block result.start result.end
+        ≡ K.written out.entry.now }
     ensures faults { K.faults result.out.now ≡ K.faults out.entry.now }
     ensures same { result.out.ghost_name ≡ out.entry.ghost_name }
 {
@@ -168,16 +176,19 @@ fn sink_behind<'a, K: Sink, B: Behind>(
     }
 }
 
-/// Hands back the sink behind a front to which a text was written. Where all of it was, what is held back is given on first.
+/// Hands back the sink behind a front to which a text was written. Where all of it was, what is
+/// held back is given on first.
 pub fn hand_back<'a, K: Sink, B: Behind>(
     mut front: Front<'a, K, B>,
     written: Result<(), WriteFault>,
 ) -> Done<'a, K>
     ensures same { result.out.ghost_name ≡ front.entry.out.ghost_name }
     ensures written { (before : ℕ) (text : List ℕ)
-        → Writes B.begun (shown (K.written front.entry.out.now) front.entry.block front.entry.start front.entry.end)
+        → Writes B.begun (shown (K.written front.entry.out.now) front.entry.block front.entry.start
+        front.entry.end)
         before (K.faults front.entry.out.now) text written
-        → Writes B.begun (K.written result.out.now) before (K.faults result.out.now) text result.result }
+        → Writes B.begun (K.written result.out.now) before (K.faults result.out.now) text
+        result.result }
 {
     match written {
         Ok(()) => {

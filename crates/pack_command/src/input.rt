@@ -1,8 +1,8 @@
-// The instance that a source gives.
+//! The instance that a source gives.
 ghost use Rattle.std.specs.Prelude.{◌≡◌, ◌≤◌, IfOk};
 ghost use Rattle.packing_terms.specs.Limits.{IsInstance};
 ghost use Rattle.pack_streams.specs.Faults.{Rose};
-ghost use Rattle.pack_command.specs.Inputs.{IsRead};
+ghost use Rattle.pack_command.specs.Inputs.{IsInputRead};
 
 use crate::stop::Stop;
 use box_instances::Instance;
@@ -15,7 +15,7 @@ const LIMIT: usize = 1_048_576;
 
 /// Reads the whole source as the text of an instance.
 pub fn read_input<S: Source>(alloc: Global, input: &mut S) -> Result<Instance, Stop>
-    ensures moves { IsRead (S.left input.old) (S.left input.new) result }
+    ensures moves { IsInputRead (S.left input.old) (S.left input.new) result }
     ensures limits { IfOk result IsInstance }
     ensures count { S.faults input.old ≤ S.faults input.new }
     ensures cause { result ≡ Err Stop.ReadFault → Rose (S.faults input.old) (S.faults input.new) }

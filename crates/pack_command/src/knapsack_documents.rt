@@ -1,4 +1,4 @@
-// The documents that answer `knapsack`, in their one written spelling. Writing takes no memory.
+//! The documents that answer `knapsack`, in their one written spelling. Writing takes no memory.
 ghost use Rattle.std.specs.Prelude.{◌∷◌, [], codes};
 ghost use Rattle.std.specs.Fmt.{decimal};
 ghost use Rattle.packing_terms.specs.Limits.{IsInstance};
@@ -20,7 +20,8 @@ use proof_tree::Token;
 
 // Writes the result line of a greatest value.
 fn write_greatest_line<K: Sink>(sink: &mut K, so_far: Written, value: u64) -> Written
-    ensures { Continues (K.written sink.old) (K.written sink.new) (K.faults sink.old) (K.faults sink.new)
+    ensures { Continues (K.written sink.old) (K.written sink.new) (K.faults sink.old)
+        (K.faults sink.new)
         (lines_text ((codes "result" ∷ codes "greatest" ∷ decimal value ∷ []) ∷ [])) so_far result }
 {
     let named = write_on(sink, so_far, b"result greatest ");
@@ -36,8 +37,10 @@ fn write_certificates<K: Sink>(
     numbers: &[u32],
     tokens: &[Token],
 ) -> Written
-    ensures { Continues (K.written sink.old) (K.written sink.new) (K.faults sink.old) (K.faults sink.new)
-        (lines_text (proved_lines (take_lines instance.now numbers.now) (plain_tokens tokens.now))) so_far result }
+    ensures { Continues (K.written sink.old) (K.written sink.new) (K.faults sink.old)
+        (K.faults sink.new)
+        (lines_text (proved_lines (take_lines instance.now numbers.now) (plain_tokens tokens.now)))
+        so_far result }
 {
     let dims = instance.dims();
     let count = numbers.len() / (dims as usize + 1);
@@ -54,8 +57,10 @@ fn write_greatest<K: Sink>(
     tokens: &[Token],
 ) -> Written
     requires { IsInstance instance.now }
-    ensures { Writes (K.written sink.old) (K.written sink.new) (K.faults sink.old) (K.faults sink.new)
-        (answer_text instance.now (Claimed (GreatestValue value) numbers.now (plain_tokens tokens.now))) result }
+    ensures { Writes (K.written sink.old) (K.written sink.new) (K.faults sink.old)
+        (K.faults sink.new)
+        (answer_text instance.now
+        (Claimed (GreatestValue value) numbers.now (plain_tokens tokens.now))) result }
 {
     let begun = write_opening(sink, b"answer knapsack\n", instance);
     let said = write_greatest_line(sink, begun, value);
@@ -73,8 +78,10 @@ fn write_between<K: Sink>(
     tokens: &[Token],
 ) -> Written
     requires { IsInstance instance.now }
-    ensures { Writes (K.written sink.old) (K.written sink.new) (K.faults sink.old) (K.faults sink.new)
-        (answer_text instance.now (Claimed (ValueBetween placed refuted) numbers.now (plain_tokens tokens.now))) result }
+    ensures { Writes (K.written sink.old) (K.written sink.new) (K.faults sink.old)
+        (K.faults sink.new)
+        (answer_text instance.now
+        (Claimed (ValueBetween placed refuted) numbers.now (plain_tokens tokens.now))) result }
 {
     let begun = write_opening(sink, b"answer knapsack\n", instance);
     let said = write_between_line(sink, begun, placed, refuted);
@@ -82,10 +89,12 @@ fn write_between<K: Sink>(
     write_on(sink, shown, b"end\n")
 }
 
-/// Writes the document of an answer of `knapsack`: the greatest value or two between which it lies, with both certificates.
+/// Writes the document of an answer of `knapsack`: the greatest value or two between which it lies,
+/// with both certificates.
 pub fn write_choice<K: Sink>(sink: &mut K, instance: &Instance, choice: &Choice) -> Written
     requires { IsInstance instance.now }
-    ensures { Writes (K.written sink.old) (K.written sink.new) (K.faults sink.old) (K.faults sink.new)
+    ensures { Writes (K.written sink.old) (K.written sink.new) (K.faults sink.old)
+        (K.faults sink.new)
         (answer_text instance.now (choice_found choice.now)) result }
 {
     match choice {

@@ -1,4 +1,4 @@
-// The job `make`: an instance is made of a number, and decided.
+//! The job `make`: an instance is made of a number, and decided.
 ghost use Rattle.std.specs.Prelude.{◌≡◌, ◌≤◌, Err, IfOk, IfErr, OnOk};
 ghost use Rattle.pack_streams.specs.Faults.{Rose};
 ghost use Rattle.pack_streams.specs.Moves.{Gains};
@@ -6,7 +6,8 @@ ghost use Rattle.pack_command.specs.Generated.{made_for, IsMadeCut, IsMadeOf};
 
 use crate::solution::fit_status;
 use crate::stop::Stop;
-use crate::summary::{Made, stream_made};
+use crate::stream::stream;
+use crate::summary::Made;
 use box_instances::{NoMemory, make};
 use class_search::decide;
 use pack_streams::Sink;
@@ -35,8 +36,8 @@ fn made<R: Threads + Wait + Sync, G: Gate + Sync>(
     })
 }
 
-/// Makes the instance of a number, decides whether it fits, and writes the three lines that tell of it. It answers the status of
-/// the decision, or why the lines weren't written whole.
+/// Makes the instance of a number, decides whether it fits, and writes the three lines that tell of
+/// it. It answers the status of the decision, or why the lines weren't written whole.
 pub fn make_and_tell<R: Threads + Wait + Sync, K: Sink, G: Gate + Sync>(
     rt: &R,
     alloc: Global,
@@ -46,15 +47,18 @@ pub fn make_and_tell<R: Threads + Wait + Sync, K: Sink, G: Gate + Sync>(
     gate: &G,
 ) -> Result<u8, Stop>
     ensures status { IfOk result (λ status. status ≡ (made_for number settings.now).status) }
-    ensures written { OnOk result (Gains (K.written out.old) (K.written out.new) (made_for number settings.now).text) }
-    ensures cut { IfErr result (IsMadeCut number settings.now (K.written out.old) (K.written out.new)) }
-    ensures write_fault { result ≡ Err Stop.WriteFault → Rose (K.faults out.old) (K.faults out.new) }
+    ensures written { OnOk result
+        (Gains (K.written out.old) (K.written out.new) (made_for number settings.now).text) }
+    ensures cut { IfErr result
+        (IsMadeCut number settings.now (K.written out.old) (K.written out.new)) }
+    ensures write_fault { result ≡ Err Stop.WriteFault
+        → Rose (K.faults out.old) (K.faults out.new) }
     ensures count { K.faults out.old ≤ K.faults out.new }
 {
     let Ok(made) = made(rt, alloc, number, settings, gate) else {
         return Err(Stop::NoMemory);
     };
-    match stream_made(out, &made) {
+    match stream(out, &made) {
         Ok(()) => Ok(fit_status(&made.outcome)),
         Err(_) => Err(Stop::WriteFault),
     }

@@ -1,7 +1,7 @@
-// Lines that give a number and coordinates: of each box its bin, or of each taken box its number.
+//! Lines that give a number and coordinates: of each box its bin, or of each taken box its number.
 ghost use Rattle.std.specs.Prelude.{◌<◌, ◌≤◌, ◌+◌, ◌*◌, ◌∷◌, [], suc, map, length, slice_index};
 ghost use Rattle.std.specs.Fmt.{decimal};
-ghost use Rattle.rule_terms.specs.Rounds.{below};
+ghost use Rattle.packing_terms.specs.Sums.{below};
 ghost use Rattle.pack_streams.specs.Writing.{Continues};
 ghost use Rattle.text_terms.specs.Spelling.{lines_text};
 ghost use Rattle.instance_text.specs.Writing.{after_spaces};
@@ -19,8 +19,10 @@ fn write_behind<K: Sink>(
     dims: u32,
 ) -> Written
     requires { start + dims < length numbers.now }
-    ensures { Continues (K.written sink.old) (K.written sink.new) (K.faults sink.old) (K.faults sink.new)
-        (after_spaces (map (λ i. decimal (slice_index numbers.now (start + (1 + i)))) (below dims))) so_far result }
+    ensures { Continues (K.written sink.old) (K.written sink.new) (K.faults sink.old)
+        (K.faults sink.new)
+        (after_spaces (map (λ i. decimal (slice_index numbers.now (start + (1 + i)))) (below dims)))
+        so_far result }
 {
     let mut now = so_far;
     for dim in 0..dims {
@@ -40,9 +42,11 @@ fn write_numbered<K: Sink>(
     dims: u32,
 ) -> Written
     requires { start + dims < length numbers.now }
-    ensures { Continues (K.written sink.old) (K.written sink.new) (K.faults sink.old) (K.faults sink.new)
+    ensures { Continues (K.written sink.old) (K.written sink.new) (K.faults sink.old)
+        (K.faults sink.new)
         (lines_text ((key.now ∷ decimal (suc (slice_index numbers.now start))
-        ∷ map (λ i. decimal (slice_index numbers.now (start + (1 + i)))) (below dims)) ∷ [])) so_far result }
+        ∷ map (λ i. decimal (slice_index numbers.now (start + (1 + i)))) (below dims)) ∷ [])) so_far
+        result }
 {
     let named = write_on(sink, so_far, key);
     let spaced = write_on(sink, named, b" ");
@@ -61,7 +65,8 @@ pub fn write_all_numbered<K: Sink>(
     dims: u32,
 ) -> Written
     requires { count * (dims + 1) ≤ length numbers.now }
-    ensures { Continues (K.written sink.old) (K.written sink.new) (K.faults sink.old) (K.faults sink.new)
+    ensures { Continues (K.written sink.old) (K.written sink.new) (K.faults sink.old)
+        (K.faults sink.new)
         (lines_text (map (numbered_words key.now dims numbers.now) (below count))) so_far result }
 {
     let width = dims as usize + 1;

@@ -1,4 +1,5 @@
-// What the documents of `strip`, `bins` and `knapsack` share: their first lines, their result lines, and the refutation.
+//! What the documents of `strip`, `bins` and `knapsack` share: their first lines, their result
+//! lines, and the refutation.
 ghost use Rattle.std.specs.Prelude.{◌≡◌, ◌<◌, ◌+◌, ◌++◌, ◌∷◌, [], codes};
 ghost use Rattle.std.specs.Fmt.{decimal};
 ghost use Rattle.packing_terms.specs.Packing.{dims, box_count};
@@ -17,7 +18,8 @@ use proof_tree::{Token, write_token_on, write_tokens_on};
 /// Writes the first line, and the lines of the instance.
 pub fn write_opening<K: Sink>(sink: &mut K, first: &[u8], instance: &Instance) -> Written
     requires { IsInstance instance.now }
-    ensures { Writes (K.written sink.old) (K.written sink.new) (K.faults sink.old) (K.faults sink.new)
+    ensures { Writes (K.written sink.old) (K.written sink.new) (K.faults sink.old)
+        (K.faults sink.new)
         (first.now ++ instance_text instance.now) result }
 {
     let named = write_on(sink, Ok(()), first);
@@ -26,7 +28,8 @@ pub fn write_opening<K: Sink>(sink: &mut K, first: &[u8], instance: &Instance) -
 
 /// Writes the result line of a least level.
 pub fn write_least_line<K: Sink>(sink: &mut K, so_far: Written, level: u64) -> Written
-    ensures { Continues (K.written sink.old) (K.written sink.new) (K.faults sink.old) (K.faults sink.new)
+    ensures { Continues (K.written sink.old) (K.written sink.new) (K.faults sink.old)
+        (K.faults sink.new)
         (lines_text ((codes "result" ∷ codes "least" ∷ decimal level ∷ []) ∷ [])) so_far result }
 {
     let named = write_on(sink, so_far, b"result least ");
@@ -36,8 +39,10 @@ pub fn write_least_line<K: Sink>(sink: &mut K, so_far: Written, level: u64) -> W
 
 /// Writes the result line of two levels between which the best one lies.
 pub fn write_between_line<K: Sink>(sink: &mut K, so_far: Written, low: u64, high: u64) -> Written
-    ensures { Continues (K.written sink.old) (K.written sink.new) (K.faults sink.old) (K.faults sink.new)
-        (lines_text ((codes "result" ∷ codes "between" ∷ decimal low ∷ decimal high ∷ []) ∷ [])) so_far result }
+    ensures { Continues (K.written sink.old) (K.written sink.new) (K.faults sink.old)
+        (K.faults sink.new)
+        (lines_text ((codes "result" ∷ codes "between" ∷ decimal low ∷ decimal high ∷ []) ∷ []))
+        so_far result }
 {
     let named = write_on(sink, so_far, b"result between ");
     let first = write_number(sink, named, low);
@@ -48,7 +53,8 @@ pub fn write_between_line<K: Sink>(sink: &mut K, so_far: Written, low: u64, high
 
 /// Writes the line `proof`, and a refutation.
 pub fn write_proof<K: Sink>(sink: &mut K, so_far: Written, tokens: &[Token]) -> Written
-    ensures { Continues (K.written sink.old) (K.written sink.new) (K.faults sink.old) (K.faults sink.new)
+    ensures { Continues (K.written sink.old) (K.written sink.new) (K.faults sink.old)
+        (K.faults sink.new)
         (codes "proof\n" ++ token_text (plain_tokens tokens.now)) so_far result }
 {
     let split = write_on(sink, so_far, b"proof\n");
@@ -65,9 +71,11 @@ pub fn write_none_line<K: Sink>(
 ) -> Written
     requires there { box_no < box_count instance.now }
     requires in_range { dim < dims instance.now }
-    ensures { Continues (K.written sink.old) (K.written sink.new) (K.faults sink.old) (K.faults sink.new)
+    ensures { Continues (K.written sink.old) (K.written sink.new) (K.faults sink.old)
+        (K.faults sink.new)
         (codes "result none\n" ++ token_line (TooLarge (box_no + 1) (dim + 1))) so_far result }
 {
+    // For the proof alone: tells the limits of the instance.
     let _boxes = instance.len();
     let said = write_on(sink, so_far, b"result none\n");
     let token = Token::TooLarge {

@@ -1,4 +1,4 @@
-// What a solving job finds for an instance.
+//! What a solving job finds for an instance.
 ghost use Rattle.std.specs.Prelude.{◌≡◌, IfOk};
 ghost use Rattle.packing_terms.specs.Limits.{IsInstance};
 ghost use Rattle.answer_terms.specs.Answers.{status_of};
@@ -25,7 +25,8 @@ pub enum Solution {
 }
 
 impl Solution {
-    /// The status of the answer: 0 for yes, least and greatest, 1 for no and none, 3 for undecided and between.
+    /// The status of the answer: 0 for yes, least and greatest, 1 for no and none, 3 for undecided
+    /// and between.
     pub fn status(&self) -> u8
         ensures { result ≡ status_of (answer_found self.now) }
     {

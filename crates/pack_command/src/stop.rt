@@ -1,7 +1,7 @@
-// Why a job ended without an answer, and what is said of it.
+//! Why a job ended without an answer, and what is said of it.
 ghost use Rattle.std.specs.Prelude.{◌≡◌};
 ghost use Rattle.pack_streams.specs.Writing.{Writes};
-ghost use Rattle.pack_command.specs.Stops.{message_of, status_of};
+ghost use Rattle.pack_command.specs.Stops.{message_of, stop_status};
 
 use pack_streams::{Sink, WriteFault, write_number, write_on};
 use text_terms::TextFault;
@@ -26,7 +26,7 @@ pub enum Stop {
 impl Stop {
     /// The status that the program ends with.
     pub fn status(self) -> u8
-        ensures { result ≡ status_of self }
+        ensures { result ≡ stop_status self }
     {
         match self {
             Stop::Words | Stop::TooLong | Stop::Text(_) => 2,
@@ -38,7 +38,8 @@ impl Stop {
 
     /// Writes the one line that names the cause.
     pub fn tell<E: Sink>(self, err: &mut E) -> Result<(), WriteFault>
-        ensures { Writes (E.written err.old) (E.written err.new) (E.faults err.old) (E.faults err.new) (message_of self) result }
+        ensures { Writes (E.written err.old) (E.written err.new) (E.faults err.old)
+            (E.faults err.new) (message_of self) result }
     {
         match self {
             Stop::Words => write_on(err, Ok(()), USAGE),
@@ -55,7 +56,8 @@ const USAGE: &[u8] = b"usage: pack JOB [--workers N] [--budget B] [--scales yes|
 
 // Writes the line and the code of a faulty text.
 fn tell_fault<E: Sink>(err: &mut E, fault: TextFault) -> Result<(), WriteFault>
-    ensures { Writes (E.written err.old) (E.written err.new) (E.faults err.old) (E.faults err.new) (message_of (Stop.Text fault)) result }
+    ensures { Writes (E.written err.old) (E.written err.new) (E.faults err.old) (E.faults err.new)
+        (message_of (Stop.Text fault)) result }
 {
     let named = write_on(err, Ok(()), b"pack: line ");
     let numbered = write_number(err, named, fault.line);

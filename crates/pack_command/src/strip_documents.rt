@@ -1,4 +1,4 @@
-// The documents that answer `strip`, in their one written spelling. Writing takes no memory.
+//! The documents that answer `strip`, in their one written spelling. Writing takes no memory.
 ghost use Rattle.std.specs.Prelude.{◌≡◌, ◌<◌, ◌*◌, length};
 ghost use Rattle.packing_terms.specs.Packing.{dims, box_count};
 ghost use Rattle.packing_terms.specs.Limits.{IsInstance};
@@ -29,8 +29,10 @@ fn write_certificates<K: Sink>(
     tokens: &[Token],
 ) -> Written
     requires { AreAllPlaced instance.now places.now }
-    ensures { Continues (K.written sink.old) (K.written sink.new) (K.faults sink.old) (K.faults sink.new)
-        (lines_text (proved_lines (place_lines instance.now places.now) (plain_tokens tokens.now))) so_far result }
+    ensures { Continues (K.written sink.old) (K.written sink.new) (K.faults sink.old)
+        (K.faults sink.new)
+        (lines_text (proved_lines (place_lines instance.now places.now) (plain_tokens tokens.now)))
+        so_far result }
 {
     let placed = write_places(sink, so_far, instance, places);
     write_proof(sink, placed, tokens)
@@ -46,8 +48,10 @@ fn write_least<K: Sink>(
 ) -> Written
     requires limits { IsInstance instance.now }
     requires placed { AreAllPlaced instance.now places.now }
-    ensures { Writes (K.written sink.old) (K.written sink.new) (K.faults sink.old) (K.faults sink.new)
-        (answer_text instance.now (Claimed (LeastHeight height) places.now (plain_tokens tokens.now))) result }
+    ensures { Writes (K.written sink.old) (K.written sink.new) (K.faults sink.old)
+        (K.faults sink.new)
+        (answer_text instance.now
+        (Claimed (LeastHeight height) places.now (plain_tokens tokens.now))) result }
 {
     let begun = write_opening(sink, b"answer strip\n", instance);
     let said = write_least_line(sink, begun, height as u64);
@@ -66,8 +70,10 @@ fn write_between<K: Sink>(
 ) -> Written
     requires limits { IsInstance instance.now }
     requires placed { AreAllPlaced instance.now places.now }
-    ensures { Writes (K.written sink.old) (K.written sink.new) (K.faults sink.old) (K.faults sink.new)
-        (answer_text instance.now (Claimed (HeightBetween refuted placed) places.now (plain_tokens tokens.now))) result }
+    ensures { Writes (K.written sink.old) (K.written sink.new) (K.faults sink.old)
+        (K.faults sink.new)
+        (answer_text instance.now
+        (Claimed (HeightBetween refuted placed) places.now (plain_tokens tokens.now))) result }
 {
     let begun = write_opening(sink, b"answer strip\n", instance);
     let said = write_between_line(sink, begun, refuted as u64, placed as u64);
@@ -80,7 +86,8 @@ fn write_none<K: Sink>(sink: &mut K, instance: &Instance, box_no: u32, dim: u32)
     requires limits { IsInstance instance.now }
     requires there { box_no < box_count instance.now }
     requires in_range { dim < dims instance.now }
-    ensures { Writes (K.written sink.old) (K.written sink.new) (K.faults sink.old) (K.faults sink.new)
+    ensures { Writes (K.written sink.old) (K.written sink.new) (K.faults sink.old)
+        (K.faults sink.new)
         (answer_text instance.now (none_answer NoHeight (box_no, dim))) result }
 {
     let begun = write_opening(sink, b"answer strip\n", instance);
@@ -88,12 +95,13 @@ fn write_none<K: Sink>(sink: &mut K, instance: &Instance, box_no: u32, dim: u32)
     write_on(sink, said, b"end\n")
 }
 
-/// Writes the document of an answer of `strip`: the least height or two between which it lies, with both certificates, or the box that
-/// no height holds.
+/// Writes the document of an answer of `strip`: the least height or two between which it lies, with
+/// both certificates, or the box that no height holds.
 pub fn write_strip<K: Sink>(sink: &mut K, instance: &Instance, strip: &Strip) -> Written
     requires limits { IsInstance instance.now }
     requires placed { IsPlacedStrip instance.now strip.now }
-    ensures { Writes (K.written sink.old) (K.written sink.new) (K.faults sink.old) (K.faults sink.new)
+    ensures { Writes (K.written sink.old) (K.written sink.new) (K.faults sink.old)
+        (K.faults sink.new)
         (answer_text instance.now (strip_found strip.now)) result }
 {
     match strip {

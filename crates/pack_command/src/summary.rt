@@ -1,4 +1,4 @@
-// The three lines that answer `make`. Writing takes no memory.
+//! The three lines that answer `make`. Writing takes no memory.
 ghost use Rattle.std.specs.Prelude.{◌≡◌, ◌∷◌, ◌++◌, [], codes};
 ghost use Rattle.std.specs.Fmt.{decimal};
 ghost use Rattle.pack_streams.specs.Writing.{Continues, Writes};
@@ -7,12 +7,11 @@ ghost use Rattle.proof_tree.specs.Plain.{plain_outcome};
 ghost use Rattle.answer_terms.specs.Made.{made_words, fit_word, branching_words, made_text};
 
 use crate::documents::Written;
-use crate::front::{Behind, Done, Front, front_before, hand_back};
+use crate::stream::Streamed;
 use box_instances::Instance;
 use itoa::Buffer;
-use pack_streams::{Sink, WriteFault, write_number, write_on};
+use pack_streams::{Sink, write_number, write_on};
 use proof_tree::Outcome;
-use std::marker::Brand;
 
 /// What `make` found: the instance of a number, and what its tree gave under a budget.
 #[derive(Drop)]
@@ -25,7 +24,8 @@ pub struct Made {
 
 // Writes the line of the number, its boxes and their volume.
 fn write_made_line<K: Sink>(sink: &mut K, number: u32, instance: &Instance) -> Written
-    ensures { Writes (K.written sink.old) (K.written sink.new) (K.faults sink.old) (K.faults sink.new)
+    ensures { Writes (K.written sink.old) (K.written sink.new) (K.faults sink.old)
+        (K.faults sink.new)
         (lines_text (made_words number instance.now ∷ [])) result }
 {
     let mut digits = Buffer::new();
@@ -41,7 +41,8 @@ fn write_made_line<K: Sink>(sink: &mut K, number: u32, instance: &Instance) -> W
 
 // The line that says whether the instance fits.
 fn fit_line(outcome: &Outcome) -> &'static [u8]
-    ensures { result.now ≡ lines_text ((codes "fit" ∷ fit_word (plain_outcome outcome.now) ∷ []) ∷ []) }
+    ensures { result.now ≡ lines_text ((codes "fit" ∷ fit_word (plain_outcome outcome.now) ∷ [])
+        ∷ []) }
 {
     match outcome {
         Outcome::Yes {
@@ -58,7 +59,8 @@ fn fit_line(outcome: &Outcome) -> &'static [u8]
 
 // Writes the line of a count of branchings.
 fn write_count<K: Sink>(sink: &mut K, so_far: Written, said: &[u8], count: u64) -> Written
-    ensures { Continues (K.written sink.old) (K.written sink.new) (K.faults sink.old) (K.faults sink.new)
+    ensures { Continues (K.written sink.old) (K.written sink.new) (K.faults sink.old)
+        (K.faults sink.new)
         (said.now ++ (decimal count ++ codes "\n")) so_far result }
 {
     let named = write_on(sink, so_far, said);
@@ -73,8 +75,10 @@ fn write_branchings<K: Sink>(
     budget: u64,
     outcome: &Outcome,
 ) -> Written
-    ensures { Continues (K.written sink.old) (K.written sink.new) (K.faults sink.old) (K.faults sink.new)
-        (lines_text ((codes "branchings" ∷ branching_words budget (plain_outcome outcome.now)) ∷ [])) so_far result }
+    ensures { Continues (K.written sink.old) (K.written sink.new) (K.faults sink.old)
+        (K.faults sink.new)
+        (lines_text ((codes "branchings" ∷ branching_words budget (plain_outcome outcome.now))
+        ∷ [])) so_far result }
 {
     match outcome {
         Outcome::Yes { numbers: _, count } => write_count(sink, so_far, b"branchings ", *count),
@@ -83,34 +87,14 @@ fn write_branchings<K: Sink>(
     }
 }
 
-// Writes the three lines.
-fn write_made<K: Sink>(sink: &mut K, made: &Made) -> Written
-    ensures { Writes (K.written sink.old) (K.written sink.new) (K.faults sink.old) (K.faults sink.new)
-        (made_text made.now.number made.now.instance made.now.budget (plain_outcome made.now.outcome)) result }
-{
-    let named = write_made_line(sink, made.number, &made.instance);
-    let said = write_on(sink, named, fit_line(&made.outcome));
-    write_branchings(sink, said, made.budget, &made.outcome)
-}
+impl Streamed for Made {
+    ghost text = { λ m. made_text m.number m.instance m.budget (plain_outcome m.outcome) };
 
-// Writes them through a front before the sink, which is named by the ghost name of the reference to it.
-fn write_made_through<'a, K: Sink, B: Behind>(out: &'a mut K, made: &Made) -> Done<'a, K>
-    requires name { out.ghost_name ≡ B.name }
-    requires begun { K.written out.now ≡ B.begun }
-    ensures same { result.out.ghost_name ≡ out.entry.ghost_name }
-    ensures written { Writes (K.written out.entry.now) (K.written result.out.now) (K.faults out.entry.now) (K.faults result.out.now)
-        (made_text made.now.number made.now.instance made.now.budget (plain_outcome made.now.outcome)) result.result }
-{
-    let mut front: Front<'a, K, B> = front_before(out);
-    let written = write_made(&mut front, made);
-    hand_back(front, written)
-}
+    ghost IsReady = { λ _. Unit {0} };
 
-/// Gives the three lines to the sink in one piece. Where the sink takes only a part of it, the rest is offered next.
-pub fn stream_made<K: Sink>(out: &mut K, made: &Made) -> Result<(), WriteFault>
-    ensures { Writes (K.written out.old) (K.written out.new) (K.faults out.old) (K.faults out.new)
-        (made_text made.now.number made.now.instance made.now.budget (plain_outcome made.now.outcome)) result }
-{
-    let done = write_made_through::<K, Brand>(out, made);
-    done.result
+    fn write_to<K: Sink>(&self, sink: &mut K) -> Written {
+        let named = write_made_line(sink, self.number, &self.instance);
+        let said = write_on(sink, named, fit_line(&self.outcome));
+        write_branchings(sink, said, self.budget, &self.outcome)
+    }
 }

@@ -1,15 +1,17 @@
-// The verdict on a document, and its one line.
+//! The verdict on a document, and its one line.
 ghost use Rattle.std.specs.Prelude.{◌≡◌, ◌++◌, ◌∷◌, []};
 ghost use Rattle.std.specs.Fmt.{decimal};
 ghost use Rattle.pack_streams.specs.Writing.{Continues, Writes};
 ghost use Rattle.verdict_terms.specs.declared.reason.Reason.{Reason as PlainReason};
 ghost use Rattle.verdict_terms.specs.Documents.{verdict_line};
 ghost use Rattle.pack_command.specs.Checks.{plain_verdict, verdict_status};
-ghost use Rattle.pack_command.specs.Lines.{numbered, paired, claim_text, reason_end, code_end};
+ghost use Rattle.pack_command.specs.Lines.{number_line, pair_line, claim_text, reason_end, code_end};
 
+use crate::documents::Written;
+use crate::stream::Streamed;
 use check_terms::RefuseCode;
 use document_terms::Claim;
-use pack_streams::{Sink, WriteFault, write_number, write_on};
+use pack_streams::{Sink, write_number, write_on};
 use verdict_terms::Reason;
 
 /// The verdict on a document.
@@ -33,13 +35,11 @@ impl Verdict {
     }
 }
 
-// Each call below writes where no fault came before, and else does nothing.
-type Written = Result<(), WriteFault>;
-
 // Writes the text, a number and a line feed.
 fn write_numbered<K: Sink>(sink: &mut K, so_far: Written, text: &[u8], number: u64) -> Written
-    ensures { Continues (K.written sink.old) (K.written sink.new) (K.faults sink.old) (K.faults sink.new)
-        (numbered text.now number) so_far result }
+    ensures { Continues (K.written sink.old) (K.written sink.new) (K.faults sink.old)
+        (K.faults sink.new)
+        (number_line text.now number) so_far result }
 {
     let named = write_on(sink, so_far, text);
     let told = write_number(sink, named, number);
@@ -54,8 +54,9 @@ fn write_paired<K: Sink>(
     first: u64,
     second: u64,
 ) -> Written
-    ensures { Continues (K.written sink.old) (K.written sink.new) (K.faults sink.old) (K.faults sink.new)
-        (paired text.now first second) so_far result }
+    ensures { Continues (K.written sink.old) (K.written sink.new) (K.faults sink.old)
+        (K.faults sink.new)
+        (pair_line text.now first second) so_far result }
 {
     let named = write_on(sink, so_far, text);
     let told = write_number(sink, named, first);
@@ -64,7 +65,8 @@ fn write_paired<K: Sink>(
 
 // Writes the line of a claim.
 fn write_claim<K: Sink>(sink: &mut K, claim: Claim) -> Written
-    ensures { Writes (K.written sink.old) (K.written sink.new) (K.faults sink.old) (K.faults sink.new)
+    ensures { Writes (K.written sink.old) (K.written sink.new) (K.faults sink.old)
+        (K.faults sink.new)
         (claim_text claim) result }
 {
     let first = Ok(());
@@ -121,7 +123,8 @@ fn code_text(code: RefuseCode) -> &'static [u8]
 
 // Writes the end of the line that tells a reason, from the space on.
 fn write_reason<K: Sink>(sink: &mut K, so_far: Written, reason: Reason) -> Written
-    ensures { Continues (K.written sink.old) (K.written sink.new) (K.faults sink.old) (K.faults sink.new)
+    ensures { Continues (K.written sink.old) (K.written sink.new) (K.faults sink.old)
+        (K.faults sink.new)
         (reason_end reason) so_far result }
 {
     match reason {
@@ -141,7 +144,8 @@ fn write_reason<K: Sink>(sink: &mut K, so_far: Written, reason: Reason) -> Writt
 
 // Writes the line of a refusal.
 fn write_refusal<K: Sink>(sink: &mut K, line: u64, reason: Reason) -> Written
-    ensures { Writes (K.written sink.old) (K.written sink.new) (K.faults sink.old) (K.faults sink.new)
+    ensures { Writes (K.written sink.old) (K.written sink.new) (K.faults sink.old)
+        (K.faults sink.new)
         (verdict_line (Err (record { line = line; reason = reason }))) result }
 {
     let named = write_on(sink, Ok(()), b"refused ");
@@ -149,14 +153,17 @@ fn write_refusal<K: Sink>(sink: &mut K, line: u64, reason: Reason) -> Written
     write_reason(sink, numbered, reason)
 }
 
-/// Writes the line of a verdict: `verified` with the job and the words of the result line, or `refused` with the number of the line and
-/// the reason.
-pub fn write_verdict<K: Sink>(sink: &mut K, verdict: Verdict) -> Written
-    ensures { Writes (K.written sink.old) (K.written sink.new) (K.faults sink.old) (K.faults sink.new)
-        (verdict_line (plain_verdict verdict)) result }
-{
-    match verdict {
-        Verdict::Verified(claim) => write_claim(sink, claim),
-        Verdict::Refused { line, reason } => write_refusal(sink, line, reason),
+// The line of a verdict: `verified` with the job and the words of the result line, or `refused`
+// with the number of the line and the reason.
+impl Streamed for Verdict {
+    ghost text = { λ v. verdict_line (plain_verdict v) };
+
+    ghost IsReady = { λ _. Unit {0} };
+
+    fn write_to<K: Sink>(&self, sink: &mut K) -> Written {
+        match *self {
+            Verdict::Verified(claim) => write_claim(sink, claim),
+            Verdict::Refused { line, reason } => write_refusal(sink, line, reason),
+        }
     }
 }

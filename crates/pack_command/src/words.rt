@@ -1,4 +1,4 @@
-// What the words of the command line ask for.
+//! What the words of the command line ask for.
 ghost use Rattle.pack_command.specs.Asked.{IsAsked};
 
 use crate::stop::Stop;

@@ -1,5 +1,6 @@
--- Sources and sinks over std's readers and writers, by what these tell of their bytes and by the count of faults. A reader's and a writer's known
--- bytes move as the answer says, and the count rises by one exactly where a call failed.
+-- Sources and sinks over std's readers and writers, by what these tell of their bytes and by the
+-- count of faults. A reader's and a writer's known bytes move as the answer says, and the count
+-- rises by one exactly where a call failed.
 use Rattle.std.specs.Prelude.{ℕ, ◌≤◌, List, [], length, take}
 use Rattle.std.specs.declared.option.Option.{Option}
 use Rattle.std.specs.Io.KnownBytes.{IsAtEnd, Keeps, Appends, Consumes}
@@ -19,13 +20,15 @@ pub record PlainStdSink : Type 0 where
   pub known : Option (List ℕ)
   pub faults : ℕ
 
--- Known bytes of a reader: those at the front were given, none is left at the end, and none is lost in a failed read.
+-- Known bytes of a reader: those at the front were given, none is left at the end, and none is lost
+-- in a failed read.
 abbrev pub ReadsKnown : Option (List ℕ) → Option (List ℕ) → ReadAnswer → List ℕ → Type 0
 ReadsKnown old new (Got k) into = Consumes old new (take k into)
 ReadsKnown old new End into = Consumes old new [] × IsAtEnd new
 ReadsKnown old new Failed into = Keeps old new
 
--- Known bytes of a writer: those at the front of the piece were added. In a failed write they are none, in one whose flush failed they are some.
+-- Known bytes of a writer: those at the front of the piece were added. In a failed write they are
+-- none, in one whose flush failed they are some.
 abbrev pub WritesKnown : Option (List ℕ) → Option (List ℕ) → WriteAnswer → List ℕ → Type 0
 WritesKnown old new (Took k) piece = Appends old new (take k piece)
 WritesKnown old new Refused piece = (k : ℕ) × (k ≤ length piece) × Appends old new (take k piece)

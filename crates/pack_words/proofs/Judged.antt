@@ -6,10 +6,10 @@ use Rattle.std.specs.List.{list_any, list_all}
 use Rattle.std.proofs.lemmas.Slice.Eq.{bytes_eq-Decides}
 use Rattle.clap.specs.Walk.{Row, first_of}
 use Rattle.text_terms.proofs.Numbers.{no_number_at}
-use Rattle.pack_words.specs.declared.job.Job.{Job}
+use Rattle.text_terms.specs.declared.job.Job.{Job}
 use Rattle.pack_words.specs.declared.job.JobWords.{JobWords}
 use Rattle.pack_words.specs.Items.{Text, Item, option, word, is_option_name, begins_with_hyphen, items_from}
-use Rattle.pack_words.specs.Job.{Texts, ◌>>=◌, values_of, job_words, at_most_once, texts_of, job_named, are_taken, ranged, number_or, scales_in, settings_of, job_of_texts, job_of_words}
+use Rattle.pack_words.specs.Job.{Texts, ◌>>=◌, values_of, job_words, at_most_once, texts_of, job_of_name, are_taken, kept_in_range, number_or, scales_in, settings_of, job_of_texts, job_of_words}
 use Rattle.pack_words.proofs.ClapReading.{finish, rows_said, reads, expect}
 use Rattle.pack_words.proofs.Steps.{bytes_same}
 use Rattle.pack_words.proofs.Walked.{option_is_no_job}
@@ -70,18 +70,18 @@ bad_text : {A : Type 0} (test : Option Text → Option A) (o : Option (Option Te
 bad_text test o t bad e = subst (IsBad test) e bad
 
 abbrev job_in : Option Text → Option Job
-job_in o = o >>= λ text. job_named text
+job_in o = o >>= λ text. job_of_name text
 
 no_job_text : (texts : Texts) → job_in texts.job ≡ None → job_of_texts texts ≡ None
 no_job_text texts e = no_job_by texts.job (λ job. if are_taken job texts then settings_of job texts else None) e
   where
-    no_job_by : (o : Option Text) (f : Job → Option JobWords) → (o >>= λ text. job_named text) ≡ None → (o >>= λ text. job_named text >>= λ job. f job) ≡ None
+    no_job_by : (o : Option Text) (f : Job → Option JobWords) → (o >>= λ text. job_of_name text) ≡ None → (o >>= λ text. job_of_name text >>= λ job. f job) ≡ None
     no_job_by None f e = refl
     no_job_by (Some text) f e = ap (λ r. r >>= f) e
 
 no_settings : (texts : Texts) → ((job : Job) → settings_of job texts ≡ None) → job_of_texts texts ≡ None
 no_settings texts e =
-    bind_none texts.job _ (λ text. bind_none (job_named text) _ (λ job. if_none (are_taken job texts) (settings_of job texts) (e job)))
+    bind_none texts.job _ (λ text. bind_none (job_of_name text) _ (λ job. if_none (are_taken job texts) (settings_of job texts) (e job)))
 
 bad_job : (items : List Item) → IsBad job_in (at_most_once (job_words items)) → judge items ≡ None
 bad_job items bad = judge_none items (λ j w b s n ej ew eb es en. no_job_text (texts_like j w b s n) (bad_text job_in (at_most_once (job_words items)) j bad ej))
@@ -125,13 +125,13 @@ odd_bad test fails (Some (Some text)) odd = fails text odd
 
 hyphen_job : (text : Text) → begins_with_hyphen text ≡ true → job_in (Some text) ≡ None
 hyphen_job [] e = cc
-hyphen_job (b ∷ bs) e = subst (λ x. job_named (x ∷ bs) ≡ None) (sym (eqb-true b 45 e)) refl
+hyphen_job (b ∷ bs) e = subst (λ x. job_of_name (x ∷ bs) ≡ None) (sym (eqb-true b 45 e)) refl
 
 hyphen_number : (low high default : ℕ) (text : Text) → begins_with_hyphen text ≡ true → number_or low high default (Some text) ≡ None
 hyphen_number low high default [] e = cc
 hyphen_number low high default (b ∷ bs) e =
     subst (λ x. number_or low high default (Some (x ∷ bs)) ≡ None) (sym (eqb-true b 45 e))
-    (ap (ranged low high) (sym (no_number_at (45 ∷ bs) 0 (omega arith) refl)))
+    (ap (kept_in_range low high) (sym (no_number_at (45 ∷ bs) 0 (omega arith) refl)))
 
 hyphen_scales : (text : Text) → begins_with_hyphen text ≡ true → scales_in (Some text) ≡ None
 hyphen_scales [] e = cc
@@ -282,9 +282,6 @@ no_rows items named e = why (finish_fails items [] named once_none e)
     why (no_job e) = job_missing items named e
 
 -- ---- the words
-
-abbrev rows_of_items : Option (List Item) → Option (List Row)
-rows_of_items read = expect (Some []) read
 
 job_when : (read items : Option (List Item)) (rows : List Row) → AreAlike read items
     → ((all : List Item) → read ≡ Some all → list_all is_named all ≡ true) → expect (Some []) read ≡ Some rows

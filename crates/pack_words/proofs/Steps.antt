@@ -2,7 +2,7 @@
 use Rattle.std.proofs.Common.{◌≡◌, ◌||◌, ◌&&◌, ◌∙◌, ℕ, List, [], ◌∷◌, ◌++◌, Some, None, Bool, true, false, not, refl, ap, if◌then◌else◌, codes, is_some, append-nil}
 use Rattle.std.specs.Str.{bytes_eq}
 use Rattle.clap.specs.Walk.{Text, Rule, Row, arg_by_long, arg_by_id, has_row, without, at_row, used}
-use Rattle.clap.specs.Simple.{Shape, built, names_of, new_rule}
+use Rattle.clap.specs.Simple.{Shape, built, new_rule}
 use Rattle.clap.specs.Kinds.{or_else}
 use Rattle.clap.specs.declared.parser.matches.ValueSource.TheVariants.{CommandLine}
 use Rattle.clap.specs.declared.builder.value_parser.ValueParser.TheVariants as vp
@@ -15,7 +15,6 @@ use Rattle.std.proofs.Common.{find, map}
 use Rattle.std.specs.List.{list_any}
 use Rattle.clap.specs.Walk.{more_values, has_long, takes_several}
 use Rattle.clap.specs.Faults.{use_fault}
-use Rattle.clap.specs.Kinds.{Kinds}
 use Rattle.clap.specs.declared.error.kind.ErrorKind.TheVariants as kind
 
 pub bytes_same : (xs ys : List ℕ) → bytes_eq xs ys ≡ true → xs ≡ ys
@@ -44,12 +43,6 @@ job = record (new_rule (codes "job")) {
   parser = Some vp.String;
   range = Some (record { start_inclusive = 1; end_inclusive = 1 });
 }
-
-pub rules_are : rules ≡ opt (codes "workers") ∷ opt (codes "budget") ∷ opt (codes "scales") ∷ opt (codes "number") ∷ job ∷ []
-rules_are = refl
-
-pub no_names : names_of (built pack_app) ≡ []
-no_names = refl
 
 pub at_row-new : (id : Text) (change : Row → List Row) (missing rows : List Row) → has_row id rows ≡ false → at_row id change missing rows ≡ rows ++ missing
 at_row-new id change missing [] is = refl
@@ -104,10 +97,6 @@ pub record Known (id : Text) : Type 0 where
   pub fault : (value : Text) (rows : List Row) → use_fault false rule (value ∷ []) rows ≡ (if has_row id rows then kind.ArgumentConflict ∷ [] else [])
   pub empty : (rows : List Row) → use_fault false rule [] rows ≡ kind.InvalidValue ∷ []
   pub single : takes_several rule ≡ false
-
-pub or_else-nil : (ks : Kinds) → or_else ks [] ≡ ks
-or_else-nil [] = refl
-or_else-nil (k ∷ ks) = refl
 
 pub repeated : (id : Text) (rows : List Row) → or_else (if (has_row id rows && true) then kind.ArgumentConflict ∷ [] else []) [] ≡ (if has_row id rows then kind.ArgumentConflict ∷ [] else [])
 repeated id rows = elim (has_row id rows) as (λ b. or_else (if (b && true) then kind.ArgumentConflict ∷ [] else []) [] ≡ (if b then kind.ArgumentConflict ∷ [] else [])) [ true ↦ refl | false ↦ refl ]

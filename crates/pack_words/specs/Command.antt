@@ -1,4 +1,5 @@
--- The command line, as `clap` sees it: four options that take a value each, and one required job word.
+-- The command line, as `clap` sees it: four options that take a value each, and one required job
+-- word.
 use Rattle.std.specs.Prelude.{Some, codes, true}
 use Rattle.clap.specs.Walk.{Rule, Text}
 use Rattle.clap.specs.Simple.{App, new_app, new_rule, with_rule, on_top}

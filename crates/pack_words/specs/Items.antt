@@ -1,4 +1,5 @@
--- What the words of a command line say, read from left to right: options with their values, and job words.
+-- What the words of a command line say, read from left to right: options with their values, and job
+-- words.
 --
 --     fit --workers=8 --budget 5 -- x      fit | workers 8 | budget 5 | x
 use Rattle.std.specs.Prelude.{ℕ, ◌==◌, ◌&&◌, Bool, false, List, [], ◌∷◌, Option, Some, None, map, drop, codes, if◌then◌else◌}
@@ -53,8 +54,9 @@ abbrev pub valued : Text → Option Text → (Option Text → Option (List Item)
 valued name (Some value) rest = before (option name value) (rest None)
 valued name None rest = rest (Some name)
 
--- The items of these words, where an option may wait for its value. There are none where an option has no value, or one that
--- begins with `-`, and where another word than an option begins with `-`. Behind `--` each word is a job word.
+-- The items of these words, where an option may wait for its value. There are none where an option
+-- has no value, or one that begins with `-`, and where another word than an option begins with `-`.
+-- Behind `--` each word is a job word.
 abbrev pub items_from : Option Text → List Text → Option (List Item)
 items_from None [] = Some []
 items_from (Some name) [] = None

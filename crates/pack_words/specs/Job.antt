@@ -3,8 +3,8 @@ use Rattle.std.specs.Prelude.{ℕ, ◌≡◌, ◌&&◌, ◌||◌, Bool, true, fa
 use Rattle.std.specs.Str.{bytes_eq}
 use Rattle.text_terms.specs.Lines.{number_of}
 use Rattle.pack_words.specs.Items.{Text, Item, option, word, items_from}
-use Rattle.pack_words.specs.declared.job.Job.{Job}
-use Rattle.pack_words.specs.declared.job.Job.TheVariants.{Fit, Strip, Bins, Knapsack, Check, Make}
+use Rattle.text_terms.specs.declared.job.Job.{Job}
+use Rattle.text_terms.specs.declared.job.Job.TheVariants.{Fit, Strip, Bins, Knapsack, Check, Make}
 use Rattle.pack_words.specs.declared.job.JobWords.{JobWords}
 use Rattle.pack_words.specs.declared.job.WordsError.{WordsError}
 use Rattle.pack_words.specs.declared.job.WordsError.TheVariants.{Refused, NoMemory}
@@ -49,8 +49,8 @@ texts_of items =
     at_most_once (values_of (codes "number") items) >>= λ number.
     Some (record { job = job; workers = workers; budget = budget; scales = scales; number = number })
 
-abbrev pub job_named : Text → Option Job
-job_named text =
+abbrev pub job_of_name : Text → Option Job
+job_of_name text =
     if bytes_eq text (codes "fit") then Some Fit
     else (if bytes_eq text (codes "strip") then Some Strip
     else (if bytes_eq text (codes "bins") then Some Bins
@@ -75,14 +75,14 @@ are_taken job texts =
     && (takes_number job || not (is_some texts.number))
 
 -- a number in its range, both ends included
-abbrev pub ranged : ℕ → ℕ → Option ℕ → Option ℕ
-ranged low high None = None
-ranged low high (Some n) = if nat_le low n && nat_le n high then Some n else None
+abbrev pub kept_in_range : ℕ → ℕ → Option ℕ → Option ℕ
+kept_in_range low high None = None
+kept_in_range low high (Some n) = if nat_le low n && nat_le n high then Some n else None
 
 -- the number that a value is, or the default where none is given
 abbrev pub number_or : ℕ → ℕ → ℕ → Option Text → Option ℕ
 number_or low high default None = Some default
-number_or low high default (Some text) = ranged low high (number_of text)
+number_or low high default (Some text) = kept_in_range low high (number_of text)
 
 -- `yes`, the default, or `no`
 abbrev pub scales_in : Option Text → Option Bool
@@ -98,17 +98,18 @@ settings_of job texts =
     number_or 0 2147483647 0 texts.number >>= λ number.
     Some (record { job = job; settings = record { workers = workers; budget = budget; scales = scales }; number = number })
 
--- the job of these texts: there is a job word, which is a job that takes these options, and their values are in range
+-- the job of these texts: there is a job word, which is a job that takes these options, and their
+-- values are in range
 abbrev pub job_of_texts : Texts → Option JobWords
 job_of_texts texts =
-    texts.job >>= λ text. job_named text >>= λ job. if are_taken job texts then settings_of job texts else None
+    texts.job >>= λ text. job_of_name text >>= λ job. if are_taken job texts then settings_of job texts else None
 
 -- the job that the words name, with its settings and number, or none
 unfoldable pub job_of_words : List Text → Option JobWords
 job_of_words words = items_from None words >>= λ items. texts_of items >>= λ texts. job_of_texts texts
 
 -- what is answered is the job, or a refusal where there is none, or that memory was refused
-abbrev pub IsAnswer : Option JobWords → Result JobWords WordsError → Type 0
-IsAnswer job (Ok answer) = job ≡ Some answer
-IsAnswer job (Err Refused) = job ≡ None
-IsAnswer job (Err NoMemory) = Unit {0}
+abbrev pub IsJobAnswer : Option JobWords → Result JobWords WordsError → Type 0
+IsJobAnswer job (Ok answer) = job ≡ Some answer
+IsJobAnswer job (Err Refused) = job ≡ None
+IsJobAnswer job (Err NoMemory) = Unit {0}

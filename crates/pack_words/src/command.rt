@@ -1,4 +1,4 @@
-// The command line of `pack`, as `clap` is told of it.
+//! The command line of `pack`, as `clap` is told of it.
 ghost use Rattle.std.specs.Prelude.{◌≡◌, IfOk, map, string_bytes, false};
 ghost use Rattle.clap.specs.Words.{FailsBy, app_of, fault_of, found_of, matches_of, rows_of, rule_of};
 ghost use Rattle.pack_words.specs.Command.{pack_app, bare_app, option_rule, job_rule};
@@ -44,7 +44,8 @@ fn pack_command<'a>(alloc: Global) -> Result<Command<'a>, AllocError>
 /// What `clap` finds in the words.
 pub fn matches_for<'a>(alloc: Global, words: &'a [String]) -> Result<ArgMatches<'a>, Error>
     ensures fails { FailsBy (fault_of pack_app (map string_bytes words.entry.now)) result }
-    ensures rows { IfOk result (λ m. rows_of (found_of m) ≡ matches_of pack_app (map string_bytes words.entry.now)) }
+    ensures rows { IfOk result
+        (λ m. rows_of (found_of m) ≡ matches_of pack_app (map string_bytes words.entry.now)) }
 {
     pack_command(alloc)?.try_get_matches_from(words)
 }

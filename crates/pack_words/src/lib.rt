@@ -6,7 +6,8 @@ mod job;
 mod texts;
 mod words;
 
-pub use job::{Job, JobWords, WordsError};
+pub use job::{JobWords, WordsError};
+pub use text_terms::{Job, Settings};
 pub use words::read_words;
 
 #[cfg(test)]

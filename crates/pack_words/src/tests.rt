@@ -1,7 +1,8 @@
+//! Tests of command lines: each job with its options, and words that are refused.
 use crate::{Job, JobWords, WordsError, read_words};
 use std::alloc::{AllocError, Global};
 use std::test::Fail;
-use work_share::Settings;
+use text_terms::Settings;
 
 // The words of a command line, which are told with one space between two of them.
 fn words_of(alloc: Global, line: &str) -> Result<Vec<String>, AllocError> {

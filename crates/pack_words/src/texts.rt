@@ -1,15 +1,14 @@
-// From texts to a job and its settings.
+//! From texts to a job and its settings.
 ghost use Rattle.std.specs.Prelude.{◌≡◌, option_map};
-ghost use Rattle.pack_words.specs.Job.{job_named, takes_settings, takes_number, are_taken, number_or, scales_in, settings_of, job_of_texts};
+ghost use Rattle.pack_words.specs.Job.{job_of_name, takes_settings, takes_number, are_taken, number_or, scales_in, settings_of, job_of_texts};
 ghost use Rattle.pack_words.specs.Said.{plain_found};
 
-use crate::job::{Job, JobWords};
+use crate::job::JobWords;
 use crate::words::Found;
-use text_terms::read_number;
-use work_share::Settings;
+use text_terms::{Job, Settings, read_number};
 
-fn job_named(word: &str) -> Option<Job>
-    ensures { result ≡ job_named word.now }
+fn job_of_name(word: &str) -> Option<Job>
+    ensures { result ≡ job_of_name word.now }
 {
     match word {
         "fit" => Some(Job::Fit),
@@ -34,7 +33,8 @@ fn are_taken(job: Job, found: Found<'_>) -> bool
     }
 }
 
-// The number that a value is, in its range with both ends included, or the default where none is given.
+// The number that a value is, in its range with both ends included, or the default where none is
+// given.
 fn number_or(low: u32, high: u32, default: u32, value: Option<&str>) -> Option<u32>
     ensures { result ≡ number_or low high default (option_map (λ s. s.now) value.entry) }
 {
@@ -85,7 +85,7 @@ fn settings_of(job: Job, found: Found<'_>) -> Option<JobWords>
 pub fn job_in(found: Found<'_>) -> Option<JobWords>
     ensures { result ≡ job_of_texts (plain_found found.entry) }
 {
-    let job = job_named(found.job?)?;
+    let job = job_of_name(found.job?)?;
     if !are_taken(job, found) {
         return None;
     }

@@ -1,6 +1,6 @@
-// The job of the words of a command line.
+//! The job of the words of a command line.
 ghost use Rattle.std.specs.Prelude.{◌≡◌, None, IfOk, map, string_bytes};
-ghost use Rattle.pack_words.specs.Job.{job_of_words, job_of_texts, IsAnswer};
+ghost use Rattle.pack_words.specs.Job.{job_of_words, job_of_texts, IsJobAnswer};
 ghost use Rattle.pack_words.specs.Said.{plain_found};
 
 use crate::command::matches_for;
@@ -21,8 +21,10 @@ pub struct Found<'a> {
 
 // The texts that the words say, where they are well formed and none stands twice.
 fn found_in<'a>(alloc: Global, words: &'a [String]) -> Result<Found<'a>, WordsError>
-    ensures refused { result ≡ Err WordsError.Refused → job_of_words (map string_bytes words.entry.now) ≡ None }
-    ensures ok { IfOk result (λ f. job_of_words (map string_bytes words.entry.now) ≡ job_of_texts (plain_found f)) }
+    ensures refused { result ≡ Err WordsError.Refused
+        → job_of_words (map string_bytes words.entry.now) ≡ None }
+    ensures ok { IfOk result
+        (λ f. job_of_words (map string_bytes words.entry.now) ≡ job_of_texts (plain_found f)) }
 {
     match matches_for(alloc, words) {
         Ok(matches) => Ok(Found {
@@ -41,15 +43,18 @@ fn found_in<'a>(alloc: Global, words: &'a [String]) -> Result<Found<'a>, WordsEr
     }
 }
 
-/// The job that the words of a command line name, with its settings and its number. The words don't contain the program's name.
+/// The job that the words of a command line name, with its settings and its number. The words don't
+/// contain the program's name.
 ///
-/// Up to a word `--`, `--NAME VALUE` and `--NAME=VALUE` are options, with `NAME` one of `workers`, `budget`, `scales` and
-/// `number`; a value in a word of its own doesn't begin with `-`. Every other word is a job word, of which there must be exactly
-/// one: `fit`, `strip`, `bins`, `knapsack`, `check` or `make`. Each option stands at most once. `workers` is from 1 to 64,
-/// `budget` from 0 to 10,000,000, `scales` is `yes` or `no`, and `number` is from 0 to 2,147,483,647. `check` takes no option,
-/// and `make` alone takes `number`. It answers `Refused` exactly where the words name no job by these rules.
+/// Up to a word `--`, `--NAME VALUE` and `--NAME=VALUE` are options, with `NAME` one of `workers`,
+/// `budget`, `scales` and `number`; a value in a word of its own doesn't begin with `-`. Every
+/// other word is a job word, of which there must be exactly one: `fit`, `strip`, `bins`,
+/// `knapsack`, `check` or `make`. Each option stands at most once. `workers` is from 1 to 64,
+/// `budget` from 0 to 10,000,000, `scales` is `yes` or `no`, and `number` is from 0 to
+/// 2,147,483,647. `check` takes no option, and `make` alone takes `number`. It answers `Refused`
+/// exactly where the words name no job by these rules.
 pub fn read_words(alloc: Global, words: &[String]) -> Result<JobWords, WordsError>
-    ensures { IsAnswer (job_of_words (map string_bytes words.now)) result }
+    ensures { IsJobAnswer (job_of_words (map string_bytes words.now)) result }
 {
     match found_in(alloc, words) {
         Ok(found) => match job_in(found) {

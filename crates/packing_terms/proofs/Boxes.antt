@@ -6,7 +6,7 @@ use Rattle.std.proofs.lemmas.List.Sums.{sum_by-cons}
 use Rattle.std.proofs.lemmas.List.FromFn.{length-range_with_len}
 use Rattle.packing_terms.specs.Rules.{AreBoxesAmong}
 use Rattle.packing_terms.specs.OuterRefutation.{insert_box, has_box}
-use Rattle.packing_terms.proofs.Members.{IsIn, in_range}
+use Rattle.packing_terms.proofs.Members.{IsIn, in_range, index_in}
 use Rattle.packing_terms.proofs.Sets.{or_true}
 
 -- the parts of a fact of each element
@@ -24,17 +24,11 @@ box_in n [] b v i = absurd i
 box_in n (x ∷ vs) b v (inl e) = let h = b.0 in omega arith
 box_in n (x ∷ vs) b v (inr i) = box_in n vs b.2 v i
 
--- the element at an index is in the list
-pub in_at : (vs : List ℕ) (k : ℕ) → k < length vs → IsIn (get_or vs k 0) vs
-in_at [] k l = absurd (omega arith)
-in_at (v ∷ vs) zero l = inl refl
-in_at (v ∷ vs) (suc k) l = inr (in_at vs k (omega arith))
-
 -- elements of a list of distinct boxes at two indices differ
 pub differ_at : (n : ℕ) (vs : List ℕ) → AreBoxesAmong n vs → (j k : ℕ) → j < k → k < length vs → get_or vs j 0 ≢ get_or vs k 0
 differ_at n [] b j k l m e = absurd (omega arith)
 differ_at n (v ∷ vs) b zero zero l m e = absurd (omega arith)
-differ_at n (v ∷ vs) b zero (suc k) l m e = each_in (λ u. v ≢ u) vs b.1 (get_or vs k 0) (in_at vs k (omega arith)) e
+differ_at n (v ∷ vs) b zero (suc k) l m e = each_in (λ u. v ≢ u) vs b.1 (get_or vs k 0) (index_in 0 vs k (omega arith)) e
 differ_at n (v ∷ vs) b (suc j) zero l m e = absurd (omega arith)
 differ_at n (v ∷ vs) b (suc j) (suc k) l m e = differ_at n vs b.2 j k (omega arith) (omega arith) e
 

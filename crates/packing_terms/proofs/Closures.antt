@@ -84,4 +84,4 @@ module _ (instance : PlainInstance) where
 
   -- a conflict of the closure is one of each set that derives as much
   pub conflict_from : (E F : Exclusions) → Derives instance E F → HasConflict instance E → HasConflict instance F
-  conflict_from E F h c = record { dim = c.dim; u = c.u; v = c.v; place = c.place; each = λ r. h c.dim c.u c.v r (c.each r) }
+  conflict_from E F h c = record { dim = c.dim; u = c.u; v = c.v; edge = c.edge; each = λ r. h c.dim c.u c.v r (c.each r) }

@@ -4,7 +4,7 @@ use Rattle.std.proofs.lemmas.Bool.{true≢false, or_cases}
 use Rattle.packing_terms.specs.declared.Rel.{Rel}
 use Rattle.packing_terms.specs.declared.Rel.TheVariants.{Overlap, Before, After}
 use Rattle.packing_terms.specs.declared.Exclusion.{Exclusion}
-use Rattle.packing_terms.specs.Packing.{PlainInstance, IsPacking, HasSides}
+use Rattle.packing_terms.specs.Packing.{PlainInstance, IsPacking, HasPositiveSides}
 use Rattle.packing_terms.specs.Relations.{mirror, Holds}
 use Rattle.packing_terms.specs.Exclusions.{Exclusions, Respects, is_of, excludes}
 use Rattle.packing_terms.specs.Rules.{Follows}
@@ -37,7 +37,7 @@ holds_mirrored instance places i u v Before h = h
 holds_mirrored instance places i u v After h = h
 
 -- a packing that respects E respects each derivation from E
-pub derivation_sound : (instance : PlainInstance) (places : List ℕ) (E : Exclusions) → HasSides instance → IsPacking instance places → Respects instance places E
+pub derivation_sound : (instance : PlainInstance) (places : List ℕ) (E : Exclusions) → HasPositiveSides instance → IsPacking instance places → Respects instance places E
     → (es : List Exclusion) → IsDerivation instance E es → Respects instance places (excludes es)
 derivation_sound instance places E sides packing respects [] d i u v r h = absurd (true≢false (sym h))
 derivation_sound instance places E sides packing respects (e ∷ es) d i u v r h =
@@ -57,13 +57,13 @@ derivation_sound instance places E sides packing respects (e ∷ es) d i u v r h
     go rest (inr k) = rest i u v r k
 
 -- the closure is sound
-pub derived_sound : (instance : PlainInstance) (places : List ℕ) (E : Exclusions) → HasSides instance → IsPacking instance places → Respects instance places E
+pub derived_sound : (instance : PlainInstance) (places : List ℕ) (E : Exclusions) → HasPositiveSides instance → IsPacking instance places → Respects instance places E
     → (i u v : ℕ) (r : Rel) → IsDerived instance E i u v r → ¬ Holds instance places i u v r
 derived_sound instance places E sides packing respects i u v r d =
     derivation_sound instance places E sides packing respects d.steps d.derivation i u v r d.stands
 
 -- no packing respects a set whose closure has a conflict
-pub conflict_sound : (instance : PlainInstance) (places : List ℕ) (E : Exclusions) → HasSides instance → IsPacking instance places → HasConflict instance E
+pub conflict_sound : (instance : PlainInstance) (places : List ℕ) (E : Exclusions) → HasPositiveSides instance → IsPacking instance places → HasConflict instance E
     → ¬ Respects instance places E
 conflict_sound instance places E sides packing c respects = go (some_relation _ _ _ _)
   where

@@ -1,6 +1,7 @@
 -- What a search of a list finds, and what isn't found.
-use Rattle.std.proofs.Common.{◌≡◌, ◌⊎◌, inl, inr, refl, sym, ap, ◌∙◌, Bool, true, false, cond, List, [], ◌∷◌, Some, None}
+use Rattle.std.proofs.Common.{◌≡◌, ◌⊎◌, inl, inr, refl, sym, ap, ◌∙◌, Bool, true, false, cond, List, [], ◌∷◌, ◌++◌, Some, None}
 use Rattle.std.specs.List.{list_any, find}
+use Rattle.std.proofs.lemmas.List.Folds.{find-append}
 use Rattle.std.proofs.lemmas.Bool.{true≢false, cases_Bool}
 use Rattle.packing_terms.proofs.Members.{IsIn, any_at}
 
@@ -20,6 +21,13 @@ find_none p (y ∷ ys) e x i = go (p y) refl e (find_none p ys) i
     go true f k rest j = absurd (cc)
     go false f k rest (inl s) = ap p s ∙ f
     go false f k rest (inr j) = rest k x j
+
+-- a search of two lists
+pub find_left : {X : Type 0} (p : X → Bool) (xs ys : List X) (x : X) → find p xs ≡ Some x → find p (xs ++ ys) ≡ Some x
+find_left p xs ys x e = rw e at (find-append p xs ys)
+
+pub find_right : {X : Type 0} (p : X → Bool) (xs ys : List X) → find p xs ≡ None → find p (xs ++ ys) ≡ find p ys
+find_right p xs ys e = rw e at (find-append p xs ys)
 
 pub any_false : {X : Type 0} (p : X → Bool) (x : X) (xs : List X) → list_any p xs ≡ false → IsIn x xs → p x ≡ false
 any_false p x xs f i = go (cases_Bool (p x))

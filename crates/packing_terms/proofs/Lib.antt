@@ -2,6 +2,8 @@ pub mod Working
 pub mod Intervals
 pub mod Sets
 pub mod Members
+pub mod Ranges
+pub mod Lengths
 pub mod Monotone
 pub mod Soundness
 pub mod Derivations
@@ -10,6 +12,7 @@ pub mod Closures
 pub mod Refuted
 pub mod Fed
 pub mod Boxes
+pub mod WithBoxes
 pub mod InBins
 pub mod BinsRefuted
 pub mod ValueRefuted

@@ -4,16 +4,16 @@ use Rattle.std.specs.List.{range_with_len, count_by, All}
 use Rattle.std.proofs.lemmas.Bool.{ltb-true, lt-ltb, true≢false, cases_eq}
 use Rattle.packing_terms.specs.declared.ScaleFn.{ScaleFn}
 use Rattle.packing_terms.specs.declared.ScaleFn.TheVariants.{Step, Cut, Count}
-use Rattle.packing_terms.specs.Packing.{PlainInstance, HasSides, dims, box_count, container_side}
+use Rattle.packing_terms.specs.Packing.{PlainInstance, HasPositiveSides, dims, box_count, container_side}
 use Rattle.packing_terms.specs.Scales.{IsLegalScale, IsTuple, function_at, SidesFit, HasExcess, Exceeds}
-use Rattle.packing_terms.specs.Tuples.{is_edge, edges_above, functions_of, choices, is_other, tuples, has_excess, first_excess}
-use Rattle.packing_terms.proofs.Members.{IsIn, append_in, map_in, flat_map_in, filter_in, range_in}
+use Rattle.packing_terms.specs.Tuples.{is_threshold, thresholds_above, functions_of, choices, is_other_function, tuples, has_excess, first_excess}
+use Rattle.packing_terms.proofs.Members.{IsIn, append_in, map_in, flat_map_in, filter_in, range_in, index_in}
 use Rattle.packing_terms.proofs.Found.{find_some, find_none}
 
 module _ (instance : PlainInstance) (wide : (i : ℕ) → i < dims instance → 1 ≤ container_side instance i) where
-  edge_legal : (i low e : ℕ) → IsIn e (edges_above instance i low) → (1 ≤ e) × (2 * e ≤ container_side instance i)
+  edge_legal : (i low e : ℕ) → IsIn e (thresholds_above instance i low) → (1 ≤ e) × (2 * e ≤ container_side instance i)
   edge_legal i low e h =
-      let k = filter_in (λ x. is_edge instance i x) e (range_with_len (low + 1) (container_side instance i / 2 - low)) h in
+      let k = filter_in (λ x. is_threshold instance i x) e (range_with_len (low + 1) (container_side instance i / 2 - low)) h in
       let r = range_in (low + 1) (container_side instance i / 2 - low) e k.0 in
       (omega (arith, r), omega (arith, r))
 
@@ -27,20 +27,20 @@ module _ (instance : PlainInstance) (wide : (i : ℕ) → i < dims instance → 
           let w = wide i l in
           subst (λ g. IsLegalScale g (container_side instance i)) (sym e) (omega (arith, r), omega (arith, r), w)
 
-      cut : (e : ℕ) × IsIn e (edges_above instance i 0) × (f ≡ Cut e) → IsLegalScale f (container_side instance i)
+      cut : (e : ℕ) × IsIn e (thresholds_above instance i 0) × (f ≡ Cut e) → IsLegalScale f (container_side instance i)
       cut (x, m, e) = subst (λ g. IsLegalScale g (container_side instance i)) (sym e) (edge_legal i 0 x m)
 
-      count : (e : ℕ) × IsIn e (edges_above instance i 0) × (f ≡ Count e) → IsLegalScale f (container_side instance i)
+      count : (e : ℕ) × IsIn e (thresholds_above instance i 0) × (f ≡ Count e) → IsLegalScale f (container_side instance i)
       count (x, m, e) = subst (λ g. IsLegalScale g (container_side instance i)) (sym e) (edge_legal i 0 x m)
 
-      rest : IsIn f (map (λ e. Cut e) (edges_above instance i 0)) ⊎ IsIn f (map (λ e. Count e) (edges_above instance i 0)) → IsLegalScale f (container_side instance i)
-      rest (inl m) = cut (map_in (λ e. Cut e) f (edges_above instance i 0) m)
-      rest (inr m) = count (map_in (λ e. Count e) f (edges_above instance i 0) m)
+      rest : IsIn f (map (λ e. Cut e) (thresholds_above instance i 0)) ⊎ IsIn f (map (λ e. Count e) (thresholds_above instance i 0)) → IsLegalScale f (container_side instance i)
+      rest (inl m) = cut (map_in (λ e. Cut e) f (thresholds_above instance i 0) m)
+      rest (inr m) = count (map_in (λ e. Count e) f (thresholds_above instance i 0) m)
 
-      go : IsIn f (map (λ k. Step k) (range_with_len 1 4)) ⊎ IsIn f (map (λ e. Cut e) (edges_above instance i 0) ++ map (λ e. Count e) (edges_above instance i 0))
+      go : IsIn f (map (λ k. Step k) (range_with_len 1 4)) ⊎ IsIn f (map (λ e. Cut e) (thresholds_above instance i 0) ++ map (λ e. Count e) (thresholds_above instance i 0))
           → IsLegalScale f (container_side instance i)
       go (inl m) = step (map_in (λ k. Step k) f (range_with_len 1 4) m)
-      go (inr m) = rest (append_in f (map (λ e. Cut e) (edges_above instance i 0)) (map (λ e. Count e) (edges_above instance i 0)) m)
+      go (inr m) = rest (append_in f (map (λ e. Cut e) (thresholds_above instance i 0)) (map (λ e. Count e) (thresholds_above instance i 0)) m)
 
   -- a choice for the first dimensions, before the given functions
   record IsChoice (d : ℕ) (rest fs : List ScaleFn) : Type 0 where
@@ -76,7 +76,7 @@ module _ (instance : PlainInstance) (wide : (i : ℕ) → i < dims instance → 
 
   pub listed_legal : (fs : List ScaleFn) → IsIn fs (tuples instance) → IsTuple instance fs
   listed_legal fs h =
-      let k = filter_in (λ t. nat_le (count_by is_other t) 2) fs (choices instance (dims instance) []) h in
+      let k = filter_in (λ t. nat_le (count_by is_other_function t) 2) fs (choices instance (dims instance) []) h in
       let c = choice_legal (dims instance) (omega arith) [] fs k.0 in
       record { count = (let e = c.count in omega (arith, e)); legal = c.legal }
 
@@ -86,7 +86,7 @@ module _ (instance : PlainInstance) (wide : (i : ℕ) → i < dims instance → 
       record { tuple = listed_legal fs h.0; fit = fit; more = ltb-true _ _ h.1 }
 
 -- where a box fits in, no container side is 0
-pub container_wide : (instance : PlainInstance) → HasSides instance → SidesFit instance → 1 ≤ box_count instance
+pub container_wide : (instance : PlainInstance) → HasPositiveSides instance → SidesFit instance → 1 ≤ box_count instance
     → (i : ℕ) → i < dims instance → 1 ≤ container_side instance i
 container_wide instance sides fit some i l =
     let a = sides 0 i (omega arith) l in
@@ -94,11 +94,6 @@ container_wide instance sides fit some i l =
     omega (arith, a, b)
 
 -- where none is found, none of the list has excess
-item_in : {X : Type 0} (xs : List X) (k : ℕ) (d : X) → k < length xs → IsIn (get_or xs k d) xs
-item_in [] k d l = absurd (omega (arith, l))
-item_in (x ∷ xs) zero d l = inl refl
-item_in (x ∷ xs) (suc k) d l = inr (item_in xs k d (omega (arith, l)))
-
 pub none_exceed : (instance : PlainInstance) (c : ℕ) → first_excess instance c ≡ None → All (λ fs. ¬ HasExcess instance fs c) (tuples instance)
 none_exceed instance c e k d l more =
-    true≢false (sym (lt-ltb _ _ more) ∙ find_none (λ t. has_excess instance c t) (tuples instance) e (get_or (tuples instance) k d) (item_in (tuples instance) k d l))
+    true≢false (sym (lt-ltb _ _ more) ∙ find_none (λ t. has_excess instance c t) (tuples instance) e (get_or (tuples instance) k d) (index_in d (tuples instance) k l))

@@ -8,6 +8,14 @@ use Rattle.packing_terms.specs.Exclusions.{Exclusions, IsJoined, IsSurelyBefore}
 use Rattle.packing_terms.specs.Rules.{Rule, Pair, Apart, Triple, Chain, Compose, Cycle, Order, Premises, Concludes, Follows, by_rule, mirrored, IsChain}
 use Rattle.packing_terms.specs.Closure.{IsSubset}
 
+-- what is open for the larger set is open for the smaller
+pub open_less : (X Y : Exclusions) → IsSubset X Y → (i u v : ℕ) (r : Rel) → Y i u v r ≡ false → X i u v r ≡ false
+open_less X Y more i u v r h = go (cases_Bool (X i u v r))
+  where
+    go : (X i u v r ≡ true) ⊎ (X i u v r ≡ false) → X i u v r ≡ false
+    go (inl e) = absurd (true≢false (sym (more i u v r e) ∙ h))
+    go (inr e) = e
+
 module _ (instance : PlainInstance) (X Y : Exclusions) (more : IsSubset X Y) where
   joined_more : (i u v : ℕ) → IsJoined X i u v → IsJoined Y i u v
   joined_more i u v h = (more i u v Before h.0, more i u v After h.1)
@@ -19,13 +27,6 @@ module _ (instance : PlainInstance) (X Y : Exclusions) (more : IsSubset X Y) whe
   chain_more i [] h = tt
   chain_more i (u ∷ []) h = tt
   chain_more i (u ∷ v ∷ vs) h = (before_more i u v h.0, chain_more i (v ∷ vs) h.1)
-
-  open_less : (i u v : ℕ) (r : Rel) → Y i u v r ≡ false → X i u v r ≡ false
-  open_less i u v r h = go (cases_Bool (X i u v r))
-    where
-      go : (X i u v r ≡ true) ⊎ (X i u v r ≡ false) → X i u v r ≡ false
-      go (inl e) = absurd (true≢false (sym (more i u v r e) ∙ h))
-      go (inr e) = e
 
   pub premises_more : (rule : Rule) → Premises instance X rule → Premises instance Y rule
   premises_more (Pair i u v) h = h
@@ -42,7 +43,7 @@ module _ (instance : PlainInstance) (X Y : Exclusions) (more : IsSubset X Y) whe
   concludes_more (Apart i u v) r h = h
   concludes_more (Triple i u v x) r h = h
   concludes_more (Chain i before u v after) r h = h
-  concludes_more (Compose i u v x) r h = λ q s a b. h q s (open_less i u v q a) (open_less i v x s b)
+  concludes_more (Compose i u v x) r h = λ q s a b. h q s (open_less X Y more i u v q a) (open_less X Y more i v x s b)
   concludes_more (Cycle i a b c d) r h = h
   concludes_more (Order i a b c d) r h = h
 

@@ -1,22 +1,23 @@
 -- How many nodes of an inner tree are open at once: a pair is split at most twice in each dimension, and each split leaves one node behind.
 use Rattle.std.proofs.Common.{◌≡◌, ℕ, zero, suc, pred, ◌+◌, ◌-◌, ◌*◌, ◌<◌, ◌≤◌, ◌⊎◌, inl, inr, refl, sym, ap, arith, Bool, true, false, List, [], ◌∷◌, length}
-use Rattle.std.proofs.lemmas.Bool.{cases_Bool, cases_lt, or_left}
+use Rattle.std.proofs.lemmas.Bool.{cases_Bool, cases_lt}
+use Rattle.std.proofs.Math.Nat.{pred-le-pred}
 use Rattle.packing_terms.specs.declared.Rel.{Rel}
 use Rattle.packing_terms.specs.declared.Rel.TheVariants.{Overlap, Before, After}
 use Rattle.packing_terms.specs.declared.Exclusion.{Exclusion}
 use Rattle.packing_terms.specs.Packing.{PlainInstance, dims, box_count}
 use Rattle.packing_terms.specs.Exclusions.{Exclusions, excludes}
 use Rattle.packing_terms.specs.Closure.{IsDerived, IsSubset}
-use Rattle.packing_terms.specs.Scales.{sum_below}
+use Rattle.packing_terms.specs.Sums.{sum_below}
 use Rattle.packing_terms.specs.Tokens.{PlainToken}
 use Rattle.packing_terms.specs.Tokens.PlainToken.{Apart, Order, Rules, TooLarge, Scales, Assign, Choose, SetRefuted, ValueShort, GlobalScales}
-use Rattle.packing_terms.specs.Refutation.{at, IsNamed, MaySplitApart, MaySplitOrder, LeavesOpen}
+use Rattle.packing_terms.specs.Refutation.{exclusion_in_text, IsNamed, MaySplitApart, MaySplitOrder, LeavesOpen}
 use Rattle.packing_terms.specs.Feeding.{Feeds}
-use Rattle.packing_terms.proofs.Sets.{or_true, is_at_own}
+use Rattle.packing_terms.proofs.Sets.{excludes_first, excludes_rest}
 use Rattle.packing_terms.proofs.Closures.{given_derived}
 
 -- sums of smaller numbers
-sum_less_eq : (f g : ℕ → ℕ) (m : ℕ) → ((k : ℕ) → k < m → f k ≤ g k) → sum_below m f ≤ sum_below m g
+pub sum_less_eq : (f g : ℕ → ℕ) (m : ℕ) → ((k : ℕ) → k < m → f k ≤ g k) → sum_below m f ≤ sum_below m g
 sum_less_eq f g zero h = omega arith
 sum_less_eq f g (suc m) h = let a = sum_less_eq f g m (λ k l. h k (omega (arith, l))) in let b = h m (omega arith) in omega (arith, a, b)
 
@@ -70,11 +71,6 @@ pred_small : (m : ℕ) → m ≤ 3 → pred m ≤ 2
 pred_small zero l = omega arith
 pred_small (suc m) l = omega (arith, l)
 
-pred_less_eq : (m n : ℕ) → m ≤ n → pred m ≤ pred n
-pred_less_eq zero n l = omega arith
-pred_less_eq (suc m) zero l = absurd (omega (arith, l))
-pred_less_eq (suc m) (suc n) l = omega (arith, l)
-
 pred_less : (m n : ℕ) → m < n → 2 ≤ n → pred m < pred n
 pred_less zero zero l h = absurd (omega (arith, l))
 pred_less zero (suc n) l h = omega (arith, h)
@@ -117,7 +113,7 @@ module _ (instance : PlainInstance) where
       let a = one_less (X i u v Overlap) (Y i u v Overlap) (more i u v Overlap) in
       let b = one_less (X i u v Before) (Y i u v Before) (more i u v Before) in
       let c = one_less (X i u v After) (Y i u v After) (more i u v After) in
-      pred_less_eq (one (Y i u v Overlap) + one (Y i u v Before) + one (Y i u v After)) (one (X i u v Overlap) + one (X i u v Before) + one (X i u v After))
+      pred-le-pred {n = one (Y i u v Overlap) + one (Y i u v Before) + one (Y i u v After)} {m = one (X i u v Overlap) + one (X i u v Before) + one (X i u v After)}
       (omega (arith, a, b, c))
 
   room_less : (X Y : Exclusions) → IsSubset X Y → (i u v : ℕ) → i < dims instance → u < v → v < box_count instance → spare Y i u v < spare X i u v → room Y < room X
@@ -138,12 +134,6 @@ module _ (instance : PlainInstance) where
       go (inl k) = absurd (none (given_derived instance es i u v r k))
       go (inr k) = k
 
-  own : (e : Exclusion) (es : List Exclusion) → excludes (e ∷ es) e.dim e.u e.v e.rel ≡ true
-  own e es = or_true _ _ (inl (or_left _ _ (is_at_own e)))
-
-  later : (e : Exclusion) (es : List Exclusion) → IsSubset (excludes es) (excludes (e ∷ es))
-  later e es i u v r h = or_true _ _ (inr h)
-
   module _ (es : List Exclusion) (i u v : ℕ) (named : IsNamed instance i u v) where
     hi : pred i < dims instance
     hi = let a = named.dim_from in let b = named.dim_to in omega (arith, a, b)
@@ -162,47 +152,47 @@ module _ (instance : PlainInstance) where
         → room (excludes fs) < room (excludes es)
     less_room fs more less = room_less (excludes es) (excludes fs) more (pred i) (pred u) (pred v) hi huv hv less
 
-    apart_room : MaySplitApart instance es i u v → (room (excludes (at i u v Overlap ∷ es)) < room (excludes es))
-        × (room (excludes (at i u v Before ∷ at i u v After ∷ es)) < room (excludes es))
+    apart_room : MaySplitApart instance es i u v → (room (excludes (exclusion_in_text i u v Overlap ∷ es)) < room (excludes es))
+        × (room (excludes (exclusion_in_text i u v Before ∷ exclusion_in_text i u v After ∷ es)) < room (excludes es))
     apart_room split = (
-      less_room (at i u v Overlap ∷ es) (later (at i u v Overlap) es)
+      less_room (exclusion_in_text i u v Overlap ∷ es) (excludes_rest (exclusion_in_text i u v Overlap) es)
           (let o = ap one (not_excluded es (pred i) (pred u) (pred v) Overlap split.overlap) in
-          let o' = ap one (own (at i u v Overlap) es) in
-          let b' = one_less (is_out es Before) (is_out (at i u v Overlap ∷ es) Before) (later (at i u v Overlap) es (pred i) (pred u) (pred v) Before) in
-          let a' = one_less (is_out es After) (is_out (at i u v Overlap ∷ es) After) (later (at i u v Overlap) es (pred i) (pred u) (pred v) After) in
-          fewer (is_out es Overlap) (is_out es Before) (is_out es After) (is_out (at i u v Overlap ∷ es) Overlap) (is_out (at i u v Overlap ∷ es) Before) (is_out (at i u v Overlap ∷ es) After)
+          let o' = ap one (excludes_first (exclusion_in_text i u v Overlap) es) in
+          let b' = one_less (is_out es Before) (is_out (exclusion_in_text i u v Overlap ∷ es) Before) (excludes_rest (exclusion_in_text i u v Overlap) es (pred i) (pred u) (pred v) Before) in
+          let a' = one_less (is_out es After) (is_out (exclusion_in_text i u v Overlap ∷ es) After) (excludes_rest (exclusion_in_text i u v Overlap) es (pred i) (pred u) (pred v) After) in
+          fewer (is_out es Overlap) (is_out es Before) (is_out es After) (is_out (exclusion_in_text i u v Overlap ∷ es) Overlap) (is_out (exclusion_in_text i u v Overlap ∷ es) Before) (is_out (exclusion_in_text i u v Overlap ∷ es) After)
           (omega (arith, o, o', b', a', other)) (omega (arith, o, o', b', a', other))),
-      less_room (at i u v Before ∷ at i u v After ∷ es) (λ j a b r h. later (at i u v Before) (at i u v After ∷ es) j a b r (later (at i u v After) es j a b r h))
+      less_room (exclusion_in_text i u v Before ∷ exclusion_in_text i u v After ∷ es) (λ j a b r h. excludes_rest (exclusion_in_text i u v Before) (exclusion_in_text i u v After ∷ es) j a b r (excludes_rest (exclusion_in_text i u v After) es j a b r h))
           (let o = ap one (not_excluded es (pred i) (pred u) (pred v) Overlap split.overlap) in
-          let o' = one_small (is_out (at i u v Before ∷ at i u v After ∷ es) Overlap) in
-          let b' = ap one (own (at i u v Before) (at i u v After ∷ es)) in
-          let a' = ap one (later (at i u v Before) (at i u v After ∷ es) (pred i) (pred u) (pred v) After (own (at i u v After) es)) in
-          fewer (is_out es Overlap) (is_out es Before) (is_out es After) (is_out (at i u v Before ∷ at i u v After ∷ es) Overlap) (is_out (at i u v Before ∷ at i u v After ∷ es) Before) (is_out (at i u v Before ∷ at i u v After ∷ es) After)
+          let o' = one_small (is_out (exclusion_in_text i u v Before ∷ exclusion_in_text i u v After ∷ es) Overlap) in
+          let b' = ap one (excludes_first (exclusion_in_text i u v Before) (exclusion_in_text i u v After ∷ es)) in
+          let a' = ap one (excludes_rest (exclusion_in_text i u v Before) (exclusion_in_text i u v After ∷ es) (pred i) (pred u) (pred v) After (excludes_first (exclusion_in_text i u v After) es)) in
+          fewer (is_out es Overlap) (is_out es Before) (is_out es After) (is_out (exclusion_in_text i u v Before ∷ exclusion_in_text i u v After ∷ es) Overlap) (is_out (exclusion_in_text i u v Before ∷ exclusion_in_text i u v After ∷ es) Before) (is_out (exclusion_in_text i u v Before ∷ exclusion_in_text i u v After ∷ es) After)
           (omega (arith, o, o', b', a', other)) (omega (arith, o, o', b', a', other))),
     )
       where
         other : 1 ≤ one (is_out es Before) + one (is_out es After)
         other = go split.other
           where
-            go : LeavesOpen instance es (at i u v Before) ⊎ LeavesOpen instance es (at i u v After) → 1 ≤ one (is_out es Before) + one (is_out es After)
+            go : LeavesOpen instance es (exclusion_in_text i u v Before) ⊎ LeavesOpen instance es (exclusion_in_text i u v After) → 1 ≤ one (is_out es Before) + one (is_out es After)
             go (inl h) = let e = ap one (not_excluded es (pred i) (pred u) (pred v) Before h) in omega (arith, e)
             go (inr h) = let e = ap one (not_excluded es (pred i) (pred u) (pred v) After h) in omega (arith, e)
 
-    order_room : MaySplitOrder instance es i u v → (room (excludes (at i u v After ∷ es)) < room (excludes es)) × (room (excludes (at i u v Before ∷ es)) < room (excludes es))
+    order_room : MaySplitOrder instance es i u v → (room (excludes (exclusion_in_text i u v After ∷ es)) < room (excludes es)) × (room (excludes (exclusion_in_text i u v Before ∷ es)) < room (excludes es))
     order_room split =
         let b = ap one (not_excluded es (pred i) (pred u) (pred v) Before split.before) in
         let a = ap one (not_excluded es (pred i) (pred u) (pred v) After split.after) in (
-          less_room (at i u v After ∷ es) (later (at i u v After) es)
-              (let a' = ap one (own (at i u v After) es) in
-              let b' = one_less (is_out es Before) (is_out (at i u v After ∷ es) Before) (later (at i u v After) es (pred i) (pred u) (pred v) Before) in
-              let o' = one_less (is_out es Overlap) (is_out (at i u v After ∷ es) Overlap) (later (at i u v After) es (pred i) (pred u) (pred v) Overlap) in
-              fewer (is_out es Overlap) (is_out es Before) (is_out es After) (is_out (at i u v After ∷ es) Overlap) (is_out (at i u v After ∷ es) Before) (is_out (at i u v After ∷ es) After)
+          less_room (exclusion_in_text i u v After ∷ es) (excludes_rest (exclusion_in_text i u v After) es)
+              (let a' = ap one (excludes_first (exclusion_in_text i u v After) es) in
+              let b' = one_less (is_out es Before) (is_out (exclusion_in_text i u v After ∷ es) Before) (excludes_rest (exclusion_in_text i u v After) es (pred i) (pred u) (pred v) Before) in
+              let o' = one_less (is_out es Overlap) (is_out (exclusion_in_text i u v After ∷ es) Overlap) (excludes_rest (exclusion_in_text i u v After) es (pred i) (pred u) (pred v) Overlap) in
+              fewer (is_out es Overlap) (is_out es Before) (is_out es After) (is_out (exclusion_in_text i u v After ∷ es) Overlap) (is_out (exclusion_in_text i u v After ∷ es) Before) (is_out (exclusion_in_text i u v After ∷ es) After)
               (omega (arith, a, b, a', b', o')) (omega (arith, a, b, a', b', o'))),
-          less_room (at i u v Before ∷ es) (later (at i u v Before) es)
-              (let b' = ap one (own (at i u v Before) es) in
-              let a' = one_less (is_out es After) (is_out (at i u v Before ∷ es) After) (later (at i u v Before) es (pred i) (pred u) (pred v) After) in
-              let o' = one_less (is_out es Overlap) (is_out (at i u v Before ∷ es) Overlap) (later (at i u v Before) es (pred i) (pred u) (pred v) Overlap) in
-              fewer (is_out es Overlap) (is_out es Before) (is_out es After) (is_out (at i u v Before ∷ es) Overlap) (is_out (at i u v Before ∷ es) Before) (is_out (at i u v Before ∷ es) After)
+          less_room (exclusion_in_text i u v Before ∷ es) (excludes_rest (exclusion_in_text i u v Before) es)
+              (let b' = ap one (excludes_first (exclusion_in_text i u v Before) es) in
+              let a' = one_less (is_out es After) (is_out (exclusion_in_text i u v Before ∷ es) After) (excludes_rest (exclusion_in_text i u v Before) es (pred i) (pred u) (pred v) After) in
+              let o' = one_less (is_out es Overlap) (is_out (exclusion_in_text i u v Before ∷ es) Overlap) (excludes_rest (exclusion_in_text i u v Before) es (pred i) (pred u) (pred v) Overlap) in
+              fewer (is_out es Overlap) (is_out es Before) (is_out es After) (is_out (exclusion_in_text i u v Before ∷ es) Overlap) (is_out (exclusion_in_text i u v Before ∷ es) Before) (is_out (exclusion_in_text i u v Before ∷ es) After)
               (omega (arith, a, b, a', b', o')) (omega (arith, a, b, a', b', o'))),
         )
 
@@ -223,12 +213,12 @@ module _ (instance : PlainInstance) where
   fed_few most (Scales fs ∷ ts) (es ∷ nodes) left f h = fed_few most ts nodes left f.1 h.1
   fed_few most (Apart i u v ∷ ts) (es ∷ nodes) left f h =
       let r = apart_room es i u v f.0.named f.0 in
-      fed_few most ts ((at i u v Overlap ∷ es) ∷ (at i u v Before ∷ at i u v After ∷ es) ∷ nodes) left f.1
-      (two_few most es (at i u v Overlap ∷ es) (at i u v Before ∷ at i u v After ∷ es) nodes r.0 r.1 h)
+      fed_few most ts ((exclusion_in_text i u v Overlap ∷ es) ∷ (exclusion_in_text i u v Before ∷ exclusion_in_text i u v After ∷ es) ∷ nodes) left f.1
+      (two_few most es (exclusion_in_text i u v Overlap ∷ es) (exclusion_in_text i u v Before ∷ exclusion_in_text i u v After ∷ es) nodes r.0 r.1 h)
   fed_few most (Order i u v ∷ ts) (es ∷ nodes) left f h =
       let r = order_room es i u v f.0.named f.0 in
-      fed_few most ts ((at i u v After ∷ es) ∷ (at i u v Before ∷ es) ∷ nodes) left f.1
-      (two_few most es (at i u v After ∷ es) (at i u v Before ∷ es) nodes r.0 r.1 h)
+      fed_few most ts ((exclusion_in_text i u v After ∷ es) ∷ (exclusion_in_text i u v Before ∷ es) ∷ nodes) left f.1
+      (two_few most es (exclusion_in_text i u v After ∷ es) (exclusion_in_text i u v Before ∷ es) nodes r.0 r.1 h)
   fed_few most (Assign v ∷ ts) (es ∷ nodes) left f h = absurd f.0
   fed_few most (Choose v ∷ ts) (es ∷ nodes) left f h = absurd f.0
   fed_few most (SetRefuted b ∷ ts) (es ∷ nodes) left f h = absurd f.0

@@ -176,7 +176,7 @@ in_insert v u (x ∷ us) h = go (ltb v x) h (in_insert v u us)
     go false (inr (inl e)) rest = inl e
     go false (inr (inr i)) rest = inr (rest (inr i))
 
-has_at : (v : ℕ) (us : List ℕ) → IsIn v us → has_box v us ≡ true
+pub has_at : (v : ℕ) (us : List ℕ) → IsIn v us → has_box v us ≡ true
 has_at v us i = any_at (λ u. eqb u v) v us i (eq-eqb v v refl)
 
 insert_has : (v : ℕ) (us : List ℕ) → has_box v (insert_box v us) ≡ true

@@ -1,8 +1,8 @@
 -- Rules and derivations of the instance of a set are those of the whole instance at boxes of the set, renumbered.
-use Rattle.std.proofs.Common.{◌≡◌, ◌≢◌, ℕ, ◌<◌, ◌≤◌, ◌⊎◌, ◌↔◌, inl, inr, refl, sym, ap, subst, ◌∙◌, arith, Bool, true, false, ◌&&◌, ltb, List, [], ◌∷◌, ◌++◌, map, length, get_or, IsTrue}
+use Rattle.std.proofs.Common.{◌≡◌, ◌≢◌, ℕ, ◌<◌, ◌≤◌, ◌⊎◌, ◌↔◌, inl, inr, refl, sym, ap, subst, ◌∙◌, arith, true, ◌&&◌, ltb, List, [], ◌∷◌, ◌++◌, map, length, get_or, IsTrue}
 use mathlib.Core.Path.{fun_ext}
 use Rattle.std.specs.List.{AllByRecursion}
-use Rattle.std.proofs.lemmas.Bool.{true≢false, cases_lt, lt-ltb, ltb-true, eqb-true, eq-eqb, and_parts, and_from, or_cases, or_left}
+use Rattle.std.proofs.lemmas.Bool.{true≢false, cases_lt, lt-ltb, ltb-true, eqb-true, eq-eqb, and_parts, and_from, or_cases}
 use Rattle.std.proofs.lemmas.List.{length-map, map-append}
 use Rattle.std.proofs.lemmas.List.Sums.{sum_by-cons}
 use Rattle.packing_terms.specs.declared.Rel.{Rel}
@@ -14,16 +14,11 @@ use Rattle.packing_terms.specs.Exclusions.{Exclusions, is_at, is_of, excludes, I
 use Rattle.packing_terms.specs.Rules.{Rule, Pair, Apart, Triple, Chain, Compose, Cycle, Order, AreBoxes, IsRuleInstance, Premises, Concludes, first_of, second_of, Follows, by_rule, mirrored, IsChain, weight}
 use Rattle.packing_terms.specs.Closure.{IsDerivation, IsDerived}
 use Rattle.packing_terms.specs.Goals.{subset}
-use Rattle.packing_terms.specs.Renumbering.{named, boxes_of, renamed_rule, renamed, AreWithin, restricted, FollowsAmong, by_kept, kept_mirrored, IsDerivationAmong, IsDerivedAmong}
-use Rattle.packing_terms.proofs.Sets.{or_true, is_at_own, of_own, excludes_symmetric}
-use Rattle.packing_terms.proofs.Boxes.{box_in, in_at, differ_at}
+use Rattle.packing_terms.specs.Renumbering.{named, rule_boxes, renamed_rule, renamed, AreAmongKept, restricted, FollowsAmong, by_kept, kept_mirrored, IsDerivationAmong, IsDerivedAmong}
+use Rattle.packing_terms.proofs.Sets.{or_true, of_own, excludes_symmetric, same_bool, excludes_first}
+use Rattle.packing_terms.proofs.Boxes.{box_in, differ_at}
 use Rattle.packing_terms.proofs.InBins.{side_of}
-
-same_bool : (a b : Bool) → (a ≡ true → b ≡ true) → (b ≡ true → a ≡ true) → a ≡ b
-same_bool true true f g = refl
-same_bool false false f g = refl
-same_bool true false f g = absurd (true≢false (sym (f refl)))
-same_bool false true f g = absurd (true≢false (sym (g refl)))
+use Rattle.packing_terms.proofs.Members.{index_in}
 
 module _ (P : ℕ → Type 0) where
   pub each_left : (xs ys : List ℕ) → AllByRecursion P (xs ++ ys) → AllByRecursion P xs
@@ -49,7 +44,7 @@ module _ (instance : PlainInstance) (keep : List ℕ) (kept : AreBoxes instance 
   count = length-map keep (λ v. get_or instance.boxes v no_box)
 
   there : (k : ℕ) → k < length keep → named keep k < box_count instance
-  there k l = box_in (box_count instance) keep kept (named keep k) (in_at keep k l)
+  there k l = box_in (box_count instance) keep kept (named keep k) (index_in 0 keep k l)
 
   one_index : (j k : ℕ) → j < length keep → k < length keep → named keep j ≡ named keep k → j ≡ k
   one_index j k l m e = go (cases_lt j k) (cases_lt k j)
@@ -125,7 +120,7 @@ module _ (instance : PlainInstance) (keep : List ℕ) (kept : AreBoxes instance 
     before_from i u v l m j = (from i u v Overlap l m j.0, from i u v After l m j.1)
 
     -- the boxes of a rule of the set
-    rule_in : (rule : Rule) → IsRuleInstance set rule → AllByRecursion IsIndex (boxes_of rule)
+    rule_in : (rule : Rule) → IsRuleInstance set rule → AllByRecursion IsIndex (rule_boxes rule)
     rule_in (Pair i u v) h = boxes_in (u ∷ v ∷ []) h.1
     rule_in (Apart i u v) h = boxes_in (u ∷ v ∷ []) h.1
     rule_in (Triple i u v x) h = boxes_in (u ∷ v ∷ x ∷ []) h.1
@@ -143,7 +138,7 @@ module _ (instance : PlainInstance) (keep : List ℕ) (kept : AreBoxes instance 
     last_in : (before : List ℕ) (u : ℕ) → AllByRecursion IsIndex (before ++ u ∷ []) → u < length keep
     last_in before u h = (each_right IsIndex before (u ∷ []) h).0
 
-    instance_to : (rule : Rule) → AllByRecursion IsIndex (boxes_of rule) → IsRuleInstance set rule → IsRuleInstance instance (renamed_rule keep rule)
+    instance_to : (rule : Rule) → AllByRecursion IsIndex (rule_boxes rule) → IsRuleInstance set rule → IsRuleInstance instance (renamed_rule keep rule)
     instance_to (Pair i u v) k h = (h.0, boxes_to (u ∷ v ∷ []) k h.1)
     instance_to (Apart i u v) k h = (h.0, boxes_to (u ∷ v ∷ []) k h.1)
     instance_to (Triple i u v x) k h = (h.0, boxes_to (u ∷ v ∷ x ∷ []) k h.1)
@@ -159,7 +154,7 @@ module _ (instance : PlainInstance) (keep : List ℕ) (kept : AreBoxes instance 
     instance_to (Cycle i a b c d) k h = (h.0, boxes_to (a ∷ b ∷ c ∷ d ∷ []) k h.1)
     instance_to (Order i a b c d) k h = (h.0, boxes_to (a ∷ b ∷ c ∷ d ∷ []) k h.1)
 
-    instance_from : (rule : Rule) → AllByRecursion IsIndex (boxes_of rule) → IsRuleInstance instance (renamed_rule keep rule) → IsRuleInstance set rule
+    instance_from : (rule : Rule) → AllByRecursion IsIndex (rule_boxes rule) → IsRuleInstance instance (renamed_rule keep rule) → IsRuleInstance set rule
     instance_from (Pair i u v) k h = (h.0, boxes_from (u ∷ v ∷ []) k h.1)
     instance_from (Apart i u v) k h = (h.0, boxes_from (u ∷ v ∷ []) k h.1)
     instance_from (Triple i u v x) k h = (h.0, boxes_from (u ∷ v ∷ x ∷ []) k h.1)
@@ -175,7 +170,7 @@ module _ (instance : PlainInstance) (keep : List ℕ) (kept : AreBoxes instance 
     instance_from (Cycle i a b c d) k h = (h.0, boxes_from (a ∷ b ∷ c ∷ d ∷ []) k h.1)
     instance_from (Order i a b c d) k h = (h.0, boxes_from (a ∷ b ∷ c ∷ d ∷ []) k h.1)
 
-    premises_to : (rule : Rule) → AllByRecursion IsIndex (boxes_of rule) → Premises set R rule → Premises instance X (renamed_rule keep rule)
+    premises_to : (rule : Rule) → AllByRecursion IsIndex (rule_boxes rule) → Premises set R rule → Premises instance X (renamed_rule keep rule)
     premises_to (Pair i u v) k p = let a = side_of instance keep u i k.0 in let b = side_of instance keep v i k.1.0 in omega (arith, p, a, b)
     premises_to (Apart i u v) k p = λ j l ne. joined_to j u v k.0 k.1.0 (p j l ne)
     premises_to (Triple i u v x) k p =
@@ -202,7 +197,7 @@ module _ (instance : PlainInstance) (keep : List ℕ) (kept : AreBoxes instance 
     )
     premises_to (Order i a b c d) k p = (before_to i a b k.0 k.1.0 p.0, before_to i c d k.1.1.0 k.1.1.1.0 p.1, to i a d Before k.0 k.1.1.1.0 p.2)
 
-    premises_from : (rule : Rule) → AllByRecursion IsIndex (boxes_of rule) → Premises instance X (renamed_rule keep rule) → Premises set R rule
+    premises_from : (rule : Rule) → AllByRecursion IsIndex (rule_boxes rule) → Premises instance X (renamed_rule keep rule) → Premises set R rule
     premises_from (Pair i u v) k p = let a = side_of instance keep u i k.0 in let b = side_of instance keep v i k.1.0 in omega (arith, p, a, b)
     premises_from (Apart i u v) k p = λ j l ne. joined_from j u v k.0 k.1.0 (p j l ne)
     premises_from (Triple i u v x) k p =
@@ -229,7 +224,7 @@ module _ (instance : PlainInstance) (keep : List ℕ) (kept : AreBoxes instance 
     )
     premises_from (Order i a b c d) k p = (before_from i a b k.0 k.1.0 p.0, before_from i c d k.1.1.0 k.1.1.1.0 p.1, from i a d Before k.0 k.1.1.1.0 p.2)
 
-    concludes_to : (rule : Rule) (r : Rel) → AllByRecursion IsIndex (boxes_of rule) → Concludes R rule r → Concludes X (renamed_rule keep rule) r
+    concludes_to : (rule : Rule) (r : Rel) → AllByRecursion IsIndex (rule_boxes rule) → Concludes R rule r → Concludes X (renamed_rule keep rule) r
     concludes_to (Pair i u v) r k c = c
     concludes_to (Apart i u v) r k c = c
     concludes_to (Triple i u v x) r k c = c
@@ -238,7 +233,7 @@ module _ (instance : PlainInstance) (keep : List ℕ) (kept : AreBoxes instance 
     concludes_to (Cycle i a b c' d) r k c = c
     concludes_to (Order i a b c' d) r k c = c
 
-    concludes_from : (rule : Rule) (r : Rel) → AllByRecursion IsIndex (boxes_of rule) → Concludes X (renamed_rule keep rule) r → Concludes R rule r
+    concludes_from : (rule : Rule) (r : Rel) → AllByRecursion IsIndex (rule_boxes rule) → Concludes X (renamed_rule keep rule) r → Concludes R rule r
     concludes_from (Pair i u v) r k c = c
     concludes_from (Apart i u v) r k c = c
     concludes_from (Triple i u v x) r k c = c
@@ -270,9 +265,6 @@ module _ (instance : PlainInstance) (keep : List ℕ) (kept : AreBoxes instance 
       and_from _ _ (and_from _ _ (and_from _ _ s.0 (eq-eqb e.u u (one_index e.u u a l (eqb-true (named keep e.u) (named keep u) s.1))))
       (eq-eqb e.v v (one_index e.v v b m (eqb-true (named keep e.v) (named keep v) q.1)))) p.1
 
-  own : (e : Exclusion) (es : List Exclusion) → excludes (e ∷ es) e.dim e.u e.v e.rel ≡ true
-  own e es = or_true _ _ (inl (or_left _ _ (is_at_own e)))
-
   turned : (X : Exclusions) → ((j a b : ℕ) (s : Rel) → IsTrue (X j a b s) → IsTrue (X j b a (mirror s))) → (j a b : ℕ) (s : Rel)
       → IsTrue (restricted keep X j a b s) → IsTrue (restricted keep X j b a (mirror s))
   turned X symmetric j a b s h =
@@ -281,7 +273,7 @@ module _ (instance : PlainInstance) (keep : List ℕ) (kept : AreBoxes instance 
       and_from (ltb b (length keep) && ltb a (length keep)) (X j (named keep b) (named keep a) (mirror s))
       (and_from (ltb b (length keep)) (ltb a (length keep)) q.1 q.0) (symmetric j (named keep a) (named keep b) s p.1)
 
-  list_to : (es : List Exclusion) → AreWithin keep es → (i u v : ℕ) (r : Rel) → excludes es i u v r ≡ true
+  list_to : (es : List Exclusion) → AreAmongKept keep es → (i u v : ℕ) (r : Rel) → excludes es i u v r ≡ true
       → restricted keep (excludes (map (renamed keep) es)) i u v r ≡ true
   list_to [] w i u v r h = absurd (true≢false (sym h))
   list_to (e ∷ es) w i u v r h = go (or_cases _ _ h) (list_to es w.2 i u v r)
@@ -291,13 +283,13 @@ module _ (instance : PlainInstance) (keep : List ℕ) (kept : AreBoxes instance 
       go (inl k) rest = of_own (λ j a b s. restricted keep (excludes (map (renamed keep) (e ∷ es))) j a b s ≡ true)
           (turned (excludes (map (renamed keep) (e ∷ es))) (excludes_symmetric (map (renamed keep) (e ∷ es)))) e i u v r k
           (and_from (ltb e.u (length keep) && ltb e.v (length keep)) (excludes (map (renamed keep) (e ∷ es)) e.dim (named keep e.u) (named keep e.v) e.rel)
-          (and_from (ltb e.u (length keep)) (ltb e.v (length keep)) (lt-ltb e.u (length keep) w.0) (lt-ltb e.v (length keep) w.1)) (own (renamed keep e) (map (renamed keep) es)))
+          (and_from (ltb e.u (length keep)) (ltb e.v (length keep)) (lt-ltb e.u (length keep) w.0) (lt-ltb e.v (length keep) w.1)) (excludes_first (renamed keep e) (map (renamed keep) es)))
       go (inr k) rest =
           let p = and_parts (ltb u (length keep) && ltb v (length keep)) (excludes (map (renamed keep) es) i (named keep u) (named keep v) r) (rest k) in
           and_from (ltb u (length keep) && ltb v (length keep)) (excludes (map (renamed keep) (e ∷ es)) i (named keep u) (named keep v) r) p.0
           (or_true (is_of (renamed keep e) i (named keep u) (named keep v) r) (excludes (map (renamed keep) es) i (named keep u) (named keep v) r) (inr p.1))
 
-  list_from : (es : List Exclusion) → AreWithin keep es → (i u v : ℕ) (r : Rel) → u < length keep → v < length keep
+  list_from : (es : List Exclusion) → AreAmongKept keep es → (i u v : ℕ) (r : Rel) → u < length keep → v < length keep
       → excludes (map (renamed keep) es) i (named keep u) (named keep v) r ≡ true → excludes es i u v r ≡ true
   list_from [] w i u v r l m h = absurd (true≢false (sym h))
   list_from (e ∷ es) w i u v r l m h = go (or_cases _ _ h) (list_from es w.2 i u v r l m)
@@ -312,7 +304,7 @@ module _ (instance : PlainInstance) (keep : List ℕ) (kept : AreBoxes instance 
       go (inl k) rest = or_true _ _ (inl (pick (or_cases _ _ k)))
       go (inr k) rest = or_true _ _ (inr (rest k))
 
-  pub list_same : (es : List Exclusion) → AreWithin keep es → (i u v : ℕ) (r : Rel) → excludes es i u v r ≡ restricted keep (excludes (map (renamed keep) es)) i u v r
+  pub list_same : (es : List Exclusion) → AreAmongKept keep es → (i u v : ℕ) (r : Rel) → excludes es i u v r ≡ restricted keep (excludes (map (renamed keep) es)) i u v r
   list_same es w i u v r = same_bool (excludes es i u v r) (restricted keep (excludes (map (renamed keep) es)) i u v r) (list_to es w i u v r) back
     where
       back : restricted keep (excludes (map (renamed keep) es)) i u v r ≡ true → excludes es i u v r ≡ true
@@ -321,7 +313,7 @@ module _ (instance : PlainInstance) (keep : List ℕ) (kept : AreBoxes instance 
           let q = and_parts _ _ p.0 in
           list_from es w i u v r (ltb-true u (length keep) q.0) (ltb-true v (length keep) q.1) p.1
 
-  sets_same : (es : List Exclusion) → AreWithin keep es → excludes es ≡ restricted keep (excludes (map (renamed keep) es))
+  sets_same : (es : List Exclusion) → AreAmongKept keep es → excludes es ≡ restricted keep (excludes (map (renamed keep) es))
   sets_same es w = fun_ext (λ i. fun_ext (λ u. fun_ext (λ v. fun_ext (λ r. list_same es w i u v r))))
 
   -- derivations
@@ -332,7 +324,7 @@ module _ (instance : PlainInstance) (keep : List ℕ) (kept : AreBoxes instance 
         let q = and_parts _ _ p.0 in
         (ltb-true u (length keep) q.0, ltb-true v (length keep) q.1)
 
-    ends_in : (rule : Rule) → AllByRecursion IsIndex (boxes_of rule) → (first_of rule < length keep) × (second_of rule < length keep)
+    ends_in : (rule : Rule) → AllByRecursion IsIndex (rule_boxes rule) → (first_of rule < length keep) × (second_of rule < length keep)
     ends_in (Pair i u v) k = (k.0, k.1.0)
     ends_in (Apart i u v) k = (k.0, k.1.0)
     ends_in (Triple i u v x) k = (k.0, k.1.0)
@@ -346,24 +338,24 @@ module _ (instance : PlainInstance) (keep : List ℕ) (kept : AreBoxes instance 
     among_in X i u v r (by_kept rule _ k h p c) = ends_in rule k
     among_in X i u v r (kept_mirrored rule s k h p c) = let e = ends_in rule k in (e.1, e.0)
 
-    steps_to : (es : List Exclusion) → IsDerivation set (restricted keep E) es → AreWithin keep es × IsDerivationAmong instance keep E es
+    steps_to : (es : List Exclusion) → IsDerivation set (restricted keep E) es → AreAmongKept keep es × IsDerivationAmong instance keep E es
     steps_to [] d = (tt, tt)
     steps_to (e ∷ es) d = go d.0 (steps_to es d.1)
       where
-        go : IsTrue (restricted keep E e.dim e.u e.v e.rel) ⊎ Follows set (excludes es) e.dim e.u e.v e.rel → AreWithin keep es × IsDerivationAmong instance keep E es
-            → AreWithin keep (e ∷ es) × IsDerivationAmong instance keep E (e ∷ es)
+        go : IsTrue (restricted keep E e.dim e.u e.v e.rel) ⊎ Follows set (excludes es) e.dim e.u e.v e.rel → AreAmongKept keep es × IsDerivationAmong instance keep E es
+            → AreAmongKept keep (e ∷ es) × IsDerivationAmong instance keep E (e ∷ es)
         go (inl h) rest = let l = given_in e.dim e.u e.v e.rel h in ((l.0, l.1, rest.0), (inl h, rest.1))
         go (inr h) rest =
             let f = follows_to (excludes (map (renamed keep) es)) e.dim e.u e.v e.rel (subst (λ (X : Exclusions). Follows set X e.dim e.u e.v e.rel) (sets_same es rest.0) h) in
             let l = among_in (excludes (map (renamed keep) es)) e.dim e.u e.v e.rel f in
             ((l.0, l.1, rest.0), (inr f, rest.1))
 
-    steps_from : (es : List Exclusion) → IsDerivationAmong instance keep E es → AreWithin keep es × IsDerivation set (restricted keep E) es
+    steps_from : (es : List Exclusion) → IsDerivationAmong instance keep E es → AreAmongKept keep es × IsDerivation set (restricted keep E) es
     steps_from [] d = (tt, tt)
     steps_from (e ∷ es) d = go d.0 (steps_from es d.1)
       where
         go : IsTrue (restricted keep E e.dim e.u e.v e.rel) ⊎ FollowsAmong instance keep (excludes (map (renamed keep) es)) e.dim e.u e.v e.rel
-            → AreWithin keep es × IsDerivation set (restricted keep E) es → AreWithin keep (e ∷ es) × IsDerivation set (restricted keep E) (e ∷ es)
+            → AreAmongKept keep es × IsDerivation set (restricted keep E) es → AreAmongKept keep (e ∷ es) × IsDerivation set (restricted keep E) (e ∷ es)
         go (inl h) rest = let l = given_in e.dim e.u e.v e.rel h in ((l.0, l.1, rest.0), (inl h, rest.1))
         go (inr f) rest =
             let h = follows_from (excludes (map (renamed keep) es)) e.dim e.u e.v e.rel f in

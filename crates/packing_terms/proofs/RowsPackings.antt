@@ -1,5 +1,5 @@
 -- Packings at small numbers: touching without a kerf, the gap with one, and that the kerf doesn't count at the wall.
-use Rattle.std.proofs.Common.{◌≡◌, ℕ, zero, suc, ◌+◌, ◌<◌, ◌≤◌, inl, inr, refl, arith, List, [], ◌∷◌}
+use Rattle.std.proofs.Common.{ℕ, zero, suc, ◌+◌, ◌<◌, ◌≤◌, inl, inr, refl, arith, List, [], ◌∷◌}
 use Rattle.packing_terms.specs.Packing.{PlainInstance, PlainBox, written_container, written_side, place, AreApart, IsPacking}
 
 abbrev box : ℕ → ℕ → PlainBox

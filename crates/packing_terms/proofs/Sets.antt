@@ -1,6 +1,6 @@
 -- The set of a list of exclusions.
 use Rattle.std.proofs.Common.{◌≡◌, ℕ, ◌⊎◌, inl, inr, refl, sym, subst, Bool, true, false, ◌||◌, List, [], ◌∷◌, ◌++◌}
-use Rattle.std.proofs.lemmas.Bool.{true≢false, and_parts, or_cases, and_from, eqb-true, eq-eqb}
+use Rattle.std.proofs.lemmas.Bool.{true≢false, and_parts, or_cases, or_left, and_from, eqb-true, eq-eqb}
 use Rattle.packing_terms.specs.declared.Rel.{Rel}
 use Rattle.packing_terms.specs.declared.Rel.TheVariants.{Overlap, Before, After}
 use Rattle.packing_terms.specs.declared.Exclusion.{Exclusion}
@@ -55,10 +55,23 @@ of_own P mirrored e i u v r h p = go (or_cases _ _ h)
         let q = mirrored i v u (mirror r) (at_own P e i v u (mirror r) k p) in
         subst (λ (x : Rel). P i u v x) (mirror_twice r) q
 
+-- tests that imply each other are the same
+pub same_bool : (a b : Bool) → (a ≡ true → b ≡ true) → (b ≡ true → a ≡ true) → a ≡ b
+same_bool true b f g = sym (f refl)
+same_bool false true f g = g refl
+same_bool false false f g = refl
+
 pub or_true : (x y : Bool) → (x ≡ true) ⊎ (y ≡ true) → (x || y) ≡ true
 or_true true y h = refl
 or_true false y (inl h) = absurd (true≢false (sym h))
 or_true false y (inr h) = h
+
+-- an exclusion is in the set of a list that begins with it
+pub excludes_first : (e : Exclusion) (es : List Exclusion) → excludes (e ∷ es) e.dim e.u e.v e.rel ≡ true
+excludes_first e es = or_true _ _ (inl (or_left _ _ (is_at_own e)))
+
+pub excludes_rest : (e : Exclusion) (es : List Exclusion) → IsSubset (excludes es) (excludes (e ∷ es))
+excludes_rest e es i u v r h = or_true _ _ (inr h)
 
 pub is_of_mirror : (e : Exclusion) (i u v : ℕ) (r : Rel) → is_of e i u v r ≡ true → is_of e i v u (mirror r) ≡ true
 is_of_mirror e i u v r h = go (or_cases _ _ h)

@@ -1,14 +1,17 @@
--- What has a derivation from a set of exclusions, its closure, and when that has a conflict. A derivation is a list, the newest exclusion first, in
--- which each is given or follows from older ones by one rule. Nothing is said of an order of work: the closure is all that stands in some derivation.
+-- What has a derivation from a set of exclusions, its closure, and when that has a conflict. A
+-- derivation is a list, the newest exclusion first, in which each is given or follows from older
+-- ones by one rule. Nothing is said of an order of work: the closure is all that stands in some
+-- derivation.
 use Rattle.std.specs.Prelude.{ℕ, ◌⊎◌, List, [], ◌∷◌, IsTrue}
 use Rattle.packing_terms.specs.declared.Rel.{Rel}
 use Rattle.packing_terms.specs.declared.Exclusion.{Exclusion}
 use Rattle.packing_terms.specs.Packing.{PlainInstance}
 use Rattle.packing_terms.specs.Relations.{mirror}
-use Rattle.packing_terms.specs.Exclusions.{Exclusions, IsPlace, excludes}
+use Rattle.packing_terms.specs.Exclusions.{Exclusions, IsEdge, excludes}
 use Rattle.packing_terms.specs.Rules.{Follows}
 
--- each exclusion of the list, the last one first, is in E or follows from those before it by one rule
+-- each exclusion of the list, the last one first, is in E or follows from those before it by one
+-- rule
 abbrev pub IsDerivation : PlainInstance → Exclusions → List Exclusion → Type 0
 IsDerivation instance E [] = Unit {0}
 IsDerivation instance E (e ∷ es) =
@@ -25,7 +28,7 @@ pub record HasConflict (instance : PlainInstance) (E : Exclusions) : Type 0 wher
   pub dim : ℕ
   pub u : ℕ
   pub v : ℕ
-  pub place : IsPlace instance dim u v
+  pub edge : IsEdge instance dim u v
   pub each : (r : Rel) → IsDerived instance E dim u v r
 
 -- every exclusion of the first set is in the second
@@ -44,6 +47,7 @@ IsStable instance X = (i u v : ℕ) (r : Rel) → Follows instance X i u v r →
 abbrev pub AreDerived : PlainInstance → Exclusions → Exclusions → Type 0
 AreDerived instance E X = (i u v : ℕ) (r : Rel) → IsTrue (X i u v r) → IsDerived instance E i u v r
 
--- all that the first set derives, the second derives: the closure of the first lies in that of the second
+-- all that the first set derives, the second derives: the closure of the first lies in that of the
+-- second
 abbrev pub Derives : PlainInstance → Exclusions → Exclusions → Type 0
 Derives instance E F = (i u v : ℕ) (r : Rel) → IsDerived instance E i u v r → IsDerived instance F i u v r

@@ -1,7 +1,9 @@
--- Sets of exclusions, and the places that respect them. An exclusion rules one relation out, in one dimension for one pair of boxes; what isn't
--- excluded there is the mask. An exclusion is the same as its mirror: `v`, `u` with before and after swapped.
--- Source: the states of the component graphs in Fekete, Schepers and van der Veen (2007), where edges are fixed, excluded or open.
-use Rattle.std.specs.Prelude.{ℕ, ◌<◌, ◌≢◌, ◌==◌, ◌&&◌, ◌||◌, List, Bool, true, false, IsTrue}
+-- Sets of exclusions, and the places that respect them. An exclusion rules one relation out, in one
+-- dimension for one pair of boxes; what isn't excluded there is the mask. An exclusion is the same
+-- as its mirror: `v`, `u` with before and after swapped.
+-- Source: the states of the component graphs in Fekete, Schepers and van der Veen (2007), where
+-- edges are fixed, excluded or open.
+use Rattle.std.specs.Prelude.{ℕ, ◌-◌, ◌*◌, ◌/◌, ◌<◌, ◌≢◌, ◌==◌, ◌&&◌, ◌||◌, List, Bool, true, false, IsTrue}
 use Rattle.std.specs.List.{list_any}
 use Rattle.packing_terms.specs.declared.Rel.{Rel}
 use Rattle.packing_terms.specs.declared.Rel.TheVariants.{Overlap, Before, After}
@@ -9,9 +11,14 @@ use Rattle.packing_terms.specs.declared.Exclusion.{Exclusion}
 use Rattle.packing_terms.specs.Packing.{PlainInstance, dims, box_count}
 use Rattle.packing_terms.specs.Relations.{Holds, mirror}
 
--- a set of exclusions, as a test: whether a relation is excluded in a dimension, at a pair; numbers that name nothing are allowed
+-- a set of exclusions, as a test: whether a relation is excluded in a dimension, at a pair; numbers
+-- that name nothing are allowed
 abbrev pub Exclusions : Type 0
 Exclusions = ℕ → ℕ → ℕ → Rel → Bool
+
+-- the exclusion of a relation in dimension i, of boxes u and v
+abbrev pub exclusion_at : ℕ → ℕ → ℕ → Rel → Exclusion
+exclusion_at i u v r = record { dim = i; u = u; v = v; rel = r }
 
 -- whether two relations are one
 abbrev pub is_same_rel : Rel → Rel → Bool
@@ -33,15 +40,19 @@ abbrev pub excludes : List Exclusion → Exclusions
 excludes es i u v r = list_any (λ e. is_of e i u v r) es
 
 -- the dimension is there, and the boxes are two boxes that are there
-pub record IsPlaceAmong (d n i u v : ℕ) : Type 0 where
+pub record IsEdgeAmong (d n i u v : ℕ) : Type 0 where
   pub dim : i < d
   pub first : u < n
   pub second : v < n
   pub distinct : u ≢ v
 
 -- a dimension and two boxes of the instance
-abbrev pub IsPlace : PlainInstance → ℕ → ℕ → ℕ → Type 0
-IsPlace instance i u v = IsPlaceAmong (dims instance) (box_count instance) i u v
+abbrev pub IsEdge : PlainInstance → ℕ → ℕ → ℕ → Type 0
+IsEdge instance i u v = IsEdgeAmong (dims instance) (box_count instance) i u v
+
+-- how many relations there are, of all pairs of so many boxes in so many dimensions
+abbrev pub relation_count : ℕ → ℕ → ℕ
+relation_count d n = 3 * d * n * (n - 1) / 2
 
 -- the places respect the set: none of the excluded relations holds
 abbrev pub Respects : PlainInstance → List ℕ → Exclusions → Type 0
@@ -55,6 +66,7 @@ IsApart X i u v = IsTrue (X i u v Overlap)
 abbrev pub IsJoined : Exclusions → ℕ → ℕ → ℕ → Type 0
 IsJoined X i u v = IsTrue (X i u v Before) × IsTrue (X i u v After)
 
--- u is surely before v: it neither overlaps v nor comes after it. Nothing is said of before, so at an empty mask both directions hold.
+-- u is surely before v: it neither overlaps v nor comes after it. Nothing is said of before, so at
+-- an empty mask both directions hold.
 abbrev pub IsSurelyBefore : Exclusions → ℕ → ℕ → ℕ → Type 0
 IsSurelyBefore X i u v = IsTrue (X i u v Overlap) × IsTrue (X i u v After)

@@ -1,5 +1,6 @@
--- Tokens fed one by one to a list of open nodes, the next one first: an accepted leaf takes the first node away, an accepted split puts its
--- children in its place. A refutation is whole where no node is left.
+-- Tokens fed one by one to a list of open nodes, the next one first: an accepted leaf takes the
+-- first node away, an accepted split puts its children in its place. A refutation is whole where no
+-- node is left.
 use Rattle.std.specs.Prelude.{◌≡◌, List, [], ◌∷◌, ◌++◌}
 use Rattle.packing_terms.specs.declared.Rel.TheVariants.{Overlap, Before, After}
 use Rattle.packing_terms.specs.declared.Exclusion.{Exclusion}
@@ -9,10 +10,10 @@ use Rattle.packing_terms.specs.Closure.{HasConflict}
 use Rattle.packing_terms.specs.Scales.{Exceeds}
 use Rattle.packing_terms.specs.Tokens.{PlainToken}
 use Rattle.packing_terms.specs.Tokens.PlainToken.{Apart, Order, Rules, TooLarge, Scales}
-use Rattle.packing_terms.specs.Refutation.{at, IsTooLarge, MaySplitApart, MaySplitOrder}
+use Rattle.packing_terms.specs.Refutation.{exclusion_in_text, IsTooLarge, MaySplitApart, MaySplitOrder}
 
--- The tokens are accepted one by one from the first nodes on, and leave the last ones. `Accepts` is what a token asks of its node,
--- `children` the nodes that it puts in its place.
+-- The tokens are accepted one by one from the first nodes on, and leave the last ones. `Accepts` is
+-- what a token asks of its node, `children` the nodes that it puts in its place.
 abbrev pub FeedsBy : {Node : Type 0} → (Node → PlainToken → Type 0) → (Node → PlainToken → List Node) → List Node → List PlainToken → List Node → Type 0
 FeedsBy Accepts children nodes [] left = nodes ≡ left
 FeedsBy Accepts children [] (t ∷ ts) left = ⊥
@@ -29,8 +30,8 @@ Accepts instance es _ = ⊥
 
 -- the children of a node by an inner token
 abbrev pub children : List Exclusion → PlainToken → List (List Exclusion)
-children es (Apart i u v) = (at i u v Overlap ∷ es) ∷ (at i u v Before ∷ at i u v After ∷ es) ∷ []
-children es (Order i u v) = (at i u v After ∷ es) ∷ (at i u v Before ∷ es) ∷ []
+children es (Apart i u v) = (exclusion_in_text i u v Overlap ∷ es) ∷ (exclusion_in_text i u v Before ∷ exclusion_in_text i u v After ∷ es) ∷ []
+children es (Order i u v) = (exclusion_in_text i u v After ∷ es) ∷ (exclusion_in_text i u v Before ∷ es) ∷ []
 children es _ = []
 
 -- inner tokens, fed to nodes of the inner tree of one instance

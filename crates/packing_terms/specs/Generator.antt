@@ -1,4 +1,5 @@
--- The generator of instances: each number names one made instance, which is the same on every machine.
+-- The generator of instances: each number names one made instance, which is the same on every
+-- machine.
 --
 --     number 0      seeds 0, 12345, 1406932606, 654583775      draws 0, 21468, 9988      one box, 219 239, in the container 1000 1000
 --

@@ -1,4 +1,5 @@
--- What is asked for beside fitting: the least height of a strip, the least number of bins, the greatest value of a knapsack.
+-- What is asked for beside fitting: the least height of a strip, the least number of bins, the
+-- greatest value of a knapsack.
 --
 --     strip: the last side is free      bins: as few as possible       knapsack: a set of boxes of the greatest value
 --       |        |                        +------+  +------+              +------+
@@ -18,7 +19,8 @@ with_last_side instance h = record instance { container = slice_set instance.con
 abbrev pub subset : PlainInstance → List ℕ → PlainInstance
 subset instance keep = record instance { boxes = map (λ v. slice_index_or instance.boxes v no_box) keep }
 
--- The least height: the least last container side, from 1 on, at which the instance fits. There is none exactly where a box is too wide.
+-- The least height: the least last container side, from 1 on, at which the instance fits. There is
+-- none exactly where a box is too wide.
 pub record IsLeastHeight (instance : PlainInstance) (h : ℕ) : Type 0 where
   pub from : 1 ≤ h
   pub fits : Fits (with_last_side instance h)
@@ -40,7 +42,8 @@ in_bin bins b = filter (λ v. slice_index bins v == b) (range_with_len 0 (length
 abbrev pub places_of : PlainInstance → List ℕ → List ℕ → List ℕ
 places_of instance places keep = flat_map (λ v. map (λ i. place instance places v i) (range_with_len 0 (dims instance))) keep
 
--- a bin below k for each box, and one coordinate for each box and dimension, such that the boxes of each bin with their coordinates are a packing
+-- a bin below k for each box, and one coordinate for each box and dimension, such that the boxes of
+-- each bin with their coordinates are a packing
 pub record IsBinPacking (instance : PlainInstance) (k : ℕ) (bins places : List ℕ) : Type 0 where
   pub count : length bins ≡ box_count instance
   pub placed : length places ≡ box_count instance * dims instance
@@ -51,7 +54,8 @@ pub record IsBinPacking (instance : PlainInstance) (k : ℕ) (bins places : List
 abbrev pub FitsInBins : PlainInstance → ℕ → Type 0
 FitsInBins instance k = (bins : List ℕ) × (places : List ℕ) × IsBinPacking instance k bins places
 
--- The least number of bins in which the instance fits. There is none exactly where a box exceeds the container.
+-- The least number of bins in which the instance fits. There is none exactly where a box exceeds
+-- the container.
 pub record IsLeastBins (instance : PlainInstance) (k : ℕ) : Type 0 where
   pub fits : FitsInBins instance k
   pub least : (j : ℕ) → FitsInBins instance j → k ≤ j

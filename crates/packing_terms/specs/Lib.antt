@@ -1,4 +1,5 @@
 pub mod Packing
+pub mod Sums
 pub mod Limits
 pub mod Goals
 pub mod TooLarge

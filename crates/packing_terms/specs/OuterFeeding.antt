@@ -1,5 +1,6 @@
--- Tokens of outer refutations, fed one by one to a list of open nodes. Behind the token of a refuted set stand the tokens of an inner
--- refutation, so a node is one of the outer tree, or one of the inner tree of a set of boxes.
+-- Tokens of outer refutations, fed one by one to a list of open nodes. Behind the token of a
+-- refuted set stand the tokens of an inner refutation, so a node is one of the outer tree, or one
+-- of the inner tree of a set of boxes.
 use Rattle.std.specs.Prelude.{ℕ, pred, ◌≤◌, List, [], ◌∷◌, length, map, Some, None}
 use Rattle.packing_terms.specs.declared.Exclusion.{Exclusion}
 use Rattle.packing_terms.specs.Packing.{PlainInstance}
@@ -8,9 +9,10 @@ use Rattle.packing_terms.specs.Goals.{subset}
 use Rattle.packing_terms.specs.Tokens.{PlainToken}
 use Rattle.packing_terms.specs.Tokens.PlainToken.{Assign, Choose, SetRefuted, ValueShort, GlobalScales}
 use Rattle.packing_terms.specs.Feeding.{Accepts, children, FeedsBy}
-use Rattle.packing_terms.specs.OuterRefutation.{Bins, IsUsedBin, IsUnplaced, bin_named, placements, Choice, IsShort, IsUndecided, with_taken, with_left}
+use Rattle.packing_terms.specs.OuterRefutation.{Bins, IsUsedBin, IsUnplaced, bin_named, placements, Choice, IsShort, IsOpenBox, with_taken, with_left}
 
--- an open node: one of the outer tree, or one of the inner tree of a set of boxes, with its exclusions
+-- an open node: one of the outer tree, or one of the inner tree of a set of boxes, with its
+-- exclusions
 pub data OpenNode (Node : Type 0) : Type 0 where
   Outer : (node : Node) → OpenNode Node
   Inner : (keep : List ℕ) (exclusions : List Exclusion) → OpenNode Node
@@ -39,7 +41,7 @@ abbrev pub AcceptsValue : PlainInstance → ℕ → OpenNode Choice → PlainTok
 AcceptsValue instance goal (Inner keep es) t = Accepts (subset instance keep) es t
 AcceptsValue instance goal (Outer c) ValueShort = IsShort instance goal c
 AcceptsValue instance goal (Outer c) (SetRefuted None) = 1 ≤ length c.taken
-AcceptsValue instance goal (Outer c) (Choose v) = IsUndecided instance c v
+AcceptsValue instance goal (Outer c) (Choose v) = IsOpenBox instance c v
 AcceptsValue instance goal (Outer c) _ = ⊥
 
 -- the children of a node for a value by a token

@@ -1,5 +1,6 @@
--- An outer tree that is fed token by token, as the nodes on the path to the current one, each with the number of its closed children. Behind the token
--- of a refuted set stand the open nodes of the set's inner tree. The list of all open nodes is a function of these.
+-- An outer tree that is fed token by token, as the nodes on the path to the current one, each with
+-- the number of its closed children. Behind the token of a refuted set stand the open nodes of the
+-- set's inner tree. The list of all open nodes is a function of these.
 use Rattle.std.specs.Prelude.{ℕ, suc, pred, ◌+◌, ◌*◌, ◌-◌, List, [], ◌∷◌, ◌++◌, map, drop, Some, None}
 use Rattle.packing_terms.specs.declared.Exclusion.{Exclusion}
 use Rattle.packing_terms.specs.Packing.{PlainInstance, dims, box_count}
@@ -9,13 +10,15 @@ use Rattle.packing_terms.specs.Feeding.{children}
 use Rattle.packing_terms.specs.OuterRefutation.{Bins, bin_named, placements, Choice, with_taken, with_left}
 use Rattle.packing_terms.specs.OuterFeeding.{OpenNode, Outer, Inner}
 
--- a split on the path: its node, the number of its box in the text, and how many of its children are closed; the path goes on to the next child
+-- a split on the path: its node, the number of its box in the text, and how many of its children
+-- are closed; the path goes on to the next child
 pub record PathNode (Node : Type 0) : Type 0 where
   pub node : Node
   pub box_no : ℕ
   pub closed : ℕ
 
--- what is fed next: an outer node, or the first open node of the inner tree of a set, with those behind it
+-- what is fed next: an outer node, or the first open node of the inner tree of a set, with those
+-- behind it
 pub data CurrentNode (Node : Type 0) : Type 0 where
   At : (node : Node) → CurrentNode Node
   Inside : (keep : List ℕ) (exclusions : List Exclusion) (behind : List (List Exclusion)) → CurrentNode Node
@@ -36,7 +39,8 @@ open_nodes below Whole = []
 open_nodes below (On path (At node)) = Outer node ∷ waiting below path
 open_nodes below (On path (Inside keep es behind)) = map (λ fs. Inner keep fs) (es ∷ behind) ++ waiting below path
 
--- the current node is closed: on to the next child of the innermost split that has one, and where none has, the tree is whole
+-- the current node is closed: on to the next child of the innermost split that has one, and where
+-- none has, the tree is whole
 abbrev pub leave : {Node : Type 0} → (Node → ℕ → List Node) → List (PathNode Node) → OuterView Node
 leave below [] = Whole
 leave below (p ∷ path) =
@@ -45,7 +49,8 @@ leave below (p ∷ path) =
       | n ∷ more ↦ On (record p { closed = suc p.closed } ∷ path) (At n)
     ]
 
--- what a token does at an outer node: it splits the node by a box, begins the inner tree of a set, or closes the node
+-- what a token does at an outer node: it splits the node by a box, begins the inner tree of a set,
+-- or closes the node
 pub data OuterStep : Type 0 where
   SplitBy : (box_no : ℕ) → OuterStep
   Begin : (keep : List ℕ) → OuterStep
@@ -104,6 +109,7 @@ choice_step c (Choose v) = SplitBy v
 choice_step c (SetRefuted None) = Begin c.taken
 choice_step c _ = Close
 
--- the most open nodes of an inner tree: a pair is split at most twice in each dimension, and each split leaves one node behind
+-- the most open nodes of an inner tree: a pair is split at most twice in each dimension, and each
+-- split leaves one node behind
 abbrev pub most_open : PlainInstance → ℕ
 most_open instance = dims instance * box_count instance * (box_count instance - 1) + 1

@@ -1,7 +1,9 @@
--- Outer refutations: lists of tokens that show that an instance doesn't fit in k bins, or doesn't reach a value.
+-- Outer refutations: lists of tokens that show that an instance doesn't fit in k bins, or doesn't
+-- reach a value.
 --
--- For bins a node says which boxes share a bin, and nothing of which bin that is: the used bins stand in the order of their first use. For a
--- value a node says which boxes are in and which are out.
+-- For bins a node says which boxes share a bin, and nothing of which bin that is: the used bins
+-- stand in the order of their first use. For a value a node says which boxes are in and which are
+-- out.
 use Rattle.std.specs.Prelude.{ℕ, zero, suc, pred, ◌+◌, ◌<◌, ◌≤◌, ◌≡◌, ◌==◌, ◌||◌, not, List, [], ◌∷◌, ◌++◌, length, map, Bool, false, Some, None, nat_lt, if◌then◌else◌, slice_index_or}
 use Rattle.std.specs.List.{filter, range_with_len, list_any}
 use Rattle.packing_terms.specs.declared.ScaleFn.{ScaleFn}
@@ -52,7 +54,8 @@ pub record IsUnplaced (instance : PlainInstance) (bins : Bins) (box_no : ℕ) : 
 abbrev pub bin_named : Bins → ℕ → List ℕ
 bin_named bins bin = slice_index_or bins (pred bin) []
 
--- The tokens refute the nodes of the list for k bins, one node after another. An outer refutation for k bins refutes the root, where no bin is used.
+-- The tokens refute the nodes of the list for k bins, one node after another. An outer refutation
+-- for k bins refutes the root, where no bin is used.
 pub data RefutesBins (instance : PlainInstance) (k : ℕ) : List Bins → List PlainToken → Type 0 where
   none_left : RefutesBins instance k [] []
   by_scales : {bins : Bins} {nodes : List Bins} {fs : List ScaleFn} {z : List PlainToken} → Exceeds instance fs k
@@ -90,7 +93,7 @@ abbrev pub with_left : Choice → ℕ → Choice
 with_left c v = record c { left = insert_box v c.left }
 
 -- the number of the text names a box that is neither in nor out
-pub record IsUndecided (instance : PlainInstance) (c : Choice) (box_no : ℕ) : Type 0 where
+pub record IsOpenBox (instance : PlainInstance) (c : Choice) (box_no : ℕ) : Type 0 where
   pub from : 1 ≤ box_no
   pub to : box_no ≤ box_count instance
   pub not_taken : has_box (pred box_no) c.taken ≡ false
@@ -100,7 +103,8 @@ pub record IsUndecided (instance : PlainInstance) (c : Choice) (box_no : ℕ) : 
 abbrev pub IsShort : PlainInstance → ℕ → Choice → Type 0
 IsShort instance goal c = worth instance c.taken + worth instance (undecided instance c) < goal
 
--- The tokens refute the nodes of the list for a value, one node after another. An outer refutation for a value refutes the root, where nothing is decided.
+-- The tokens refute the nodes of the list for a value, one node after another. An outer refutation
+-- for a value refutes the root, where nothing is decided.
 pub data RefutesValue (instance : PlainInstance) (goal : ℕ) : List Choice → List PlainToken → Type 0 where
   none_left : RefutesValue instance goal [] []
   by_value : {c : Choice} {nodes : List Choice} {z : List PlainToken} → IsShort instance goal c
@@ -108,7 +112,7 @@ pub data RefutesValue (instance : PlainInstance) (goal : ℕ) : List Choice → 
   by_set : {c : Choice} {nodes : List Choice} {x y z : List PlainToken} → 1 ≤ length c.taken
       → Refutes (subset instance c.taken) [] x → z ≡ x ++ y
       → RefutesValue instance goal nodes y → RefutesValue instance goal (c ∷ nodes) (SetRefuted None ∷ z)
-  by_box : {c : Choice} {nodes : List Choice} {v : ℕ} {z : List PlainToken} → IsUndecided instance c v
+  by_box : {c : Choice} {nodes : List Choice} {v : ℕ} {z : List PlainToken} → IsOpenBox instance c v
       → RefutesValue instance goal (with_taken c (pred v) ∷ with_left c (pred v) ∷ nodes) z
       → RefutesValue instance goal (c ∷ nodes) (Choose v ∷ z)
 

@@ -1,11 +1,14 @@
--- The three relations of the projections of two boxes on one dimension, their mirrors and their compositions.
+-- The three relations of the projections of two boxes on one dimension, their mirrors and their
+-- compositions.
 --
 --     u  |-----|                u  |-----|             u          |-----|
 --     v          |----|         v     |----|           v  |----|
 --        u Before v                u Overlap v             u After v
 --
--- Touching counts as Before or After. Of two boxes whose sides are at least 1, exactly one relation holds (law `one_relation_holds`).
--- Source: the component graph of Fekete, Schepers and van der Veen (2007) joins the pairs that overlap; the other pairs are oriented here.
+-- Touching counts as Before or After. Of two boxes whose sides are at least 1, exactly one relation
+-- holds (law `one_relation_holds`).
+-- Source: the component graph of Fekete, Schepers and van der Veen (2007) joins the pairs that
+-- overlap; the other pairs are oriented here.
 use Rattle.std.specs.Prelude.{ℕ, ◌+◌, ◌<◌, ◌≤◌, List, [], ◌∷◌, Bool, true, false}
 use Rattle.packing_terms.specs.declared.Rel.{Rel}
 use Rattle.packing_terms.specs.declared.Rel.TheVariants.{Overlap, Before, After}
@@ -27,7 +30,8 @@ AreRelated p w q x Overlap = (p < q + x) × (q < p + w)
 abbrev pub Holds : PlainInstance → List ℕ → ℕ → ℕ → ℕ → Rel → Type 0
 Holds instance places i u v r = AreRelated (place instance places u i) (side instance u i) (place instance places v i) (side instance v i) r
 
--- The composition table, entry by entry: the relations that u and x may have where u, v have the first and v, x the second.
+-- The composition table, entry by entry: the relations that u and x may have where u, v have the
+-- first and v, x the second.
 abbrev pub compositions : Rel → Rel → List Rel
 compositions Before Before = Before ∷ []
 compositions Before Overlap = Before ∷ Overlap ∷ []
@@ -39,7 +43,8 @@ compositions After Before = Before ∷ Overlap ∷ After ∷ []
 compositions After Overlap = Overlap ∷ After ∷ []
 compositions After After = After ∷ []
 
--- whether u and x may have this relation where u, v have the first and v, x the second: the same table as a test
+-- whether u and x may have this relation where u, v have the first and v, x the second: the same
+-- table as a test
 abbrev pub allows : Rel → Rel → Rel → Bool
 allows Before Before Before = true
 allows Before Before _ = false
@@ -57,7 +62,8 @@ allows After Overlap _ = true
 allows After After After = true
 allows After After _ = false
 
--- Three projections that show a composition: the relations of the first and second, of the second and third, and of the first and third.
+-- Three projections that show a composition: the relations of the first and second, of the second
+-- and third, and of the first and third.
 pub record ShowsComposition (a b r : Rel) : Type 0 where
   pub starts : ℕ × ℕ × ℕ
   pub lengths : ℕ × ℕ × ℕ

@@ -1,5 +1,5 @@
--- The boxes of a set, renumbered: box k of the set is the box that its list names at k. Rules of the set's instance are those rules of the whole
--- instance all of whose boxes are in the set.
+-- The boxes of a set, renumbered: box k of the set is the box that its list names at k. Rules of
+-- the set's instance are those rules of the whole instance all of whose boxes are in the set.
 use Rattle.std.specs.Prelude.{ℕ, ◌<◌, List, [], ◌∷◌, ◌++◌, map, length, slice_index, nat_lt, ◌&&◌, IsTrue, ◌⊎◌}
 use Rattle.std.specs.List.{AllByRecursion}
 use Rattle.packing_terms.specs.declared.Rel.{Rel}
@@ -14,14 +14,14 @@ abbrev pub named : List ℕ → ℕ → ℕ
 named keep k = slice_index keep k
 
 -- the boxes of a rule instance
-abbrev pub boxes_of : Rule → List ℕ
-boxes_of (Pair i u v) = u ∷ v ∷ []
-boxes_of (Apart i u v) = u ∷ v ∷ []
-boxes_of (Triple i u v x) = u ∷ v ∷ x ∷ []
-boxes_of (Chain i before u v after) = (before ++ u ∷ []) ++ v ∷ after
-boxes_of (Compose i u v x) = u ∷ v ∷ x ∷ []
-boxes_of (Cycle i a b c d) = a ∷ b ∷ c ∷ d ∷ []
-boxes_of (Order i a b c d) = a ∷ b ∷ c ∷ d ∷ []
+abbrev pub rule_boxes : Rule → List ℕ
+rule_boxes (Pair i u v) = u ∷ v ∷ []
+rule_boxes (Apart i u v) = u ∷ v ∷ []
+rule_boxes (Triple i u v x) = u ∷ v ∷ x ∷ []
+rule_boxes (Chain i before u v after) = (before ++ u ∷ []) ++ v ∷ after
+rule_boxes (Compose i u v x) = u ∷ v ∷ x ∷ []
+rule_boxes (Cycle i a b c d) = a ∷ b ∷ c ∷ d ∷ []
+rule_boxes (Order i a b c d) = a ∷ b ∷ c ∷ d ∷ []
 
 -- a rule instance of boxes of the set, as one of the whole instance
 abbrev pub renamed_rule : List ℕ → Rule → Rule
@@ -38,24 +38,26 @@ abbrev pub renamed : List ℕ → Exclusion → Exclusion
 renamed keep e = record e { u = named keep e.u; v = named keep e.v }
 
 -- each exclusion of the list is at boxes of the set, by their indices
-abbrev pub AreWithin : List ℕ → List Exclusion → Type 0
-AreWithin keep [] = Unit {0}
-AreWithin keep (e ∷ es) = (e.u < length keep) × (e.v < length keep) × AreWithin keep es
+abbrev pub AreAmongKept : List ℕ → List Exclusion → Type 0
+AreAmongKept keep [] = Unit {0}
+AreAmongKept keep (e ∷ es) = (e.u < length keep) × (e.v < length keep) × AreAmongKept keep es
 
 -- the exclusions of the whole instance at boxes of the set, by their indices
 abbrev pub restricted : List ℕ → Exclusions → Exclusions
 restricted keep X i u v r = (nat_lt u (length keep) && nat_lt v (length keep)) && X i (named keep u) (named keep v) r
 
--- Some rule instance of the whole instance, all of whose boxes are in the set, excludes this relation at the boxes at these indices, or at its mirror.
+-- Some rule instance of the whole instance, all of whose boxes are in the set, excludes this
+-- relation at the boxes at these indices, or at its mirror.
 pub data FollowsAmong (instance : PlainInstance) (keep : List ℕ) (X : Exclusions) : ℕ → ℕ → ℕ → Rel → Type 0 where
-  by_kept : (rule : Rule) (r : Rel) → AllByRecursion (λ k. k < length keep) (boxes_of rule) → IsRuleInstance instance (renamed_rule keep rule)
+  by_kept : (rule : Rule) (r : Rel) → AllByRecursion (λ k. k < length keep) (rule_boxes rule) → IsRuleInstance instance (renamed_rule keep rule)
       → Premises instance X (renamed_rule keep rule) → Concludes X (renamed_rule keep rule) r
       → FollowsAmong instance keep X (dim_of rule) (first_of rule) (second_of rule) r
-  kept_mirrored : (rule : Rule) (r : Rel) → AllByRecursion (λ k. k < length keep) (boxes_of rule) → IsRuleInstance instance (renamed_rule keep rule)
+  kept_mirrored : (rule : Rule) (r : Rel) → AllByRecursion (λ k. k < length keep) (rule_boxes rule) → IsRuleInstance instance (renamed_rule keep rule)
       → Premises instance X (renamed_rule keep rule) → Concludes X (renamed_rule keep rule) r
       → FollowsAmong instance keep X (dim_of rule) (second_of rule) (first_of rule) (mirror r)
 
--- a derivation in the whole instance by rules of boxes of the set alone; its exclusions are given by their indices
+-- a derivation in the whole instance by rules of boxes of the set alone; its exclusions are given
+-- by their indices
 abbrev pub IsDerivationAmong : PlainInstance → List ℕ → Exclusions → List Exclusion → Type 0
 IsDerivationAmong instance keep E [] = Unit {0}
 IsDerivationAmong instance keep E (e ∷ es) =

@@ -1,4 +1,5 @@
--- The seven propagation rules. Each is in one dimension i, of distinct boxes; w is a box's side there and W the container's.
+-- The seven propagation rules. Each is in one dimension i, of distinct boxes; w is a box's side
+-- there and W the container's.
 --
 --     PAIR     w(u) + w(v) > W: u, v overlap.
 --     APART    u, v are joined in every other dimension: they don't overlap in this one.
@@ -8,8 +9,9 @@
 --     CYCLE    a, b, then b, c, then c, d, then d, a are joined and a, c are apart: b, d overlap (a cycle of four needs a chord).
 --     ORDER    a is surely before b, c is surely before d, and a isn't before d: c is before b.
 --
--- Sources: Fekete, Schepers and van der Veen (2007) for edges that are forced by width, by cliques and by cycles of four; interval orders have no
--- two chains that cross (Fishburn, 1970), which is ORDER; COMPOSE is path consistency over the table of compositions (Allen, 1983).
+-- Sources: Fekete, Schepers and van der Veen (2007) for edges that are forced by width, by cliques
+-- and by cycles of four; interval orders have no two chains that cross (Fishburn, 1970), which is
+-- ORDER; COMPOSE is path consistency over the table of compositions (Allen, 1983).
 use Rattle.std.specs.Prelude.{ℕ, ◌+◌, ◌<◌, ◌≡◌, ◌≢◌, List, [], ◌∷◌, ◌++◌, false, IsTrue}
 use Rattle.std.specs.List.{sum_by, AllByRecursion}
 use Rattle.packing_terms.specs.declared.Rel.{Rel}
@@ -18,7 +20,8 @@ use Rattle.packing_terms.specs.Packing.{PlainInstance, dims, box_count, containe
 use Rattle.packing_terms.specs.Relations.{allows, mirror}
 use Rattle.packing_terms.specs.Exclusions.{Exclusions, IsApart, IsJoined, IsSurelyBefore}
 
--- An instance of a rule. Numbers stand in the order of the rule's text. Of CHAIN, one chain is `before` and then u, the other v and then `after`.
+-- An instance of a rule. Numbers stand in the order of the rule's text. Of CHAIN, one chain is
+-- `before` and then u, the other v and then `after`.
 pub data Rule : Type 0 where
   Pair : (i u v : ℕ) → Rule
   Apart : (i u v : ℕ) → Rule
@@ -58,7 +61,8 @@ IsRuleInstance instance (Compose i u v x) = (i < dims instance) × AreBoxes inst
 IsRuleInstance instance (Cycle i a b c d) = (i < dims instance) × AreBoxes instance (a ∷ b ∷ c ∷ d ∷ [])
 IsRuleInstance instance (Order i a b c d) = (i < dims instance) × AreBoxes instance (a ∷ b ∷ c ∷ d ∷ [])
 
--- what the rule asks of the instance and of the exclusions. No premise reads the place at which the rule excludes.
+-- what the rule asks of the instance and of the exclusions. No premise reads the edge at which the
+-- rule excludes.
 abbrev pub Premises : PlainInstance → Exclusions → Rule → Type 0
 Premises instance X (Pair i u v) = container_side instance i < side instance u i + side instance v i
 Premises instance X (Apart i u v) = (j : ℕ) → j < dims instance → j ≢ i → IsJoined X j u v
@@ -72,7 +76,7 @@ Premises instance X (Cycle i a b c d) =
     IsJoined X i a b × IsJoined X i b c × IsJoined X i c d × IsJoined X i d a × IsApart X i a c
 Premises instance X (Order i a b c d) = IsSurelyBefore X i a b × IsSurelyBefore X i c d × IsTrue (X i a d Before)
 
--- the place at which the rule excludes: its dimension
+-- the edge at which the rule excludes: its dimension
 abbrev pub dim_of : Rule → ℕ
 dim_of (Pair i u v) = i
 dim_of (Apart i u v) = i

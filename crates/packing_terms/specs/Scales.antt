@@ -1,13 +1,16 @@
 -- Scale functions, and when a tuple of them exceeds.
 --
--- A scale function gives each side x of at most W an image, such that sides that fit beside one another have images that fit in the whole. Then the
--- products of the images of boxes that fit in c containers are together at most c products of the wholes.
--- Source: Fekete and Schepers, "New classes of fast lower bounds for bin packing problems" (2001) and "A general framework for bounds for
--- higher-dimensional orthogonal packing problems" (2004): the functions u(k), U(e) and phi(e), scaled here to whole numbers.
+-- A scale function gives each side x of at most W an image, such that sides that fit beside one
+-- another have images that fit in the whole. Then the products of the images of boxes that fit in c
+-- containers are together at most c products of the wholes.
+-- Source: Fekete and Schepers, "New classes of fast lower bounds for bin packing problems" (2001)
+-- and "A general framework for bounds for higher-dimensional orthogonal packing problems" (2004):
+-- the functions u(k), U(e) and phi(e), scaled here to whole numbers.
 use Rattle.std.specs.Prelude.{ℕ, zero, suc, ◌+◌, ◌-◌, ◌*◌, ◌/◌, ◌%◌, ◌<◌, ◌≤◌, ◌≡◌, ◌==◌, List, length, slice_index_or, nat_lt, nat_le, if◌then◌else◌, map, sum}
 use Rattle.packing_terms.specs.declared.ScaleFn.{ScaleFn}
 use Rattle.packing_terms.specs.declared.ScaleFn.TheVariants.{Id, Step, Cut, Count}
 use Rattle.packing_terms.specs.Packing.{PlainInstance, dims, box_count, container_side, side}
+use Rattle.packing_terms.specs.Sums.{sum_below, product_below}
 
 -- the parameter is legal for a container side W
 abbrev pub IsLegalScale : ScaleFn → ℕ → Type 0
@@ -30,19 +33,10 @@ scale_image (Step k) W x = if (k + 1) * x % W == 0 then k * x else W * ((k + 1) 
 scale_image (Cut e) W x = if nat_lt x e then 0 else (if nat_le x (W - e) then x else W)
 scale_image (Count e) W x = if nat_lt x e then 0 else (if nat_le (2 * x) W then 1 else W / e - (W - x) / e)
 
--- f with whole F is dual feasible for W: every list of numbers with sum at most W has images with sum at most F
+-- f with whole F is dual feasible for W: every list of numbers with sum at most W has images with
+-- sum at most F
 abbrev pub IsDualFeasible : ℕ → ℕ → (ℕ → ℕ) → Type 0
 IsDualFeasible W F f = (xs : List ℕ) → sum xs ≤ W → sum (map f xs) ≤ F
-
--- f 0 + .. + f (n - 1)
-abbrev pub sum_below : ℕ → (ℕ → ℕ) → ℕ
-sum_below zero f = 0
-sum_below (suc n) f = sum_below n f + f n
-
--- f 0 * .. * f (n - 1)
-abbrev pub product_below : ℕ → (ℕ → ℕ) → ℕ
-product_below zero f = 1
-product_below (suc n) f = product_below n f * f n
 
 -- the function of dimension i
 abbrev pub function_at : List ScaleFn → ℕ → ScaleFn
@@ -71,8 +65,9 @@ abbrev pub HasExcess : PlainInstance → List ScaleFn → ℕ → Type 0
 HasExcess instance fs c =
     c * whole_product instance fs < sum_below (box_count instance) (λ v. image_product instance fs v)
 
--- The tuple exceeds for c copies: it has one legal function for each dimension, no box side exceeds its container side, and the products of the
--- images are together more than c products of the wholes. It goes by index over boxes and dimensions, so a missing side never counts as 1.
+-- The tuple exceeds for c copies: it has one legal function for each dimension, no box side exceeds
+-- its container side, and the products of the images are together more than c products of the
+-- wholes. It goes by index over boxes and dimensions, so a missing side never counts as 1.
 pub record Exceeds (instance : PlainInstance) (fs : List ScaleFn) (c : ℕ) : Type 0 where
   pub tuple : IsTuple instance fs
   pub fit : SidesFit instance

@@ -1,6 +1,7 @@
 -- The tokens of a refutation, as plain data. A refutation is a flat list of tokens in prefix order.
 --
--- Numbers are those of the written text, so boxes, dimensions and bins are counted from 1. Of a pair, u is the lower number.
+-- Numbers are those of the written text, so boxes, dimensions and bins are counted from 1. Of a
+-- pair, u is the lower number.
 use Rattle.std.specs.Prelude.{ℕ, List, Option}
 use Rattle.packing_terms.specs.declared.ScaleFn.{ScaleFn}
 

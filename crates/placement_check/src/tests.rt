@@ -1,3 +1,4 @@
+//! Tests of placements: each verdict is the first that fails.
 use crate::{PlaceVerdict, check_places};
 use box_instances::{BoxItem, Instance, Sides};
 use std::alloc::Global;

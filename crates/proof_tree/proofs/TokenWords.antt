@@ -1,10 +1,10 @@
 -- Words that are read as parameters and as functions.
-use Rattle.std.proofs.Common.{◌≡◌, ◌≢◌, ℕ, zero, suc, ◌+◌, ◌*◌, ◌-◌, ◌<◌, ◌≤◌, ◌⊎◌, inl, inr, refl, sym, ap, ◌∙◌, arith, Bool, true, false, cond, ◌==◌, List, [], ◌∷◌, ◌++◌, length, drop, get_or, Option, Some, None, append_assoc, append-nil, length-append}
-use Rattle.std.proofs.lemmas.Bool.{ne_eqb, eq-eqb}
+use Rattle.std.proofs.Common.{◌≡◌, ◌≢◌, ℕ, ◌+◌, ◌*◌, ◌<◌, ◌≤◌, ◌-◌, min, refl, sym, ap, ◌∙◌, arith, Bool, true, false, cond, List, [], ◌∷◌, ◌++◌, length, drop, get_or, Option, Some, None, append_assoc, length-append}
+use Rattle.std.proofs.lemmas.Bool.{ne_eqb}
 use Rattle.std.proofs.lemmas.List.{length-drop}
 use Rattle.packing_terms.specs.declared.ScaleFn.{ScaleFn}
 use Rattle.packing_terms.specs.Tokens.{PlainToken}
-use Rattle.text_terms.specs.Lines.{Line, same_bytes}
+use Rattle.text_terms.specs.Lines.{Line}
 use Rattle.document_terms.specs.TokenLines.{parameters, in_front, functions, of_none, set_token, token_of, line_token}
 use Rattle.document_terms.proofs.Cuts.{parameters_many, functions_many}
 use Rattle.proof_tree.specs.declared.reading.Kind.{Kind}
@@ -59,6 +59,10 @@ set_else words other alone = go (parameters words) refl alone
     go (Some (x ∷ [])) e f = absurd (cc (f))
     go (Some (x ∷ y ∷ xs)) e f = refl
 
+-- another count of words than one
+pub some_behind : (words : List (List ℕ)) (count : ℕ) → 1 ≤ length words → length words ≡ min 12 count → count ≢ 1 → length (drop 1 words) ≢ 0
+some_behind words count some held other e = let m = length-drop 1 words in other (omega (arith, e, m, held, some))
+
 -- the functions before, and those of the words that are left
 abbrev pub before : List ScaleFn → Option (List ScaleFn) → Option (List ScaleFn)
 before fs None = None
@@ -69,13 +73,6 @@ pub record AreRead (words : List (List ℕ)) (k : ℕ) (fs : List ScaleFn) : Typ
   pub all : functions (drop 1 words) ≡ before fs (functions (drop k words))
   pub within : k ≤ length words
   pub few : k ≤ 1 + 2 * length fs
-
-none_before : (o : Option (List ScaleFn)) → o ≡ before [] o
-none_before None = refl
-none_before (Some gs) = refl
-
-pub read_none : (words : List (List ℕ)) → 1 ≤ length words → AreRead words 1 []
-read_none words some = record { all = none_before (functions (drop 1 words)); within = some; few = omega arith }
 
 one_more : (fs : List ScaleFn) (f : ScaleFn) (o : Option (List ScaleFn)) → before fs (in_front (Some f) o) ≡ before (fs ++ f ∷ []) o
 one_more fs f None = refl
@@ -89,23 +86,7 @@ read_more words k next fs f e l m h = record {
   few = let n = h.few in let a = length-append fs (f ∷ []) in omega (arith, n, a, m);
 }
 
-drop_end : {A : Type 0} (xs : List A) (k : ℕ) → length xs ≤ k → drop k xs ≡ []
-drop_end [] zero l = refl
-drop_end [] (suc k) l = refl
-drop_end (x ∷ xs) zero l = absurd (omega (arith, l))
-drop_end (x ∷ xs) (suc k) l = drop_end xs k (omega (arith, l))
-
 module _ (d k : ℕ) (words : List (List ℕ)) (fs : List ScaleFn) (h : AreRead words k fs) where
-  all_read : length words ≤ k → functions (drop 1 words) ≡ Some fs
-  all_read l = h.all ∙ (ap (λ ws. before fs (functions ws)) (drop_end words k l) ∙ ap Some (append-nil fs))
-
-  -- no word is left
-  pub read_whole : length words ≤ k → length fs ≡ d → Some fs ≡ tuple_only d (functions (drop 1 words))
-  read_whole l e = sym (ap (tuple_only d) (all_read l) ∙ ap (λ b. cond b (Some fs) None) (eq-eqb (length fs) d e))
-
-  pub read_short : length words ≤ k → length fs < d → None ≡ tuple_only d (functions (drop 1 words))
-  read_short l few = sym (ap (tuple_only d) (all_read l) ∙ ap (λ b. cond b (Some fs) None) (ne_eqb (length fs) d (λ e. omega (arith, few, e))))
-
   -- word k begins no function
   pub read_other : functions (drop k words) ≡ None → None ≡ tuple_only d (functions (drop 1 words))
   read_other e = sym (ap (tuple_only d) (h.all ∙ ap (before fs) e))

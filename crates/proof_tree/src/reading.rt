@@ -1,8 +1,8 @@
-// The token that a line is.
+//! The token that a line is.
 ghost use Rattle.std.specs.Prelude.{◌≡◌, ◌<◌, ◌≤◌, ◌+◌, length, drop, slice_index_or, option_map, []};
 ghost use Rattle.text_terms.specs.Lines.{same_bytes};
-ghost use Rattle.text_terms.specs.Feeding.{told};
-ghost use Rattle.document_terms.specs.TokenLines.{parameter, parameters, named_function, functions, line_token};
+ghost use Rattle.text_terms.specs.Feeding.{ended_line};
+ghost use Rattle.document_terms.specs.TokenLines.{parameter, parameters, named_function, functions, of_none, set_token, line_token};
 ghost use Rattle.proof_tree.specs.Plain.{plain_token};
 ghost use Rattle.proof_tree.specs.Kinds.{kind_of, of_kind, only, two_only, three_only, tuple_only, IsFunctionAt};
 
@@ -84,6 +84,7 @@ fn parameter_at(line: &LineLexer, k: u32) -> Option<u32>
     requires { k < length line.now.held.words }
     ensures { result ≡ parameter (slice_index_or line.now.held.words k []) }
 {
+    // For the proof alone: tells the limits of the line's words.
     let _count = line.word_count();
     let number = read_number(line.word(k))?;
     if number > u32::MAX as u128 {
@@ -130,8 +131,10 @@ fn three_parameters(line: &LineLexer) -> Option<(u32, u32, u32)>
 // The function of the name that is word `k` and of the parameter behind it.
 fn named_at(line: &LineLexer, k: u32) -> Option<ScaleFn>
     requires { k + 1 < length line.now.held.words }
-    ensures { result ≡ named_function (slice_index_or line.now.held.words k []) (slice_index_or line.now.held.words (k + 1) []) }
+    ensures { result ≡ named_function (slice_index_or line.now.held.words k [])
+        (slice_index_or line.now.held.words (k + 1) []) }
 {
+    // For the proof alone: tells the limits of the line's words.
     let _count = line.word_count();
     let name = line.word(k);
     if is_word(name, b"step") {
@@ -172,7 +175,8 @@ fn function_at(line: &LineLexer, k: u32) -> Option<Named>
 fn tuple_behind(alloc: Global, line: &LineLexer, dims: u32) -> Option<ScaleTuple>
     requires dims { dims ≤ 4 }
     requires word { 1 ≤ length line.now.held.words }
-    ensures { option_map (λ tuple. tuple.items) result ≡ tuple_only dims (functions (drop 1 line.now.held.words)) }
+    ensures { option_map (λ tuple. tuple.items) result
+        ≡ tuple_only dims (functions (drop 1 line.now.held.words)) }
 {
     let count = line.word_count();
     let mut tuple = ScaleTuple::new(alloc);
@@ -186,6 +190,33 @@ fn tuple_behind(alloc: Global, line: &LineLexer, dims: u32) -> Option<ScaleTuple
         k = named.next;
     }
     if k == count { Some(tuple) } else { None }
+}
+
+// This token, where no word stands behind the first.
+fn token_alone(line: &LineLexer, token: Token) -> Option<Token>
+    requires word { 1 ≤ length line.now.held.words }
+    ensures { option_map plain_token result
+        ≡ of_none (plain_token token) (parameters (drop 1 line.now.held.words)) }
+{
+    if line.word_count() == 1 {
+        Some(token)
+    } else {
+        None
+    }
+}
+
+// The token of a refuted set, and of its bin where one stands behind the first word.
+fn set_refuted(line: &LineLexer) -> Option<Token>
+    requires word { 1 ≤ length line.now.held.words }
+    ensures { option_map plain_token result ≡ set_token (parameters (drop 1 line.now.held.words)) }
+{
+    if line.word_count() == 1 {
+        return Some(Token::SetRefuted { bin: None });
+    }
+    match one_parameter(line) {
+        Some(bin) => Some(Token::SetRefuted { bin: Some(bin) }),
+        None => None,
+    }
 }
 
 // The token of this kind whose parameters or functions stand behind the first word.
@@ -203,13 +234,7 @@ fn token_of(alloc: Global, line: &LineLexer, dims: u32, kind: Kind) -> Option<To
             let (dim, u, v) = three_parameters(line)?;
             Some(Token::Order { dim, u, v })
         }
-        Kind::Rules => {
-            if line.word_count() == 1 {
-                Some(Token::Rules)
-            } else {
-                None
-            }
-        }
+        Kind::Rules => token_alone(line, Token::Rules),
         Kind::TooLarge => {
             let (box_no, dim) = two_parameters(line)?;
             Some(Token::TooLarge { box_no, dim })
@@ -226,22 +251,8 @@ fn token_of(alloc: Global, line: &LineLexer, dims: u32, kind: Kind) -> Option<To
             let box_no = one_parameter(line)?;
             Some(Token::Choose { box_no })
         }
-        Kind::SetRefuted => {
-            if line.word_count() == 1 {
-                return Some(Token::SetRefuted { bin: None });
-            }
-            match one_parameter(line) {
-                Some(bin) => Some(Token::SetRefuted { bin: Some(bin) }),
-                None => None,
-            }
-        }
-        Kind::ValueShort => {
-            if line.word_count() == 1 {
-                Some(Token::ValueShort)
-            } else {
-                None
-            }
-        }
+        Kind::SetRefuted => set_refuted(line),
+        Kind::ValueShort => token_alone(line, Token::ValueShort),
         Kind::GlobalScales => {
             let tuple = tuple_behind(alloc, line, dims)?;
             Some(Token::GlobalScales(tuple))
@@ -249,14 +260,16 @@ fn token_of(alloc: Global, line: &LineLexer, dims: u32, kind: Kind) -> Option<To
     }
 }
 
-/// The token that a line is in an instance of `dims` dimensions, which are 2 to 4. `line` has answered `Line`.
+/// The token that a line is in an instance of `dims` dimensions, which are 2 to 4. `line` has
+/// answered `Line`.
 ///
-/// It answers `None` exactly where the line has a bad byte or is no token line: another first word, another number of parameters
-/// or of functions, or a parameter that isn't a number from 0 to 4,294,967,295. It takes no memory.
+/// It answers `None` exactly where the line has a bad byte or is no token line: another first word,
+/// another number of parameters or of functions, or a parameter that isn't a number from 0 to
+/// 4,294,967,295. It takes no memory.
 pub fn read_token(alloc: Global, line: &LineLexer, dims: u32) -> Option<Token>
     requires least { 2 ≤ dims }
     requires most { dims ≤ 4 }
-    ensures { option_map plain_token result ≡ line_token dims (told line.now.held) }
+    ensures { option_map plain_token result ≡ line_token dims (ended_line line.now.held) }
 {
     if line.bad_byte() {
         return None;

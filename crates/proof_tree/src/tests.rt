@@ -1,3 +1,4 @@
+//! Tests of token lines, read and written.
 ghost use Rattle.std.specs.Prelude.{◌≤◌};
 
 use crate::{Token, read_token, write_token};

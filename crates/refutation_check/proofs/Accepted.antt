@@ -6,11 +6,11 @@ use Rattle.packing_terms.specs.declared.Rel.{Rel}
 use Rattle.packing_terms.specs.declared.Rel.TheVariants.{Overlap, Before, After}
 use Rattle.packing_terms.specs.declared.Exclusion.{Exclusion}
 use Rattle.packing_terms.specs.Packing.{PlainInstance, dims, box_count}
-use Rattle.packing_terms.specs.Exclusions.{excludes, is_same_rel, IsPlace}
+use Rattle.packing_terms.specs.Exclusions.{excludes, is_same_rel, IsEdge}
 use Rattle.packing_terms.specs.Closure.{IsDerived}
 use Rattle.packing_terms.specs.Tokens.{PlainToken}
 use Rattle.packing_terms.specs.Tokens.PlainToken.{Apart, Order, Rules, TooLarge, Scales, Assign, Choose, SetRefuted, ValueShort, GlobalScales}
-use Rattle.packing_terms.specs.Refutation.{at as exclusion_of, IsNamed, MaySplitApart, MaySplitOrder}
+use Rattle.packing_terms.specs.Refutation.{exclusion_in_text as exclusion_of, IsNamed, MaySplitApart, MaySplitOrder}
 use Rattle.packing_terms.specs.Feeding.{children}
 use Rattle.rule_terms.specs.Places.{HasNoEmptyMask}
 use Rattle.rule_terms.specs.Steps.{with_exclusion}
@@ -23,7 +23,7 @@ use Rattle.refutation_check.specs.Refuters.{most_nodes}
 use Rattle.refutation_check.proofs.Bounds.{less_open, no_more_open, still_full, least_open}
 use Rattle.refutation_check.proofs.Stack.{held_less, held_more, IsChild, seen_moved, above_children, splits_kept}
 
-named_at : (instance : PlainInstance) (i u v : ℕ) → IsNamed instance i u v → IsPlace instance (pred i) (pred u) (pred v)
+named_at : (instance : PlainInstance) (i u v : ℕ) → IsNamed instance i u v → IsEdge instance (pred i) (pred u) (pred v)
 named_at instance (suc i) (suc u) (suc v) n =
     let i1 = n.dim_to in
     let l = n.rising in
@@ -52,7 +52,7 @@ module _ (instance : PlainInstance) (N new : List Exclusion) (calm : IsClosureOf
       go (inl e) = absurd (h ((calm.exact i u v r).0 e))
       go (inr e) = e
 
-  one_child : (count i u v : ℕ) (r : Rel) → IsPlace instance (pred i) (pred u) (pred v) → excludes new (pred i) (pred u) (pred v) r ≡ false
+  one_child : (count i u v : ℕ) (r : Rel) → IsEdge instance (pred i) (pred u) (pred v) → excludes new (pred i) (pred u) (pred v) r ≡ false
       → IsChild instance new (record { mark = length new; splits = count; first = Some (exclusion_of i u v r); second = None })
   one_child count i u v r place left = record {
     mark = refl;
@@ -62,7 +62,7 @@ module _ (instance : PlainInstance) (N new : List Exclusion) (calm : IsClosureOf
     less = less_open instance new (exclusion_of i u v r) place left;
   }
 
-  two_child : (count i u v : ℕ) → IsPlace instance (pred i) (pred u) (pred v)
+  two_child : (count i u v : ℕ) → IsEdge instance (pred i) (pred u) (pred v)
       → (excludes new (pred i) (pred u) (pred v) Before ≡ false) ⊎ (excludes new (pred i) (pred u) (pred v) After ≡ false)
       → IsChild instance new (record { mark = length new; splits = count; first = Some (exclusion_of i u v Before); second = Some (exclusion_of i u v After) })
   two_child count i u v place left = record {
@@ -83,7 +83,7 @@ module _ (instance : PlainInstance) (N new : List Exclusion) (calm : IsClosureOf
       go (inl b) (inl t) = rw (with_old new (exclusion_of i u v After) t) (less_open instance new (exclusion_of i u v Before) place b)
       go (inr f) (inl t) = absurd (true≢false (sym t ∙ f))
 
-  room_for : (others i u v : ℕ) (r s : Rel) → IsPlace instance (pred i) (pred u) (pred v) → is_same_rel r s ≡ false
+  room_for : (others i u v : ℕ) (r s : Rel) → IsEdge instance (pred i) (pred u) (pred v) → is_same_rel r s ≡ false
       → excludes new (pred i) (pred u) (pred v) r ≡ false → excludes new (pred i) (pred u) (pred v) s ≡ false
       → others + opens instance new ≤ all_relations instance → others + 2 ≤ most_nodes instance
   room_for others i u v r s place other left beside few =
@@ -145,7 +145,7 @@ module _ (instance : PlainInstance) (start sp old new : List Exclusion) (n : Ope
   by_apart : (i u v : ℕ) → IsJudged instance n old new None (Apart i u v) → IsAccepted instance start sp new n ns (Apart i u v)
   by_apart i u v j =
       let m = apart_may i u v j in
-      let calm : IsClosureOf instance (excludes (node_exclusions n (above start sp n))) new = j.calm refl refl (above start sp n) stands in
+      let calm : IsClosureOf instance (excludes (node_exclusions n (above start sp n))) new = j.no_conflict refl refl (above start sp n) stands in
       let fewer : opens instance new ≤ opens instance (entered n old) = j.fewer refl refl in
       let place = named_at instance i u v m.named in
       let first = one_child instance (node_exclusions n (above start sp n)) new calm (length (splits_with sp n)) i u v Overlap place
@@ -169,7 +169,7 @@ module _ (instance : PlainInstance) (start sp old new : List Exclusion) (n : Ope
       others (inr h) calm = inr (open_of instance (node_exclusions n (above start sp n)) new calm (pred i) (pred u) (pred v) After h)
 
       beside : (excludes new (pred i) (pred u) (pred v) Before ≡ false) ⊎ (excludes new (pred i) (pred u) (pred v) After ≡ false)
-          → IsClosureOf instance (excludes (node_exclusions n (above start sp n))) new → IsPlace instance (pred i) (pred u) (pred v)
+          → IsClosureOf instance (excludes (node_exclusions n (above start sp n))) new → IsEdge instance (pred i) (pred u) (pred v)
           → MaySplitApart instance (node_exclusions n (above start sp n)) i u v
           → length ns + opens instance new ≤ all_relations instance → length ns + 2 ≤ most_nodes instance
       beside (inl b) calm place m bound = room_for instance (node_exclusions n (above start sp n)) new calm (length ns) i u v Overlap Before place refl
@@ -180,7 +180,7 @@ module _ (instance : PlainInstance) (start sp old new : List Exclusion) (n : Ope
   by_order : (i u v : ℕ) → IsJudged instance n old new None (Order i u v) → IsAccepted instance start sp new n ns (Order i u v)
   by_order i u v j =
       let m = order_may i u v j in
-      let calm : IsClosureOf instance (excludes (node_exclusions n (above start sp n))) new = j.calm refl refl (above start sp n) stands in
+      let calm : IsClosureOf instance (excludes (node_exclusions n (above start sp n))) new = j.no_conflict refl refl (above start sp n) stands in
       let fewer : opens instance new ≤ opens instance (entered n old) = j.fewer refl refl in
       let place = named_at instance i u v m.named in
       let before = open_of instance (node_exclusions n (above start sp n)) new calm (pred i) (pred u) (pred v) Before m.before in

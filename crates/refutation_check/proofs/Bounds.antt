@@ -1,19 +1,21 @@
 -- A table without an empty mask leaves a relation for each pair, so a tree is only so deep.
-use Rattle.std.proofs.Common.{◌≡◌, ◌≢◌, ℕ, zero, suc, ◌+◌, ◌-◌, ◌*◌, ◌≤◌, ◌<◌, ◌⊎◌, inl, inr, refl, sym, ap, subst, ◌∙◌, arith, Bool, true, false, not, ◌||◌, List, [], ◌∷◌, ◌++◌, length, map, if◌then◌else◌}
+use Rattle.std.proofs.Common.{◌≡◌, ◌≢◌, ℕ, zero, suc, ◌+◌, ◌-◌, ◌*◌, ◌≤◌, ◌<◌, ◌⊎◌, inl, inr, refl, sym, ap, subst, ◌∙◌, arith, Bool, true, false, not, List, [], ◌∷◌, ◌++◌, length, map, if◌then◌else◌}
 use Rattle.std.specs.List.{filter, flat_map, range_with_len}
-use Rattle.std.proofs.lemmas.Bool.{true≢false, cases_Bool, or_cases, and_parts, eqb-true}
+use Rattle.std.proofs.lemmas.Bool.{true≢false, cases_Bool, or_cases, and_parts, eqb-true, or_from}
 use Rattle.std.proofs.lemmas.List.FromFn.{length-range_with_len}
+use Rattle.std.proofs.Math.Nat.{mul-add}
 use Rattle.packing_terms.specs.declared.Rel.{Rel}
 use Rattle.packing_terms.specs.declared.Rel.TheVariants.{Overlap, Before, After}
 use Rattle.packing_terms.specs.declared.Exclusion.{Exclusion}
 use Rattle.packing_terms.specs.Packing.{PlainInstance, dims, box_count}
 use Rattle.packing_terms.specs.Relations.{mirror}
-use Rattle.packing_terms.specs.Exclusions.{excludes, is_of, is_at, is_same_rel, IsPlace}
+use Rattle.packing_terms.specs.Exclusions.{excludes, is_of, is_at, is_same_rel, IsEdge, exclusion_at}
 use Rattle.packing_terms.proofs.Sets.{of_own}
 use Rattle.packing_terms.proofs.Members.{IsIn, in_filter, range_in}
 use Rattle.rule_terms.specs.Places.{HasNoEmptyMask}
-use Rattle.rule_terms.specs.Rounds.{rels, below}
-use Rattle.rule_terms.specs.Steps.{at_pair, with_exclusion}
+use Rattle.rule_terms.specs.Rounds.{rels}
+use Rattle.packing_terms.specs.Sums.{below}
+use Rattle.rule_terms.specs.Steps.{with_exclusion}
 use Rattle.rule_terms.proofs.Steps.{fewer_open, open_mirrored}
 use Rattle.edge_state.proofs.Kept.{with_new, with_old}
 use Rattle.refutation_check.specs.Nodes.{opens}
@@ -21,11 +23,11 @@ use Rattle.refutation_check.proofs.Nodes.{length_joined}
 
 -- ---- one exclusion more
 
-pub less_open : (instance : PlainInstance) (es : List Exclusion) (e : Exclusion) → IsPlace instance e.dim e.u e.v → excludes es e.dim e.u e.v e.rel ≡ false
+pub less_open : (instance : PlainInstance) (es : List Exclusion) (e : Exclusion) → IsEdge instance e.dim e.u e.v → excludes es e.dim e.u e.v e.rel ≡ false
     → opens instance (with_exclusion es e) < opens instance es
 less_open instance es e place none = rw (with_new es e none) (fewer_open (dims instance) (box_count instance) es e place none)
 
-pub no_more_open : (instance : PlainInstance) (es : List Exclusion) (e : Exclusion) → IsPlace instance e.dim e.u e.v
+pub no_more_open : (instance : PlainInstance) (es : List Exclusion) (e : Exclusion) → IsEdge instance e.dim e.u e.v
     → opens instance (with_exclusion es e) ≤ opens instance es
 no_more_open instance es e place = go (cases_Bool (excludes es e.dim e.u e.v e.rel))
   where
@@ -44,11 +46,6 @@ not_of e s distinct other = go (cases_Bool (is_of e e.dim e.u e.v s))
     go (inl k) = absurd (hit (or_cases _ _ k))
     go (inr k) = k
 
-both_false : (x y : Bool) → x ≡ false → y ≡ false → (x || y) ≡ false
-both_false false false a b = refl
-both_false false true a b = absurd (true≢false b)
-both_false true y a b = absurd (true≢false a)
-
 -- where another relation is left at the pair, no mask gets empty
 pub still_full : (instance : PlainInstance) (es : List Exclusion) (e : Exclusion) (s : Rel) → e.u ≢ e.v → is_same_rel e.rel s ≡ false
     → excludes es e.dim e.u e.v s ≡ false → HasNoEmptyMask instance (excludes es) → HasNoEmptyMask instance (excludes (e ∷ es))
@@ -61,8 +58,8 @@ still_full instance es e s distinct other left full i u v place = go (full i u v
     turned j a b t h = (mirror h.0, open_mirrored (e ∷ es) j a b h.0 h.1)
 
     go : (o : (r : Rel) × (excludes es i u v r ≡ false)) → (is_of e i u v o.0 ≡ true) ⊎ (is_of e i u v o.0 ≡ false) → (r : Rel) × (excludes (e ∷ es) i u v r ≡ false)
-    go o (inl h) = of_own Left turned e i u v o.0 h (s, both_false _ _ (not_of e s distinct other) left)
-    go o (inr h) = (o.0, both_false _ _ h o.1)
+    go o (inl h) = of_own Left turned e i u v o.0 h (s, or_from _ _ (not_of e s distinct other) left)
+    go o (inr h) = (o.0, or_from _ _ h o.1)
 
 -- ---- counting
 
@@ -90,13 +87,10 @@ each_part p f c k (x ∷ xs) h =
     let rest = each_part p f c k xs (λ y i. h y (inr i)) in
     let here = h x (inl refl) in
     let split : c * length (filter p (flat_map f (x ∷ xs))) ≡ c * length (filter p (f x)) + c * length (filter p (flat_map f xs))
-    = ap (λ n. c * n) (filter_count p (f x) (flat_map f xs)) ∙ times c (length (filter p (f x))) (length (filter p (flat_map f xs))) in
+    = ap (λ n. c * n) (filter_count p (f x) (flat_map f xs)) ∙ mul-add c (length (filter p (f x))) (length (filter p (flat_map f xs))) in
     let more : length (x ∷ xs) * k ≡ k + length xs * k = over (length xs) k in
     omega (arith, rest, here, split, more)
   where
-    times : (c a b : ℕ) → c * (a + b) ≡ c * a + c * b
-    times c a b = grind arith
-
     over : (n k : ℕ) → suc n * k ≡ k + n * k
     over n k = grind arith
 
@@ -115,8 +109,8 @@ module _ (instance : PlainInstance) (es : List Exclusion) (full : HasNoEmptyMask
   abbrev is_left : Exclusion → Bool
   is_left e = not (excludes es e.dim e.u e.v e.rel)
 
-  pair_left : (i u v : ℕ) → IsPlace instance i u v → 1 ≤ 1 * length (filter is_left (map (λ r. (let e : Exclusion = record { dim = i; u = u; v = v; rel = r } in e)) rels))
-  pair_left i u v place = omega (arith, one_there (at_pair i u v o.0) (filter is_left (map (λ r. at_pair i u v r) rels)) (in_filter is_left (at_pair i u v o.0) (map (λ r. at_pair i u v r) rels) (there o.0) (open_ o.0 o.1)))
+  pair_left : (i u v : ℕ) → IsEdge instance i u v → 1 ≤ 1 * length (filter is_left (map (λ r. (let e : Exclusion = record { dim = i; u = u; v = v; rel = r } in e)) rels))
+  pair_left i u v place = omega (arith, one_there (exclusion_at i u v o.0) (filter is_left (map (λ r. exclusion_at i u v r) rels)) (in_filter is_left (exclusion_at i u v o.0) (map (λ r. exclusion_at i u v r) rels) (there o.0) (open_ o.0 o.1)))
     where
       o : (r : Rel) × (excludes es i u v r ≡ false)
       o = full i u v place

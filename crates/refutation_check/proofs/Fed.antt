@@ -1,6 +1,6 @@
 -- One token more.
 use Rattle.std.proofs.Common.{◌≡◌, ◌≢◌, ℕ, ◌+◌, refl, sym, ap, ◌∙◌, arith, List, [], ◌∷◌, ◌++◌, length, take, reverse, slice_index_or, Option, Some, None, Ok}
-use Rattle.std.proofs.lemmas.List.{take_all, take_more, reverse-append, length-append, length-take}
+use Rattle.std.proofs.lemmas.List.{take_all, take_more, reverse-append}
 use Rattle.packing_terms.specs.declared.Exclusion.{Exclusion}
 use Rattle.packing_terms.specs.Packing.{PlainInstance, dims, box_count}
 use Rattle.packing_terms.specs.Tokens.{PlainToken}
@@ -33,11 +33,6 @@ over_held instance start sp state n ns e f (m, c, node, rest) = record {
   second = rw (e, f) node.second_there;
   ready = stands_ready instance _ (up_to n.mark state.trail) n.first node.stands;
 }
-
-pub written_length : {X : Type 0} (k : ℕ) (xs ys : List X) → length xs ≡ k → length (take k (xs ++ ys)) ≡ k
-written_length k xs ys e =
-    let a = length-append xs ys in
-    length-take k (xs ++ ys) ∙ omega (arith, a, e)
 
 pub fed_refused : (instance : PlainInstance) (nodes : List (List Exclusion)) (x : List Exclusion) (xs : List (List Exclusion)) (code : RefuseCode) (t : PlainToken)
     → nodes ≡ x ∷ xs → Some code ≡ refusal instance x t

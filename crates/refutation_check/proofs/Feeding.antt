@@ -8,6 +8,7 @@ use Rattle.packing_terms.specs.Limits.{IsInternalInstance}
 use Rattle.packing_terms.specs.Tokens.{PlainToken}
 use Rattle.packing_terms.specs.Tokens.PlainToken.{Apart, Order, Rules, TooLarge, Scales, Assign, Choose, SetRefuted, ValueShort, GlobalScales}
 use Rattle.edge_state.specs.Edges.{PlainEdges}
+use Rattle.edge_state.proofs.Kept.{product_less, less_room}
 use Rattle.check_terms.specs.declared.answers.RefuseCode.{RefuseCode}
 use Rattle.check_terms.specs.declared.answers.FeedVerdict.TheVariants.{More, Done}
 use Rattle.check_terms.specs.Judging.{refusal}
@@ -22,18 +23,8 @@ use Rattle.refutation_check.proofs.Fed.{split_node, over_held, fed_refused, fed_
 
 -- ---- fewer boxes have fewer relations
 
-product_less : (a b x y : ℕ) → a ≤ b → x ≤ y → a * x ≤ b * y
-product_less a b x y h k = grind arith
-
 square_less : (m n : ℕ) → m ≤ n → m * (m - 1) ≤ n * (n - 1)
 square_less m n h = product_less m n (m - 1) (n - 1) h (omega (arith, h))
-
-relations_less : (d m n : ℕ) → m ≤ n → 3 * d * m * (m - 1) / 2 ≤ 3 * d * n * (n - 1) / 2
-relations_less d m n h =
-    let e : 3 * d * m * (m - 1) ≡ 3 * d * (m * (m - 1)) = grind arith in
-    let f : 3 * d * n * (n - 1) ≡ 3 * d * (n * (n - 1)) = grind arith in
-    let k = product_less (3 * d) (3 * d) (m * (m - 1)) (n * (n - 1)) (omega arith) (square_less m n h) in
-    omega (arith, e, f, k)
 
 nodes_less : (d m n : ℕ) → m ≤ n → d * m * (m - 1) + 1 ≤ d * n * (n - 1) + 1
 nodes_less d m n h =
@@ -127,7 +118,7 @@ module _ (whole set : PlainInstance) (start splits : List Exclusion) (held : Lis
 
       pub split_fits : IsTrue (is_split token) → n.splits + 2 ≤ sc
       split_fits s =
-          let l : all_relations set ≤ all_relations whole = (let k = relations_less (dims set) (box_count set) (box_count whole) h.within in rw (← same) k) in
+          let l : all_relations set ≤ all_relations whole = (let k = less_room (dims set) (box_count set) (box_count whole) h.within in rw (← same) k) in
           let r = accepted.room s in
           omega (arith, r, l, h.split_room)
 

@@ -4,16 +4,16 @@ use Rattle.std.proofs.lemmas.Bool.{true≢false, cases_Bool}
 use Rattle.packing_terms.specs.declared.Rel.{Rel}
 use Rattle.packing_terms.specs.declared.Rel.TheVariants.{Overlap, Before, After}
 use Rattle.packing_terms.specs.declared.Exclusion.{Exclusion}
-use Rattle.packing_terms.specs.Packing.{PlainInstance, dims, box_count}
-use Rattle.packing_terms.specs.Exclusions.{excludes, IsPlaceAmong}
+use Rattle.packing_terms.specs.Packing.{PlainInstance}
+use Rattle.packing_terms.specs.Exclusions.{excludes}
 use Rattle.packing_terms.specs.Tokens.{PlainToken}
+use Rattle.packing_terms.proofs.Sets.{same_bool}
 use Rattle.rule_terms.specs.Applied.{Extends}
 use Rattle.rule_terms.proofs.RoundsLemmas.{closure_is}
 use Rattle.rule_terms.proofs.Conflicts.{calm, stormy}
 use Rattle.relation_table.specs.Masks.{mask_has}
 use Rattle.check_terms.specs.declared.answers.RefuseCode.{RefuseCode}
-use Rattle.check_terms.specs.Judging.{unless, names_pair, closed, is_conflict, may_part, may_order, refusal}
-use Rattle.check_terms.proofs.Judged.{named}
+use Rattle.check_terms.specs.Judging.{unless, closed, is_conflict, may_part, may_order, refusal}
 use Rattle.closure_terms.specs.Ends.{IsClosureOf}
 use Rattle.refutation_check.specs.Ended.{IsEnded}
 use Rattle.refutation_check.specs.declared.node.OpenNode.{OpenNode}
@@ -24,11 +24,6 @@ use Rattle.refutation_check.proofs.Nodes.{up_to_more, entered_up_to, entered_lon
 pub pred_is : (n : ℕ) → n - 1 ≡ pred n
 pred_is zero = omega arith
 pred_is (suc n) = omega arith
-
-same_bools : (x y : Bool) → (x ≡ true → y ≡ true) → (y ≡ true → x ≡ true) → x ≡ y
-same_bools true y f g = sym (f refl)
-same_bools false false f g = refl
-same_bools false true f g = g refl
 
 pub unless_false : (b : Bool) (code : RefuseCode) (rest : Option RefuseCode) → b ≡ false → Some code ≡ unless b code rest
 unless_false false code rest h = refl
@@ -55,7 +50,7 @@ module _ (instance : PlainInstance) (es trail : List Exclusion) where
       go (inr h) = h
 
   pub closed_told : IsClosureOf instance (excludes es) trail → (i u v : ℕ) (r : Rel) → closed instance es i u v r ≡ excludes trail i u v r
-  closed_told c i u v r = same_bools (closed instance es i u v r) (excludes trail i u v r)
+  closed_told c i u v r = same_bool (closed instance es i u v r) (excludes trail i u v r)
       (λ h. (c.exact i u v r).1 ((closure_is instance es i u v r).0 h))
       (λ h. (closure_is instance es i u v r).1 ((c.exact i u v r).0 h))
 
@@ -83,23 +78,6 @@ module _ (instance : PlainInstance) (es trail : List Exclusion) where
   pub no_order : (dim u v : ℕ) (b : Bool) → b ≡ true → IsEnded instance (excludes es) trail b → may_order instance (closed instance es) dim u v ≡ false
   no_order dim u v b h e = rw (conflict_told b e ∙ h) refl
 
--- the numbers of a pair name a place
-pub named_place : (instance : PlainInstance) (dim u v : ℕ) → names_pair instance dim u v ≡ true
-    → IsPlaceAmong (dims instance) (box_count instance) (dim - 1) (u - 1) (v - 1)
-named_place instance dim u v h =
-    let n = named instance dim u v h in
-    let i0 = n.dim_from in
-    let i1 = n.dim_to in
-    let u0 = n.u_from in
-    let l = n.rising in
-    let v1 = n.v_to in
-    record {
-      dim = omega (arith, i0, i1);
-      first = omega (arith, u0, l, v1);
-      second = omega (arith, u0, l, v1);
-      distinct = λ e. omega (arith, u0, l, e);
-    }
-
 -- ---- the record of a judged token
 
 -- the state wasn't touched, and the token refused, or accepted as a leaf
@@ -110,7 +88,7 @@ judged_still instance n old answer token within value no_split = record {
   within = within;
   kept = λ k h. refl;
   value = λ A h. value A;
-  calm = λ e s. absurd (no_split e s);
+  no_conflict = λ e s. absurd (no_split e s);
   fewer = λ e s. absurd (no_split e s);
 }
 
@@ -124,7 +102,7 @@ judged_entered instance n old new answer token conflict within extends ended val
   within = rw extends.grown (omega (arith, longer, length_joined extends.more (entered n old)));
   kept = λ k h. rw extends.grown (up_to_more k extends.more (entered n old) (omega (arith, h, longer)) ∙ entered_up_to n old k h within);
   value = λ A h. value A (ended A h);
-  calm = λ e s A h. closure_ended instance (excludes (node_exclusions n A)) new conflict (no_conflict e s) (ended A h);
+  no_conflict = λ e s A h. closure_ended instance (excludes (node_exclusions n A)) new conflict (no_conflict e s) (ended A h);
   fewer = λ e s. extends.fewer;
 }
   where

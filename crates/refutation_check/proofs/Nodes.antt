@@ -7,13 +7,13 @@ use Rattle.packing_terms.specs.declared.Exclusion.{Exclusion}
 use Rattle.packing_terms.specs.Packing.{PlainInstance}
 use Rattle.packing_terms.specs.Exclusions.{excludes, is_of}
 use Rattle.packing_terms.specs.Closure.{IsDerived, Derives, IsSubset, IsStable}
-use Rattle.packing_terms.proofs.Sets.{of_own, or_true, excludes_symmetric}
+use Rattle.packing_terms.proofs.Sets.{of_own, or_true, excludes_symmetric, excludes_rest}
 use Rattle.packing_terms.proofs.Closures.{derives_from, given_derived}
 use Rattle.rule_terms.specs.Places.{HasNoEmptyMask}
 use Rattle.rule_terms.specs.Steps.{with_exclusion}
 use Rattle.rule_terms.proofs.Applied.{with_keeps, with_own}
 use Rattle.edge_state.specs.Edges.{PlainEdges}
-use Rattle.edge_state.proofs.Kept.{with_new, with_old}
+use Rattle.edge_state.proofs.Kept.{with_new, with_old, with_more}
 use Rattle.refutation_check.specs.declared.node.OpenNode.{OpenNode}
 use Rattle.refutation_check.specs.Nodes.{some_of, with_each, with_some, up_to, entered, node_exclusions, Stands, IsReady}
 
@@ -49,13 +49,6 @@ up_to_twice k m es below h = go (length es - m) es (omega (arith, h))
     go (suc j) (f ∷ fs) l = go j fs (omega (arith, l)) ∙ sym (up_to_more k (f ∷ []) fs (omega (arith, l)))
 
 -- ---- one exclusion more
-
-pub with_more : (es : List Exclusion) (e : Exclusion) → (more : List Exclusion) × (with_exclusion es e ≡ more ++ es)
-with_more es e = go (cases_Bool (excludes es e.dim e.u e.v e.rel))
-  where
-    go : (excludes es e.dim e.u e.v e.rel ≡ true) ⊎ (excludes es e.dim e.u e.v e.rel ≡ false) → (more : List Exclusion) × (with_exclusion es e ≡ more ++ es)
-    go (inl h) = ([], with_old es e h)
-    go (inr h) = (e ∷ [], with_new es e h)
 
 pub some_more : (es : List Exclusion) (o : Option Exclusion) → (more : List Exclusion) × (with_some es o ≡ more ++ es)
 some_more es None = ([], refl)
@@ -94,14 +87,11 @@ module _ (instance : PlainInstance) where
   derives_more : (es fs : List Exclusion) → IsSubset (excludes es) (excludes fs) → Derives instance (excludes es) (excludes fs)
   derives_more es fs more = derives_from instance (excludes es) (excludes fs) (λ i u v r k. given_derived instance fs i u v r (more i u v r k))
 
-  in_more : (e : Exclusion) (es : List Exclusion) → IsSubset (excludes es) (excludes (e ∷ es))
-  in_more e es i u v r k = or_true _ _ (inr k)
-
   with_parts : (es : List Exclusion) (e : Exclusion) (i u v : ℕ) (r : Rel) → excludes (with_exclusion es e) i u v r ≡ true → excludes (e ∷ es) i u v r ≡ true
   with_parts es e i u v r k = go (cases_Bool (excludes es e.dim e.u e.v e.rel))
     where
       go : (excludes es e.dim e.u e.v e.rel ≡ true) ⊎ (excludes es e.dim e.u e.v e.rel ≡ false) → excludes (e ∷ es) i u v r ≡ true
-      go (inl h) = in_more e es i u v r (subst (λ (l : List Exclusion). excludes l i u v r ≡ true) (with_old es e h) k)
+      go (inl h) = excludes_rest e es i u v r (subst (λ (l : List Exclusion). excludes l i u v r ≡ true) (with_old es e h) k)
       go (inr h) = subst (λ (l : List Exclusion). excludes l i u v r ≡ true) (with_new es e h) k
 
   with_same : (P A : List Exclusion) (e : Exclusion) → AreSame P A → AreSame (with_exclusion P e) (e ∷ A)
@@ -112,7 +102,7 @@ module _ (instance : PlainInstance) where
     where
       out : (i u v : ℕ) (r : Rel) → (is_of e i u v r ≡ true) ⊎ (excludes P i u v r ≡ true) → IsDerived instance (excludes (e ∷ A)) i u v r
       out i u v r (inl k) = given_derived instance (e ∷ A) i u v r (or_true _ _ (inl k))
-      out i u v r (inr k) = derives_more A (e ∷ A) (in_more e A) i u v r (same.there i u v r (given_derived instance P i u v r k))
+      out i u v r (inr k) = derives_more A (e ∷ A) (excludes_rest e A) i u v r (same.there i u v r (given_derived instance P i u v r k))
 
       in_ : (i u v : ℕ) (r : Rel) → (is_of e i u v r ≡ true) ⊎ (excludes A i u v r ≡ true) → IsDerived instance (excludes (with_exclusion P e)) i u v r
       in_ i u v r (inl k) = given_derived instance (with_exclusion P e) i u v r

@@ -2,7 +2,7 @@
 use Rattle.std.proofs.Common.{◌≡◌, ℕ, suc, ◌+◌, ◌-◌, ◌*◌, ◌≤◌, ◌<◌, refl, sym, ap, subst, ◌∙◌, arith, List, [], ◌∷◌, ◌++◌, length, drop, take, reverse, map, Option, Some, None}
 use Rattle.std.proofs.lemmas.List.{append_assoc, reverse-append, take_all, length-append, length-take}
 use lib.Seq.{take-append-le, take-take}
-use Rattle.std.specs.Prelude.{min}
+use Rattle.std.proofs.Math.Nat.{min-eq_left}
 use Rattle.packing_terms.specs.declared.Exclusion.{Exclusion}
 use Rattle.packing_terms.specs.Packing.{PlainInstance, dims, box_count}
 use Rattle.packing_terms.specs.Exclusions.{excludes}
@@ -67,16 +67,13 @@ above_children start sp n =
     ∙ (append_assoc (some_of n.first) (some_of n.second ++ reverse (take n.splits sp)) start
     ∙ ap (λ (l : List Exclusion). some_of n.first ++ l) (append_assoc (some_of n.second) (reverse (take n.splits sp)) start)))))
 
-min_left : (a b : ℕ) → a ≤ b → min a b ≡ a
-min_left a b h = omega (arith, h)
-
 pub splits_kept : (sp : List Exclusion) (n : OpenNode) (k : ℕ) → n.splits ≤ length sp → k ≤ n.splits → take k (splits_with sp n) ≡ take k sp
 splits_kept sp n k within below =
     take-append-le k (take n.splits sp ++ some_of n.second) (some_of n.first) (omega (arith, counted, below, length-append (take n.splits sp) (some_of n.second)))
     ∙ (take-append-le k (take n.splits sp) (some_of n.second) (omega (arith, counted, below)) ∙ take-take k n.splits sp below)
   where
     counted : length (take n.splits sp) ≡ n.splits
-    counted = length-take n.splits sp ∙ min_left n.splits (length sp) within
+    counted = length-take n.splits sp ∙ min-eq_left within
 
 -- ---- the stack after a token
 
@@ -136,7 +133,7 @@ splits_sized : (sp : List Exclusion) (n : OpenNode) → n.splits ≤ length sp �
 splits_sized sp n within =
     let a = length-append (take n.splits sp ++ some_of n.second) (some_of n.first) in
     let b = length-append (take n.splits sp) (some_of n.second) in
-    let t : length (take n.splits sp) ≡ n.splits = length-take n.splits sp ∙ min_left n.splits (length sp) within in
+    let t : length (take n.splits sp) ≡ n.splits = length-take n.splits sp ∙ min-eq_left within in
     omega (arith, a, b, t, one n.first, one n.second)
   where
     one : (o : Option Exclusion) → length (some_of o) ≤ 1
@@ -172,5 +169,5 @@ held_more instance start sp old new n ns c d within kept (m, within_splits, node
     longer =
         let a = length-append (take n.splits sp ++ some_of n.second) (some_of n.first) in
         let b = length-append (take n.splits sp) (some_of n.second) in
-        let t : length (take n.splits sp) ≡ n.splits = length-take n.splits sp ∙ min_left n.splits (length sp) within_splits in
+        let t : length (take n.splits sp) ≡ n.splits = length-take n.splits sp ∙ min-eq_left within_splits in
         omega (arith, a, b, t)

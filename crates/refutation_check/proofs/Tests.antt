@@ -9,7 +9,7 @@ use Rattle.packing_terms.specs.Packing.{PlainInstance, dims, container_side}
 use Rattle.packing_terms.specs.Scales.{IsLegalScale, IsTuple, Exceeds, function_at}
 use Rattle.packing_terms.specs.Tuples.{has_excess}
 use Rattle.packing_terms.proofs.Members.{all_at, all_from, in_range, range_in}
-use Rattle.rule_terms.specs.Rounds.{below}
+use Rattle.packing_terms.specs.Sums.{below}
 use Rattle.check_terms.specs.declared.answers.RefuseCode.TheVariants.{Kind, Range, Excess}
 use Rattle.check_terms.specs.Judging.{is_legal, are_legal, sides_fit, tuple_refusal}
 use Rattle.check_terms.proofs.Judged.{legal, legal_is, tuple_exact}

@@ -6,11 +6,11 @@ use Rattle.std.specs.Prelude.{ℕ, ◌+◌, ◌-◌, ◌*◌, ◌/◌, ◌≤◌
 use Rattle.packing_terms.specs.declared.Exclusion.{Exclusion}
 use Rattle.packing_terms.specs.declared.Rel.TheVariants.{Overlap, Before, After}
 use Rattle.packing_terms.specs.Packing.{PlainInstance, dims, box_count}
-use Rattle.packing_terms.specs.Exclusions.{excludes, IsPlaceAmong}
+use Rattle.packing_terms.specs.Exclusions.{excludes, IsEdgeAmong, relation_count}
 use Rattle.packing_terms.specs.Closure.{IsStable, Derives}
 use Rattle.packing_terms.specs.Tokens.{PlainToken}
 use Rattle.packing_terms.specs.Tokens.PlainToken.{Apart, Order}
-use Rattle.packing_terms.specs.Refutation.{at as exclusion_of}
+use Rattle.packing_terms.specs.Refutation.{exclusion_in_text as exclusion_of}
 use Rattle.rule_terms.specs.Places.{HasNoEmptyMask}
 use Rattle.rule_terms.specs.Steps.{open_count, with_exclusion}
 use Rattle.edge_state.specs.Edges.{PlainEdges}
@@ -35,9 +35,9 @@ with_each (e ∷ es) = with_exclusion (with_each es) e
 
 abbrev pub IsAtAmong : ℕ → ℕ → Option Exclusion → Type 0
 IsAtAmong d n None = Unit {0}
-IsAtAmong d n (Some e) = IsPlaceAmong d n e.dim e.u e.v
+IsAtAmong d n (Some e) = IsEdgeAmong d n e.dim e.u e.v
 
--- the exclusions up to a place of the list, the newest of which stand first
+-- the exclusions up to a position of the list, the newest of which stand first
 abbrev pub up_to : ℕ → List Exclusion → List Exclusion
 up_to mark es = drop (length es - mark) es
 
@@ -49,7 +49,8 @@ entered n es = with_some (with_some (up_to n.mark es) n.second) n.first
 abbrev pub node_exclusions : OpenNode → List Exclusion → List Exclusion
 node_exclusions n above = some_of n.first ++ (some_of n.second ++ above)
 
--- The list is what a node stands on: below a split the closure of its parent, which has no conflict, and at the root just what is given.
+-- The list is what a node stands on: below a split the closure of its parent, which has no
+-- conflict, and at the root just what is given.
 abbrev pub Stands : PlainInstance → List Exclusion → Option Exclusion → List Exclusion → Type 0
 Stands instance above None es = Derives instance (excludes es) (excludes above) × Derives instance (excludes above) (excludes es)
 Stands instance above (Some e) es = IsClosureOf instance (excludes above) es
@@ -73,7 +74,7 @@ abbrev pub opens : PlainInstance → List Exclusion → ℕ
 opens instance es = open_count (dims instance) (box_count instance) es
 
 abbrev pub all_relations : PlainInstance → ℕ
-all_relations instance = 3 * dims instance * box_count instance * (box_count instance - 1) / 2
+all_relations instance = relation_count (dims instance) (box_count instance)
 
 -- the exclusions of a node's parent
 abbrev pub above : List Exclusion → List Exclusion → OpenNode → List Exclusion
@@ -118,11 +119,12 @@ child_nodes mark count (Order i u v) =
     ∷ record { mark = mark; splits = count; first = Some (exclusion_of i u v After); second = None } ∷ []
 child_nodes mark count _ = []
 
--- The token was judged at the node. The list up to the node's parent stayed; and where a split was accepted, the list is the closure of the node.
+-- The token was judged at the node. The list up to the node's parent stayed; and where a split was
+-- accepted, the list is the closure of the node.
 pub record IsJudged (instance : PlainInstance) (n : OpenNode) (old new : List Exclusion) (answer : Option RefuseCode) (token : PlainToken) : Type 0 where
   pub within : n.mark ≤ length new
   pub kept : (k : ℕ) → k ≤ n.mark → up_to k new ≡ up_to k old
   pub value : (above : List Exclusion) → Stands instance above n.first (up_to n.mark old) → answer ≡ refusal instance (node_exclusions n above) token
-  pub calm : answer ≡ None → IsTrue (is_split token) → (above : List Exclusion) → Stands instance above n.first (up_to n.mark old)
+  pub no_conflict : answer ≡ None → IsTrue (is_split token) → (above : List Exclusion) → Stands instance above n.first (up_to n.mark old)
       → IsClosureOf instance (excludes (node_exclusions n above)) new
   pub fewer : answer ≡ None → IsTrue (is_split token) → opens instance new ≤ opens instance (entered n old)

@@ -10,8 +10,9 @@ use Rattle.refutation_check.specs.declared.node.OpenNode.{OpenNode}
 use Rattle.refutation_check.specs.Rooms.{PlainRoom}
 use Rattle.refutation_check.specs.Nodes.{node_exclusions, above, all_relations, AreHeld}
 
--- the instance, the boxes of the tree by rising number, and what was checked of it: the list of open nodes, each with the exclusions of the splits
--- above it, in which the boxes are counted within the set
+-- the instance, the boxes of the tree by rising number, and what was checked of it: the list of
+-- open nodes, each with the exclusions of the splits above it, in which the boxes are counted
+-- within the set
 pub record PlainRefuter : Type 0 where
   pub instance : PlainInstance
   pub keep : List ℕ
@@ -29,7 +30,8 @@ fed r t = record r { checked = checked_after (inner_after (subset r.instance r.k
 abbrev pub nodes_of : List Exclusion → List Exclusion → List OpenNode → List (List Exclusion)
 nodes_of start splits held = map (λ n. node_exclusions n (above start splits n)) (reverse held)
 
--- what the type keeps: state and room have the sizes of the set's instance, and there is memory for the trees of the whole one
+-- what the type keeps: state and room have the sizes of the set's instance, and there is memory for
+-- the trees of the whole one
 pub record IsHeld (whole set : PlainInstance) (start splits : List Exclusion) (held : List OpenNode) (state : PlainEdges) (room : PlainRoom)
     (split_capacity node_capacity : ℕ) : Type 0 where
   pub within : box_count set ≤ box_count whole

@@ -7,7 +7,8 @@ pub record PlainRoom : Type 0 where
   pub boxes : ℕ
   pub most : ℕ
 
--- a weight for each box, for the chains that end in it and for those that start there; the row of all boxes, in one word where they fit; and memory for more
+-- a weight for each box, for the chains that end in it and for those that start there; the row of
+-- all boxes, in one word where they fit; and memory for more
 pub record HasRoom (boxes most : ℕ) (head tail one_word two_words : List ℕ) (head_capacity tail_capacity : ℕ) : Type 0 where
   pub within : boxes ≤ most
   pub heads : length head ≡ boxes

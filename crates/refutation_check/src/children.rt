@@ -1,7 +1,7 @@
-// The children of a split.
+//! The children of a split.
 ghost use Rattle.std.specs.Prelude.{◌≡◌, ◌+◌, ◌≤◌, ◌<◌, ◌^◌, ◌++◌, IsTrue, length, vec_capacity};
 ghost use Rattle.proof_tree.specs.Plain.{plain_token};
-ghost use Rattle.packing_terms.specs.Refutation.{at as exclusion_of};
+ghost use Rattle.packing_terms.specs.Refutation.{exclusion_in_text as exclusion_of};
 ghost use Rattle.refutation_check.specs.Nodes.{some_of, splits_after, splits_with, child_nodes, is_split};
 
 use crate::node::OpenNode;
@@ -53,11 +53,14 @@ pub fn replace(
 )
     requires within { node.splits ≤ length splits.old.items }
     requires few { node.splits + 2 < 2 ^ 32 }
-    requires split_room { IsTrue (is_split (plain_token token.now)) → node.splits + 2 ≤ vec_capacity splits.old }
-    requires node_room { IsTrue (is_split (plain_token token.now)) → length nodes.old.items + 2 ≤ vec_capacity nodes.old }
+    requires split_room { IsTrue (is_split (plain_token token.now))
+        → node.splits + 2 ≤ vec_capacity splits.old }
+    requires node_room { IsTrue (is_split (plain_token token.now))
+        → length nodes.old.items + 2 ≤ vec_capacity nodes.old }
     ensures splits { splits.new.items ≡ splits_after splits.old.items node (plain_token token.now) }
     ensures split_capacity { vec_capacity splits.new ≡ vec_capacity splits.old }
-    ensures nodes { nodes.new.items ≡ nodes.old.items ++ child_nodes mark (length splits.new.items) (plain_token token.now) }
+    ensures nodes { nodes.new.items ≡ nodes.old.items
+        ++ child_nodes mark (length splits.new.items) (plain_token token.now) }
     ensures node_capacity { vec_capacity nodes.new ≡ vec_capacity nodes.old }
 {
     match token {

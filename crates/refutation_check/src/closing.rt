@@ -7,7 +7,7 @@ ghost use Rattle.rule_terms.specs.Applied.{Extends};
 ghost use Rattle.rule_terms.specs.Places.{HasNoEmptyMask};
 ghost use Rattle.edge_state.specs.BitRows.{HoldsBoxes, row_has};
 ghost use Rattle.closure_terms.specs.States.{HasEmptyMask};
-ghost use Rattle.closure_terms.specs.Work.{IsSettled, IsChained};
+ghost use Rattle.closure_terms.specs.Work.{IsUpToDate, IsChained};
 ghost use Rattle.refutation_check.specs.Ended.{IsEnded};
 
 use crate::chains::cover_chains;
@@ -17,8 +17,8 @@ use crate::settle::settle;
 use box_instances::Instance;
 use edge_state::{BitRow, EdgeState, Mark};
 
-// Goes along what changed after a place of the list; then over CHAIN in a dimension where two boxes
-// became ordered, and along what that excluded, until nothing is left. True is a lost mask.
+// Goes along what changed after a position of the list; then over CHAIN in a dimension where two
+// boxes became ordered, and along what that excluded, until nothing is left. True is an empty mask.
 fn close_with<const K: usize>(
     instance: &Instance,
     state: &mut EdgeState,
@@ -34,7 +34,7 @@ fn close_with<const K: usize>(
     requires head_count { length head.old ≡ box_count instance.now }
     requires tail_count { length tail.old ≡ box_count instance.now }
     requires mark { closed ≤ length state.old.trail }
-    requires settled { IsSettled instance.now
+    requires settled { IsUpToDate instance.now
         (drop (length state.old.trail - closed) state.old.trail) state.old.trail }
     requires chained { (i : ℕ) → i < dims instance.now → IsChained instance.now i
         (drop (length state.old.trail - closed) state.old.trail) state.old.trail }
@@ -56,6 +56,7 @@ fn close_with<const K: usize>(
         let Some(more) = settle(instance, state, all, next, ordered.without(dim)) else {
             return true;
         };
+        // For the proof alone: tells the limits of the state.
         let _sizes = state.dims();
         ordered = more;
     }
@@ -63,13 +64,13 @@ fn close_with<const K: usize>(
 }
 
 impl Room {
-    // Closes the state from a place of its list, by rows of one word where it holds all boxes.
+    // Closes the state from a position of its list, by rows of one word where it holds all boxes.
     fn close_from(&mut self, instance: &Instance, state: &mut EdgeState, closed: Mark) -> bool
         requires dims { state.old.dims ≡ dims instance.now }
         requires boxes { state.old.boxes ≡ box_count instance.now }
         requires room { self.old.boxes ≡ box_count instance.now }
         requires mark { closed ≤ length state.old.trail }
-        requires settled { IsSettled instance.now
+        requires settled { IsUpToDate instance.now
             (drop (length state.old.trail - closed) state.old.trail) state.old.trail }
         requires chained { (i : ℕ) → i < dims instance.now → IsChained instance.now i
             (drop (length state.old.trail - closed) state.old.trail) state.old.trail }
@@ -80,6 +81,7 @@ impl Room {
             (IsStable instance.now (excludes state.new.trail)
             × HasNoEmptyMask instance.now (excludes state.new.trail)) }
     {
+        // For the proof alone: tells the limits of the state.
         let _sizes = state.dims();
         let head = self.head.as_mut_slice();
         let tail = self.tail.as_mut_slice();
@@ -102,6 +104,7 @@ impl Room {
             → Derives instance.now E (excludes state.old.trail)
             → IsEnded instance.now E state.new.trail result }
     {
+        // For the proof alone: tells the limits of the state.
         let _sizes = state.dims();
         if pass_pairs(instance, state, self.wide) {
             return true;
@@ -109,8 +112,8 @@ impl Room {
         self.close_from(instance, state, Mark::first())
     }
 
-    /// The same for a state that was closed, without an empty mask, at a place of its list. It looks
-    /// only at rule instances that read a place that changed since.
+    /// The same for a state that was closed, without an empty mask, at a position of its list. It
+    /// looks only at rule instances that read an edge that changed since.
     pub fn close_since(&mut self, instance: &Instance, state: &mut EdgeState, closed: Mark) -> bool
         requires dims { state.old.dims ≡ dims instance.now }
         requires boxes { state.old.boxes ≡ box_count instance.now }

@@ -1,4 +1,4 @@
-//! CYCLE at what a changed place tells.
+//! CYCLE at what a changed edge tells.
 ghost use Rattle.std.specs.Prelude.{◌≡◌, ◌<◌, ◌⊎◌, ℕ, nat_lt};
 ghost use Rattle.packing_terms.specs.Packing.{box_count};
 ghost use Rattle.packing_terms.specs.Rules.{Cycle};
@@ -7,7 +7,7 @@ ghost use Rattle.closure_terms.specs.States.{IsSized};
 ghost use Rattle.closure_terms.specs.Work.{IsWorked};
 ghost use Rattle.closure_terms.specs.Instances.{Cycles, Chords};
 
-use crate::empties::is_lost;
+use crate::empties::is_mask_empty;
 use crate::rows::{none_left, some_left};
 use crate::sweep::{RuleStep, at_each};
 use box_instances::Instance;
@@ -37,7 +37,7 @@ fn cycle_at(
     if b == c || b == d || c == d {
         return false;
     }
-    apply_cycle(state, dim, a, b, c, d) && is_lost(instance, state, dim, b, d)
+    apply_cycle(state, dim, a, b, c, d) && is_mask_empty(instance, state, dim, b, d)
 }
 
 // CYCLE at its first three boxes, at the fourth.
@@ -200,7 +200,7 @@ fn chords<const K: usize>(
 }
 
 /// The instances of CYCLE that read the mask of two boxes in this order, up to those that add the
-/// same. True is a lost mask.
+/// same. True is an empty mask.
 pub fn spread_cycles<const K: usize>(
     instance: &Instance,
     state: &mut EdgeState,

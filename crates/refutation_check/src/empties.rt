@@ -2,18 +2,18 @@
 ghost use Rattle.std.specs.Prelude.{◌<◌, MatchBool};
 ghost use Rattle.packing_terms.specs.Packing.{box_count};
 ghost use Rattle.packing_terms.specs.Exclusions.{excludes};
-ghost use Rattle.closure_terms.specs.States.{IsSized, IsLeft, HasEmptyMask};
+ghost use Rattle.closure_terms.specs.States.{IsSized, HasRelationLeft, HasEmptyMask};
 
 use box_instances::Instance;
 use edge_state::EdgeState;
 
 /// Whether the mask of two boxes is empty.
-pub fn is_lost(instance: &Instance, state: &EdgeState, dim: u32, u: u32, v: u32) -> bool
+pub fn is_mask_empty(instance: &Instance, state: &EdgeState, dim: u32, u: u32, v: u32) -> bool
     requires sizes { IsSized instance.now state.now dim }
     requires u { u < box_count instance.now }
     requires v { v < box_count instance.now }
     ensures { MatchBool result (HasEmptyMask instance.now (excludes state.now.trail))
-        (IsLeft instance.now (excludes state.now.trail) dim u v) }
+        (HasRelationLeft instance.now (excludes state.now.trail) dim u v) }
 {
     u != v && state.mask(dim, u, v).bits() == 0
 }

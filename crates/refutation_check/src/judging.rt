@@ -1,4 +1,4 @@
-// The tests that a token must pass at a node, in their order.
+//! The tests that a token must pass at a node, in their order.
 ghost use Rattle.std.specs.Prelude.{◌≡◌, ◌≤◌, ◌<◌, ◌&&◌, ◌||◌, not, List, length};
 ghost use Rattle.packing_terms.specs.declared.Exclusion.{Exclusion as PlainExclusion};
 ghost use Rattle.packing_terms.specs.declared.Rel.TheVariants.{Overlap, Before, After};
@@ -70,7 +70,8 @@ fn apart_refusal(
     requires room { room.old.boxes ≡ box_count instance.now }
     ensures sizes { state.new ≡ record state.old { trail = state.new.trail } }
     ensures room { room.new ≡ room.old }
-    ensures judged { IsJudged instance.now node state.old.trail state.new.trail result (PlainApart dim u v) }
+    ensures judged { IsJudged instance.now node state.old.trail state.new.trail result
+        (PlainApart dim u v) }
 {
     if !names_pair(instance, dim, u, v) {
         return Some(RefuseCode::Range);
@@ -100,7 +101,8 @@ fn order_refusal(
     requires room { room.old.boxes ≡ box_count instance.now }
     ensures sizes { state.new ≡ record state.old { trail = state.new.trail } }
     ensures room { room.new ≡ room.old }
-    ensures judged { IsJudged instance.now node state.old.trail state.new.trail result (PlainOrder dim u v) }
+    ensures judged { IsJudged instance.now node state.old.trail state.new.trail result
+        (PlainOrder dim u v) }
 {
     if !names_pair(instance, dim, u, v) {
         return Some(RefuseCode::Range);
@@ -137,7 +139,8 @@ fn rules_refusal(
 
 // A box that is longer than the container.
 fn side_refusal(instance: &Instance, box_no: u32, dim: u32) -> Option<RefuseCode>
-    ensures { (es : List PlainExclusion) → result ≡ refusal instance.now es (PlainTooLarge box_no dim) }
+    ensures { (es : List PlainExclusion)
+        → result ≡ refusal instance.now es (PlainTooLarge box_no dim) }
 {
     if !names_box(instance, box_no) {
         return Some(RefuseCode::Range);
@@ -212,7 +215,8 @@ pub fn judge_tuple(instance: &Instance, tuple: &[ScaleFn], copies: u32) -> Optio
     Some(RefuseCode::Excess)
 }
 
-/// The first test that a token fails at a node. Where a split passes, the state is left at the closure of the node.
+/// The first test that a token fails at a node. Where a split passes, the state is left at the
+/// closure of the node.
 pub fn judge(
     instance: &Instance,
     state: &mut EdgeState,
@@ -224,7 +228,8 @@ pub fn judge(
     requires room { room.old.boxes ≡ box_count instance.now }
     ensures sizes { state.new ≡ record state.old { trail = state.new.trail } }
     ensures room { room.new ≡ room.old }
-    ensures judged { IsJudged instance.now node state.old.trail state.new.trail result (plain_token token.now) }
+    ensures judged { IsJudged instance.now node state.old.trail state.new.trail result
+        (plain_token token.now) }
 {
     match token {
         Token::Apart { dim, u, v } => apart_refusal(instance, state, room, node, *dim, *u, *v),

@@ -1,6 +1,7 @@
 //! Whether tokens are a refutation of an instance, or of a set of its boxes, taken one by one.
 //!
-//! It stands on the rules, the scales and the tokens, and on no solver: it closes each node by a closure of its own.
+//! It stands on the rules, the scales and the tokens, and on no solver: it closes each node by a
+//! closure of its own.
 #![tactic(auto)]
 
 mod chains;

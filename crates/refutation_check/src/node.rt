@@ -1,9 +1,9 @@
-// An open node, and its closing.
+//! An open node, and its closing.
 ghost use Rattle.std.specs.Prelude.{◌≡◌, List, [], None};
 ghost use Rattle.std.specs.List.{All};
 ghost use Rattle.packing_terms.specs.declared.Exclusion.{Exclusion as PlainExclusion};
 ghost use Rattle.packing_terms.specs.Packing.{box_count};
-ghost use Rattle.packing_terms.specs.Exclusions.{excludes, IsPlaceAmong};
+ghost use Rattle.packing_terms.specs.Exclusions.{excludes, IsEdgeAmong};
 ghost use Rattle.rule_terms.specs.Applied.{Extends};
 ghost use Rattle.refutation_check.specs.Ended.{IsEnded};
 ghost use Rattle.refutation_check.specs.Nodes.{with_each, with_some, IsAtAmong, up_to, entered, node_exclusions, Stands, IsOver};
@@ -12,7 +12,8 @@ use crate::room::Room;
 use box_instances::Instance;
 use edge_state::{EdgeState, Exclusion, Mark};
 
-/// An open node: how long the lists of the state and of the splits were at its parent, and what its split excludes; nothing at the root.
+/// An open node: how long the lists of the state and of the splits were at its parent, and what its
+/// split excludes; nothing at the root.
 #[derive(Clone, Copy)]
 pub struct OpenNode {
     pub mark: Mark,
@@ -47,7 +48,8 @@ fn exclude_some(state: &mut EdgeState, excluded: Option<Exclusion>)
 
 /// Excludes these exclusions in a state with full masks, the last one first.
 pub fn exclude_each(state: &mut EdgeState, start: &[Exclusion])
-    requires places { All (λ e. IsPlaceAmong state.old.dims state.old.boxes e.dim e.u e.v) start.now }
+    requires places { All (λ e. IsEdgeAmong state.old.dims state.old.boxes e.dim e.u e.v)
+        start.now }
     requires full { state.old.trail ≡ [] }
     ensures { state.new ≡ record state.old { trail = with_each start.now } }
 {
@@ -57,14 +59,16 @@ pub fn exclude_each(state: &mut EdgeState, start: &[Exclusion])
     }
 }
 
-/// Brings the state back to the parent of a node and on to the closure of the node. True is a conflict.
+/// Brings the state back to the parent of a node and on to the closure of the node. True is a
+/// conflict.
 pub fn enter(instance: &Instance, state: &mut EdgeState, room: &mut Room, node: OpenNode) -> bool
     requires over { IsOver instance.now state.old node }
     requires room { room.old.boxes ≡ box_count instance.now }
     ensures sizes { state.new ≡ record state.old { trail = state.new.trail } }
     ensures room { room.new ≡ room.old }
     ensures extends { Extends instance.now (entered node state.old.trail) state.new.trail }
-    ensures ended { (above : List PlainExclusion) → Stands instance.now above node.first (up_to node.mark state.old.trail)
+    ensures ended { (above : List PlainExclusion)
+        → Stands instance.now above node.first (up_to node.mark state.old.trail)
         → IsEnded instance.now (excludes (node_exclusions node above)) state.new.trail result }
 {
     state.undo(node.mark);

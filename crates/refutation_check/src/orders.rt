@@ -1,4 +1,4 @@
-//! ORDER at what a changed place tells.
+//! ORDER at what a changed edge tells.
 ghost use Rattle.std.specs.Prelude.{◌≡◌, ◌<◌, ◌⊎◌, ℕ, nat_lt};
 ghost use Rattle.packing_terms.specs.Packing.{box_count};
 ghost use Rattle.packing_terms.specs.Rules.{Order};
@@ -7,7 +7,7 @@ ghost use Rattle.closure_terms.specs.States.{IsSized};
 ghost use Rattle.closure_terms.specs.Work.{IsWorked};
 ghost use Rattle.closure_terms.specs.Instances.{OrdersFirst, OrdersSecond, OrdersCrossed};
 
-use crate::empties::is_lost;
+use crate::empties::is_mask_empty;
 use crate::rows::{none_left, some_left};
 use crate::sweep::{RuleStep, at_each};
 use box_instances::Instance;
@@ -37,7 +37,7 @@ fn order_at(
     if b == c || b == d || c == d {
         return false;
     }
-    apply_order(state, dim, a, b, c, d) && is_lost(instance, state, dim, c, b)
+    apply_order(state, dim, a, b, c, d) && is_mask_empty(instance, state, dim, c, b)
 }
 
 // ORDER at all but its third box.
@@ -285,7 +285,8 @@ fn orders_crossed<const K: usize>(
     requires d { d < box_count instance.now }
     requires distinct { a ≡ d → ⊥ }
     requires all { (x : ℕ) → row_has all x ≡ nat_lt x (box_count instance.now) }
-    ensures { IsWorked instance.now state.old state.new result (OrdersCrossed instance.now dim a d) }
+    ensures { IsWorked instance.now state.old state.new result
+        (OrdersCrossed instance.now dim a d) }
 {
     if state.mask(dim, a, d).has(Rel::Before) {
         return false;
@@ -294,7 +295,7 @@ fn orders_crossed<const K: usize>(
     at_each(&CrossedStep::<K> { dim, a, d }, instance, state, row)
 }
 
-/// The instances of ORDER that read the mask of two boxes in this order. True is a lost mask.
+/// The instances of ORDER that read the mask of two boxes in this order. True is an empty mask.
 pub fn spread_orders<const K: usize>(
     instance: &Instance,
     state: &mut EdgeState,

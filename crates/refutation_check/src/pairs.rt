@@ -6,7 +6,7 @@ ghost use Rattle.edge_state.specs.BitRows.{HoldsBoxes, row_has};
 ghost use Rattle.closure_terms.specs.States.{IsSized};
 ghost use Rattle.closure_terms.specs.Work.{IsWorked};
 
-use crate::empties::is_lost;
+use crate::empties::is_mask_empty;
 use crate::sweep::{RuleStep, at_each};
 use crate::triples::aparts;
 use box_instances::Instance;
@@ -37,7 +37,7 @@ impl RuleStep for PairStep {
         if u == v || !apply_pair(instance, state, dim, u, v) {
             return false;
         }
-        if is_lost(instance, state, dim, u, v) {
+        if is_mask_empty(instance, state, dim, u, v) {
             return true;
         }
         aparts(instance, state, dim, u, v)
@@ -58,6 +58,7 @@ fn pairs_in<const K: usize>(
         (λ rule. (u : ℕ) × (u < box_count instance.now)
         × ((v : ℕ) × (v < box_count instance.now) × ((u < v) × (rule ≡ Pair dim u v)))) }
 {
+    // For the proof alone: tells the limits of the state.
     let _boxes = state.boxes();
     let mut later = all;
     for u in 0..instance.len() {
@@ -69,7 +70,7 @@ fn pairs_in<const K: usize>(
     false
 }
 
-/// PAIR in each dimension at all pairs, each once. True is a lost mask.
+/// PAIR in each dimension at all pairs, each once. True is an empty mask.
 pub fn pass_pairs<const K: usize>(
     instance: &Instance,
     state: &mut EdgeState,

@@ -1,7 +1,7 @@
-// A tree that is checked token by token.
+//! A tree that is checked token by token.
 ghost use Rattle.std.specs.Prelude.{◌≡◌, ◌≤◌, ◌+◌, ◌-◌, ◌*◌, ◌/◌, [], length, vec_capacity, IfOk};
 ghost use Rattle.std.specs.List.{All};
-ghost use Rattle.packing_terms.specs.Exclusions.{IsPlace};
+ghost use Rattle.packing_terms.specs.Exclusions.{IsEdge};
 ghost use Rattle.packing_terms.specs.Goals.{subset, IsBoxSet};
 ghost use Rattle.packing_terms.specs.Limits.{IsDimCount, IsBoxCount};
 ghost use Rattle.box_instances.specs.Sets.{all_boxes};
@@ -25,8 +25,8 @@ use std::marker::Model;
 ///
 /// It is seen as the instance, the boxes of the tree, the list of open nodes, the next one first,
 /// each with the exclusions of the splits above it, and the refusal if there was one. It holds the
-/// splits above the current node, and for each open node only how long that list was; so at most d n
-/// (n - 1) + 1 nodes are open for n boxes in d dimensions, whatever the tree is.
+/// splits above the current node, and for each open node only how long that list was; so at most d
+/// n (n - 1) + 1 nodes are open for n boxes in d dimensions, whatever the tree is.
 #[derive(Drop)]
 pub struct Refuter<'a> {
     boxes: BoxSet<'a>,
@@ -99,13 +99,14 @@ impl<'a> Refuter<'a> {
         Refuter::starting(alloc, instance, &[])
     }
 
-    /// Begins a refutation of an instance under exclusions, each of which is at a pair of its boxes.
+    /// Begins a refutation of an instance under exclusions, each of which is at an edge of the
+    /// instance.
     pub fn starting(
         alloc: Global,
         instance: &'a Instance,
         start: &[Exclusion],
     ) -> Result<Refuter<'a>, NoMemory>
-        requires { All (λ e. IsPlace instance.now e.dim e.u e.v) start.now }
+        requires { All (λ e. IsEdge instance.now e.dim e.u e.v) start.now }
         ensures { IfOk result (λ r. r ≡ record {
           instance = instance.now;
           keep = all_boxes instance.now;
@@ -135,8 +136,8 @@ impl<'a> Refuter<'a> {
         })
     }
 
-    /// Begins a refutation of a set of the boxes alone, in which they are counted by rising number. The
-    /// list isn't empty, rises strictly and names boxes of the instance. It takes no memory.
+    /// Begins a refutation of a set of the boxes alone, in which they are counted by rising number.
+    /// The list isn't empty, rises strictly and names boxes of the instance. It takes no memory.
     pub fn restart(&mut self, keep: &[u32])
         requires some { 1 ≤ length keep.now }
         requires set { IsBoxSet self.old.instance keep.now }
@@ -171,6 +172,7 @@ impl<'a> Refuter<'a> {
                 code: RefuseCode::After,
             };
         }
+        // For the proof alone: tells the limits of the instance.
         let _dims = self.boxes.instance().dims();
         let last = self.nodes.len() - 1;
         let node = self.nodes[last];

@@ -8,10 +8,10 @@ ghost use Rattle.packing_terms.specs.Limits.{IsBoxCount};
 ghost use Rattle.packing_terms.specs.Rules.{Compose};
 ghost use Rattle.relation_table.specs.Masks.{mask_has};
 ghost use Rattle.edge_state.specs.BitRows.{IsRowWidth, HoldsBoxes, row_has};
-ghost use Rattle.edge_state.specs.Edges.{is_other};
+ghost use Rattle.edge_state.specs.Edges.{is_other_box};
 ghost use Rattle.closure_terms.specs.States.{IsSized};
 ghost use Rattle.closure_terms.specs.Work.{IsCovered};
-ghost use Rattle.closure_terms.specs.Rows.{may, of_three};
+ghost use Rattle.closure_terms.specs.Rows.{may, in_each_relation};
 
 use box_instances::Instance;
 use edge_state::{BitRow, EdgeState, Mask, Rel};
@@ -99,7 +99,8 @@ fn allowed<const K: usize>(
 ) -> BitRow<K>
     requires { IsRowWidth K }
     ensures { (x : ℕ) → row_has result x ≡ may rel (mask_has mask)
-        (of_three (row_has overlap.entry x) (row_has before.entry x) (row_has after.entry x)) }
+        (in_each_relation (row_has overlap.entry x) (row_has before.entry x)
+        (row_has after.entry x)) }
 {
     let any = overlap.or(before).or(after);
     let through_overlap = match rel {
@@ -139,6 +140,7 @@ pub fn beyond_compositions<const K: usize>(
     ensures others { (x : ℕ) → x < box_count instance.now → row_has result x ≡ false
         → IsCovered instance.now (excludes state.now.trail) state.now.trail (Compose dim u v x) }
 {
+    // For the proof alone: tells the limits of the state.
     let _boxes = state.boxes();
     let mask = state.mask(dim, u, v);
     let overlap = state.row_in(dim, v, Rel::Overlap);

@@ -21,15 +21,16 @@ pub trait RuleStep {
     /// The instances that are applied at a box.
     ghost Rules: { PlainInstance → Self → ℕ → Rule → Type 0 };
 
-    /// Applies them one after another, up to where a mask is lost, and answers whether one is.
+    /// Applies them one after another, up to where a mask is empty, and answers whether one is.
     fn at(&self, instance: &Instance, state: &mut EdgeState, x: u32) -> bool
         requires sizes { IsSized instance.now state.old (dim_of self.now) }
         requires there { AreThere instance.now self.now }
         requires x { x < box_count instance.now }
-        ensures { IsWorked instance.now state.old state.new result (Rules instance.now self.now x) };
+        ensures { IsWorked instance.now state.old state.new result
+            (Rules instance.now self.now x) };
 }
 
-/// The step at each box of a row, up to where a mask is lost. At boxes that aren't in the row its
+/// The step at each box of a row, up to where a mask is empty. At boxes that aren't in the row its
 /// instances add nothing.
 #[inline]
 pub fn at_each<S: RuleStep, const K: usize>(

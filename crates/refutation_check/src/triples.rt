@@ -1,4 +1,4 @@
-//! APART, TRIPLE and COMPOSE at what a changed place tells.
+//! APART, TRIPLE and COMPOSE at what a changed edge tells.
 ghost use Rattle.std.specs.Prelude.{◌≡◌, ◌≢◌, ◌<◌, ◌≤◌, ◌+◌, ◌⊎◌, ℕ};
 ghost use Rattle.packing_terms.specs.Packing.{dims, box_count, side, container_side};
 ghost use Rattle.packing_terms.specs.Rules.{Apart, Triple};
@@ -7,7 +7,7 @@ ghost use Rattle.closure_terms.specs.States.{IsSized};
 ghost use Rattle.closure_terms.specs.Work.{IsWorked};
 ghost use Rattle.closure_terms.specs.Instances.{Composes, Triples, Aparts};
 
-use crate::empties::is_lost;
+use crate::empties::is_mask_empty;
 use crate::rows::{beyond_compositions, some_left};
 use crate::sweep::{RuleStep, at_each};
 use box_instances::Instance;
@@ -24,7 +24,7 @@ fn apart_at(instance: &Instance, state: &mut EdgeState, dim: u32, i: u32, u: u32
     ensures { IsWorked instance.now state.old state.new result
         (λ rule. (dim ≢ i) × (rule ≡ Apart i u v)) }
 {
-    i != dim && apply_apart(state, i, u, v) && is_lost(instance, state, i, u, v)
+    i != dim && apply_apart(state, i, u, v) && is_mask_empty(instance, state, i, u, v)
 }
 
 /// APART at two boxes that are joined in this dimension, in each other one.
@@ -71,7 +71,7 @@ impl RuleStep for ComposeStep {
         if u == v || u == x || v == x {
             return false;
         }
-        apply_compose(state, dim, u, v, x) && is_lost(instance, state, dim, u, x)
+        apply_compose(state, dim, u, v, x) && is_mask_empty(instance, state, dim, u, x)
     }
 }
 
@@ -104,7 +104,7 @@ fn triple_at(instance: &Instance, state: &mut EdgeState, dim: u32, u: u32, v: u3
     if u == v || u == x || v == x {
         return false;
     }
-    apply_triple(instance, state, dim, u, v, x) && is_lost(instance, state, dim, u, v)
+    apply_triple(instance, state, dim, u, v, x) && is_mask_empty(instance, state, dim, u, v)
 }
 
 // The same, where no box shorter than `least` is too long together with the other two.
@@ -198,7 +198,7 @@ fn triples<const K: usize>(
 }
 
 /// The instances of the three rules that read the mask of two boxes in this order, up to those that
-/// add the same. True is a lost mask.
+/// add the same. True is an empty mask.
 pub fn spread_triples<const K: usize>(
     instance: &Instance,
     state: &mut EdgeState,

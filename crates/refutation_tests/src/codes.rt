@@ -1,4 +1,4 @@
-// Why a token is refused.
+//! Why a token is refused.
 ghost use Rattle.std.specs.Prelude.{◌≡◌};
 
 use crate::instances::instance_of;
@@ -206,7 +206,8 @@ fn ordered(rel: Rel) -> Exclusion
     }
 }
 
-// What a token is answered where so many of the two orders of the boxes are excluded from the start.
+// What a token is answered where so many of the two orders of the boxes are excluded from the
+// start.
 fn under(
     alloc: Global,
     instance: &Instance,
@@ -221,7 +222,8 @@ fn under(
     Ok(Some(refuter.feed(token)))
 }
 
-// How many orders are excluded, whether the token is a leaf or else a split by order, and its answer.
+// How many orders are excluded, whether the token is a leaf or else a split by order, and its
+// answer.
 const STARTS: [(usize, bool, FeedVerdict); 4] = [
     (0, false, More),
     (1, false, CHOICE),

@@ -58,7 +58,8 @@ pub fn drawn_instance(
     Ok(Instance::new(container, items)?)
 }
 
-/// Whether each token but the last is accepted with more to come, and the last makes the tree whole.
+/// Whether each token but the last is accepted with more to come, and the last makes the tree
+/// whole.
 pub fn is_refuted(refuter: &mut Refuter<'_>, tokens: &[Token]) -> bool
     ensures { refuter.new.instance ≡ refuter.old.instance }
 {

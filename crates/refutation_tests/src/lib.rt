@@ -1,5 +1,6 @@
-//! Tests of the checker of refutations: what the search finds is accepted, each refusal has its cause, sets are checked one
-//! after another, and trees that the search wouldn't write are taken too.
+//! Tests of the checker of refutations: what the search finds is accepted, each refusal has its
+//! cause, sets are checked one after another, and trees that the search wouldn't write are taken
+//! too.
 #![tactic(auto)]
 
 #[cfg(test)]

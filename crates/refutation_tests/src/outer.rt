@@ -1,4 +1,4 @@
-// Refutations for bins and for values.
+//! Refutations for bins and for values.
 ghost use Rattle.std.specs.Prelude.{◌≡◌};
 
 use box_instances::{BoxItem, Instance, NoMemory, Sides};
@@ -83,8 +83,8 @@ fn is_wanted(verdict: FeedVerdict, wanted: Wanted) -> bool {
     }
 }
 
-// For values: what is to be refuted of squares of 6, 6 and 4 with the values 5, 4 and 3, the tokens, how many are taken with
-// more to come, and the answer behind them.
+// For values: what is to be refuted of squares of 6, 6 and 4 with the values 5, 4 and 3, the
+// tokens, how many are taken with more to come, and the answer behind them.
 const VALUES: [(u64, &[Step], u32, Wanted); 12] = [
     (
         9,
@@ -132,7 +132,8 @@ fn values_are_refuted_or_not(rt: HostRuntime) -> Result<(), Fail> {
     Ok(())
 }
 
-// For bins: how many, of squares of 6, the tokens, how many are taken with more to come, and the answer behind them.
+// For bins: how many, of squares of 6, the tokens, how many are taken with more to come, and the
+// answer behind them.
 const BINS: [(u32, &[Step], u32, Wanted); 14] = [
     (
         2,

@@ -1,4 +1,4 @@
-// Sets of boxes, checked one after another by one refuter.
+//! Sets of boxes, checked one after another by one refuter.
 ghost use Rattle.std.specs.Prelude.{◌≡◌, ◌<◌, true};
 ghost use Rattle.std.specs.List.{All};
 ghost use Rattle.std.specs.List.Sorted.{IsStrictlyIncreasing};
@@ -81,7 +81,8 @@ fn set_is_checked(
     }
 }
 
-// How many of the drawn sets the search refutes, checked by one refuter; none where a refutation isn't accepted.
+// How many of the drawn sets the search refutes, checked by one refuter; none where a refutation
+// isn't accepted.
 fn checked_sets(alloc: Global, instance: &Instance, random: &mut u32) -> Result<Option<u32>, Fail> {
     let mut refuter = Refuter::new(alloc, instance)?;
     let mut found = 0u32;
@@ -111,8 +112,8 @@ fn sets_are_checked_one_after_another(rt: HostRuntime) -> Result<(), Fail> {
     Ok(())
 }
 
-// What a leaf by rules is answered where a pair is in conflict from the start, and then in the tree of all boxes that is begun
-// after it.
+// What a leaf by rules is answered where a pair is in conflict from the start, and then in the tree
+// of all boxes that is begun after it.
 fn two_leaves(
     alloc: Global,
     instance: &Instance,

@@ -1,4 +1,4 @@
-// Trees that the search found, and trees that it wouldn't write.
+//! Trees that the search found, and trees that it wouldn't write.
 use crate::instances::{drawn_instance, instance_of, is_refuted};
 use box_instances::Instance;
 use class_search::decide_alone;
@@ -7,7 +7,8 @@ use refutation_check::{FeedVerdict, RefuseCode, Refuter};
 use std::alloc::Global;
 use std::test::Fail;
 
-// Whether the refutation of the search is accepted, with so many tokens at least; or none was found.
+// Whether the refutation of the search is accepted, with so many tokens at least; or none was
+// found.
 fn is_checked(
     alloc: Global,
     instance: &Instance,
@@ -82,7 +83,8 @@ fn last_answer(
     Ok(answer)
 }
 
-// Leaves before splits, and the pairs from the last one on: the search splits the first pairs first.
+// Leaves before splits, and the pairs from the last one on: the search splits the first pairs
+// first.
 fn candidates(alloc: Global, dims: u32, boxes: u32) -> Result<Vec<(u32, u32, u32, u32)>, Fail> {
     let mut list = Vec::new(alloc);
     list.push((0, 1, 1, 2))?;

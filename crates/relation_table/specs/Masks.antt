@@ -1,4 +1,5 @@
--- Sets of relations as masks: numbers below 8, with bit 1 for overlap, bit 2 for before and bit 4 for after.
+-- Sets of relations as masks: numbers below 8, with bit 1 for overlap, bit 2 for before and bit 4
+-- for after.
 use Rattle.std.specs.Prelude.{ℕ, ◌/◌, ◌%◌, ◌==◌, Bool, IsTrue}
 use Rattle.packing_terms.specs.declared.Rel.{Rel}
 use Rattle.packing_terms.specs.declared.Rel.TheVariants.{Overlap, Before, After}

@@ -1,3 +1,4 @@
+//! Tests of masks and their composition.
 use crate::{Mask, Rel, compose, flip};
 use std::test::Fail;
 

@@ -16,14 +16,16 @@ pub record PlainCloser : Type 0 where
   pub dims : ℕ
   pub boxes : ℕ
 
--- a weight for each box, for the chains that end in it and for those that start there; and the row of all boxes, in one word where they fit
+-- a weight for each box, for the chains that end in it and for those that start there; and the row
+-- of all boxes, in one word where they fit
 pub record HasRoom (n : ℕ) (head tail one_word two_words : List ℕ) : Type 0 where
   pub heads : length head ≡ n
   pub tails : length tail ≡ n
   pub narrow : (x : ℕ) → row_has one_word x ≡ nat_lt x (min n 64)
   pub wide : (x : ℕ) → row_has two_words x ≡ nat_lt x n
 
--- exactly the closure of the old exclusions is excluded, no rule adds to it, and no mask is empty: the closure has no conflict
+-- exactly the closure of the old exclusions is excluded, no rule adds to it, and no mask is empty:
+-- the closure has no conflict
 abbrev pub IsClosure : PlainInstance → List Exclusion → List Exclusion → Type 0
 IsClosure instance old new = IsClosureOf instance (excludes old) new
 

@@ -1,4 +1,4 @@
--- The instances that are applied for one place, in one order of its boxes, by what they ask of it.
+-- The instances that are applied for one edge, in one order of its boxes, by what they ask of it.
 use Rattle.std.specs.Prelude.{ℕ, ◌≡◌, ◌≢◌, ◌<◌, ◌⊎◌}
 use Rattle.packing_terms.specs.Packing.{PlainInstance, dims, box_count}
 use Rattle.packing_terms.specs.Rules.{Rule, Apart, Triple, Cycle, Order}

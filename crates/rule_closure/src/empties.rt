@@ -2,7 +2,7 @@
 ghost use Rattle.std.specs.Prelude.{◌<◌, MatchBool};
 ghost use Rattle.packing_terms.specs.Packing.{box_count};
 ghost use Rattle.packing_terms.specs.Exclusions.{excludes};
-ghost use Rattle.closure_terms.specs.States.{IsSized, IsLeft, HasEmptyMask};
+ghost use Rattle.closure_terms.specs.States.{IsSized, HasRelationLeft, HasEmptyMask};
 
 use box_instances::Instance;
 use edge_state::EdgeState;
@@ -13,7 +13,7 @@ pub fn is_empty_at(instance: &Instance, state: &EdgeState, dim: u32, u: u32, v: 
     requires u { u < box_count instance.now }
     requires v { v < box_count instance.now }
     ensures { MatchBool result (HasEmptyMask instance.now (excludes state.now.trail))
-        (IsLeft instance.now (excludes state.now.trail) dim u v) }
+        (HasRelationLeft instance.now (excludes state.now.trail) dim u v) }
 {
     u != v && state.mask(dim, u, v).bits() == 0
 }

@@ -3,10 +3,10 @@
 
 mod chains;
 mod closer;
+mod edges;
 mod empties;
 mod orders;
 mod pairs;
-mod places;
 mod rows;
 mod settle;
 mod work;

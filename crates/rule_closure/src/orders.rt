@@ -1,5 +1,5 @@
-//! ORDER at what a changed place tells: each call applies some instances one after another and answers whether a mask is
-//! lost, that is, empty; it stops there.
+//! ORDER at what a changed edge tells: each call applies some instances one after another and
+//! answers whether a mask is empty; it stops there.
 ghost use Rattle.std.specs.Prelude.{◌≡◌, ◌<◌, ℕ, true, false, nat_lt, [], ◌∷◌};
 ghost use Rattle.packing_terms.specs.Packing.{dims, box_count};
 ghost use Rattle.packing_terms.specs.Exclusions.{excludes};

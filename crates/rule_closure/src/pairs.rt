@@ -11,8 +11,8 @@ use box_instances::Instance;
 use edge_state::EdgeState;
 use orientation_rules::apply_pair;
 
-// PAIR at two boxes, and where it changes a mask APART at the same two: so two boxes that are too long
-// together in all dimensions are told at once.
+// PAIR at two boxes, and where it changes a mask APART at the same two: so two boxes that are too
+// long together in all dimensions are told at once.
 fn pair_at(instance: &Instance, state: &mut EdgeState, dim: u32, u: u32, v: u32) -> bool
     requires sizes { IsSized instance.now state.old dim }
     requires u { u < box_count instance.now }
@@ -63,7 +63,7 @@ fn pairs_in(instance: &Instance, state: &mut EdgeState, dim: u32) -> bool
     false
 }
 
-/// PAIR in each dimension at all pairs, each once. Answers whether a mask is lost.
+/// PAIR in each dimension at all pairs, each once. Answers whether a mask is empty.
 pub fn pass_pairs(instance: &Instance, state: &mut EdgeState) -> bool
     requires dims { state.old.dims ≡ dims instance.now }
     requires boxes { state.old.boxes ≡ box_count instance.now }

@@ -61,6 +61,7 @@ pub fn beyond_compositions<const K: usize>(
     ensures others { (x : ℕ) → x < box_count instance.now → row_has result x ≡ false
         → IsCovered instance.now (excludes state.now.trail) state.now.trail (Compose dim u v x) }
 {
+    // For the proof alone: tells the limits of the state.
     let _boxes = state.boxes();
     let mask = state.mask(dim, u, v);
     let is_overlap = mask.has(Rel::Overlap);
@@ -266,7 +267,8 @@ pub fn cycle_thirds<const K: usize>(
     requires all { (x : ℕ) → row_has all x ≡ nat_lt x (box_count instance.now) }
     ensures within { (c : ℕ) → row_has result c ≡ true → c < box_count instance.now }
     ensures others { (c : ℕ) → c < box_count instance.now → (a ≡ c → ⊥) → (b ≡ c → ⊥)
-        → row_has result c ≡ false → IsJoined (excludes state.now.trail) dim b c → IsApart (excludes state.now.trail) dim a c
+        → row_has result c ≡ false → IsJoined (excludes state.now.trail) dim b c
+        → IsApart (excludes state.now.trail) dim a c
         → ⊥ }
 {
     let joined = gone(instance, state, all, dim, b, Rel::Before, Rel::After);

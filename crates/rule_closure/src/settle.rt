@@ -1,20 +1,20 @@
 //! Going along what changed: the worklist is the newer part of the state's list of exclusions.
 ghost use Rattle.std.specs.Prelude.{◌≡◌, ◌<◌, ◌≤◌, ◌+◌, ◌-◌, ◌⊎◌, ℕ, true, false, nat_lt, length, drop, MatchOption};
 ghost use Rattle.packing_terms.specs.Packing.{dims, box_count};
-ghost use Rattle.packing_terms.specs.Exclusions.{excludes, IsPlaceAmong};
+ghost use Rattle.packing_terms.specs.Exclusions.{excludes, IsEdgeAmong};
 ghost use Rattle.rule_terms.specs.Applied.{Extends};
 ghost use Rattle.edge_state.specs.BitRows.{HoldsBoxes, row_has};
 ghost use Rattle.edge_state.specs.Answers.{IsChangeAfter};
 ghost use Rattle.closure_terms.specs.States.{IsSized, HasEmptyMask};
-ghost use Rattle.closure_terms.specs.Work.{IsWorked, IsReached, IsUnordered, IsBehind};
+ghost use Rattle.closure_terms.specs.Work.{IsWorked, IsAppliedAt, IsUnordered, IsBehind};
 ghost use Rattle.closure_terms.specs.Work.{IsLookedThrough};
 
+use crate::edges::spread_from;
 use crate::empties::is_empty_at;
-use crate::places::spread_from;
 use box_instances::Instance;
 use edge_state::{BitRow, EdgeState, Exclusion, Mark, Rel};
 
-// All instances that read the mask of a place, up to those that add the same.
+// All instances that read the mask of an edge, up to those that add the same.
 fn spread<const K: usize>(
     instance: &Instance,
     state: &mut EdgeState,
@@ -30,7 +30,7 @@ fn spread<const K: usize>(
     requires distinct { u ≡ v → ⊥ }
     requires all { (x : ℕ) → row_has all x ≡ nat_lt x (box_count instance.now) }
     ensures { IsWorked instance.now state.old state.new result
-        (λ rule. IsReached dim u v rule ⊎ IsReached dim v u rule) }
+        (λ rule. IsAppliedAt dim u v rule ⊎ IsAppliedAt dim v u rule) }
 {
     if spread_from(instance, state, all, dim, u, v) {
         return true;
@@ -38,25 +38,25 @@ fn spread<const K: usize>(
     spread_from(instance, state, all, dim, v, u)
 }
 
-// The place of the list behind a change, and behind the next one too where that is at the same
-// place: a rule that leaves one relation makes two changes, which are looked through together.
+// The position of the list behind a change, and behind the next one too where that is at the same
+// edge: a rule that leaves one relation makes two changes, which are looked through together.
 fn behind(state: &EdgeState, mark: Mark, change: Exclusion) -> Mark
     requires { IsChangeAfter state.now.trail mark change (mark + 1) }
     ensures { IsBehind state.now.trail mark change result }
 {
-    let after = state.place_after(mark);
+    let after = state.mark_after(mark);
     let Some(next) = state.change_after(after) else {
         return after;
     };
     if next.dim != change.dim || next.u != change.u || next.v != change.v {
         return after;
     }
-    state.place_after(after)
+    state.mark_after(after)
 }
 
 // Whether one of the two boxes of a change is surely before the other now.
 fn orders(state: &EdgeState, change: Exclusion) -> bool
-    requires { IsPlaceAmong state.now.dims state.now.boxes change.dim change.u change.v }
+    requires { IsEdgeAmong state.now.dims state.now.boxes change.dim change.u change.v }
     ensures { result ≡ false → IsUnordered (excludes state.now.trail) change }
 {
     let mask = state.mask(change.dim, change.u, change.v);
@@ -65,12 +65,13 @@ fn orders(state: &EdgeState, change: Exclusion) -> bool
 
 // The dimensions in which CHAIN is to be looked at, with that of a change that orders its boxes.
 fn dirtied(state: &EdgeState, dirty: BitRow<1>, change: Exclusion) -> BitRow<1>
-    requires place { IsPlaceAmong state.now.dims state.now.boxes change.dim change.u change.v }
+    requires edge { IsEdgeAmong state.now.dims state.now.boxes change.dim change.u change.v }
     requires dim { change.dim < 4 }
     ensures clean { (i : ℕ) → row_has result i ≡ false → row_has dirty i ≡ false }
     ensures unordered { (i : ℕ) → row_has result i ≡ false → change.dim ≡ i
         → IsUnordered (excludes state.now.trail) change }
-    ensures within { (i : ℕ) → row_has result i ≡ true → (i ≡ change.dim) ⊎ (row_has dirty i ≡ true) }
+    ensures within { (i : ℕ) → row_has result i ≡ true → (i ≡ change.dim)
+        ⊎ (row_has dirty i ≡ true) }
 {
     if orders(state, change) {
         return dirty.with(change.dim);
@@ -78,10 +79,10 @@ fn dirtied(state: &EdgeState, dirty: BitRow<1>, change: Exclusion) -> BitRow<1>
     dirty
 }
 
-/// Looks through the exclusions that came after a place of the list, and those that follow, the
+/// Looks through the exclusions that came after a position of the list, and those that follow, the
 /// oldest first. Afterwards no rule but CHAIN adds anything, and CHAIN only in the dimensions of
 /// the answer; to those that were given come those in which two boxes became ordered. `None` comes
-/// where a mask is lost.
+/// where a mask is empty.
 pub fn settle<const K: usize>(
     instance: &Instance,
     state: &mut EdgeState,
@@ -106,6 +107,7 @@ pub fn settle<const K: usize>(
     let mut next = closed;
     let mut chains = dirty;
     while let Some(change) = state.change_after(next) {
+        // For the proof alone: tells the limits of the state.
         let _sizes = state.dims();
         if is_empty_at(instance, state, change.dim, change.u, change.v) {
             return None;

@@ -1,6 +1,6 @@
-//! COMPOSE, TRIPLE, APART and CYCLE at what a changed place tells.
+//! COMPOSE, TRIPLE, APART and CYCLE at what a changed edge tells.
 //!
-//! Each call applies some instances one after another and answers whether a mask is lost, that is,
+//! Each call applies some instances one after another and answers whether a mask is empty;
 //! empty; it stops there.
 ghost use Rattle.std.specs.Prelude.{◌≡◌, ◌≢◌, ◌<◌, ◌≤◌, ◌+◌, ℕ, nat_lt, [], ◌∷◌};
 ghost use Rattle.packing_terms.specs.Packing.{dims, box_count, side, container_side};

@@ -6,11 +6,11 @@ use Rattle.packing_terms.specs.declared.Rel.TheVariants.{Overlap, Before, After}
 use Rattle.packing_terms.specs.declared.Exclusion.{Exclusion}
 use Rattle.packing_terms.specs.Packing.{PlainInstance, dims, box_count}
 use Rattle.packing_terms.specs.Relations.{mirror}
-use Rattle.packing_terms.specs.Exclusions.{Exclusions, excludes, is_of, IsPlace}
+use Rattle.packing_terms.specs.Exclusions.{Exclusions, excludes, is_of, IsEdge}
 use Rattle.packing_terms.specs.Rules.{Rule, IsRuleInstance, Premises, Concludes, Follows, by_rule, dim_of, first_of, second_of}
 use Rattle.packing_terms.specs.Closure.{IsSubset}
 use Rattle.rule_terms.specs.Steps.{open_count, with_exclusion}
-use Rattle.rule_terms.specs.Applied.{Adds, added, mirror_added, Extends, IsStep, IsApplied, narrowed_by, narrows, narrowed, is_narrowed}
+use Rattle.rule_terms.specs.Applied.{Adds, added, mirror_added, Extends, IsRuleStep, IsApplied, narrowed_by, narrows, narrowed, is_narrowed}
 use Rattle.packing_terms.proofs.Sets.{or_true, of_own, excludes_symmetric, mirror_twice}
 use Rattle.rule_terms.proofs.RoundsLemmas.{rule_place, excludes_own}
 use Rattle.packing_terms.proofs.Monotone.{premises_more, concludes_more}
@@ -28,10 +28,10 @@ extends_trans instance a b c h k = record {
   fewer = omega (arith, h.fewer, k.fewer);
 }
 
-pub step_none : (instance : PlainInstance) (es : List Exclusion) → IsStep instance es es false
+pub step_none : (instance : PlainInstance) (es : List Exclusion) → IsRuleStep instance es es false
 step_none instance es = record { extends = extends_refl instance es; shrinks = λ e. absurd (true≢false (sym e)); same = λ e. refl }
 
-pub step_trans : (instance : PlainInstance) (a b c : List Exclusion) (x y : Bool) → IsStep instance a b x → IsStep instance b c y → IsStep instance a c (x || y)
+pub step_trans : (instance : PlainInstance) (a b c : List Exclusion) (x y : Bool) → IsRuleStep instance a b x → IsRuleStep instance b c y → IsRuleStep instance a c (x || y)
 step_trans instance a b c x y h k = record {
   extends = extends_trans instance a b c h.extends k.extends;
   shrinks = λ e. fall (or_cases x y e);
@@ -48,11 +48,11 @@ step_trans instance a b c x y h k = record {
     stay false true e f g = absurd (true≢false e)
 
 -- an exclusion that follows is a step
-pub step_follows : (instance : PlainInstance) (es : List Exclusion) (e : Exclusion) → IsPlace instance e.dim e.u e.v
-    → Follows instance (excludes es) e.dim e.u e.v e.rel → IsStep instance es (with_exclusion es e) (not (excludes es e.dim e.u e.v e.rel))
+pub step_follows : (instance : PlainInstance) (es : List Exclusion) (e : Exclusion) → IsEdge instance e.dim e.u e.v
+    → Follows instance (excludes es) e.dim e.u e.v e.rel → IsRuleStep instance es (with_exclusion es e) (not (excludes es e.dim e.u e.v e.rel))
 step_follows instance es e place follows = go (excludes es e.dim e.u e.v e.rel) refl
   where
-    go : (x : Bool) → excludes es e.dim e.u e.v e.rel ≡ x → IsStep instance es (cond x es (e ∷ es)) (not x)
+    go : (x : Bool) → excludes es e.dim e.u e.v e.rel ≡ x → IsRuleStep instance es (cond x es (e ∷ es)) (not x)
     go true k = step_none instance es
     go false k = record {
       extends = record {
@@ -104,11 +104,11 @@ module _ (instance : PlainInstance) (rule : Rule) (es : List Exclusion) (keep : 
     (only : (r : Rel) → Concludes (excludes es) rule r → keep r ≡ false) where
   -- from any list that holds es, one relation is a step, and what is new is added
   one_step : (fs : List Exclusion) → IsSubset (excludes es) (excludes fs) → (r : Rel)
-      → IsStep instance fs (narrowed_by fs (dim_of rule) (first_of rule) (second_of rule) keep r) (narrows fs (dim_of rule) (first_of rule) (second_of rule) keep r)
+      → IsRuleStep instance fs (narrowed_by fs (dim_of rule) (first_of rule) (second_of rule) keep r) (narrows fs (dim_of rule) (first_of rule) (second_of rule) keep r)
   one_step fs more r = go (keep r) refl
     where
       go : (x : Bool) → keep r ≡ x
-          → IsStep instance fs (cond x fs (with_exclusion fs (record { dim = dim_of rule; u = first_of rule; v = second_of rule; rel = r })))
+          → IsRuleStep instance fs (cond x fs (with_exclusion fs (record { dim = dim_of rule; u = first_of rule; v = second_of rule; rel = r })))
           (not x && not (excludes fs (dim_of rule) (first_of rule) (second_of rule) r))
       go true k = step_none instance fs
       go false k = step_follows instance fs (record { dim = dim_of rule; u = first_of rule; v = second_of rule; rel = r }) (rule_place instance rule is)
@@ -191,16 +191,3 @@ module _ (instance : PlainInstance) (rule : Rule) (es : List Exclusion) (keep : 
           → IsTrue (excludes (narrowed es (dim_of rule) (first_of rule) (second_of rule) keep) i u v r)
       these i u v r (inl h) = by_keeps two After i u v r (by_keeps one Before i u v r (by_keeps es Overlap i u v r h))
       these i u v r (inr h) = adds i u v r h
-
--- where a premise fails, nothing is added
-pub applied_not : (instance : PlainInstance) (rule : Rule) (es : List Exclusion) → (Premises instance (excludes es) rule → ⊥)
-    → IsApplied instance rule es es false
-applied_not instance rule es fails = record {
-  step = step_none instance es;
-  exact = λ i u v r. ((λ h. inl h), (λ h. none i u v r h));
-}
-  where
-    none : (i u v : ℕ) (r : Rel) → IsTrue (excludes es i u v r) ⊎ Adds instance (excludes es) rule i u v r → IsTrue (excludes es i u v r)
-    none i u v r (inl h) = h
-    none _ _ _ _ (inr (added r _ p c)) = absurd (fails p)
-    none _ _ _ _ (inr (mirror_added r _ p c)) = absurd (fails p)

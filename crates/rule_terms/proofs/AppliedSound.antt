@@ -2,14 +2,14 @@
 use Rattle.std.proofs.Common.{ℕ, ◌⊎◌, inl, inr, Bool, List, IsTrue}
 use Rattle.packing_terms.specs.declared.Rel.{Rel}
 use Rattle.packing_terms.specs.declared.Exclusion.{Exclusion}
-use Rattle.packing_terms.specs.Packing.{PlainInstance, IsPacking, HasSides}
+use Rattle.packing_terms.specs.Packing.{PlainInstance, IsPacking, HasPositiveSides}
 use Rattle.packing_terms.specs.Relations.{Holds}
 use Rattle.packing_terms.specs.Exclusions.{excludes, Respects}
 use Rattle.packing_terms.specs.Rules.{Rule, by_rule, mirrored}
 use Rattle.rule_terms.specs.Applied.{Adds, added, mirror_added, IsApplied, IsAppliedAmong, KeepsPackingsAmong}
 use Rattle.packing_terms.proofs.Soundness.{follows_sound}
 
-pub applied_sound : (instance : PlainInstance) (places : List ℕ) (rule : Rule) (old new : List Exclusion) (changed : Bool) → HasSides instance → IsPacking instance places
+pub applied_sound : (instance : PlainInstance) (places : List ℕ) (rule : Rule) (old new : List Exclusion) (changed : Bool) → HasPositiveSides instance → IsPacking instance places
     → IsApplied instance rule old new changed → Respects instance places (excludes old) → Respects instance places (excludes new)
 applied_sound instance places rule old new changed sides packing applied respects i u v r h = go i u v r ((applied.exact i u v r).0 h)
   where

@@ -11,7 +11,8 @@ use Rattle.packing_terms.specs.Closure.{IsDerived, HasConflict, IsSymmetric, Der
 use Rattle.packing_terms.proofs.Sets.{excludes_symmetric}
 use Rattle.packing_terms.proofs.Members.{any_at, any_from, in_range, range_in}
 use Rattle.packing_terms.proofs.Closures.{derives_from, given_derived}
-use Rattle.rule_terms.specs.Rounds.{below, closure, has_conflict}
+use Rattle.rule_terms.specs.Rounds.{closure, has_empty_mask}
+use Rattle.packing_terms.specs.Sums.{below}
 use Rattle.rule_terms.specs.Places.{HasNoEmptyMask}
 use Rattle.rule_terms.proofs.RoundsLemmas.{closure_is, closure_keeps}
 
@@ -29,7 +30,7 @@ module _ (instance : PlainInstance) where
 
 -- the tests on a table
 module _ (X : Exclusions) (d n : ℕ) where
-  pub all_three : (i u v : ℕ) → i < d → u < v → v < n → X i u v Overlap ≡ true → X i u v Before ≡ true → X i u v After ≡ true → has_conflict X d n ≡ true
+  pub all_three : (i u v : ℕ) → i < d → u < v → v < n → X i u v Overlap ≡ true → X i u v Before ≡ true → X i u v After ≡ true → has_empty_mask X d n ≡ true
   all_three i u v hi huv hv o b a =
       any_at (λ j. list_any (λ y. list_any (λ x. X j x y Overlap && X j x y Before && X j x y After) (below y)) (below n)) i (below d)
       (in_range 0 d i (omega arith) (omega arith))
@@ -48,7 +49,7 @@ module _ (X : Exclusions) (d n : ℕ) where
     pub in_boxes : v < n
     pub each : (r : Rel) → X dim u v r ≡ true
 
-  pub conflict_at : has_conflict X d n ≡ true → ConflictAt
+  pub conflict_at : has_empty_mask X d n ≡ true → ConflictAt
   conflict_at f =
       let a = any_from (λ i. list_any (λ v. list_any (λ u. X i u v Overlap && X i u v Before && X i u v After) (below v)) (below n)) (below d) f in
       let b = any_from (λ v. list_any (λ u. X a.item u v Overlap && X a.item u v Before && X a.item u v After) (below v)) (below n) a.passes in
@@ -74,7 +75,7 @@ module _ (X : Exclusions) (d n : ℕ) where
       each i u v o b a After = a
 
   -- where the test finds no conflict, no mask is empty
-  pub no_three : IsSymmetric X → has_conflict X d n ≡ false → (i u v : ℕ) → i < d → u < n → v < n → (u ≡ v → ⊥)
+  pub no_three : IsSymmetric X → has_empty_mask X d n ≡ false → (i u v : ℕ) → i < d → u < n → v < n → (u ≡ v → ⊥)
       → ((r : Rel) → X i u v r ≡ true) → ⊥
   no_three symmetric f i u v hi hu hv ne each = go (cases_lt u v)
     where
@@ -83,7 +84,7 @@ module _ (X : Exclusions) (d n : ℕ) where
       go (inr l) = true≢false (sym (all_three i v u hi (omega (arith, l, ne)) hu (symmetric i u v Overlap (each Overlap))
           (symmetric i u v After (each After)) (symmetric i u v Before (each Before))) ∙ f)
 
-  pub open_one : IsSymmetric X → has_conflict X d n ≡ false → (i u v : ℕ) → i < d → u < n → v < n → (u ≡ v → ⊥) → (r : Rel) × (X i u v r ≡ false)
+  pub open_one : IsSymmetric X → has_empty_mask X d n ≡ false → (i u v : ℕ) → i < d → u < n → v < n → (u ≡ v → ⊥) → (r : Rel) × (X i u v r ≡ false)
   open_one symmetric f i u v hi hu hv ne = go (cases_Bool (X i u v Overlap)) (cases_Bool (X i u v Before)) (cases_Bool (X i u v After))
     where
       all : X i u v Overlap ≡ true → X i u v Before ≡ true → X i u v After ≡ true → (r : Rel) → X i u v r ≡ true
@@ -100,11 +101,11 @@ module _ (X : Exclusions) (d n : ℕ) where
 
 module _ (instance : PlainInstance) (es : List Exclusion) where
   -- the test of the closure says whether there is a conflict
-  pub calm : has_conflict (excludes (closure instance es)) (dims instance) (box_count instance) ≡ false → ¬ HasConflict instance (excludes es)
+  pub calm : has_empty_mask (excludes (closure instance es)) (dims instance) (box_count instance) ≡ false → ¬ HasConflict instance (excludes es)
   calm f c = no_three (excludes (closure instance es)) (dims instance) (box_count instance) (excludes_symmetric (closure instance es)) f c.dim c.u c.v
-      c.place.dim c.place.first c.place.second c.place.distinct (λ r. (closure_is instance es c.dim c.u c.v r).1 (c.each r))
+      c.edge.dim c.edge.first c.edge.second c.edge.distinct (λ r. (closure_is instance es c.dim c.u c.v r).1 (c.each r))
 
-  pub stormy : has_conflict (excludes (closure instance es)) (dims instance) (box_count instance) ≡ true → HasConflict instance (excludes es)
+  pub stormy : has_empty_mask (excludes (closure instance es)) (dims instance) (box_count instance) ≡ true → HasConflict instance (excludes es)
   stormy f =
       let c = conflict_at (excludes (closure instance es)) (dims instance) (box_count instance) f in
       let l = c.rising in
@@ -113,10 +114,10 @@ module _ (instance : PlainInstance) (es : List Exclusion) where
         dim = c.dim;
         u = c.u;
         v = c.v;
-        place = record { dim = c.in_dims; first = omega (arith, l, m); second = m; distinct = (λ e. omega (arith, l, e)) };
+        edge = record { dim = c.in_dims; first = omega (arith, l, m); second = m; distinct = (λ e. omega (arith, l, e)) };
         each = λ r. (closure_is instance es c.dim c.u c.v r).0 (c.each r);
       }
 
-  pub full_masks : has_conflict (excludes (closure instance es)) (dims instance) (box_count instance) ≡ false → HasNoEmptyMask instance (excludes (closure instance es))
+  pub full_masks : has_empty_mask (excludes (closure instance es)) (dims instance) (box_count instance) ≡ false → HasNoEmptyMask instance (excludes (closure instance es))
   full_masks f i u v p = open_one (excludes (closure instance es)) (dims instance) (box_count instance) (excludes_symmetric (closure instance es)) f i u v
       p.dim p.first p.second p.distinct

@@ -1,3 +1,4 @@
+pub mod Drawn
 pub mod Tests
 pub mod RoundsLemmas
 pub mod Conflicts

@@ -8,16 +8,20 @@ use Rattle.packing_terms.specs.declared.Rel.TheVariants.{Overlap, Before, After}
 use Rattle.packing_terms.specs.declared.Exclusion.{Exclusion}
 use Rattle.packing_terms.specs.Packing.{PlainInstance, dims, box_count}
 use Rattle.packing_terms.specs.Relations.{mirror}
-use Rattle.packing_terms.specs.Exclusions.{Exclusions, IsPlace, is_of, excludes}
+use Rattle.packing_terms.specs.Exclusions.{Exclusions, IsEdge, is_of, excludes}
 use Rattle.packing_terms.specs.Rules.{Rule, Pair, Apart, Triple, Chain, Compose, Cycle, Order, IsRuleInstance, Follows, by_rule, mirrored, dim_of, first_of, second_of}
 use Rattle.std.proofs.lemmas.List.FromFn.{length-range_with_len}
+use Rattle.std.proofs.lemmas.List.{length-append}
 use Rattle.packing_terms.specs.Closure.{IsDerivation, IsDerived, IsSubset, IsStable}
-use Rattle.rule_terms.specs.Rounds.{rels, below, follows, all_exclusions, additions, rounds, closure}
+use Rattle.rule_terms.specs.Rounds.{rels, follows, all_exclusions, additions, rounds, closure}
+use Rattle.packing_terms.specs.Sums.{below}
 use Rattle.packing_terms.proofs.Sets.{or_true, mirror_twice, is_at_own, excludes_symmetric, excludes_left, excludes_right}
 use Rattle.packing_terms.proofs.Members.{IsIn, any_at, in_map, map_in, in_flat_map, flat_map_in, in_filter, filter_in, in_range, range_in}
 use Rattle.packing_terms.proofs.Monotone.{follows_more}
 use Rattle.packing_terms.proofs.Derivations.{stable_holds}
-use Rattle.rule_terms.proofs.Tests.{follows_test, test_either, is_not, not_so, ends_in}
+use Rattle.packing_terms.proofs.Lengths.{length_parts, filter_short}
+use Rattle.rule_terms.proofs.Tests.{follows_test, test_either}
+use Rattle.rule_terms.proofs.Drawn.{is_not, not_so, ends_in}
 
 -- fewer elements pass the smaller test
 pub length_filter_less : {X : Type 0} (p q : X → Bool) (xs : List X) → ((x : X) → q x ≡ true → p x ≡ true) → length (filter q xs) ≤ length (filter p xs)
@@ -62,17 +66,17 @@ module _ (instance : PlainInstance) where
       && (follows instance (excludes es) e.dim e.u e.v e.rel || follows instance (excludes es) e.dim e.v e.u (mirror e.rel))
 
   -- the candidates: at each place
-  pub all_in : (e : Exclusion) → IsIn e (all_exclusions (dims instance) (box_count instance)) → IsPlace instance e.dim e.u e.v
+  pub all_in : (e : Exclusion) → IsIn e (all_exclusions (dims instance) (box_count instance)) → IsEdge instance e.dim e.u e.v
   all_in e i =
       let a = flat_map_in (λ j. flat_map (λ v. flat_map (λ u. map (λ r. record { dim = j; u = u; v = v; rel = r }) rels) (below v)) (below (box_count instance))) e (below (dims instance)) i in
       let b = flat_map_in (λ v. flat_map (λ u. map (λ r. record { dim = a.0; u = u; v = v; rel = r }) rels) (below v)) e (below (box_count instance)) a.2 in
       let c = flat_map_in (λ u. map (λ r. record { dim = a.0; u = u; v = b.0; rel = r }) rels) e (below b.0) b.2 in
       let d = map_in (λ r. record { dim = a.0; u = c.0; v = b.0; rel = r }) e rels c.2 in
-      let P : Exclusion → Type 0 = λ x. IsPlace instance x.dim x.u x.v in
+      let P : Exclusion → Type 0 = λ x. IsEdge instance x.dim x.u x.v in
       let h1 = range_in 0 (dims instance) a.0 a.1 in
       let h2 = range_in 0 (box_count instance) b.0 b.1 in
       let h3 = range_in 0 b.0 c.0 c.1 in
-      let at : IsPlace instance a.0 c.0 b.0 = record { dim = omega (arith, h1); first = omega (arith, h2, h3); second = omega (arith, h2); distinct = omega (arith, h3) } in
+      let at : IsEdge instance a.0 c.0 b.0 = record { dim = omega (arith, h1); first = omega (arith, h2, h3); second = omega (arith, h2); distinct = omega (arith, h3) } in
       subst P (sym d.2) at
 
   pub in_all : (i u v : ℕ) (r : Rel) → i < dims instance → u < v → v < box_count instance
@@ -153,7 +157,7 @@ module _ (instance : PlainInstance) where
       go (e ∷ more) f rest = rest ((e ∷ more) ++ es) (let l = fewer_open es e more f in omega arith)
 
   -- the place of a rule is a place
-  pub rule_place : (rule : Rule) → IsRuleInstance instance rule → IsPlace instance (dim_of rule) (first_of rule) (second_of rule)
+  pub rule_place : (rule : Rule) → IsRuleInstance instance rule → IsEdge instance (dim_of rule) (first_of rule) (second_of rule)
   rule_place (Pair i u v) (h, b) = record { dim = h; first = b.0; second = b.2.0; distinct = b.1.0 }
   rule_place (Apart i u v) (h, b) = record { dim = h; first = b.0; second = b.2.0; distinct = b.1.0 }
   rule_place (Triple i u v x) (h, b) = record { dim = h; first = b.0; second = b.2.0; distinct = b.1.0 }
@@ -163,7 +167,7 @@ module _ (instance : PlainInstance) where
   rule_place (Cycle i a b c d) (h, bs) = record { dim = h; first = bs.2.0; second = bs.2.2.2.0; distinct = bs.2.1.1.0 }
   rule_place (Order i a b c d) (h, bs) = record { dim = h; first = bs.2.2.0; second = bs.2.0; distinct = λ e. bs.2.1.0 (sym e) }
 
-  pub follows_place : (X : Exclusions) (i u v : ℕ) (r : Rel) → Follows instance X i u v r → IsPlace instance i u v
+  pub follows_place : (X : Exclusions) (i u v : ℕ) (r : Rel) → Follows instance X i u v r → IsEdge instance i u v
   follows_place X i u v r (by_rule rule _ h p c) = rule_place rule h
   follows_place X i u v r (mirrored rule s h p c) =
       let k = rule_place rule h in record { dim = k.dim; first = k.second; second = k.first; distinct = λ e. k.distinct (sym e) }
@@ -172,7 +176,7 @@ module _ (instance : PlainInstance) where
   stable_at_end : (es : List Exclusion) → additions instance es ≡ [] → IsStable instance (excludes es)
   stable_at_end es none i u v r f = go (cases_Bool (excludes es i u v r))
     where
-      place : IsPlace instance i u v
+      place : IsEdge instance i u v
       place = follows_place (excludes es) i u v r f
 
       added : (e : Exclusion) → IsIn e (all_exclusions (dims instance) (box_count instance)) → excludes es e.dim e.u e.v e.rel ≡ false
@@ -220,23 +224,6 @@ module _ (instance : PlainInstance) where
       go [] rest = h
       go (e ∷ more) rest = rest ((e ∷ more) ++ es) (excludes_right (e ∷ more) es i u v r h)
 
-  length_map' : {X Y : Type 0} (f : X → Y) (xs : List X) → length (map f xs) ≡ length xs
-  length_map' f [] = refl
-  length_map' f (x ∷ xs) = ap suc (length_map' f xs)
-
-  length_append' : {X : Type 0} (xs ys : List X) → length (xs ++ ys) ≡ length xs + length ys
-  length_append' [] ys = omega arith
-  length_append' (x ∷ xs) ys = let e = length_append' xs ys in omega arith
-
-  -- so many in each part
-  length_parts : {X Y : Type 0} (f : X → List Y) (k : ℕ) → ((x : X) → length (f x) ≡ k) → (xs : List X) → length (flat_map f xs) ≡ length xs * k
-  length_parts f k h [] = omega arith
-  length_parts f k h (x ∷ xs) =
-      let e = length_parts f k h xs in omega (arith, length_append' (f x) (flat_map f xs), h x)
-
-  pairs_of : ℕ → ℕ → List Exclusion
-  pairs_of i n = flat_map (λ v. flat_map (λ u. map (λ r. record { dim = i; u = u; v = v; rel = r }) rels) (below v)) (below n)
-
   row_length : (i v : ℕ) → length (flat_map (λ u. map (λ r. (let e : Exclusion = record { dim = i; u = u; v = v; rel = r } in e)) rels) (below v)) ≡ v * 3
   row_length i v =
       let e = length_parts (λ u. map (λ r. (let x : Exclusion = record { dim = i; u = u; v = v; rel = r } in x)) rels) 3 (λ u. refl) (below v) in
@@ -252,7 +239,7 @@ module _ (instance : PlainInstance) where
         arith,
         rest,
         row,
-        length_append' (flat_map (λ u. map (λ r. (let e : Exclusion = record { dim = i; u = u; v = a; rel = r } in e)) rels) (below a))
+        length-append (flat_map (λ u. map (λ r. (let e : Exclusion = record { dim = i; u = u; v = a; rel = r } in e)) rels) (below a))
             (flat_map (λ v. flat_map (λ u. map (λ r. (let e : Exclusion = record { dim = i; u = u; v = v; rel = r } in e)) rels) (below v)) (range_with_len (a + 1) m)),
       )
 
@@ -267,14 +254,6 @@ module _ (instance : PlainInstance) where
   half_square d (suc m) t h =
       let e : suc m - 1 ≡ m = omega arith in
       rw e (omega (arith, ap (λ x. d * x) h, spread d t m, spread' d m))
-
-  filter_short : {X : Type 0} (p : X → Bool) (xs : List X) → length (filter p xs) ≤ length xs
-  filter_short p [] = omega arith
-  filter_short p (x ∷ xs) = go (p x) (filter_short p xs)
-    where
-      go : (b : Bool) → length (filter p xs) ≤ length xs → length (cond b (x ∷ filter p xs) (filter p xs)) ≤ suc (length xs)
-      go true h = omega arith
-      go false h = omega arith
 
   pub few_passing : (p : Exclusion → Bool) → length (filter p (all_exclusions (dims instance) (box_count instance)))
       ≤ 3 * dims instance * box_count instance * (box_count instance - 1) / 2

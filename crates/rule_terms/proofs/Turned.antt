@@ -6,13 +6,13 @@ use Rattle.std.proofs.lemmas.List.Sums.{sum_by-cons, sum_by_push}
 use Rattle.packing_terms.specs.declared.Rel.{Rel}
 use Rattle.packing_terms.specs.declared.Rel.TheVariants.{Overlap, Before, After}
 use Rattle.packing_terms.specs.Packing.{PlainInstance, dims, box_count, side}
-use Rattle.packing_terms.specs.Exclusions.{Exclusions, IsSurelyBefore, IsPlaceAmong}
+use Rattle.packing_terms.specs.Exclusions.{Exclusions, IsSurelyBefore, IsEdgeAmong}
 use Rattle.rule_terms.specs.Places.{HasNoEmptyMask}
 use Rattle.packing_terms.specs.Closure.{IsSymmetric}
 use Rattle.packing_terms.specs.Rules.{AreBoxesAmong, IsChain}
 use Rattle.rule_terms.specs.Runs.{IsRun, HasRun, IsHeaviestRun, Leads, IsTransitive, IsOneWay, HasHead, HasTail, IsHeaviestHead, IsHeaviestTail}
 use Rattle.packing_terms.proofs.Members.{IsIn, append_in, in_append}
-use Rattle.rule_terms.proofs.Runs.{each_in, each_from}
+use Rattle.packing_terms.proofs.Boxes.{each_in, each_from}
 
 -- the list read backwards
 abbrev pub turned : List ℕ → List ℕ
@@ -143,7 +143,7 @@ module _ (X : Exclusions) (i : ℕ) where
     pub one_way : i < dims instance → IsSymmetric X → HasNoEmptyMask instance X → (back : Bool) → IsOneWay (box_count instance) (Leads X i back)
     one_way hi symmetric full back u v b = go back
       where
-        clash : (a c : ℕ) → IsPlaceAmong (dims instance) (box_count instance) i a c → IsSurelyBefore X i a c → IsSurelyBefore X i c a → ⊥
+        clash : (a c : ℕ) → IsEdgeAmong (dims instance) (box_count instance) i a c → IsSurelyBefore X i a c → IsSurelyBefore X i c a → ⊥
         clash a c place ac ca = pick (full i a c place)
           where
             pick : (r : Rel) × (X i a c r ≡ false) → ⊥
@@ -151,7 +151,7 @@ module _ (X : Exclusions) (i : ℕ) where
             pick (After, e) = true≢false (sym ac.1 ∙ e)
             pick (Before, e) = true≢false (sym (symmetric i c a After ca.1) ∙ e)
 
-        place : IsPlaceAmong (dims instance) (box_count instance) i u v
+        place : IsEdgeAmong (dims instance) (box_count instance) i u v
         place = record { dim = hi; first = b.0; second = b.2.0; distinct = b.1.0 }
 
         go : (back : Bool) → Leads X i back u v → Leads X i back v u → ⊥

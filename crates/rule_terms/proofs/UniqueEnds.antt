@@ -2,11 +2,11 @@
 use Rattle.std.proofs.Common.{◌≡◌, ℕ, zero, suc, ◌+◌, ◌*◌, ◌/◌, ◌%◌, ◌<◌, ◌≤◌, ◌⊎◌, inl, inr, sym, ◌∙◌, arith, List, length, get_or}
 use Rattle.std.proofs.lemmas.Nat.{div-add-mod', mod_below, div_below}
 use Rattle.std.proofs.lemmas.Grind.{same_number_lists}
-use Rattle.packing_terms.specs.Packing.{PlainInstance, HasSides, dims, box_count, side, place}
+use Rattle.packing_terms.specs.Packing.{PlainInstance, HasPositiveSides, dims, box_count, side, place}
 use Rattle.packing_terms.specs.Exclusions.{Exclusions, IsSurelyBefore}
 use Rattle.rule_terms.specs.Places.{IsGreatestEnd}
 
-module _ (instance : PlainInstance) (sides : HasSides instance) (X : Exclusions) where
+module _ (instance : PlainInstance) (sides : HasPositiveSides instance) (X : Exclusions) where
   module _ (i : ℕ) (hi : i < dims instance) where
     abbrev HasEnds : List ℕ → Type 0
     HasEnds ps = (v : ℕ) → v < box_count instance → IsGreatestEnd instance X ps i v

@@ -3,12 +3,12 @@ use Rattle.std.specs.Prelude.{ℕ, ◌+◌, nat_lt, ◌≡◌, ◌<◌, ◌≤�
 use Rattle.packing_terms.specs.declared.Rel.{Rel}
 use Rattle.packing_terms.specs.declared.Rel.TheVariants.{Overlap, Before, After}
 use Rattle.packing_terms.specs.declared.Exclusion.{Exclusion}
-use Rattle.packing_terms.specs.Packing.{PlainInstance, IsPacking, HasSides, dims, box_count, container_side}
+use Rattle.packing_terms.specs.Packing.{PlainInstance, IsPacking, HasPositiveSides, dims, box_count, container_side}
 use Rattle.packing_terms.specs.Relations.{mirror}
-use Rattle.packing_terms.specs.Exclusions.{Exclusions, excludes, Respects}
+use Rattle.packing_terms.specs.Exclusions.{Exclusions, excludes, Respects, exclusion_at}
 use Rattle.packing_terms.specs.Rules.{Rule, IsRuleInstance, Premises, Concludes, dim_of, first_of, second_of}
 use Rattle.packing_terms.specs.Closure.{IsDerivation, IsSubset}
-use Rattle.rule_terms.specs.Steps.{open_count, with_exclusion, at_pair}
+use Rattle.rule_terms.specs.Steps.{open_count, with_exclusion}
 
 -- this instance of a rule excludes this relation, in this dimension at this pair or at its mirror
 pub data Adds (instance : PlainInstance) (X : Exclusions) (rule : Rule) : ℕ → ℕ → ℕ → Rel → Type 0 where
@@ -17,8 +17,8 @@ pub data Adds (instance : PlainInstance) (X : Exclusions) (rule : Rule) : ℕ �
   mirror_added : (r : Rel) → IsRuleInstance instance rule → Premises instance X rule → Concludes X rule r
       → Adds instance X rule (dim_of rule) (second_of rule) (first_of rule) (mirror r)
 
--- Exclusions came on top, each of which follows from those below it. So undoing them gives the old list back, what is new has a
--- derivation from what was there, and nothing is lost.
+-- Exclusions came on top, each of which follows from those below it. So undoing them gives the old
+-- list back, what is new has a derivation from what was there, and nothing is lost.
 pub record Extends (instance : PlainInstance) (old new : List Exclusion) : Type 0 where
   pub more : List Exclusion
   pub grown : new ≡ more ++ old
@@ -26,15 +26,17 @@ pub record Extends (instance : PlainInstance) (old new : List Exclusion) : Type 
   pub kept : IsSubset (excludes old) (excludes new)
   pub fewer : open_count (dims instance) (box_count instance) new ≤ open_count (dims instance) (box_count instance) old
 
--- exclusions came on top: some, so that fewer relations are open, where it is told that something changed, and else none
-pub record IsStep (instance : PlainInstance) (old new : List Exclusion) (changed : Bool) : Type 0 where
+-- exclusions came on top: some, so that fewer relations are open, where it is told that something
+-- changed, and else none
+pub record IsRuleStep (instance : PlainInstance) (old new : List Exclusion) (changed : Bool) : Type 0 where
   pub extends : Extends instance old new
   pub shrinks : IsTrue changed → open_count (dims instance) (box_count instance) new < open_count (dims instance) (box_count instance) old
   pub same : changed ≡ false → new ≡ old
 
--- the instance of the rule was applied: exactly what was excluded before, or is added by it, is excluded afterwards
+-- the instance of the rule was applied: exactly what was excluded before, or is added by it, is
+-- excluded afterwards
 pub record IsApplied (instance : PlainInstance) (rule : Rule) (old new : List Exclusion) (changed : Bool) : Type 0 where
-  pub step : IsStep instance old new changed
+  pub step : IsRuleStep instance old new changed
   pub exact : (i u v : ℕ) (r : Rel) → IsTrue (excludes new i u v r) ↔ (IsTrue (excludes old i u v r) ⊎ Adds instance (excludes old) rule i u v r)
 
 -- the same in every instance with so many dimensions and boxes, whatever their sides are
@@ -45,7 +47,7 @@ IsAppliedAmong d n rule old new changed =
 -- every packing of the instance that respects the exclusions before respects those after
 abbrev pub KeepsPackings : PlainInstance → List Exclusion → List Exclusion → Type 0
 KeepsPackings instance old new =
-    (places : List ℕ) → HasSides instance → IsPacking instance places → Respects instance places (excludes old) → Respects instance places (excludes new)
+    (places : List ℕ) → HasPositiveSides instance → IsPacking instance places → Respects instance places (excludes old) → Respects instance places (excludes new)
 
 -- the same of every instance with so many dimensions and boxes
 abbrev pub KeepsPackingsAmong : ℕ → ℕ → List Exclusion → List Exclusion → Type 0
@@ -54,7 +56,7 @@ KeepsPackingsAmong d n old new =
 
 -- one relation less at a pair, if it isn't to be kept
 abbrev pub narrowed_by : List Exclusion → ℕ → ℕ → ℕ → (Rel → Bool) → Rel → List Exclusion
-narrowed_by es i u v keep r = if keep r then es else with_exclusion es (at_pair i u v r)
+narrowed_by es i u v keep r = if keep r then es else with_exclusion es (exclusion_at i u v r)
 
 -- whether that is a change
 abbrev pub narrows : List Exclusion → ℕ → ℕ → ℕ → (Rel → Bool) → Rel → Bool
@@ -70,7 +72,8 @@ is_narrowed es i u v keep =
     || narrows (narrowed_by es i u v keep Overlap) i u v keep Before
     || narrows (narrowed_by (narrowed_by es i u v keep Overlap) i u v keep Before) i u v keep After
 
--- the list with before excluded at u, v where these weights of chains together exceed the container's side; else the list as it was
+-- the list with before excluded at u, v where these weights of chains together exceed the
+-- container's side; else the list as it was
 abbrev pub with_chain_exclusion : PlainInstance → List Exclusion → (i u v head tail : ℕ) → List Exclusion
 with_chain_exclusion instance es i u v head tail =
-    if nat_lt (container_side instance i) (head + tail) then with_exclusion es (at_pair i u v Before) else es
+    if nat_lt (container_side instance i) (head + tail) then with_exclusion es (exclusion_at i u v Before) else es

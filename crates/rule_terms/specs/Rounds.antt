@@ -1,5 +1,7 @@
--- The closure as a value, by rounds. Each round adds every conclusion of every rule instance whose premises hold; no program runs it.
--- Source: the closure is that of the rules of Fekete, Schepers and van der Veen (2007), and no order of work is part of it.
+-- The closure as a value, by rounds. Each round adds every conclusion of every rule instance whose
+-- premises hold; no program runs it.
+-- Source: the closure is that of the rules of Fekete, Schepers and van der Veen (2007), and no
+-- order of work is part of it.
 use Rattle.std.specs.Prelude.{ℕ, zero, suc, ◌+◌, ◌-◌, ◌*◌, ◌/◌, ◌==◌, ◌&&◌, ◌||◌, not, List, [], ◌∷◌, ◌++◌, Bool, true, nat_lt, map}
 use Rattle.std.specs.List.{list_any, list_all, filter, flat_map, range_with_len}
 use Rattle.packing_terms.specs.declared.Rel.{Rel}
@@ -7,19 +9,12 @@ use Rattle.packing_terms.specs.declared.Rel.TheVariants.{Overlap, Before, After}
 use Rattle.packing_terms.specs.declared.Exclusion.{Exclusion}
 use Rattle.packing_terms.specs.Packing.{PlainInstance, dims, box_count, container_side, side}
 use Rattle.packing_terms.specs.Relations.{allows, mirror}
-use Rattle.packing_terms.specs.Exclusions.{Exclusions, excludes, is_same_rel}
+use Rattle.packing_terms.specs.Exclusions.{Exclusions, excludes, is_same_rel, relation_count}
 use Rattle.packing_terms.specs.Rules.{weight}
+use Rattle.packing_terms.specs.Sums.{below}
 
 abbrev pub rels : List Rel
 rels = Overlap ∷ Before ∷ After ∷ []
-
-abbrev pub below : ℕ → List ℕ
-below n = range_with_len 0 n
-
--- whether the boxes of the list are distinct
-abbrev pub are_distinct : List ℕ → Bool
-are_distinct [] = true
-are_distinct (v ∷ vs) = list_all (λ u. not (u == v)) vs && are_distinct vs
 
 -- all lists of distinct boxes of those given, of at most so many
 abbrev pub chains : ℕ → List ℕ → List (List ℕ)
@@ -83,7 +78,8 @@ abbrev pub all_exclusions : ℕ → ℕ → List Exclusion
 all_exclusions d n =
     flat_map (λ i. flat_map (λ v. flat_map (λ u. map (λ r. record { dim = i; u = u; v = v; rel = r }) rels) (below v)) (below n)) (below d)
 
--- what one round adds: every relation that isn't excluded yet, and that some rule excludes at its pair or at the pair turned round
+-- what one round adds: every relation that isn't excluded yet, and that some rule excludes at its
+-- pair or at the pair turned round
 abbrev pub additions : PlainInstance → List Exclusion → List Exclusion
 additions instance es =
     filter (λ e. not (excludes es e.dim e.u e.v e.rel)
@@ -97,9 +93,9 @@ rounds instance (suc k) es = elim (additions instance es) [ [] ↦ es | e ∷ mo
 
 -- the closure of the exclusions of a list
 abbrev pub closure : PlainInstance → List Exclusion → List Exclusion
-closure instance es = rounds instance (3 * dims instance * box_count instance * (box_count instance - 1) / 2) es
+closure instance es = rounds instance (relation_count (dims instance) (box_count instance)) es
 
 -- whether all three relations are excluded in one dimension, at one pair
-abbrev pub has_conflict : Exclusions → ℕ → ℕ → Bool
-has_conflict X d n =
+abbrev pub has_empty_mask : Exclusions → ℕ → ℕ → Bool
+has_empty_mask X d n =
     list_any (λ i. list_any (λ v. list_any (λ u. X i u v Overlap && X i u v Before && X i u v After) (below v)) (below n)) (below d)

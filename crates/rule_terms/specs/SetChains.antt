@@ -1,4 +1,5 @@
--- The heaviest chains of the whole instance among the boxes of a set, which are given by their indices in the set.
+-- The heaviest chains of the whole instance among the boxes of a set, which are given by their
+-- indices in the set.
 use Rattle.std.specs.Prelude.{ℕ, ◌<◌, ◌≤◌, ◌≡◌, List, [], ◌∷◌, ◌++◌, map, length}
 use Rattle.std.specs.List.{AllByRecursion}
 use Rattle.packing_terms.specs.Packing.{PlainInstance}

@@ -3,22 +3,19 @@ use Rattle.std.specs.Prelude.{ℕ, ◌≡◌, List, [], ◌∷◌, length, not, 
 use Rattle.std.specs.List.{filter}
 use Rattle.packing_terms.specs.declared.Rel.{Rel}
 use Rattle.packing_terms.specs.declared.Exclusion.{Exclusion}
-use Rattle.packing_terms.specs.Exclusions.{excludes, IsPlaceAmong}
+use Rattle.packing_terms.specs.Exclusions.{excludes, IsEdgeAmong}
 use Rattle.rule_terms.specs.Rounds.{all_exclusions}
 
 -- how many relations are open, among so many dimensions and boxes
 abbrev pub open_count : ℕ → ℕ → List Exclusion → ℕ
 open_count d n es = length (filter (λ e. not (excludes es e.dim e.u e.v e.rel)) (all_exclusions d n))
 
--- one relation at a pair
-abbrev pub at_pair : ℕ → ℕ → ℕ → Rel → Exclusion
-at_pair i u v r = record { dim = i; u = u; v = v; rel = r }
-
 -- the list with one more exclusion on top, where it wasn't excluded; else the list as it was
 abbrev pub with_exclusion : List Exclusion → Exclusion → List Exclusion
 with_exclusion es e = if excludes es e.dim e.u e.v e.rel then es else e ∷ es
 
--- each exclusion of the list is at a pair of distinct boxes that are there, and wasn't excluded by those below it
+-- each exclusion of the list is at a pair of distinct boxes that are there, and wasn't excluded by
+-- those below it
 abbrev pub IsTrail : ℕ → ℕ → List Exclusion → Type 0
 IsTrail d n [] = Unit {0}
-IsTrail d n (e ∷ es) = IsPlaceAmong d n e.dim e.u e.v × (excludes es e.dim e.u e.v e.rel ≡ false) × IsTrail d n es
+IsTrail d n (e ∷ es) = IsEdgeAmong d n e.dim e.u e.v × (excludes es e.dim e.u e.v e.rel ≡ false) × IsTrail d n es

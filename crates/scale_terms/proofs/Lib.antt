@@ -1,5 +1,3 @@
-mod Values
-mod Rows
 pub mod Sums
 pub mod Superadditive
 pub mod Envelope

@@ -2,7 +2,7 @@
 use Rattle.std.proofs.Common.{◌≡◌, ℕ, zero, suc, ◌+◌, ◌*◌, ◌<◌, ◌≤◌, ◌⊎◌, inl, inr, refl, subst, ◌∙◌, arith, Bool, true, false, cond, ◌&&◌}
 use Rattle.std.proofs.lemmas.Bool.{cases_lt, cases_Bool, and_parts}
 use Rattle.std.proofs.lemmas.Bool.Decides.{nat_tests}
-use Rattle.packing_terms.specs.Scales.{sum_below, product_below}
+use Rattle.packing_terms.specs.Sums.{sum_below, product_below}
 use Rattle.scale_terms.specs.Intervals.{covers}
 use Rattle.scale_terms.proofs.Sums.{sum-same, sum-zero}
 use Rattle.scale_terms.proofs.Superadditive.{IsDominated}

@@ -1,12 +1,6 @@
 -- Sums over the numbers below a bound.
-use Rattle.std.proofs.Common.{◌≡◌, ℕ, zero, suc, ◌+◌, ◌*◌, ◌<◌, ◌≤◌, refl, sym, ap, ◌∙◌, arith}
-use Rattle.packing_terms.specs.Scales.{sum_below}
-
-pub sum-le : (n : ℕ) (f g : ℕ → ℕ) → ((v : ℕ) → v < n → f v ≤ g v) → sum_below n f ≤ sum_below n g
-sum-le zero f g h = omega arith
-sum-le (suc n) f g h =
-    let i : sum_below n f ≤ sum_below n g = sum-le n f g (λ v l. h v (omega arith)) in
-    let k : f n ≤ g n = h n (omega arith) in omega arith
+use Rattle.std.proofs.Common.{◌≡◌, ℕ, zero, suc, ◌+◌, ◌*◌, ◌<◌, refl, sym, ap, ◌∙◌, arith}
+use Rattle.packing_terms.specs.Sums.{sum_below}
 
 pub sum-same : (n : ℕ) (f g : ℕ → ℕ) → ((v : ℕ) → v < n → f v ≡ g v) → sum_below n f ≡ sum_below n g
 sum-same zero f g h = refl

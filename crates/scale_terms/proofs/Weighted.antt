@@ -3,9 +3,10 @@ use Rattle.std.proofs.Common.{◌≡◌, ℕ, zero, suc, ◌+◌, ◌-◌, ◌*�
 use Rattle.std.proofs.lemmas.Bool.{cases_lt}
 use Rattle.std.proofs.lemmas.Bool.Decides.{nat_tests}
 use Rattle.std.proofs.Math.Nat.{mul-le-mul_left, mul-le-mul_right}
-use Rattle.packing_terms.specs.Scales.{sum_below}
+use Rattle.packing_terms.specs.Sums.{sum_below}
+use Rattle.packing_terms.proofs.OpenFew.{sum_less_eq}
 use Rattle.scale_terms.specs.Intervals.{covers}
-use Rattle.scale_terms.proofs.Sums.{sum-le, sum-same, sum-times, sum-times_left, sum-turn}
+use Rattle.scale_terms.proofs.Sums.{sum-same, sum-times, sum-times_left, sum-turn}
 use Rattle.scale_terms.proofs.Superadditive.{IsSuperadditive, IsDominated, rises}
 
 -- the measure of step t
@@ -30,7 +31,7 @@ covered (suc n) h a (suc m) e = go (cases_lt n (a + suc m)) (covered n h a)
     go (inl f) rest =
         let g : n ≡ a + m = omega arith in
         let i = rest m (omega arith) in
-        let w = sum-le n (λ t. cond (covers a m t) (rise h t) 0) (λ t. cond (covers a (suc m) t) (rise h t) 0)
+        let w = sum_less_eq (λ t. cond (covers a m t) (rise h t) 0) (λ t. cond (covers a (suc m) t) (rise h t) 0) n
         (λ t _. wider a m t (rise h t)) in
         let k = last_covered a m n (rise h n) g in
         let p : h (a + suc m) ≡ h (n + 1) = ap h (omega arith) in
@@ -68,7 +69,7 @@ pub weighted : (n W F P : ℕ) (f : ℕ → ℕ) (a l g : ℕ → ℕ) → IsDom
     → IsWithin n W P a l g → sum_below n (λ v. g v * f (l v)) ≤ P * F
 weighted n W F P f a l g d inside within =
     let one : sum_below n (λ v. g v * f (l v)) ≤ sum_below n (λ v. g v * sum_below W (λ t. cond (covers (a v) (l v) t) (rise d.above t) 0))
-    = sum-le n _ _ (λ v e. mul-le-mul_left (g v) (image_covered W F f d (a v) (l v) (inside v e))) in
+    = sum_less_eq _ _ n (λ v e. mul-le-mul_left (g v) (image_covered W F f d (a v) (l v) (inside v e))) in
     let two : sum_below n (λ v. g v * sum_below W (λ t. cond (covers (a v) (l v) t) (rise d.above t) 0))
     ≡ sum_below n (λ v. sum_below W (λ t. cond (covers (a v) (l v) t) (g v) 0 * rise d.above t))
     = sum-same n _ _ (λ v _. sym (sum-times_left W (g v) (λ t. cond (covers (a v) (l v) t) (rise d.above t) 0))
@@ -78,7 +79,7 @@ weighted n W F P f a l g d inside within =
     = sum-turn n W (λ v t. cond (covers (a v) (l v) t) (g v) 0 * rise d.above t)
     ∙ sum-same W _ _ (λ t _. sum-times n (rise d.above t) (λ v. cond (covers (a v) (l v) t) (g v) 0)) in
     let four : sum_below W (λ t. sum_below n (λ v. cond (covers (a v) (l v) t) (g v) 0) * rise d.above t) ≤ sum_below W (λ t. P * rise d.above t)
-    = sum-le W _ _ (λ t e. mul-le-mul_right (rise d.above t) (within t e)) in
+    = sum_less_eq _ _ W (λ t e. mul-le-mul_right (rise d.above t) (within t e)) in
     let five : sum_below W (λ t. P * rise d.above t) ≡ P * sum_below W (rise d.above) = sum-times_left W P (rise d.above) in
     let whole : sum_below W (rise d.above) + d.above 0 ≡ d.above W = rise_total W F d.above d.adds W (omega arith) in
     let top : d.above W ≤ F = d.adds.top in

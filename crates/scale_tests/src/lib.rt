@@ -1,4 +1,5 @@
-//! Tests of conservative scales: the tables of values, and the search for the first tuple against a plain scan of the list.
+//! Tests of conservative scales: the tables of values, and the search for the first tuple against a
+//! plain scan of the list.
 #![tactic(auto)]
 
 #[cfg(test)]

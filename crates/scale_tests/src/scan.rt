@@ -1,4 +1,5 @@
-// The first exceeding tuple against a plain scan of the list as it is written out, on generated instances.
+//! The first exceeding tuple against a plain scan of the list as it is written out, on generated
+//! instances.
 ghost use Rattle.std.specs.Prelude.{◌≤◌};
 
 use box_instances::{BoxItem, Instance, Sides};

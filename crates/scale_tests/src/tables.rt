@@ -1,4 +1,4 @@
-// The tables of values.
+//! The tables of values.
 ghost use Rattle.std.specs.Prelude.{◌≤◌, ◌≡◌, ◌∷◌, []};
 ghost use Rattle.std.specs.Bool.{OnTrue};
 ghost use Rattle.packing_terms.specs.Packing.{box_count};

@@ -1,4 +1,3 @@
-pub mod Ranges
 pub mod Verdicts
 pub mod Sets
 pub mod Reaching

@@ -1,10 +1,10 @@
 -- Verdicts that are joined, and what is told of them.
-use Rattle.std.proofs.Common.{◌≡◌, ℕ, ◌+◌, ◌<◌, ◌≤◌, ◌⊎◌, inl, inr, refl, sym, ap, subst, ◌∙◌, arith, Bool, true, false, ltb, if◌then◌else◌, List, [], ◌++◌, append-nil}
-use Rattle.std.proofs.lemmas.Bool.{ltb-true, lt-ltb, true≢false, cases_lt}
+use Rattle.std.proofs.Common.{◌≡◌, ℕ, ◌+◌, ◌<◌, ◌≤◌, ◌⊎◌, inl, inr, refl, sym, ap, subst, ◌∙◌, Bool, true, false, ltb, if◌then◌else◌, List, [], ◌++◌, append-nil}
+use Rattle.std.proofs.lemmas.Bool.{lt-ltb, true≢false, cases_lt}
 use Rattle.packing_terms.specs.Tokens.{PlainToken}
-use Rattle.tree_terms.specs.Trees.{Verdict, Yes, No, join, count_of, PlainOutcome, Decided, Past, told}
+use Rattle.tree_terms.specs.Trees.{Verdict, No, join, count_of, PlainOutcome, Decided, Past, told}
 use Rattle.tree_terms.proofs.Told.{told_decided}
-use Rattle.tree_terms.proofs.Joins.{join_assoc, count_join_no}
+use Rattle.tree_terms.proofs.Joins.{join_assoc}
 
 -- tokens and counts move from the right to the left
 pub advance : (ts us : List PlainToken) (c d : ℕ) (v w : Verdict) → join (No ts c) (join (join (No us d) v) w) ≡ join (No (ts ++ us) (c + d)) (join v w)
@@ -15,11 +15,6 @@ advance_count ts c d v w = advance ts [] c d v w ∙ ap (λ us. join (No us (c +
 
 pub advance_leaf : (ts us : List PlainToken) (c d : ℕ) (w : Verdict) → join (No ts c) (join (No us d) w) ≡ join (No (ts ++ us) (c + d)) w
 advance_leaf ts us c d w = sym (join_assoc (No ts c) (No us d) w)
-
--- what is joined counts no less than its left side
-pub count_left : (v w : Verdict) → count_of v ≤ count_of (join v w)
-count_left (Yes ns c) w = omega arith
-count_left (No ts c) w = let e = count_join_no ts c w in omega (arith, e)
 
 -- a verdict that is told is within the budget, and past it is greater
 pub record IsTold (budget : ℕ) (v w : Verdict) : Type 0 where
@@ -45,17 +40,6 @@ told_same budget v w e = go (ltb budget (count_of v)) refl e
             pick : (budget < count_of v) ⊎ (count_of v ≤ budget) → count_of v ≤ budget
             pick (inl l) = absurd (true≢false (sym (lt-ltb budget (count_of v) l) ∙ f))
             pick (inr l) = l
-
-pub past_greater : (budget : ℕ) (v : Verdict) → Past ≡ told budget v → budget < count_of v
-past_greater budget v e = go (ltb budget (count_of v)) refl e
-  where
-    is_past : PlainOutcome → Type 0
-    is_past (Decided x) = ⊥
-    is_past Past = Unit {0}
-
-    go : (b : Bool) → ltb budget (count_of v) ≡ b → Past ≡ (if b then Past else Decided v) → budget < count_of v
-    go true f h = ltb-true budget (count_of v) f
-    go false f h = absurd (subst is_past h tt)
 
 -- what is told in the end
 pub finished : (cap : ℕ) (v whole : Verdict) → v ≡ whole → count_of v ≤ cap → Decided v ≡ told cap whole

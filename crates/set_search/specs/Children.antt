@@ -10,7 +10,8 @@ use Rattle.proof_tree.specs.Plain.{plain_token}
 use Rattle.set_search.specs.declared.child.Child.{Child}
 use Rattle.set_search.specs.declared.child.Child.TheVariants.{Past, Refuted, Fits}
 
--- the set is refuted by these tokens; the child counts 1 and what that cost, which is at most what is left
+-- the set is refuted by these tokens; the child counts 1 and what that cost, which is at most what
+-- is left
 pub record IsRefuted (verdict : Verdict) (left : ℕ) (tokens : List PlainToken) (own : ℕ) : Type 0 where
   pub cost : ℕ
   pub is : verdict ≡ No tokens cost

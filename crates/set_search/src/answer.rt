@@ -1,4 +1,4 @@
-// The coordinates of one box in the answer of its set.
+//! The coordinates of one box in the answer of its set.
 ghost use Rattle.std.specs.Prelude.{◌≡◌, ◌≤◌, ◌*◌, ◌+◌, ◌++◌, length, OnOk};
 ghost use Rattle.packing_terms.specs.Packing.{dims};
 ghost use Rattle.tree_terms.specs.OuterTrees.{coordinates_at};

@@ -1,8 +1,8 @@
-// A child of an outer tree whose set grew by one box.
+//! A child of an outer tree whose set grew by one box.
 ghost use Rattle.std.specs.Prelude.{◌≡◌, IfOk};
 ghost use Rattle.packing_terms.specs.Goals.{IsBoxSet};
 ghost use Rattle.packing_terms.specs.OuterRefutation.{insert_box};
-ghost use Rattle.tree_terms.specs.OuterTrees.{set_verdict, numbers_of};
+ghost use Rattle.tree_terms.specs.OuterTrees.{set_verdict, yes_numbers};
 ghost use Rattle.set_search.specs.Children.{IsChild, IsFoundSet};
 
 use crate::insert::with_box;
@@ -66,7 +66,7 @@ impl<'a> SetSearch<'a> {
         requires { IsFoundSet self.old.instance self.old.scales keep.now }
         ensures same { self.new ≡ self.old }
         ensures answer { IfOk result (λ numbers. numbers.items
-            ≡ numbers_of (set_verdict self.old.instance self.old.scales keep.now)) }
+            ≡ yes_numbers (set_verdict self.old.instance self.old.scales keep.now)) }
     {
         match self.decide(alloc, keep, MOST_BUDGET)? {
             Outcome::Yes { numbers, count: _ } => Ok(numbers),

@@ -1,4 +1,4 @@
-// The decision of sets of the boxes of one instance.
+//! The decision of sets of the boxes of one instance.
 ghost use Rattle.std.specs.Prelude.{◌≡◌, ◌≤◌, length, IfOk, []};
 ghost use Rattle.packing_terms.specs.Goals.{subset, IsBoxSet};
 ghost use Rattle.packing_terms.specs.Limits.{IsDimCount, most_boxes};
@@ -92,6 +92,7 @@ impl<'a> SetSearch<'a> {
         ensures right { IfOk result (λ r.
             IsRight (subset self.old.instance keep.now) [] (plain_outcome r)) }
     {
+        // For the proof alone: tells the limits of the instance.
         let _limits = self.whole.len();
         self.set.set_to(keep);
         self.state.resize(keep.len() as u32);

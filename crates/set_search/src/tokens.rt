@@ -1,4 +1,4 @@
-// Tokens of the outer trees, one after another.
+//! Tokens of the outer trees, one after another.
 ghost use Rattle.std.specs.Prelude.{◌≡◌, ◌++◌, ◌∷◌, [], map, OnOk};
 ghost use Rattle.packing_terms.specs.Tokens.PlainToken.{SetRefuted};
 ghost use Rattle.proof_tree.specs.Plain.{plain_token};

@@ -1,5 +1,5 @@
 -- What the answer for a strip says, from where the run of heights ended.
-use Rattle.std.proofs.Common.{◌≡◌, ℕ, ◌+◌, ◌-◌, ◌*◌, ◌/◌, ◌^◌, ◌<◌, ◌≤◌, refl, sym, ap, subst, ◌∙◌, arith, Bool, true, false, []}
+use Rattle.std.proofs.Common.{◌≡◌, ℕ, ◌+◌, ◌-◌, ◌*◌, ◌/◌, ◌^◌, ◌≤◌, refl, sym, ap, subst, ◌∙◌, arith, Bool, true, false, []}
 use Rattle.std.proofs.lemmas.Bool.{true≢false}
 use Rattle.packing_terms.specs.Packing.{PlainInstance, IsPacking, Fits, dims, box_count}
 use Rattle.packing_terms.specs.Goals.{with_last_side, HasTooWideBox, IsLeastHeight}
@@ -11,15 +11,14 @@ use Rattle.packing_terms.proofs.Neighbours.{fits_higher}
 use Rattle.packing_terms.proofs.Refuted.{none_fits}
 use Rattle.packing_terms.proofs.TooLarge.{too_wide}
 use Rattle.scale_terms.proofs.Excess.{excess_law}
-use Rattle.tree_terms.specs.Levels.{PlainReached, Keeps, first_heights, height_run}
+use Rattle.tree_terms.specs.Levels.{PlainReached, HasBothCertificates, first_heights, height_run}
 use Rattle.tree_terms.specs.RunEnds.{IsRisingEnd}
-use Rattle.tree_terms.proofs.Optima.{heights_keep, height_optimum, stack_small}
+use Rattle.tree_terms.proofs.Optima.{heights_keep, height_optimum, stack_small, internal_at}
 use Rattle.tree_terms.proofs.SpentRuns.{height_spent, height_end, height_enough}
 use Rattle.proof_tree.specs.Plain.{plain_tokens}
 use Rattle.strip_solver.specs.declared.strip.Strip.{Strip}
 use Rattle.strip_solver.specs.declared.strip.Strip.TheVariants.{Least, Between, NoneFits}
 use Rattle.strip_solver.specs.Strips.{Tells, IsAnswer, IsTrueStrip, IsSpentExactly, IsFinal}
-use Rattle.strip_solver.proofs.Raised.{internal_at}
 
 -- the first box that is too wide is one
 has_wide : (instance : PlainInstance) (v i : ℕ) → IsFirstTooWide instance v i → HasTooWideBox instance
@@ -27,10 +26,6 @@ has_wide instance v i h = record { box_no = v; dim = i; there = h.there; not_las
 
 pub none_at_all : (instance : PlainInstance) (v i : ℕ) → IsFirstTooWide instance v i → (h : ℕ) → ¬ Fits (with_last_side instance h)
 none_at_all instance v i w h = too_wide instance h (has_wide instance v i w)
-
--- the stack of all boxes has a height
-pub stack_high : (instance : PlainInstance) → IsInternalInstance instance → 0 < (first_heights instance).placed
-stack_high instance limits = let e = height_end instance limits 0 true in let a = e.order in let b = e.high in omega (arith, a, b)
 
 module _ (instance : PlainInstance) (limits : IsInternalInstance instance) (narrow : ¬ HasTooWideBox instance) (budget : ℕ) (scales : Bool)
     (r : PlainReached) (run : r ≡ height_run instance budget scales) where
@@ -40,7 +35,7 @@ module _ (instance : PlainInstance) (limits : IsInternalInstance instance) (narr
   answer_told (NoneFits v i) t = absurd t
 
   abbrev Both : PlainReached → Type 0
-  Both x = Keeps (λ h ns. IsPacking (with_last_side instance h) ns) (λ h ts. Refutes (with_last_side instance h) [] ts) x
+  Both x = HasBothCertificates (λ h ns. IsPacking (with_last_side instance h) ns) (λ h ts. Refutes (with_last_side instance h) [] ts) x
 
   both : (x : PlainReached) → r ≡ x → Both x
   both x e = subst (λ (y : PlainReached). Both y) (sym run ∙ e) (heights_keep instance limits narrow budget scales)

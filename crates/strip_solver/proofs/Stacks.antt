@@ -1,36 +1,14 @@
 -- The stack of all boxes, one box after another.
-use Rattle.std.proofs.Common.{◌≡◌, ℕ, zero, suc, ◌+◌, ◌-◌, ◌*◌, ◌<◌, ◌≤◌, refl, sym, ap, ap₂, ◌∙◌, arith, List, [], ◌∷◌, ◌++◌, map, append-nil, append_assoc, eqb, if◌then◌else◌}
-use Rattle.std.specs.List.{range_with_len, flat_map}
-use Rattle.std.proofs.lemmas.List.{map-append}
-use Rattle.std.proofs.lemmas.Grind.{flat_map-append}
+use Rattle.std.proofs.Common.{◌≡◌, ℕ, suc, ◌+◌, ◌-◌, ◌*◌, ◌<◌, ◌≤◌, sym, ap, ap₂, ◌∙◌, arith, List, [], ◌∷◌, ◌++◌, map, append_assoc, eqb, if◌then◌else◌}
+use Rattle.std.specs.List.{flat_map}
+use Rattle.std.proofs.lemmas.List.FromFn.{map-range_with_len_more}
 use Rattle.packing_terms.specs.Packing.{PlainInstance, dims, box_count}
 use Rattle.packing_terms.specs.Limits.{IsInternalInstance, most_side}
 use Rattle.packing_terms.proofs.Internal.{side_small}
-use Rattle.packing_terms.specs.Scales.{sum_below}
-use Rattle.rule_terms.specs.Rounds.{below}
+use Rattle.packing_terms.specs.Sums.{sum_below, below}
+use Rattle.packing_terms.proofs.Ranges.{flat_map_last_below}
 use Rattle.tree_terms.specs.Levels.{last_side}
-use Rattle.strip_solver.specs.Heights.{stacked}
-
-range_last : (a n : ℕ) → range_with_len a (suc n) ≡ range_with_len a n ++ (a + n) ∷ []
-range_last a zero = let e : a + 0 ≡ a = omega arith in rw e refl
-range_last a (suc n) =
-    let e : a + 1 + n ≡ a + suc n = omega arith in
-    let h : range_with_len (a + 1) (suc n) ≡ range_with_len (a + 1) n ++ (a + suc n) ∷ [] = rw (← e) (range_last (a + 1) n) in
-    ap (λ (xs : List ℕ). a ∷ xs) h
-
--- one number more
-pub below_last : (n : ℕ) → below (n + 1) ≡ below n ++ n ∷ []
-below_last n =
-    let e : 0 + n ≡ n = omega arith in
-    let f : n + 1 ≡ suc n = omega arith in
-    rw f (rw e at (range_last 0 n))
-
--- a value for each number, one more
-pub map_below : {A : Type 0} (f : ℕ → A) (n : ℕ) → map f (below (n + 1)) ≡ map f (below n) ++ f n ∷ []
-map_below f n = rw (below_last n) (map-append f (below n) (n ∷ []))
-
-pub flat_below : {A : Type 0} (f : ℕ → List A) (n : ℕ) → flat_map f (below (n + 1)) ≡ flat_map f (below n) ++ f n
-flat_below f n = rw (below_last n) (flat_map-append f (below n) (n ∷ []) ∙ ap (λ (xs : List _). flat_map f (below n) ++ xs) (append-nil (f n)))
+use Rattle.strip_solver.specs.Stacked.{stacked}
 
 -- the boxes below v in a stack
 pub record IsStack (instance : PlainInstance) (v : ℕ) (places : List ℕ) (height : ℕ) : Type 0 where
@@ -38,14 +16,11 @@ pub record IsStack (instance : PlainInstance) (v : ℕ) (places : List ℕ) (hei
   pub height_is : height ≡ sum_below v (λ x. last_side instance x)
   pub to : height ≤ v * most_side
 
-pub stack_start : (instance : PlainInstance) → IsStack instance 0 [] 0
-stack_start instance = record { places_are = refl; height_is = refl; to = omega arith }
-
 pub stack_next : (instance : PlainInstance) → IsInternalInstance instance → (v : ℕ) (places more : List ℕ) (height d side : ℕ) → v < box_count instance
     → IsStack instance v places height → d ≡ dims instance → more ≡ places ++ stacked d height → side ≡ last_side instance v → IsStack instance (v + 1) more (height + side)
 stack_next instance limits v places more height d side l h e is s = record {
   places_are = is ∙ (ap₂ (λ (xs : List ℕ) (ys : List ℕ). xs ++ ys) h.places_are (ap₂ stacked e h.height_is)
-      ∙ sym (flat_below (λ u. stacked (dims instance) (sum_below u (λ x. last_side instance x))) v));
+      ∙ sym (flat_map_last_below (λ u. stacked (dims instance) (sum_below u (λ x. last_side instance x))) v));
   height_is = (let f : v + 1 ≡ suc v = omega arith in rw f (ap₂ (λ (a : ℕ) (b : ℕ). a + b) h.height_is s));
   to = (let m = limits.container.dimensions in let r = side_small instance limits v (dims instance - 1) l (omega (arith, m)) in let a = h.to in omega (arith, r, a, s));
 }
@@ -56,4 +31,4 @@ pub coordinates_next : (d height k c : ℕ) (places old more : List ℕ) → pla
 coordinates_next d height k c places old more h m e =
     m ∙ (ap₂ (λ (xs : List ℕ) (x : ℕ). xs ++ x ∷ []) h e
     ∙ (append_assoc old (map (λ i. if eqb (i + 1) d then height else 0) (below k)) ((if eqb (k + 1) d then height else 0) ∷ [])
-    ∙ ap (λ (xs : List ℕ). old ++ xs) (sym (map_below (λ i. if eqb (i + 1) d then height else 0) k))))
+    ∙ ap (λ (xs : List ℕ). old ++ xs) (sym (map-range_with_len_more (λ i. if eqb (i + 1) d then height else 0) 0 k k (omega arith)))))

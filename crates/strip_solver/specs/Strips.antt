@@ -21,7 +21,8 @@ Tells r (Between refuted tokens height places) =
     r ≡ record { refuted = refuted; tokens = plain_tokens tokens.items; placed = height; numbers = places.items; spent = true }
 Tells r (NoneFits v i) = ⊥
 
--- The answer is that of the definition: the first box that is too wide, or, where none is, where the run of heights ended.
+-- The answer is that of the definition: the first box that is too wide, or, where none is, where
+-- the run of heights ended.
 abbrev pub IsAnswer : PlainInstance → ℕ → Bool → Strip → Type 0
 IsAnswer instance budget scales (NoneFits v i) = IsFirstTooWide instance v i
 IsAnswer instance budget scales (Least height places tokens) =

@@ -1,4 +1,4 @@
-// The heights of a strip, each decided by its class tree.
+//! The heights of a strip, each decided by its class tree.
 ghost use Rattle.std.specs.Prelude.{◌≡◌, ◌<◌, IfOk, IfSome, []};
 ghost use Rattle.tree_terms.specs.Trees.{outcome, told};
 ghost use Rattle.tree_terms.specs.ClassTree.{class_tree};
@@ -17,7 +17,8 @@ use std::sync::Wait;
 use std::thread::Threads;
 use work_share::{Gate, Settings};
 
-// What one worker decides all heights with, in the same memory, since their boxes are the same. Several share the tree of each.
+// What one worker decides all heights with, in the same memory, since their boxes are the same.
+// Several share the tree of each.
 pub fn decider_for(
     alloc: Global,
     instance: &Instance,
@@ -67,6 +68,7 @@ pub fn decide_height<R: Threads + Wait + Sync, G: Gate + Sync>(
     ensures answer { IfOk result (λ r. plain_level r
         ≡ height_answer instance.now settings.now.budget settings.now.scales height) }
 {
+    // For the proof alone: tells the limits of the instance.
     let _limits = instance.len();
     let tall = instance.with_last_side(alloc, height)?;
     let outcome = decide_tall(rt, alloc, &tall, decider, settings, gate)?;

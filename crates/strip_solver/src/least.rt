@@ -1,4 +1,4 @@
-// The least height.
+//! The least height.
 ghost use Rattle.std.specs.Prelude.{◌≡◌, ◌<◌, ◌≤◌, ◌+◌, ◌-◌, ◌*◌, ◌/◌, ◌^◌, suc, false, IfOk};
 ghost use Rattle.packing_terms.specs.Packing.{dims, box_count};
 ghost use Rattle.packing_terms.specs.Goals.{HasTooWideBox};
@@ -22,7 +22,8 @@ use work_share::{Gate, Settings};
 
 // The refutation of height 0: box 1 is longer than the container in the last dimension.
 fn no_height(alloc: Global, instance: &Instance) -> Result<Vec<Token>, NoMemory>
-    ensures { IfOk result (λ tokens. plain_tokens tokens.items ≡ (first_heights instance.now).tokens) }
+    ensures { IfOk result (λ tokens. plain_tokens tokens.items
+        ≡ (first_heights instance.now).tokens) }
 {
     let mut tokens = Vec::new(alloc);
     let Ok(()) = tokens.push(Token::TooLarge {
@@ -43,8 +44,10 @@ fn bisect_heights<R: Threads + Wait + Sync, G: Gate + Sync>(
     gate: &G,
 ) -> Result<Reached, NoMemory>
     requires { ¬ HasTooWideBox instance.now }
-    ensures { IfOk result (λ r. plain_reached r ≡ height_run instance.now settings.now.budget settings.now.scales) }
+    ensures { IfOk result (λ r. plain_reached r
+        ≡ height_run instance.now settings.now.budget settings.now.scales) }
 {
+    // For the proof alone: tells the limits of the instance.
     let _limits = instance.len();
     let stack = stack_all(alloc, instance)?;
     let tokens = no_height(alloc, instance)?;
@@ -80,12 +83,13 @@ fn told(reached: Reached) -> Strip
     }
 }
 
-/// The least height at which the boxes fit, with both certificates: places that are a packing in it, and tokens that refute the
-/// height below. The container's last side isn't looked at.
+/// The least height at which the boxes fit, with both certificates: places that are a packing in
+/// it, and tokens that refute the height below. The container's last side isn't looked at.
 ///
-/// It follows the run of heights from 0 and the stack of all boxes, each decided under the budget. `NoneFits` comes exactly where a
-/// box is longer than the container in a dimension other than the last, and names the first. `Between` comes exactly where a
-/// height on the run has more branchings than the budget.
+/// It follows the run of heights from 0 and the stack of all boxes, each decided under the budget.
+/// `NoneFits` comes exactly where a box is longer than the container in a dimension other than the
+/// last, and names the first. `Between` comes exactly where a height on the run has more branchings
+/// than the budget.
 pub fn least_height<R: Threads + Wait + Sync, G: Gate + Sync>(
     rt: &R,
     alloc: Global,
@@ -93,12 +97,16 @@ pub fn least_height<R: Threads + Wait + Sync, G: Gate + Sync>(
     settings: &Settings,
     gate: &G,
 ) -> Result<Strip, NoMemory>
-    ensures answer { IfOk result (λ s. IsAnswer instance.now settings.now.budget settings.now.scales s) }
+    ensures answer { IfOk result
+        (λ s. IsAnswer instance.now settings.now.budget settings.now.scales s) }
     ensures right { IfOk result (λ s. IsTrueStrip instance.now s) }
-    ensures spent { IfOk result (λ s. IsSpentExactly instance.now settings.now.budget settings.now.scales s) }
-    ensures enough { 3 ^ (dims instance.now * box_count instance.now * (box_count instance.now - 1) / 2) ≤ settings.now.budget + 1
+    ensures spent { IfOk result
+        (λ s. IsSpentExactly instance.now settings.now.budget settings.now.scales s) }
+    ensures enough { 3 ^ (dims instance.now * box_count instance.now
+        * (box_count instance.now - 1) / 2) ≤ settings.now.budget + 1
         → IfOk result (λ s. IsFinal s) }
 {
+    // For the proof alone: tells the limits of the instance.
     let _limits = instance.len();
     match first_too_wide(instance) {
         Some((box_no, dim)) => Ok(Strip::NoneFits { box_no, dim }),

@@ -1,9 +1,9 @@
-// The stack of all boxes.
+//! The stack of all boxes.
 ghost use Rattle.std.specs.Prelude.{◌≡◌, ◌<◌, ◌≤◌, ◌++◌, ◌+◌, ◌==◌, if◌then◌else◌, OnOk, IfOk};
 ghost use Rattle.packing_terms.specs.Packing.{box_count};
 ghost use Rattle.packing_terms.specs.Limits.{most_side, most_height};
 ghost use Rattle.tree_terms.specs.Levels.{last_side, first_heights};
-ghost use Rattle.strip_solver.specs.Heights.{stacked};
+ghost use Rattle.strip_solver.specs.Stacked.{stacked};
 
 use box_instances::{Instance, NoMemory};
 use std::alloc::Global;

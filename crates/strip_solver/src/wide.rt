@@ -1,8 +1,8 @@
-// Boxes that are longer than the container in a dimension other than the last.
+//! Boxes that are longer than the container in a dimension other than the last.
 ghost use Rattle.std.specs.Prelude.{◌<◌, ◌-◌, ℕ, MatchOption};
 ghost use Rattle.packing_terms.specs.Packing.{dims, box_count};
 ghost use Rattle.packing_terms.specs.Goals.{HasTooWideBox};
-ghost use Rattle.packing_terms.specs.TooLarge.{FitsBelow, IsFirstTooWide};
+ghost use Rattle.packing_terms.specs.TooLarge.{IsNotLongerBelow, IsFirstTooWide};
 ghost use Rattle.strip_solver.specs.Wide.{IsFirstWideDim};
 
 use box_instances::Instance;
@@ -10,7 +10,8 @@ use box_instances::Instance;
 // The first dimension other than the last in which a box is longer than the container.
 fn wide_dim(instance: &Instance, v: u32) -> Option<u32>
     requires { v < box_count instance.now }
-    ensures { MatchOption result (FitsBelow instance.now (dims instance.now - 1) v) (λ i. IsFirstWideDim instance.now v i) }
+    ensures { MatchOption result (IsNotLongerBelow instance.now (dims instance.now - 1) v)
+        (λ i. IsFirstWideDim instance.now v i) }
 {
     for dim in 0..instance.dims() - 1 {
         if instance.container_side(dim) < instance.side(v, dim) {
@@ -22,7 +23,8 @@ fn wide_dim(instance: &Instance, v: u32) -> Option<u32>
 
 // The first box that is too wide, and its first such dimension.
 pub fn first_too_wide(instance: &Instance) -> Option<(u32, u32)>
-    ensures { MatchOption result (¬ HasTooWideBox instance.now) (λ p. IsFirstTooWide instance.now p.0 p.1) }
+    ensures { MatchOption result (¬ HasTooWideBox instance.now)
+        (λ p. IsFirstTooWide instance.now p.0 p.1) }
 {
     for v in 0..instance.len() {
         if let Some(dim) = wide_dim(instance, v) {

@@ -1,98 +1,18 @@
 -- A text that is read as an instance has the form of an instance text.
-use Rattle.std.proofs.Common.{◌≡◌, ℕ, ◌+◌, ◌-◌, min, ◌≤◌, Bool, true, false, cond, not, ◌||◌, ◌&&◌, List, [], ◌∷◌, ◌++◌, take, drop, replicate, length, arith, refl, sym, ap, ap₂, subst, ◌∙◌, append_assoc, append-nil, Result, Ok, Err, ◌⊎◌, inl, inr, codes}
+use Rattle.std.proofs.Common.{◌≡◌, ℕ, ◌+◌, ◌-◌, min, ◌≤◌, Bool, true, false, not, ◌||◌, ◌&&◌, List, [], ◌∷◌, ◌++◌, take, drop, replicate, length, arith, refl, sym, ap, subst, ◌∙◌, append_assoc, append-nil, Ok, ◌⊎◌, inl, inr, codes}
 use Rattle.std.specs.Prelude.{nat_le, ◌==◌}
-use Rattle.std.specs.List.{list_any}
-use Rattle.std.proofs.lemmas.Bool.{not-false, eqb-true, ne_eqb, and_parts, or_parts, or_right, true≢false}
+use Rattle.std.proofs.lemmas.Bool.{not-false, eqb-true, ne_eqb, or_right, true≢false}
 use Rattle.std.proofs.lemmas.List.{length-take-le, length-drop, length-map, length-append, length-replicate, take-append-drop}
 use Rattle.packing_terms.specs.Packing.{PlainBox, PlainInstance}
 use Rattle.packing_terms.specs.Limits.{most_boxes, most_side, IsBoxCount}
-use Rattle.text_terms.specs.declared.fault.TextFault.{TextFault}
-use Rattle.text_terms.specs.Lines.{line_of, text_lines, content, is_bad, words_of, same_bytes}
-use Rattle.text_terms.specs.Texts.{Parts, no_parts, add_line, by_words, format_line, container_line, kerf_line, box_line, is_box_length, first_word, numbers_of, container_limits, kerf_limits, side_limits, ending_of, boxes_of, ranged, refuse, is_none, at_line, read_lines, text_instance, ◌>>=◌}
+use Rattle.text_terms.specs.Lines.{text_lines, content, words_of}
+use Rattle.text_terms.specs.Texts.{Parts, no_parts, by_words, format_line, container_line, kerf_line, box_line, is_box_length, first_word, numbers_of, container_limits, kerf_limits, side_limits, ending_of, boxes_of_words, ranged_number, refuse, is_none, read_lines, text_instance, ◌>>=◌}
 use Rattle.text_terms.specs.Form.{LinesHaveForm, AreClean, filled_lines, AreNumbers, IsFormatLine, IsContainerLine, IsKerfLine, IsKerfPart, IsBoxLine, AreBoxLines, HasForm, IsInstanceText, TextsHaveForm}
 use Rattle.text_terms.proofs.Cut.{at_most_four, box_length}
 use Rattle.text_terms.proofs.Good.{refuse_ok, bind_ok, good_start, lines_limits, texts_are_instances}
-use Rattle.text_terms.proofs.FormRead.{word_is, range_is, numbers_are, numbers_count, limits_count, HasLength, ending_is, times_some, with_boxes, formatted, filled_with, some_sides, format_read, form_read}
-
--- ---- what a line without a fault adds
-
-at_line_ok : (n : ℕ) (r : Result PlainInstance ℕ) (i : PlainInstance) → at_line n r ≡ Ok i → r ≡ Ok i
-at_line_ok n (Ok j) i e = let same : j ≡ i = cc (e) in ap Ok same
-at_line_ok n (Err code) i e = absurd (cc (e))
-
-line_ok : (n : ℕ) (r : Result Parts ℕ) (f : Parts → Result PlainInstance TextFault) (i : PlainInstance) → (at_line n r >>= f) ≡ Ok i
-    → (more : Parts) × (r ≡ Ok more) × (f more ≡ Ok i)
-line_ok n (Ok more) f i e = (more, refl, e)
-line_ok n (Err code) f i e = absurd (cc (e))
-
--- a line that adds to the parts, and the lines behind it
-pub record Adds (line : List ℕ) (lines : List (List ℕ)) (parts more : Parts) (n : ℕ) (i : PlainInstance) : Type 0 where
-  pub clean : list_any is_bad (content line) ≡ false
-  pub adds : by_words parts (words_of (content line)) ≡ Ok more
-  pub rest : read_lines more (n + 1) lines ≡ Ok i
-
-line_adds : (line : List ℕ) (lines : List (List ℕ)) (parts : Parts) (n : ℕ) (i : PlainInstance) → read_lines parts n (line ∷ lines) ≡ Ok i
-    → (more : Parts) × Adds line lines parts more n i
-line_adds line lines parts n i e =
-    let l = line_ok (n + 1) (add_line parts (line_of line)) (λ more. read_lines more (n + 1) lines) i e in
-    let a = refuse_ok (line_of line).bad 8 (by_words parts (line_of line).words) l.0 l.1 in
-    (l.0, record { clean = a.0; adds = a.1; rest = l.2 })
-
-clean_from : (line : List ℕ) (lines : List (List ℕ)) → list_any is_bad (content line) ≡ false → AreClean lines → AreClean (line ∷ lines)
-clean_from line lines a b = ap₂ (λ x y. x || y) a b
-
-same_parts : (parts more : Parts) (lines : List (List ℕ)) (n : ℕ) (i : PlainInstance) → by_words parts [] ≡ Ok more → read_lines more n lines ≡ Ok i → read_lines parts n lines ≡ Ok i
-same_parts parts more lines n i e rest = let same : more ≡ parts = cc (e) in subst (λ p. read_lines p n lines ≡ Ok i) same rest
-
--- ---- the kinds of line
-
--- which of the four kinds a line is that adds to the parts
-data IsKind (parts : Parts) (word : List ℕ) (words : List (List ℕ)) (more : Parts) : Type 0 where
-  by_format : word ≡ codes "format" → format_line parts words ≡ Ok more → IsKind parts word words more
-  by_container : word ≡ codes "container" → container_line parts words ≡ Ok more → IsKind parts word words more
-  by_kerf : parts.format ≡ 2 → word ≡ codes "kerf" → kerf_line parts words ≡ Ok more → IsKind parts word words more
-  by_box : word ≡ codes "box" → box_line parts words ≡ Ok more → IsKind parts word words more
-
-kind_of : (parts : Parts) (word : List ℕ) (words : List (List ℕ)) (more : Parts) → by_words parts (word ∷ words) ≡ Ok more → IsKind parts word words more
-kind_of parts word words more e =
-    by_key (same_bytes word (codes "format")) (same_bytes word (codes "container")) (same_bytes word (codes "box")) ((parts.format == 2) && same_bytes word (codes "kerf")) refl refl refl refl e
-  where
-    by_key : (f c b k : Bool) → same_bytes word (codes "format") ≡ f → same_bytes word (codes "container") ≡ c → same_bytes word (codes "box") ≡ b
-        → ((parts.format == 2) && same_bytes word (codes "kerf")) ≡ k
-        → cond f (format_line parts words) (cond c (container_line parts words) (cond b (box_line parts words) (cond k (kerf_line parts words) (Err 1)))) ≡ Ok more
-        → IsKind parts word words more
-    by_key true c b k p q r t e = by_format (word_is word (codes "format") p) e
-    by_key false true b k p q r t e = by_container (word_is word (codes "container") q) e
-    by_key false false true k p q r t e = by_box (word_is word (codes "box") r) e
-    by_key false false false true p q r t e =
-        let h = and_parts (parts.format == 2) (same_bytes word (codes "kerf")) t in
-        by_kerf (eqb-true parts.format 2 h.0) (word_is word (codes "kerf") h.1) e
-    by_key false false false false p q r t e = absurd (cc (e))
-
-format_refused : (parts more : Parts) (words : List (List ℕ)) → (parts.format == 0) ≡ false → format_line parts words ≡ Ok more → ⊥
-format_refused parts more words is_format e =
-    let a = refuse_ok (not (parts.format == 0)) 6 (refuse (not (length words == 1)) 2 (ranged 1 2 (first_word words) >>= λ n. Ok (record parts { format = n }))) more e in
-    let h : not false ≡ false = subst (λ t. not t ≡ false) is_format a.0 in
-    absurd (cc (h))
-
-container_refused : (parts more : Parts) (words : List (List ℕ)) → is_none parts.container ≡ false → container_line parts words ≡ Ok more → ⊥
-container_refused parts more words some e =
-    let r = refuse (not (nat_le 2 (length words) && nat_le (length words) 4)) 2 (numbers_of 1 (container_limits (length words)) words >>= λ sides.
-    Ok (record parts { container = sides; kerfs = replicate (length sides) 0 })) in
-    let a = refuse_ok (parts.format == 0) 5 (refuse (not (is_none parts.container)) 6 r) more e in
-    let b = refuse_ok (not (is_none parts.container)) 6 r more a.1 in
-    let h : not false ≡ false = subst (λ t. not t ≡ false) some b.0 in
-    absurd (cc (h))
-
--- no `kerf` line stands behind a box or a `kerf` line
-kerf_refused : (parts more : Parts) (words : List (List ℕ)) → (parts.has_kerf || not (is_none parts.boxes)) ≡ true → kerf_line parts words ≡ Ok more → ⊥
-kerf_refused parts more words later e =
-    let r = refuse (not (length words == length parts.container)) 2 (numbers_of 0 (kerf_limits parts.container) words >>= λ kerfs. Ok (record parts { has_kerf = true; kerfs = kerfs })) in
-    let a = refuse_ok (is_none parts.container || not (is_none parts.boxes)) 5 (refuse parts.has_kerf 6 r) more e in
-    let b = refuse_ok parts.has_kerf 6 r more a.1 in
-    let boxes : not (is_none parts.boxes) ≡ false = (or_parts (is_none parts.container) (not (is_none parts.boxes)) a.0).1 in
-    let none : (parts.has_kerf || not (is_none parts.boxes)) ≡ false = ap₂ (λ x y. x || y) b.0 boxes in
-    true≢false (sym later ∙ none)
+use Rattle.text_terms.proofs.FormRead.{limits_count, with_boxes, formatted, filled_with, some_sides, format_read, form_read}
+use Rattle.text_terms.proofs.FormNumbers.{range_is, numbers_are, numbers_count, HasLength, ending_is, times_some}
+use Rattle.text_terms.proofs.FormLines.{at_line_ok, line_adds, clean_from, same_parts, IsKind, kind_of, format_refused, container_refused, kerf_refused, by_format, by_container, by_kerf, by_box}
 
 module _ (format : ℕ) (has_kerf : Bool) (container kerfs : List ℕ) (is_format : (format == 0) ≡ false) (same_count : length kerfs ≡ length container)
     (some : is_none container ≡ false) where
@@ -109,12 +29,12 @@ module _ (format : ℕ) (has_kerf : Bool) (container kerfs : List ℕ) (is_forma
   box_told : (before : List PlainBox) (words : List (List ℕ)) (more : Parts) → box_line (behind before) words ≡ Ok more → BoxTold before words more
   box_told before words more e =
       let room : ℕ = most_boxes - length before in
-      let r = boxes_of format (most_boxes - length before) kerfs words >>= λ boxes. Ok (behind (before ++ boxes)) in
+      let r = boxes_of_words format (most_boxes - length before) kerfs words >>= λ boxes. Ok (behind (before ++ boxes)) in
       let a = refuse_ok ((format == 0) || is_none container) 5 (refuse (nat_le most_boxes (length before)) 9
       (refuse (not (is_box_length format (length container) (length words))) 2 r)) more e in
       let b = refuse_ok (nat_le most_boxes (length before)) 9 (refuse (not (is_box_length format (length container) (length words))) 2 r) more a.1 in
       let c = refuse_ok (not (is_box_length format (length container) (length words))) 2 r more b.1 in
-      let s = bind_ok (boxes_of format (most_boxes - length before) kerfs words) (λ boxes. Ok (behind (before ++ boxes))) more c.1 in
+      let s = bind_ok (boxes_of_words format (most_boxes - length before) kerfs words) (λ boxes. Ok (behind (before ++ boxes))) more c.1 in
       let n = box_length format (length container) (length words) c.0 in
       let enough : length kerfs ≤ length words = (let l = n.least in omega (arith, l, same_count)) in
       let sides = bind_ok (numbers_of 1 (side_limits kerfs) (take (length kerfs) words)) (λ sides. ending_of format (most_boxes - length before) (drop (length kerfs) words) >>= λ ending.
@@ -208,9 +128,6 @@ record KerfTold (format : ℕ) (filled : List (List (List ℕ))) (container : Li
   are_boxes : AreBoxLines format i.kerfs boxes i.boxes
 
 module _ (format : ℕ) (container : List ℕ) (is_format : (format == 0) ≡ false) (some : is_none container ≡ false) where
-  abbrev no_kerf : List ℕ
-  no_kerf = replicate (length container) 0
-
   abbrev before_kerf : Parts
   before_kerf = with_boxes format false container (replicate (length container) 0) []
 
@@ -358,11 +275,11 @@ one_word (word ∷ other ∷ words) e = let h : length (word ∷ other ∷ words
 format_told : (words : List (List ℕ)) (more : Parts) → format_line no_parts words ≡ Ok more
     → (n : ℕ) × IsFormatLine (codes "format" ∷ words) n × (more ≡ formatted n)
 format_told words more e =
-    let b = refuse_ok (not (length words == 1)) 2 (ranged 1 2 (first_word words) >>= λ n. Ok (formatted n)) more e in
+    let b = refuse_ok (not (length words == 1)) 2 (ranged_number 1 2 (first_word words) >>= λ n. Ok (formatted n)) more e in
     let one = one_word words (not-false (length words == 1) b.0) in
-    let n = bind_ok (ranged 1 2 (first_word words)) (λ n. Ok (formatted n)) more b.1 in
+    let n = bind_ok (ranged_number 1 2 (first_word words)) (λ n. Ok (formatted n)) more b.1 in
     let same : formatted n.0 ≡ more = cc (n.2) in
-    let first : ranged 1 2 one.0 ≡ Ok n.0 = ap (λ ws. ranged 1 2 (first_word ws)) (sym one.1) ∙ n.1 in
+    let first : ranged_number 1 2 one.0 ≡ Ok n.0 = ap (λ ws. ranged_number 1 2 (first_word ws)) (sym one.1) ∙ n.1 in
     (n.0, record { number = one.0; are = ap (λ ws. codes "format" ∷ ws) one.1; is_format = range_is 1 2 n.0 one.0 first }, sym same)
 
 format_lines : (lines : List (List ℕ)) (n : ℕ) (i : PlainInstance) → IsBoxCount (length i.boxes) → read_lines no_parts n lines ≡ Ok i

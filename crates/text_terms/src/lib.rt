@@ -1,12 +1,14 @@
-//! Texts: their lines, words and numbers, which of them are instances, how they are read byte by byte, and how an instance is
-//! written.
+//! Texts: their lines, words and numbers, which of them are instances, how they are read byte by
+//! byte, and how an instance is written.
 #![tactic(auto)]
 
 mod fault;
+mod job;
 mod laws;
 mod number;
 
 pub use fault::TextFault;
+pub use job::{Job, Settings};
 pub use laws::{
     lines_are_told, lines_have_form, texts_are_fed, texts_are_instances, texts_are_lines,
     texts_are_read_back, texts_have_form,

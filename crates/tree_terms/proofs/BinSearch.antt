@@ -1,22 +1,22 @@
 -- The bin tree is a search for a packing in k bins.
-use Rattle.std.proofs.Common.{◌≡◌, ◌≢◌, ℕ, zero, suc, ◌+◌, ◌<◌, ◌≤◌, ◌⊎◌, inl, inr, refl, sym, ap, subst, ◌∙◌, arith, Bool, true, false, ◌||◌, eqb, ltb, if◌then◌else◌, List, [], ◌∷◌, ◌++◌, map, length, get_or, append-nil, Option, Some, None}
-use Rattle.std.specs.List.{list_any, range_with_len, AllByRecursion}
-use Rattle.std.proofs.lemmas.Bool.{true≢false, cases_eq, cases_lt, cases_Bool, eq-eqb, ne_eqb, ltb-true}
+use Rattle.std.proofs.Common.{◌≡◌, ◌≢◌, ℕ, zero, suc, ◌+◌, ◌<◌, ◌≤◌, ◌⊎◌, inl, inr, refl, sym, ap, subst, ◌∙◌, arith, Bool, true, false, ◌||◌, eqb, List, [], ◌∷◌, ◌++◌, length, get_or, append-nil, Option, Some, None}
+use Rattle.std.specs.List.{list_any, AllByRecursion}
+use Rattle.std.proofs.lemmas.Bool.{true≢false, cases_eq, eq-eqb, ne_eqb}
 use Rattle.std.proofs.lemmas.List.{length-map, length-append, get_or_append_left, get_or-append-add}
-use Rattle.std.proofs.lemmas.List.FromFn.{get_or-map-range_with_len, length-map-range_with_len}
 use Rattle.packing_terms.specs.declared.ScaleFn.{ScaleFn}
-use Rattle.packing_terms.specs.Packing.{PlainInstance, IsPacking, HasSides, no_box, dims, box_count}
+use Rattle.packing_terms.specs.Packing.{PlainInstance, IsPacking, HasPositiveSides, no_box, dims, box_count}
 use Rattle.packing_terms.specs.Rules.{AreBoxes}
 use Rattle.packing_terms.specs.Scales.{SidesFit}
 use Rattle.packing_terms.specs.Goals.{subset}
-use Rattle.packing_terms.specs.OuterRefutation.{Bins, insert_box, has_box, with_box, placements, none_left, by_scales, by_set}
+use Rattle.packing_terms.specs.OuterRefutation.{Bins, has_box, with_box, placements, none_left, by_scales, by_set}
 use Rattle.packing_terms.proofs.Sets.{or_true}
 use Rattle.packing_terms.proofs.Members.{IsIn}
 use Rattle.packing_terms.proofs.Boxes.{each_in, each_from, insert_boxes, not_found}
 use Rattle.packing_terms.proofs.BinsRefuted.{set_sides}
+use Rattle.packing_terms.proofs.WithBoxes.{any_with, any_new, with_length, with_own, with_other, inserted_some, child_is, in_none}
 use Rattle.tree_terms.specs.Trees.{SearchTree, Verdict, Yes, No}
 use Rattle.tree_terms.specs.Rank.{ranked}
-use Rattle.tree_terms.specs.ClassTree.{class_tree, first_large, excess_where}
+use Rattle.tree_terms.specs.ClassTree.{class_tree, first_too_large_box, exceeding_where}
 use Rattle.tree_terms.specs.Search.{IsRightUnder}
 use Rattle.tree_terms.specs.OuterTrees.{set_verdict, with_answer, bin_child, bin_node, bin_root, bin_tree}
 use Rattle.tree_terms.specs.OuterSearch.{IsBinSearch}
@@ -25,55 +25,8 @@ use Rattle.tree_terms.proofs.Searches.{outcome_right}
 use Rattle.tree_terms.proofs.ClassSearch.{class_search, found_exceeds, none_large}
 use Rattle.tree_terms.proofs.BinNumbers.{bin_numbers_pack}
 
--- a box more in a set, and in the bins
-left_out : (a b c : Bool) → (b || (a || c)) ≡ (a || (b || c))
-left_out true true c = refl
-left_out true false c = refl
-left_out false true c = refl
-left_out false false c = refl
-
-grouped : (a b c : Bool) → ((a || b) || c) ≡ (a || (b || c))
-grouped true b c = refl
-grouped false b c = refl
-
-pub has_inserted : (u v : ℕ) (us : List ℕ) → has_box u (insert_box v us) ≡ (eqb v u || has_box u us)
-has_inserted u v [] = refl
-has_inserted u v (x ∷ us) = go (ltb v x) (has_inserted u v us)
-  where
-    go : (b : Bool) → has_box u (insert_box v us) ≡ (eqb v u || has_box u us)
-        → has_box u (if b then v ∷ x ∷ us else x ∷ insert_box v us) ≡ (eqb v u || (eqb x u || has_box u us))
-    go true rest = refl
-    go false rest = ap (λ b. eqb x u || b) rest ∙ left_out (eqb v u) (eqb x u) (has_box u us)
-
-any_with : (u v : ℕ) (bins : Bins) (b : ℕ) → b < length bins → list_any (has_box u) (with_box bins b v) ≡ (eqb v u || list_any (has_box u) bins)
-any_with u v [] b l = absurd (omega (arith, l))
-any_with u v (us ∷ bins) zero l = ap (λ x. x || list_any (has_box u) bins) (has_inserted u v us) ∙ grouped (eqb v u) (has_box u us) (list_any (has_box u) bins)
-any_with u v (us ∷ bins) (suc b) l = ap (λ x. has_box u us || x) (any_with u v bins b (omega (arith, l))) ∙ left_out (eqb v u) (has_box u us) (list_any (has_box u) bins)
-
-any_new : (u v : ℕ) (bins : Bins) → list_any (has_box u) (bins ++ (v ∷ []) ∷ []) ≡ (eqb v u || list_any (has_box u) bins)
-any_new u v [] = grouped (eqb v u) false false
-any_new u v (us ∷ bins) = ap (λ x. has_box u us || x) (any_new u v bins) ∙ left_out (eqb v u) (has_box u us) (list_any (has_box u) bins)
-
--- the bins by index
-with_length : (bins : Bins) (b v : ℕ) → length (with_box bins b v) ≡ length bins
-with_length [] b v = refl
-with_length (us ∷ bins) zero v = refl
-with_length (us ∷ bins) (suc b) v = ap suc (with_length bins b v)
-
-with_own : (bins : Bins) (b v : ℕ) → b < length bins → get_or (with_box bins b v) b [] ≡ insert_box v (get_or bins b [])
-with_own [] b v l = absurd (omega (arith, l))
-with_own (us ∷ bins) zero v l = refl
-with_own (us ∷ bins) (suc b) v l = with_own bins b v (omega (arith, l))
-
-with_other : (bins : Bins) (b c v : ℕ) → c ≢ b → get_or (with_box bins b v) c [] ≡ get_or bins c []
-with_other [] b c v ne = refl
-with_other (us ∷ bins) zero zero v ne = absurd (ne refl)
-with_other (us ∷ bins) zero (suc c) v ne = refl
-with_other (us ∷ bins) (suc b) zero v ne = refl
-with_other (us ∷ bins) (suc b) (suc c) v ne = with_other bins b c v (λ e. ne (ap suc e))
-
 -- the answers by index
-answer_own : (answers : List (List ℕ)) (b : ℕ) (ns : List ℕ) → b ≤ length answers → get_or (with_answer answers b ns) b [] ≡ ns
+pub answer_own : (answers : List (List ℕ)) (b : ℕ) (ns : List ℕ) → b ≤ length answers → get_or (with_answer answers b ns) b [] ≡ ns
 answer_own [] zero ns l = refl
 answer_own [] (suc b) ns l = absurd (omega (arith, l))
 answer_own (a ∷ answers) zero ns l = refl
@@ -95,47 +48,7 @@ answer_new : (answers : List (List ℕ)) (ns : List ℕ) → length (with_answer
 answer_new [] ns = refl
 answer_new (a ∷ answers) ns = ap suc (answer_new answers ns)
 
--- the child of an index: the box in that bin, or in a new one
-pub child_is : (k : ℕ) (bins : Bins) (v b : ℕ) → b < length (placements k bins v)
-    → ((b < length bins) × (get_or (placements k bins v) b [] ≡ with_box bins b v))
-    ⊎ ((b ≡ length bins) × (length bins < k) × (get_or (placements k bins v) b [] ≡ bins ++ (v ∷ []) ∷ []))
-child_is k bins v b l = go (cases_lt b (length bins)) (cases_Bool (ltb (length bins) k))
-  where
-    used_length : length (map (λ c. with_box bins c v) (range_with_len 0 (length bins))) ≡ length bins
-    used_length = length-map-range_with_len (λ c. with_box bins c v) 0 (length bins)
-
-    all_length : length (placements k bins v) ≡ length bins + length (if ltb (length bins) k then (bins ++ (v ∷ []) ∷ []) ∷ [] else [])
-    all_length = length-append (map (λ c. with_box bins c v) (range_with_len 0 (length bins))) (if ltb (length bins) k then (bins ++ (v ∷ []) ∷ []) ∷ [] else [])
-        ∙ ap (λ n. n + length (if ltb (length bins) k then (bins ++ (v ∷ []) ∷ []) ∷ [] else [])) used_length
-
-    last : length bins ≤ b → ltb (length bins) k ≡ true → (b ≡ length bins) × (length bins < k) × (get_or (placements k bins v) b [] ≡ bins ++ (v ∷ []) ∷ [])
-    last m t =
-        let n : length (if ltb (length bins) k then (bins ++ (v ∷ []) ∷ []) ∷ [] else []) ≡ 1 = (rw t refl) in
-        let e : b ≡ length (map (λ c. with_box bins c v) (range_with_len 0 (length bins))) + 0 = omega (arith, l, all_length, n, m, used_length) in (
-          omega (arith, e, used_length),
-          ltb-true _ _ t,
-          ap (λ x. get_or (placements k bins v) x []) e
-              ∙ (get_or-append-add (map (λ c. with_box bins c v) (range_with_len 0 (length bins))) (if ltb (length bins) k then (bins ++ (v ∷ []) ∷ []) ∷ [] else []) 0 []
-              ∙ (rw t refl)),
-        )
-
-    none : length bins ≤ b → ltb (length bins) k ≡ false → ⊥
-    none m f =
-        let n : length (if ltb (length bins) k then (bins ++ (v ∷ []) ∷ []) ∷ [] else []) ≡ 0 = (rw f refl) in
-        omega (arith, l, all_length, n, m)
-
-    go : (b < length bins) ⊎ (length bins ≤ b) → (ltb (length bins) k ≡ true) ⊎ (ltb (length bins) k ≡ false)
-        → ((b < length bins) × (get_or (placements k bins v) b [] ≡ with_box bins b v))
-        ⊎ ((b ≡ length bins) × (length bins < k) × (get_or (placements k bins v) b [] ≡ bins ++ (v ∷ []) ∷ []))
-    go (inl m) _ = inl (
-      m,
-      get_or_append_left (map (λ c. with_box bins c v) (range_with_len 0 (length bins))) (if ltb (length bins) k then (bins ++ (v ∷ []) ∷ []) ∷ [] else []) [] b (omega (arith, m, used_length))
-          ∙ get_or-map-range_with_len (λ c. with_box bins c v) 0 (length bins) b b [] m (omega arith),
-    )
-    go (inr m) (inl t) = inr (last m t)
-    go (inr m) (inr f) = absurd (none m f)
-
-module _ (instance : PlainInstance) (sides : HasSides instance) (some_dim : 1 ≤ dims instance) (scales : Bool) (k : ℕ) where
+module _ (instance : PlainInstance) (sides : HasPositiveSides instance) (some_dim : 1 ≤ dims instance) (scales : Bool) (k : ℕ) where
   -- what holds of a node: the boxes left have no bin, each other has one, and the answers are packings
   pub record Holds (rest : List ℕ) (bins : Bins) (answers : List (List ℕ)) : Type 0 where
     pub boxes : AreBoxes instance rest
@@ -156,26 +69,6 @@ module _ (instance : PlainInstance) (sides : HasSides instance) (some_dim : 1 �
     pub answer_count : (ns : List ℕ) → length (with_answer answers b ns) ≡ length next
     pub answer_there : b ≤ length answers
 
-  inserted_some : (v : ℕ) (us : List ℕ) → 1 ≤ length (insert_box v us)
-  inserted_some v [] = omega arith
-  inserted_some v (u ∷ us) = go (ltb v u)
-    where
-      go : (c : Bool) → 1 ≤ length (if c then v ∷ u ∷ us else u ∷ insert_box v us)
-      go true = omega arith
-      go false = omega arith
-
-  any_parts : (v : ℕ) (bins : Bins) (b : ℕ) → list_any (has_box v) bins ≡ false → b < length bins → has_box v (get_or bins b []) ≡ false
-  any_parts v [] b f l = absurd (omega (arith, l))
-  any_parts v (us ∷ bins) b f l = go b l (cases_Bool (has_box v us)) (cases_Bool (list_any (has_box v) bins)) (λ c g m. any_parts v bins c g m)
-    where
-      go : (c : ℕ) → c < suc (length bins) → (has_box v us ≡ true) ⊎ (has_box v us ≡ false)
-          → (list_any (has_box v) bins ≡ true) ⊎ (list_any (has_box v) bins ≡ false)
-          → ((j : ℕ) → list_any (has_box v) bins ≡ false → j < length bins → has_box v (get_or bins j []) ≡ false) → has_box v (get_or (us ∷ bins) c []) ≡ false
-      go c m (inl t) _ rest = absurd (true≢false (sym (or_true _ _ (inl t)) ∙ f))
-      go c m (inr e) (inl t) rest = absurd (true≢false (sym (or_true _ _ (inr t)) ∙ f))
-      go zero m (inr e) (inr g) rest = e
-      go (suc c) m (inr e) (inr g) rest = rest c g (omega (arith, m))
-
   next_used : (rest : List ℕ) (bins : Bins) (answers : List (List ℕ)) (v : ℕ) → Holds (v ∷ rest) bins answers → (b : ℕ) → b < length bins
       → IsNext bins answers v b (with_box bins b v)
   next_used rest bins answers v h b l = record {
@@ -183,7 +76,7 @@ module _ (instance : PlainInstance) (sides : HasSides instance) (some_dim : 1 �
     room = (let n = with_length bins b v in let f = h.few in omega (arith, n, f));
     changed = (
       subst (λ (us : List ℕ). AreBoxes instance us) (sym (with_own bins b v l))
-          (insert_boxes (box_count instance) v (get_or bins b []) h.boxes.0 (not_found v (get_or bins b []) (any_parts v bins b h.unplaced.0 l)) (h.sets b l)),
+          (insert_boxes (box_count instance) v (get_or bins b []) h.boxes.0 (not_found v (get_or bins b []) (in_none bins v b h.unplaced.0)) (h.sets b l)),
       subst (λ (us : List ℕ). 1 ≤ length us) (sym (with_own bins b v l)) (inserted_some v (get_or bins b [])),
     );
     others = (λ c m ne. ((let n = with_length bins b v in omega (arith, m, n)), with_other bins b c v ne));
@@ -273,7 +166,7 @@ module _ (instance : PlainInstance) (sides : HasSides instance) (some_dim : 1 �
 
   pub next_is : (rest : List ℕ) (bins : Bins) (answers : List (List ℕ)) (v : ℕ) → Holds (v ∷ rest) bins answers → (b : ℕ) → b < length (placements k bins v)
       → IsNext bins answers v b (get_or (placements k bins v) b [])
-  next_is rest bins answers v h b l = go (child_is k bins v b l)
+  next_is rest bins answers v h b l = go (child_is k bins [] v b l)
     where
       go : ((b < length bins) × (get_or (placements k bins v) b [] ≡ with_box bins b v))
           ⊎ ((b ≡ length bins) × (length bins < k) × (get_or (placements k bins v) b [] ≡ bins ++ (v ∷ []) ∷ []))
@@ -304,7 +197,7 @@ module _ (instance : PlainInstance) (sides : HasSides instance) (some_dim : 1 �
 
   module _ (some_box : 1 ≤ box_count instance) where
     pub bin_search : IsBinSearch instance k [] (bin_tree instance k scales)
-    bin_search = go (first_large instance) refl
+    bin_search = go (first_too_large_box instance) refl
       where
         root : IsBinSearch instance k [] (bin_node instance scales k (ranked instance) [] [] 0)
         root = bin_node_search (ranked instance) [] [] 0 (record {
@@ -317,15 +210,15 @@ module _ (instance : PlainInstance) (sides : HasSides instance) (some_dim : 1 �
           packs = (λ b l. absurd (omega (arith, l)));
         })
 
-        tested : (o : Option (List ScaleFn)) → SidesFit instance → excess_where instance k scales None ≡ o
+        tested : (o : Option (List ScaleFn)) → SidesFit instance → exceeding_where instance k scales None ≡ o
             → IsBinSearch instance k [] (bin_root o (bin_node instance scales k (ranked instance) [] [] 0))
         tested (Some fs) fit e = by_scales (found_exceeds instance sides some_dim some_box k scales fs fit e) none_left
         tested None fit e = root
 
-        unscaled : (s : Bool) (p : ℕ × ℕ) → excess_where instance k s (Some p) ≡ None
+        unscaled : (s : Bool) (p : ℕ × ℕ) → exceeding_where instance k s (Some p) ≡ None
         unscaled true p = refl
         unscaled false p = refl
 
-        go : (l : Option (ℕ × ℕ)) → first_large instance ≡ l → IsBinSearch instance k [] (bin_root (excess_where instance k scales l) (bin_node instance scales k (ranked instance) [] [] 0))
+        go : (l : Option (ℕ × ℕ)) → first_too_large_box instance ≡ l → IsBinSearch instance k [] (bin_root (exceeding_where instance k scales l) (bin_node instance scales k (ranked instance) [] [] 0))
         go (Some p) e = subst (λ (o : Option (List ScaleFn)). IsBinSearch instance k [] (bin_root o (bin_node instance scales k (ranked instance) [] [] 0))) (sym (unscaled scales p)) root
-        go None e = tested (excess_where instance k scales None) (none_large instance e) refl
+        go None e = tested (exceeding_where instance k scales None) (none_large instance e) refl

@@ -1,28 +1,23 @@
 -- The count of the choice tree.
 use Rattle.std.proofs.Common.{◌≡◌, ℕ, zero, suc, ◌+◌, ◌-◌, ◌*◌, ◌/◌, ◌^◌, ◌≤◌, refl, ap, ◌∙◌, arith, Bool, true, false, List, [], ◌∷◌, length}
 use Rattle.std.proofs.Math.Nat.{mul-le-mul_left, pow-succ'}
-use Rattle.packing_terms.specs.Packing.{PlainInstance, IsPacking, HasSides, dims, box_count}
+use Rattle.packing_terms.specs.Packing.{PlainInstance, IsPacking, HasPositiveSides, dims, box_count}
 use Rattle.packing_terms.specs.Rules.{AreBoxes}
-use Rattle.packing_terms.specs.Scales.{sum_below}
+use Rattle.packing_terms.specs.Sums.{sum_below}
 use Rattle.packing_terms.specs.Goals.{subset}
 use Rattle.packing_terms.specs.OuterRefutation.{insert_box, no_choice, with_taken, with_left, Choice}
 use Rattle.packing_terms.specs.Tokens.PlainToken.{Choose, ValueShort}
 use Rattle.packing_terms.proofs.Boxes.{boxes_few, insert_boxes, not_found}
-use Rattle.tree_terms.specs.Trees.{SearchTree, Refuted, Split, Verdict, Yes, No, nothing, join, join_from, outcome, count_of}
+use Rattle.packing_terms.proofs.WithBoxes.{inserted_some}
+use Rattle.tree_terms.specs.Trees.{SearchTree, Refuted, Split, Verdict, Yes, No, join_from, outcome, count_of}
 use Rattle.tree_terms.specs.Rank.{ranked}
 use Rattle.tree_terms.specs.Search.{IsRightUnder}
 use Rattle.tree_terms.specs.OuterTrees.{set_verdict, taken_child, choice_of, is_reached, is_short, choice_numbers, choice_node, choice_tree}
 use Rattle.tree_terms.proofs.RankLemmas.{ranked_are_boxes}
 use Rattle.tree_terms.proofs.BinSearch.{set_right}
-use Rattle.tree_terms.proofs.ChoiceSearch.{Holds, taken_holds, left_holds, inserted_some, root_holds}
+use Rattle.tree_terms.proofs.ChoiceSearch.{Holds, taken_holds, left_holds, root_holds}
 use Rattle.tree_terms.proofs.OuterCounts.{powers, powers_next, powers_more, most, set_count, most_some, most_is, powers_are, count_join}
-
--- a count of two children
-two_most : (a b : Verdict) → count_of (elim a [ Yes ns c ↦ Yes ns c | No ts c ↦ join (No ts c) (elim b [ Yes ns d ↦ Yes ns d | No us d ↦ join (No us d) nothing ]) ])
-    ≤ count_of a + count_of b
-two_most (Yes ns c) b = omega arith
-two_most (No ts c) (Yes ns d) = omega arith
-two_most (No ts c) (No us d) = omega arith
+use Rattle.tree_terms.proofs.Counts.{count_two}
 
 -- 2 + 4 + .. + 2 ^ n
 pub twos : (n : ℕ) → sum_below n (λ j. 2 ^ (j + 1)) + 2 ≡ 2 ^ (n + 1)
@@ -33,7 +28,7 @@ twos (suc n) =
     let f : 2 ^ (suc n + 1) ≡ 2 * 2 ^ (n + 1) = ap (λ x. 2 ^ x) e ∙ pow-succ' 2 (n + 1) in
     omega (arith, rest, f)
 
-module _ (instance : PlainInstance) (sides : HasSides instance) (some_dim : 1 ≤ dims instance) (scales : Bool) (goal : ℕ) where
+module _ (instance : PlainInstance) (sides : HasPositiveSides instance) (some_dim : 1 ≤ dims instance) (scales : Bool) (goal : ℕ) where
   abbrev top : ℕ
   top = most instance sides some_dim scales
 
@@ -53,7 +48,7 @@ module _ (instance : PlainInstance) (sides : HasSides instance) (some_dim : 1 �
   node_count (v ∷ rest) c numbers own h =
       go (is_reached instance goal c.taken) (is_short instance goal c.taken (v ∷ rest))
       (taken_count (insert_box v c.taken) (set_verdict instance scales (insert_box v c.taken))
-      (set_right instance sides some_dim scales 0 (insert_box v c.taken) boxes (inserted_some instance sides some_dim scales goal v c.taken))
+      (set_right instance sides some_dim scales 0 (insert_box v c.taken) boxes (inserted_some v c.taken))
       (set_count instance sides some_dim scales (insert_box v c.taken) boxes)
       (λ ns n. choice_node instance scales goal rest (insert_box v c.taken) ns n) (length rest)
       (λ ns pack n. node_count rest (with_taken c v) ns n (taken_holds instance sides some_dim scales goal v rest c numbers h ns pack)))
@@ -73,7 +68,7 @@ module _ (instance : PlainInstance) (sides : HasSides instance) (some_dim : 1 �
       go true s x y = omega arith
       go false true x y = omega arith
       go false false x y =
-          let two = two_most (outcome (taken_child (set_verdict instance scales (insert_box v c.taken)) (λ ns n. choice_node instance scales goal rest (insert_box v c.taken) ns n)))
+          let two = count_two (outcome (taken_child (set_verdict instance scales (insert_box v c.taken)) (λ ns n. choice_node instance scales goal rest (insert_box v c.taken) ns n)))
           (outcome (choice_node instance scales goal rest c.taken numbers 1)) in
           let all = count_join (No (Choose (suc v) ∷ []) own) (join_from 0 2 (λ k. outcome (elim k [
             | zero ↦ taken_child (set_verdict instance scales (insert_box v c.taken)) (λ ns n. choice_node instance scales goal rest (insert_box v c.taken) ns n)

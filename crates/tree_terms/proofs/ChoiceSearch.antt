@@ -4,7 +4,7 @@ use Rattle.std.specs.List.{range_with_len, AllByRecursion, All}
 use Rattle.std.specs.List.Sorted.{IsStrictlyIncreasing}
 use Rattle.std.proofs.lemmas.Bool.{true≢false, cases_lt, eq-eqb, ne_eqb, ltb-true, lt-ltb}
 use Rattle.std.proofs.lemmas.Bool.Decides.{nat_tests}
-use Rattle.packing_terms.specs.Packing.{PlainInstance, IsPacking, HasSides, no_box, dims, box_count}
+use Rattle.packing_terms.specs.Packing.{PlainInstance, IsPacking, HasPositiveSides, no_box, dims, box_count}
 use Rattle.packing_terms.specs.Rules.{AreBoxes, AreBoxesAmong}
 use Rattle.packing_terms.specs.Goals.{subset, worth}
 use Rattle.packing_terms.specs.Tokens.PlainToken.{Choose, ValueShort}
@@ -13,6 +13,7 @@ use Rattle.packing_terms.proofs.Sets.{or_true}
 use Rattle.packing_terms.proofs.Members.{IsIn, in_filter, filter_in, range_in}
 use Rattle.packing_terms.proofs.Boxes.{each_in, each_from, insert_each, insert_boxes, not_found, sum_within}
 use Rattle.packing_terms.proofs.Neighbours.{none_packed}
+use Rattle.packing_terms.proofs.WithBoxes.{has_inserted, inserted_some}
 use Rattle.tree_terms.specs.Trees.{SearchTree, Refuted, Split, Verdict, Yes, No}
 use Rattle.tree_terms.specs.Rank.{ranked}
 use Rattle.tree_terms.specs.Search.{IsRightUnder}
@@ -20,14 +21,10 @@ use Rattle.tree_terms.specs.OuterTrees.{set_verdict, taken_child, choice_of, is_
 use Rattle.tree_terms.specs.OuterSearch.{AreTakenNumbers, IsChoiceSearch}
 use Rattle.tree_terms.proofs.RankLemmas.{ranked_are_boxes, in_ranked}
 use Rattle.tree_terms.proofs.BinNumbers.{filter_boxes, range_boxes}
-use Rattle.tree_terms.proofs.BinSearch.{has_inserted, set_right}
+use Rattle.tree_terms.proofs.BinSearch.{set_right}
+use Rattle.tree_terms.specs.Rising.{AreRising}
 
--- rising numbers, by recursion
-abbrev AreRising : List ℕ → Type 0
-AreRising [] = Unit {0}
-AreRising (v ∷ vs) = AllByRecursion (λ u. v < u) vs × AreRising vs
-
-insert_rising : (v : ℕ) (us : List ℕ) → AllByRecursion (λ u. v ≢ u) us → AreRising us → AreRising (insert_box v us)
+pub insert_rising : (v : ℕ) (us : List ℕ) → AllByRecursion (λ u. v ≢ u) us → AreRising us → AreRising (insert_box v us)
 insert_rising v [] away r = (tt, tt)
 insert_rising v (u ∷ us) away r = go (ltb v u) refl (insert_rising v us away.1 r.1)
   where
@@ -45,7 +42,7 @@ insert_rising v (u ∷ us) away r = go (ltb v u) refl (insert_rising v us away.1
     go true e rest = let l = ltb-true v u e in ((l, above l), r)
     go false e rest = (insert_each (λ x. u < x) v us (not_less e) r.0, rest)
 
-rising_index : (vs : List ℕ) → AreRising vs → IsStrictlyIncreasing vs
+pub rising_index : (vs : List ℕ) → AreRising vs → IsStrictlyIncreasing vs
 rising_index [] r k l = absurd (omega (arith, l))
 rising_index (v ∷ []) r k l = absurd (omega (arith, l))
 rising_index (v ∷ u ∷ us) r zero l = r.0.0
@@ -54,7 +51,7 @@ rising_index (v ∷ u ∷ us) r (suc k) l =
     let m : get_or (u ∷ us) k 0 < get_or (u ∷ us) (k + 1) 0 = rising_index (u ∷ us) r.1 k (omega (arith, l)) in
     subst (λ (x : ℕ). get_or (u ∷ us) k 0 < get_or (v ∷ u ∷ us) x 0) (sym e) m
 
-below_at : (n : ℕ) (vs : List ℕ) → AreBoxesAmong n vs → All (λ v. v < n) vs
+pub below_at : (n : ℕ) (vs : List ℕ) → AreBoxesAmong n vs → All (λ v. v < n) vs
 below_at n [] b k d l = absurd (omega (arith, l))
 below_at n (v ∷ vs) b zero d l = b.0
 below_at n (v ∷ vs) b (suc k) d l = below_at n vs b.2 k d (omega (arith, l))
@@ -64,7 +61,7 @@ not_either false false h = (refl, refl)
 not_either true b h = absurd (true≢false (sym h))
 not_either false true h = absurd (true≢false (sym h))
 
-module _ (instance : PlainInstance) (sides : HasSides instance) (some_dim : 1 ≤ dims instance) (scales : Bool) (goal : ℕ) where
+module _ (instance : PlainInstance) (sides : HasPositiveSides instance) (some_dim : 1 ≤ dims instance) (scales : Bool) (goal : ℕ) where
   -- what holds of a node: the boxes left are those that are neither in nor out, and the answer is a packing of those that are in
   pub record Holds (rest : List ℕ) (c : Choice) (numbers : List ℕ) : Type 0 where
     pub boxes : AreBoxes instance rest
@@ -191,14 +188,6 @@ module _ (instance : PlainInstance) (sides : HasSides instance) (some_dim : 1 �
           pick : (u ≡ v) ⊎ IsIn u rest → has_box u (insert_box v c.left) ≡ false → IsIn u rest
           pick (inl e) f = absurd (true≢false (sym (has_inserted u v c.left ∙ or_true _ _ (inl (eq-eqb v u (sym e)))) ∙ f))
           pick (inr j) f = j
-
-  pub inserted_some : (v : ℕ) (us : List ℕ) → 1 ≤ length (insert_box v us)
-  inserted_some v [] = omega arith
-  inserted_some v (u ∷ us) = go (ltb v u)
-    where
-      go : (c : Bool) → 1 ≤ length (if c then v ∷ u ∷ us else u ∷ insert_box v us)
-      go true = omega arith
-      go false = omega arith
 
   taken_search : (c : Choice) → 1 ≤ length c.taken → (w : Verdict) → IsRightUnder (subset instance c.taken) [] w → (rest : List ℕ → ℕ → SearchTree)
       → ((ns : List ℕ) → IsPacking (subset instance c.taken) ns → (n : ℕ) → IsChoiceSearch instance goal c (rest ns n)) → IsChoiceSearch instance goal c (taken_child w rest)

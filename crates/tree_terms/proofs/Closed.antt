@@ -1,8 +1,7 @@
 -- The closure by rounds is what has a derivation; a conclusion whose premises hold in a derived table is derived; and the tree of a node depends
 -- on its closure alone.
-use Rattle.std.proofs.Common.{◌≡◌, ℕ, zero, suc, refl, sym, ap, ◌∙◌, Bool, true, false, List, [], ◌∷◌, ◌++◌}
+use Rattle.std.proofs.Common.{◌≡◌, ℕ, zero, suc, refl, ap, ◌∙◌, List, [], ◌∷◌, ◌++◌}
 use mathlib.Core.Path.{fun_ext}
-use Rattle.std.proofs.lemmas.Bool.{true≢false}
 use Rattle.packing_terms.specs.declared.Rel.{Rel}
 use Rattle.packing_terms.specs.declared.Exclusion.{Exclusion}
 use Rattle.packing_terms.specs.Packing.{PlainInstance}
@@ -11,17 +10,12 @@ use Rattle.packing_terms.specs.Rules.{Follows}
 use Rattle.packing_terms.specs.Closure.{IsDerived, AreDerived, Derives}
 use Rattle.packing_terms.proofs.Monotone.{follows_more}
 use Rattle.packing_terms.proofs.Closures.{derives_more}
+use Rattle.packing_terms.proofs.Sets.{same_bool}
 use Rattle.rule_terms.specs.Rounds.{closure}
 use Rattle.rule_terms.proofs.RoundsLemmas.{closure_is, closure_stable}
 use Rattle.tree_terms.specs.Trees.{SearchTree}
 use Rattle.tree_terms.specs.InnerTree.{closed_node, node_tree}
 use Rattle.rule_terms.proofs.Conflicts.{closed_there, closed_back}
-
-pub same_bool : (a b : Bool) → (a ≡ true → b ≡ true) → (b ≡ true → a ≡ true) → a ≡ b
-same_bool true true f g = refl
-same_bool false false f g = refl
-same_bool true false f g = absurd (true≢false (sym (f refl)))
-same_bool false true f g = absurd (true≢false (sym (g refl)))
 
 module _ (instance : PlainInstance) where
   -- what follows by one rule from what has a derivation has a derivation

@@ -3,28 +3,28 @@ use Rattle.std.proofs.Common.{◌≡◌, ℕ, ◌<◌, ◌⊎◌, inl, inr, true
 use Rattle.std.proofs.lemmas.Bool.{cases_Bool}
 use Rattle.packing_terms.specs.declared.Rel.TheVariants.{Overlap}
 use Rattle.packing_terms.specs.declared.Exclusion.{Exclusion}
-use Rattle.packing_terms.specs.Packing.{PlainInstance, IsPacking, HasSides, dims, box_count}
+use Rattle.packing_terms.specs.Packing.{PlainInstance, IsPacking, HasPositiveSides, dims, box_count}
 use Rattle.packing_terms.specs.Scales.{SidesFit}
 use Rattle.packing_terms.specs.Exclusions.{excludes}
 use Rattle.packing_terms.specs.Closure.{HasConflict}
 use Rattle.packing_terms.proofs.Sets.{excludes_symmetric}
-use Rattle.rule_terms.specs.Rounds.{closure, has_conflict}
-use Rattle.rule_terms.specs.Places.{IsSettled, IsGreatestEnd}
+use Rattle.rule_terms.specs.Rounds.{closure, has_empty_mask}
+use Rattle.rule_terms.specs.Places.{IsOrdered, IsGreatestEnd}
 use Rattle.rule_terms.proofs.RoundsLemmas.{closure_stable}
 use Rattle.tree_terms.specs.InnerTree.{settled_places}
-use Rattle.tree_terms.specs.Search.{AreAtPlaces}
+use Rattle.tree_terms.specs.Search.{AreAtEdges}
 use Rattle.tree_terms.proofs.Nodes.{excluded_place, closure_places}
 use Rattle.rule_terms.proofs.Conflicts.{stormy, full_masks}
 use Rattle.tree_terms.proofs.SettledPlaces.{settled_ends, settled_pack}
 
-module _ (instance : PlainInstance) (es : List Exclusion) (sides : HasSides instance) (fit : SidesFit instance) (placed : AreAtPlaces instance es)
+module _ (instance : PlainInstance) (es : List Exclusion) (sides : HasPositiveSides instance) (fit : SidesFit instance) (placed : AreAtEdges instance es)
     (calm : ¬ HasConflict instance (excludes es)) where
-  no_conflict : has_conflict (excludes (closure instance es)) (dims instance) (box_count instance) ≡ false
-  no_conflict = go (cases_Bool (has_conflict (excludes (closure instance es)) (dims instance) (box_count instance)))
+  no_conflict : has_empty_mask (excludes (closure instance es)) (dims instance) (box_count instance) ≡ false
+  no_conflict = go (cases_Bool (has_empty_mask (excludes (closure instance es)) (dims instance) (box_count instance)))
     where
-      go : (has_conflict (excludes (closure instance es)) (dims instance) (box_count instance) ≡ true)
-          ⊎ (has_conflict (excludes (closure instance es)) (dims instance) (box_count instance) ≡ false)
-          → has_conflict (excludes (closure instance es)) (dims instance) (box_count instance) ≡ false
+      go : (has_empty_mask (excludes (closure instance es)) (dims instance) (box_count instance) ≡ true)
+          ⊎ (has_empty_mask (excludes (closure instance es)) (dims instance) (box_count instance) ≡ false)
+          → has_empty_mask (excludes (closure instance es)) (dims instance) (box_count instance) ≡ false
       go (inl k) = absurd (calm (stormy instance es k))
       go (inr k) = k
 
@@ -33,7 +33,7 @@ module _ (instance : PlainInstance) (es : List Exclusion) (sides : HasSides inst
   closed_ends = settled_ends instance (excludes (closure instance es)) (closure_stable instance es) (excludes_symmetric (closure instance es))
       (full_masks instance es no_conflict) sides fit (λ i u v h. excluded_place instance (closure instance es) (closure_places instance es placed) i u v Overlap h)
 
-  pub closed_pack : ((u v : ℕ) → u < v → v < box_count instance → IsSettled instance (excludes (closure instance es)) u v)
+  pub closed_pack : ((u v : ℕ) → u < v → v < box_count instance → IsOrdered instance (excludes (closure instance es)) u v)
       → IsPacking instance (settled_places instance (excludes (closure instance es)))
   closed_pack = settled_pack instance (excludes (closure instance es)) (closure_stable instance es) (excludes_symmetric (closure instance es))
       (full_masks instance es no_conflict) sides fit (λ i u v h. excluded_place instance (closure instance es) (closure_places instance es placed) i u v Overlap h)

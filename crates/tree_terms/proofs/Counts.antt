@@ -4,7 +4,7 @@
 -- the measures of its two children together in its own.
 use Rattle.std.proofs.Common.{◌≡◌, ℕ, zero, suc, ◌+◌, ◌-◌, ◌*◌, ◌/◌, ◌^◌, ◌<◌, ◌≤◌, ◌⊎◌, inl, inr, refl, sym, ap, subst, ◌∙◌, arith, max, Bool, true, false, not, List, [], ◌∷◌, ◌++◌, map, length, Option, Some, None, IsTrue}
 use Rattle.std.specs.List.{find, flat_map, range_with_len}
-use Rattle.std.proofs.Math.Nat.{le_trans, mul-le-mul_left, mul_comm, pow-le-pow_right, pow-succ'}
+use Rattle.std.proofs.Math.Nat.{le_trans, mul-le-mul_left, pow-le-pow_right, pow-succ', mul-le-mul}
 use Rattle.std.proofs.lemmas.Bool.{true≢false, and_parts, or_cases, not-true}
 use Rattle.std.proofs.lemmas.List.{length-map, length-append}
 use Rattle.std.proofs.lemmas.List.FromFn.{length-range_with_len}
@@ -19,22 +19,20 @@ use Rattle.packing_terms.specs.Tokens.{PlainToken}
 use Rattle.packing_terms.proofs.Sets.{or_true}
 use Rattle.packing_terms.proofs.Members.{IsIn, in_flat_map, in_map, in_range, range_in}
 use Rattle.packing_terms.proofs.Found.{find_some}
-use Rattle.rule_terms.specs.Rounds.{below, closure, has_conflict}
+use Rattle.packing_terms.proofs.Lengths.{length_parts}
+use Rattle.rule_terms.specs.Rounds.{closure, has_empty_mask}
+use Rattle.packing_terms.specs.Sums.{below}
 use Rattle.rule_terms.proofs.RoundsLemmas.{closure_keeps, excludes_own}
-use Rattle.tree_terms.specs.Trees.{SearchTree, Verdict, Yes, No, nothing, join, outcome, count_of}
+use Rattle.tree_terms.specs.Trees.{SearchTree, Verdict, Yes, No, no_tokens, join, outcome, count_of}
 use Rattle.tree_terms.specs.Rank.{ranked_pairs}
-use Rattle.tree_terms.specs.InnerTree.{is_settled, is_unsettled, is_apart_somewhere, exclusion_at, may_order, may_apart, chosen_split, split_tree, node_of, node_tree, inner_tree}
-use Rattle.tree_terms.specs.ClassTree.{first_large, closes_in_conflict, scales_after, root_of, class_tree}
+use Rattle.tree_terms.specs.InnerTree.{is_settled, is_unsettled, is_apart_somewhere, exclusion_at_pair, has_order_mask, has_apart_mask, chosen_split, split_tree, node_of, node_tree, tree_below}
+use Rattle.tree_terms.specs.ClassTree.{first_too_large_box, closes_in_conflict, scales_after, root_of, class_tree}
 use Rattle.tree_terms.proofs.RankLemmas.{ranked_rise}
 use Rattle.tree_terms.proofs.Splits.{order_there, apart_there}
+use Rattle.tree_terms.proofs.Joins.{count_join_no}
 
 pub times_le : (a b m n : ℕ) → a ≤ m → b ≤ n → a * b ≤ m * n
-times_le a b m n h k =
-    let x : a * b ≤ a * n = mul-le-mul_left a k in
-    let y : n * a ≤ n * m = mul-le-mul_left n h in
-    let e : a * n ≡ n * a = mul_comm a n in
-    let f : m * n ≡ n * m = mul_comm m n in
-    omega (arith, x, y, e, f)
+times_le a b m n h k = mul-le-mul h k
 
 -- products over a list
 product : {X : Type 0} → (X → ℕ) → List X → ℕ
@@ -161,12 +159,7 @@ apart_sizes X Y Z p xy o (inr a) yo zb za =
     (let c = open_most (Z p.0 p.1 p.2 Overlap) in let d = open_most (Y p.0 p.1 p.2 After) in
     let e = open_less (X p.0 p.1 p.2 Before) (Y p.0 p.1 p.2 Before) (xy p.0 p.1 p.2 Before) in omega (arith, c, d, e))
 
--- counts of joined verdicts
-count_join_no : (ts : List PlainToken) (c : ℕ) (v : Verdict) → count_of (join (No ts c) v) ≡ c + count_of v
-count_join_no ts c (Yes ns d) = refl
-count_join_no ts c (No us d) = refl
-
-count_two : (a b : Verdict) → count_of (elim a [ Yes ns c ↦ Yes ns c | No ts c ↦ join (No ts c) (elim b [ Yes ns d ↦ Yes ns d | No us d ↦ join (No us d) nothing ]) ])
+pub count_two : (a b : Verdict) → count_of (elim a [ Yes ns c ↦ Yes ns c | No ts c ↦ join (No ts c) (elim b [ Yes ns d ↦ Yes ns d | No us d ↦ join (No us d) no_tokens ]) ])
     ≤ count_of a + count_of b
 count_two (Yes ns c) b = omega arith
 count_two (No ts c) (Yes ns d) = omega arith
@@ -207,65 +200,65 @@ module _ (instance : PlainInstance) where
   -- a split whose children's measures are together in its own
   split_count : (t : PlainToken) (a b : Verdict) (m k l : ℕ) → suc (count_of a) ≤ k → suc (count_of b) ≤ l → k + l ≤ m
       → suc (count_of (join (No (t ∷ []) 1)
-      (elim a [ Yes ns c ↦ Yes ns c | No ts c ↦ join (No ts c) (elim b [ Yes ns d ↦ Yes ns d | No us d ↦ join (No us d) nothing ]) ]))) ≤ m
+      (elim a [ Yes ns c ↦ Yes ns c | No ts c ↦ join (No ts c) (elim b [ Yes ns d ↦ Yes ns d | No us d ↦ join (No us d) no_tokens ]) ]))) ≤ m
   split_count t a b m k l ha hb h =
       let two = count_two a b in
-      let one = count_join_no (t ∷ []) 1 (elim a [ Yes ns c ↦ Yes ns c | No ts c ↦ join (No ts c) (elim b [ Yes ns d ↦ Yes ns d | No us d ↦ join (No us d) nothing ]) ]) in
+      let one = count_join_no (t ∷ []) 1 (elim a [ Yes ns c ↦ Yes ns c | No ts c ↦ join (No ts c) (elim b [ Yes ns d ↦ Yes ns d | No us d ↦ join (No us d) no_tokens ]) ]) in
       omega (arith, two, one, ha, hb, h)
 
   module _ (some_dim : 1 ≤ dims instance) where
     chosen_count : (es : List Exclusion) (p : ℕ × ℕ) (tree : List Exclusion → SearchTree) → p.0 < p.1 → p.1 < box_count instance
-        → has_conflict (closed es) (dims instance) (box_count instance) ≡ false → is_settled (closed es) (dims instance) p ≡ false
+        → has_empty_mask (closed es) (dims instance) (box_count instance) ≡ false → is_settled (closed es) (dims instance) p ≡ false
         → ((fs : List Exclusion) → suc (count_of (outcome (tree fs))) ≤ measure fs)
         → (b : Bool) (i j : Option ℕ) → is_apart_somewhere (closed es) (dims instance) p ≡ b
-        → find (may_order (closed es) p) (below (dims instance)) ≡ i → find (may_apart (closed es) p) (below (dims instance)) ≡ j
+        → find (has_order_mask (closed es) p) (below (dims instance)) ≡ i → find (has_apart_mask (closed es) p) (below (dims instance)) ≡ j
         → suc (count_of (outcome (split_tree (chosen_split p b i j) (λ add. tree (add ++ closure instance es))))) ≤ measure es
     unfolding measure
     chosen_count es p tree huv hv calm open_pair counts true (Some i) j e f g =
-        let h = find_some (may_order (closed es) p) (below (dims instance)) i f in
+        let h = find_some (has_order_mask (closed es) p) (below (dims instance)) i f in
         let r = range_in 0 (dims instance) i h.0 in
         let hi : i < dims instance = omega (arith, r) in
         let q = and_parts _ _ h.1 in
         let q' = and_parts _ _ q.0 in
-        let k : List Exclusion = exclusion_at i p After ∷ closure instance es in
-        let l : List Exclusion = exclusion_at i p Before ∷ closure instance es in
-        split_count _ (outcome (tree (exclusion_at i p After ∷ closure instance es))) (outcome (tree (exclusion_at i p Before ∷ closure instance es)))
+        let k : List Exclusion = exclusion_at_pair i p After ∷ closure instance es in
+        let l : List Exclusion = exclusion_at_pair i p Before ∷ closure instance es in
+        split_count _ (outcome (tree (exclusion_at_pair i p After ∷ closure instance es))) (outcome (tree (exclusion_at_pair i p Before ∷ closure instance es)))
         (product (size_at (closed es)) (all_places (dims instance) (box_count instance)))
-        (product (size_at (closed (exclusion_at i p After ∷ closure instance es))) (all_places (dims instance) (box_count instance)))
-        (product (size_at (closed (exclusion_at i p Before ∷ closure instance es))) (all_places (dims instance) (box_count instance)))
-        (counts (exclusion_at i p After ∷ closure instance es)) (counts (exclusion_at i p Before ∷ closure instance es))
-        (product_split (size_at (closed es)) (size_at (closed (exclusion_at i p After ∷ closure instance es)))
-        (size_at (closed (exclusion_at i p Before ∷ closure instance es))) (i, p.0, p.1) (all_places (dims instance) (box_count instance))
+        (product (size_at (closed (exclusion_at_pair i p After ∷ closure instance es))) (all_places (dims instance) (box_count instance)))
+        (product (size_at (closed (exclusion_at_pair i p Before ∷ closure instance es))) (all_places (dims instance) (box_count instance)))
+        (counts (exclusion_at_pair i p After ∷ closure instance es)) (counts (exclusion_at_pair i p Before ∷ closure instance es))
+        (product_split (size_at (closed es)) (size_at (closed (exclusion_at_pair i p After ∷ closure instance es)))
+        (size_at (closed (exclusion_at_pair i p Before ∷ closure instance es))) (i, p.0, p.1) (all_places (dims instance) (box_count instance))
         (in_places i p.0 p.1 hi huv hv)
-        (size_less (closed es) (closed (exclusion_at i p After ∷ closure instance es)) (one_more (exclusion_at i p After) es))
-        (size_less (closed es) (closed (exclusion_at i p Before ∷ closure instance es)) (one_more (exclusion_at i p Before) es))
-        (order_sizes (closed es) (closed (exclusion_at i p After ∷ closure instance es)) (closed (exclusion_at i p Before ∷ closure instance es)) (i, p.0, p.1)
-        (one_more (exclusion_at i p After) es) (one_more (exclusion_at i p Before) es) q'.0 (not-true _ q'.1) (not-true _ q.1)
-        (own_closed (exclusion_at i p After ∷ closure instance es) (exclusion_at i p After) (inl refl))
-        (own_closed (exclusion_at i p Before ∷ closure instance es) (exclusion_at i p Before) (inl refl))))
+        (size_less (closed es) (closed (exclusion_at_pair i p After ∷ closure instance es)) (one_more (exclusion_at_pair i p After) es))
+        (size_less (closed es) (closed (exclusion_at_pair i p Before ∷ closure instance es)) (one_more (exclusion_at_pair i p Before) es))
+        (order_sizes (closed es) (closed (exclusion_at_pair i p After ∷ closure instance es)) (closed (exclusion_at_pair i p Before ∷ closure instance es)) (i, p.0, p.1)
+        (one_more (exclusion_at_pair i p After) es) (one_more (exclusion_at_pair i p Before) es) q'.0 (not-true _ q'.1) (not-true _ q.1)
+        (own_closed (exclusion_at_pair i p After ∷ closure instance es) (exclusion_at_pair i p After) (inl refl))
+        (own_closed (exclusion_at_pair i p Before ∷ closure instance es) (exclusion_at_pair i p Before) (inl refl))))
     chosen_count es p tree huv hv calm open_pair counts true None j e f g = absurd (order_there instance es p huv hv calm open_pair e f)
     chosen_count es p tree huv hv calm open_pair counts false i (Some j) e f g =
-        let h = find_some (may_apart (closed es) p) (below (dims instance)) j g in
+        let h = find_some (has_apart_mask (closed es) p) (below (dims instance)) j g in
         let r = range_in 0 (dims instance) j h.0 in
         let hj : j < dims instance = omega (arith, r) in
         let q = and_parts _ _ h.1 in
-        split_count _ (outcome (tree (exclusion_at j p Overlap ∷ closure instance es)))
-        (outcome (tree (exclusion_at j p Before ∷ exclusion_at j p After ∷ closure instance es)))
+        split_count _ (outcome (tree (exclusion_at_pair j p Overlap ∷ closure instance es)))
+        (outcome (tree (exclusion_at_pair j p Before ∷ exclusion_at_pair j p After ∷ closure instance es)))
         (product (size_at (closed es)) (all_places (dims instance) (box_count instance)))
-        (product (size_at (closed (exclusion_at j p Overlap ∷ closure instance es))) (all_places (dims instance) (box_count instance)))
-        (product (size_at (closed (exclusion_at j p Before ∷ exclusion_at j p After ∷ closure instance es))) (all_places (dims instance) (box_count instance)))
-        (counts (exclusion_at j p Overlap ∷ closure instance es)) (counts (exclusion_at j p Before ∷ exclusion_at j p After ∷ closure instance es))
-        (product_split (size_at (closed es)) (size_at (closed (exclusion_at j p Overlap ∷ closure instance es)))
-        (size_at (closed (exclusion_at j p Before ∷ exclusion_at j p After ∷ closure instance es))) (j, p.0, p.1) (all_places (dims instance) (box_count instance))
+        (product (size_at (closed (exclusion_at_pair j p Overlap ∷ closure instance es))) (all_places (dims instance) (box_count instance)))
+        (product (size_at (closed (exclusion_at_pair j p Before ∷ exclusion_at_pair j p After ∷ closure instance es))) (all_places (dims instance) (box_count instance)))
+        (counts (exclusion_at_pair j p Overlap ∷ closure instance es)) (counts (exclusion_at_pair j p Before ∷ exclusion_at_pair j p After ∷ closure instance es))
+        (product_split (size_at (closed es)) (size_at (closed (exclusion_at_pair j p Overlap ∷ closure instance es)))
+        (size_at (closed (exclusion_at_pair j p Before ∷ exclusion_at_pair j p After ∷ closure instance es))) (j, p.0, p.1) (all_places (dims instance) (box_count instance))
         (in_places j p.0 p.1 hj huv hv)
-        (size_less (closed es) (closed (exclusion_at j p Overlap ∷ closure instance es)) (one_more (exclusion_at j p Overlap) es))
-        (size_less (closed es) (closed (exclusion_at j p Before ∷ exclusion_at j p After ∷ closure instance es)) (two_more (exclusion_at j p Before) (exclusion_at j p After) es))
-        (apart_sizes (closed es) (closed (exclusion_at j p Overlap ∷ closure instance es))
-        (closed (exclusion_at j p Before ∷ exclusion_at j p After ∷ closure instance es)) (j, p.0, p.1)
-        (one_more (exclusion_at j p Overlap) es) (not-true _ q.0) (one_side (or_cases _ _ q.1))
-        (own_closed (exclusion_at j p Overlap ∷ closure instance es) (exclusion_at j p Overlap) (inl refl))
-        (own_closed (exclusion_at j p Before ∷ exclusion_at j p After ∷ closure instance es) (exclusion_at j p Before) (inl refl))
-        (own_closed (exclusion_at j p Before ∷ exclusion_at j p After ∷ closure instance es) (exclusion_at j p After) (inr (inl refl)))))
+        (size_less (closed es) (closed (exclusion_at_pair j p Overlap ∷ closure instance es)) (one_more (exclusion_at_pair j p Overlap) es))
+        (size_less (closed es) (closed (exclusion_at_pair j p Before ∷ exclusion_at_pair j p After ∷ closure instance es)) (two_more (exclusion_at_pair j p Before) (exclusion_at_pair j p After) es))
+        (apart_sizes (closed es) (closed (exclusion_at_pair j p Overlap ∷ closure instance es))
+        (closed (exclusion_at_pair j p Before ∷ exclusion_at_pair j p After ∷ closure instance es)) (j, p.0, p.1)
+        (one_more (exclusion_at_pair j p Overlap) es) (not-true _ q.0) (one_side (or_cases _ _ q.1))
+        (own_closed (exclusion_at_pair j p Overlap ∷ closure instance es) (exclusion_at_pair j p Overlap) (inl refl))
+        (own_closed (exclusion_at_pair j p Before ∷ exclusion_at_pair j p After ∷ closure instance es) (exclusion_at_pair j p Before) (inl refl))
+        (own_closed (exclusion_at_pair j p Before ∷ exclusion_at_pair j p After ∷ closure instance es) (exclusion_at_pair j p After) (inr (inl refl)))))
       where
         one_side : (not (closed es j p.0 p.1 Before) ≡ true) ⊎ (not (closed es j p.0 p.1 After) ≡ true)
             → (closed es j p.0 p.1 Before ≡ false) ⊎ (closed es j p.0 p.1 After ≡ false)
@@ -276,10 +269,10 @@ module _ (instance : PlainInstance) where
     node_count : (depth : ℕ) (es : List Exclusion) → suc (count_of (outcome (node_tree instance depth es))) ≤ measure es
     node_count zero es = measure_some es
     node_count (suc depth) es =
-        go (has_conflict (closed es) (dims instance) (box_count instance)) refl (find (is_unsettled instance (closed es)) (ranked_pairs instance)) refl
+        go (has_empty_mask (closed es) (dims instance) (box_count instance)) refl (find (is_unsettled instance (closed es)) (ranked_pairs instance)) refl
         (λ fs. node_count depth fs)
       where
-        go : (b : Bool) → has_conflict (closed es) (dims instance) (box_count instance) ≡ b
+        go : (b : Bool) → has_empty_mask (closed es) (dims instance) (box_count instance) ≡ b
             → (o : Option (ℕ × ℕ)) → find (is_unsettled instance (closed es)) (ranked_pairs instance) ≡ o
             → ((fs : List Exclusion) → suc (count_of (outcome (node_tree instance depth fs))) ≤ measure fs)
             → suc (count_of (outcome (node_of instance (closed es) b o (λ add. node_tree instance depth (add ++ closure instance es))))) ≤ measure es
@@ -297,15 +290,6 @@ module _ (instance : PlainInstance) where
   product_power f (x ∷ xs) h =
       let m : f x * product f xs ≤ 3 * 3 ^ length xs = times_le (f x) (product f xs) 3 (3 ^ length xs) (h x) (product_power f xs h) in
       subst (λ (y : ℕ). f x * product f xs ≤ y) (sym (pow-succ' 3 (length xs))) m
-
-  length_parts : {X Y : Type 0} (f : X → List Y) (k : ℕ) → ((x : X) → length (f x) ≡ k) → (xs : List X) → length (flat_map f xs) ≡ length xs * k
-  length_parts f k h [] = omega arith
-  length_parts f k h (x ∷ xs) =
-      let e = length_parts f k h xs in
-      let a = length-append (f x) (flat_map f xs) in
-      let b = h x in
-      let d : suc (length xs) * k ≡ k + length xs * k = grind arith in
-      omega (arith, e, a, b, d)
 
   triangle : (i a m : ℕ) → 2 * length (flat_map (λ v. pair_places i v) (range_with_len a m)) + m ≡ m * m + 2 * a * m
   triangle i a zero = omega arith
@@ -344,13 +328,13 @@ module _ (instance : PlainInstance) where
 
   pub class_count : 1 ≤ dims instance → (es : List Exclusion) (scales : Bool)
       → count_of (outcome (class_tree instance es scales)) < 3 ^ (dims instance * box_count instance * (box_count instance - 1) / 2)
-  class_count some_dim es scales = go (first_large instance) (closes_in_conflict instance es) (scales_after instance scales (closes_in_conflict instance es))
+  class_count some_dim es scales = go (first_too_large_box instance) (closes_in_conflict instance es) (scales_after instance scales (closes_in_conflict instance es))
     where
       some : 1 ≤ 3 ^ (dims instance * box_count instance * (box_count instance - 1) / 2)
       some = le_trans (measure_some es) (measure_most es)
 
       go : (l : Option (ℕ × ℕ)) (b : Bool) (o : Option (List ScaleFn))
-          → count_of (outcome (root_of l b o (inner_tree instance es))) < 3 ^ (dims instance * box_count instance * (box_count instance - 1) / 2)
+          → count_of (outcome (root_of l b o (tree_below instance es))) < 3 ^ (dims instance * box_count instance * (box_count instance - 1) / 2)
       go (Some p) b o = some
       go None true o = some
       go None false (Some fs) = some

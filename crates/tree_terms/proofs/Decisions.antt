@@ -8,24 +8,24 @@ use Rattle.packing_terms.proofs.Internal.{internal_sides, some_dimension, some_b
 use Rattle.packing_terms.proofs.Refuted.{none_fits}
 use Rattle.tree_terms.specs.Trees.{Verdict, Yes, No, outcome}
 use Rattle.tree_terms.specs.ClassTree.{class_tree}
-use Rattle.tree_terms.specs.Search.{IsSearch, AreAtPlaces, IsRightUnder, IsYes}
+use Rattle.tree_terms.specs.Search.{IsSearch, AreAtEdges, IsRightUnder, IsYesVerdict}
 use Rattle.tree_terms.proofs.ClassSearch.{class_search}
 use Rattle.tree_terms.proofs.Searches.{outcome_right}
 
 module _ (instance : PlainInstance) (limits : IsInternalInstance instance) where
-  pub class_tree_search : (es : List Exclusion) → AreAtPlaces instance es → (scales : Bool) → IsSearch instance es (class_tree instance es scales)
+  pub class_tree_search : (es : List Exclusion) → AreAtEdges instance es → (scales : Bool) → IsSearch instance es (class_tree instance es scales)
   class_tree_search = class_search instance (internal_sides instance limits) (some_dimension instance limits) (some_box instance limits)
 
-  pub class_tree_right : (es : List Exclusion) → AreAtPlaces instance es → (scales : Bool) → IsRightUnder instance es (outcome (class_tree instance es scales))
+  pub class_tree_right : (es : List Exclusion) → AreAtEdges instance es → (scales : Bool) → IsRightUnder instance es (outcome (class_tree instance es scales))
   class_tree_right es placed scales = outcome_right instance (class_tree instance es scales) es (class_tree_search es placed scales)
 
-  pub decides : ExcessLaw → (scales : Bool) → Fits instance ↔ IsYes (outcome (class_tree instance [] scales))
+  pub decides : ExcessLaw → (scales : Bool) → Fits instance ↔ IsYesVerdict (outcome (class_tree instance [] scales))
   decides law scales = (there (outcome (class_tree instance [] scales)) (class_tree_right [] tt scales), back (outcome (class_tree instance [] scales)) (class_tree_right [] tt scales))
     where
-      there : (v : Verdict) → IsRightUnder instance [] v → Fits instance → IsYes v
+      there : (v : Verdict) → IsRightUnder instance [] v → Fits instance → IsYesVerdict v
       there (Yes places count) h fits = tt
       there (No tokens count) h fits = none_fits law instance (internal_sides instance limits) tokens h fits
 
-      back : (v : Verdict) → IsRightUnder instance [] v → IsYes v → Fits instance
+      back : (v : Verdict) → IsRightUnder instance [] v → IsYesVerdict v → Fits instance
       back (Yes places count) h is_yes = (places, h)
       back (No tokens count) h is_yes = absurd is_yes

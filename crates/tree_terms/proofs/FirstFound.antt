@@ -1,30 +1,14 @@
 -- The search of the sides of all boxes finds the first that is longer than the container, and finds none exactly where there is none.
-use Rattle.std.proofs.Common.{◌≡◌, ◌≢◌, ℕ, zero, suc, ◌+◌, ◌-◌, ◌<◌, ◌≤◌, ◌⊎◌, ◌↔◌, inl, inr, refl, sym, subst, ◌∙◌, arith, Bool, true, false, cond, nat_lt, List, [], ◌∷◌, ◌++◌, map, Option, Some, None}
+use Rattle.std.proofs.Common.{◌≡◌, ◌≢◌, ℕ, zero, suc, ◌+◌, ◌-◌, ◌<◌, ◌≤◌, ◌⊎◌, ◌↔◌, inl, inr, refl, sym, subst, ◌∙◌, arith, Bool, true, false, nat_lt, List, map, Option, Some, None}
 use Rattle.std.specs.List.{find, flat_map, range_with_len}
 use Rattle.std.proofs.lemmas.Bool.{cases_Bool, cases_eq, lt-ltb, ltb-true}
 use Rattle.packing_terms.specs.Packing.{PlainInstance, dims, box_count, container_side, side}
 use Rattle.packing_terms.specs.Goals.{HasTooWideBox, HasTooLargeBox}
-use Rattle.packing_terms.specs.TooLarge.{FitsBelow, IsFirstLarge, IsFirstTooLarge, IsFirstTooWide}
+use Rattle.packing_terms.specs.TooLarge.{IsNotLongerBelow, IsFirstLongerBelow, IsFirstTooLarge, IsFirstTooWide}
 use Rattle.packing_terms.proofs.FirstLarge.{first_or_none, large_box, wide_box}
-use Rattle.rule_terms.specs.Rounds.{below}
-use Rattle.tree_terms.specs.ClassTree.{first_large, first_too_wide}
-
--- a search of two lists
-pub find_left : {A : Type 0} (t : A → Bool) (xs ys : List A) (x : A) → find t xs ≡ Some x → find t (xs ++ ys) ≡ Some x
-find_left t [] ys x e = absurd (cc)
-find_left t (y ∷ xs) ys x e = go (t y) e (find_left t xs ys x)
-  where
-    go : (b : Bool) → cond b (Some y) (find t xs) ≡ Some x → (find t xs ≡ Some x → find t (xs ++ ys) ≡ Some x) → cond b (Some y) (find t (xs ++ ys)) ≡ Some x
-    go true e rest = e
-    go false e rest = rest e
-
-pub find_right : {A : Type 0} (t : A → Bool) (xs ys : List A) → find t xs ≡ None → find t (xs ++ ys) ≡ find t ys
-find_right t [] ys e = refl
-find_right t (y ∷ xs) ys e = go (t y) e (find_right t xs ys)
-  where
-    go : (b : Bool) → cond b (Some y) (find t xs) ≡ None → (find t xs ≡ None → find t (xs ++ ys) ≡ find t ys) → cond b (Some y) (find t (xs ++ ys)) ≡ find t ys
-    go true e rest = absurd (cc)
-    go false e rest = rest e
+use Rattle.packing_terms.proofs.Found.{find_left, find_right}
+use Rattle.packing_terms.specs.Sums.{below}
+use Rattle.tree_terms.specs.ClassTree.{first_too_large_box, first_too_wide}
 
 module _ (instance : PlainInstance) where
   abbrev is_large : ℕ × ℕ → Bool
@@ -57,13 +41,13 @@ module _ (instance : PlainInstance) where
   abbrev rows : ℕ → ℕ → ℕ → List (ℕ × ℕ)
   rows d a m = flat_map (λ v. map (λ i. (v, i)) (below d)) (range_with_len a m)
 
-  none_in_rows : (d a m : ℕ) → ((v : ℕ) → a ≤ v → v < a + m → FitsBelow instance d v) → find is_large (rows d a m) ≡ None
+  none_in_rows : (d a m : ℕ) → ((v : ℕ) → a ≤ v → v < a + m → IsNotLongerBelow instance d v) → find is_large (rows d a m) ≡ None
   none_in_rows d a zero h = refl
   none_in_rows d a (suc m) h =
       find_right is_large (map (λ i. (a, i)) (below d)) (rows d (a + 1) m) (none_in_row a 0 d (λ i x y. h a (omega arith) (omega arith) i (omega (arith, y))))
       ∙ none_in_rows d (a + 1) m (λ v x y. h v (omega (arith, x)) (omega (arith, y)))
 
-  first_in_rows : (d a m v i : ℕ) → a ≤ v → v < a + m → IsFirstLarge instance d v i → find is_large (rows d a m) ≡ Some (v, i)
+  first_in_rows : (d a m v i : ℕ) → a ≤ v → v < a + m → IsFirstLongerBelow instance d v i → find is_large (rows d a m) ≡ Some (v, i)
   first_in_rows d a zero v i low high h = absurd (omega (arith, low, high))
   first_in_rows d a (suc m) v i low high h = go (cases_eq a v) (λ g. first_in_rows d (a + 1) m v i (omega (arith, low, g)) (omega (arith, high)) h)
     where
@@ -76,48 +60,48 @@ module _ (instance : PlainInstance) where
   abbrev found : ℕ → Option (ℕ × ℕ)
   found d = find is_large (rows d 0 (box_count instance))
 
-  found_first : (d v i : ℕ) → IsFirstLarge instance d v i → found d ≡ Some (v, i)
+  found_first : (d v i : ℕ) → IsFirstLongerBelow instance d v i → found d ≡ Some (v, i)
   found_first d v i h = first_in_rows d 0 (box_count instance) v i (omega arith) (let l = h.there in omega (arith, l)) h
 
-  first_found : (d v i : ℕ) → found d ≡ Some (v, i) → IsFirstLarge instance d v i
+  first_found : (d v i : ℕ) → found d ≡ Some (v, i) → IsFirstLongerBelow instance d v i
   first_found d v i e = go (first_or_none instance d)
     where
-      go : ((u : ℕ) → u < box_count instance → FitsBelow instance d u) ⊎ ((u j : ℕ) × IsFirstLarge instance d u j) → IsFirstLarge instance d v i
+      go : ((u : ℕ) → u < box_count instance → IsNotLongerBelow instance d u) ⊎ ((u j : ℕ) × IsFirstLongerBelow instance d u j) → IsFirstLongerBelow instance d v i
       go (inl h) = absurd (differ (sym (none_in_rows d 0 (box_count instance) (λ u x y. h u (omega (arith, y)))) ∙ e))
         where
           differ : ◌≡◌ {A = Option (ℕ × ℕ)} None (Some (v, i)) → ⊥
           differ k = cc
       go (inr (u, j, h)) = same (sym (found_first d u j h) ∙ e)
         where
-          same : ◌≡◌ {A = Option (ℕ × ℕ)} (Some (u, j)) (Some (v, i)) → IsFirstLarge instance d v i
+          same : ◌≡◌ {A = Option (ℕ × ℕ)} (Some (u, j)) (Some (v, i)) → IsFirstLongerBelow instance d v i
           same k =
               let p : ◌≡◌ {A = ℕ × ℕ} (u, j) (v, i) = cc in
-              subst (λ (q : ℕ × ℕ). IsFirstLarge instance d q.0 q.1) p h
+              subst (λ (q : ℕ × ℕ). IsFirstLongerBelow instance d q.0 q.1) p h
 
-  none_found : (d : ℕ) → found d ≡ None → ((v : ℕ) → v < box_count instance → FitsBelow instance d v)
+  none_found : (d : ℕ) → found d ≡ None → ((v : ℕ) → v < box_count instance → IsNotLongerBelow instance d v)
   none_found d e = go (first_or_none instance d)
     where
-      go : ((u : ℕ) → u < box_count instance → FitsBelow instance d u) ⊎ ((u j : ℕ) × IsFirstLarge instance d u j) → ((v : ℕ) → v < box_count instance → FitsBelow instance d v)
+      go : ((u : ℕ) → u < box_count instance → IsNotLongerBelow instance d u) ⊎ ((u j : ℕ) × IsFirstLongerBelow instance d u j) → ((v : ℕ) → v < box_count instance → IsNotLongerBelow instance d v)
       go (inl h) = h
       go (inr (u, j, h)) = absurd (differ (sym e ∙ found_first d u j h))
         where
           differ : ◌≡◌ {A = Option (ℕ × ℕ)} None (Some (u, j)) → ⊥
           differ k = cc
 
-  pub first_large_is : (v i : ℕ) → first_large instance ≡ Some (v, i) ↔ IsFirstTooLarge instance v i
+  pub first_large_is : (v i : ℕ) → first_too_large_box instance ≡ Some (v, i) ↔ IsFirstTooLarge instance v i
   first_large_is v i = (first_found (dims instance) v i, found_first (dims instance) v i)
 
   pub first_too_wide_is : (v i : ℕ) → first_too_wide instance ≡ Some (v, i) ↔ IsFirstTooWide instance v i
   first_too_wide_is v i = (first_found (dims instance - 1) v i, found_first (dims instance - 1) v i)
 
   -- and there is no such box exactly where none is found
-  pub none_large_is : first_large instance ≡ None ↔ (¬ HasTooLargeBox instance)
+  pub none_large_is : first_too_large_box instance ≡ None ↔ (¬ HasTooLargeBox instance)
   none_large_is = (
     (λ e h. let s = none_found (dims instance) e h.box_no h.there h.dim h.in_range in let l = h.large in omega (arith, s, l)),
-    λ none. go (first_large instance) refl none,
+    λ none. go (first_too_large_box instance) refl none,
   )
     where
-      go : (o : Option (ℕ × ℕ)) → first_large instance ≡ o → (¬ HasTooLargeBox instance) → o ≡ None
+      go : (o : Option (ℕ × ℕ)) → first_too_large_box instance ≡ o → (¬ HasTooLargeBox instance) → o ≡ None
       go None e none = refl
       go (Some p) e none = absurd (none (large_box instance p.0 p.1 (first_found (dims instance) p.0 p.1 e)))
 
@@ -133,9 +117,9 @@ module _ (instance : PlainInstance) where
 
   -- a box that is too large can be told
   pub some_large : HasTooLargeBox instance ⊎ (¬ HasTooLargeBox instance)
-  some_large = go (first_large instance) refl
+  some_large = go (first_too_large_box instance) refl
     where
-      go : (o : Option (ℕ × ℕ)) → first_large instance ≡ o → HasTooLargeBox instance ⊎ (¬ HasTooLargeBox instance)
+      go : (o : Option (ℕ × ℕ)) → first_too_large_box instance ≡ o → HasTooLargeBox instance ⊎ (¬ HasTooLargeBox instance)
       go None e = inr (none_large_is.0 e)
       go (Some p) e = inl (large_box instance p.0 p.1 (first_found (dims instance) p.0 p.1 e))
 

@@ -1,8 +1,8 @@
 -- Verdicts are a monoid under joining, and the outcome of a split joins those of its children.
-use Rattle.std.proofs.Common.{◌≡◌, ℕ, zero, suc, ◌+◌, refl, ap, ap₂, ◌∙◌, arith, List, [], ◌∷◌, map, append_assoc, append-nil, add_assoc, add-zero}
+use Rattle.std.proofs.Common.{◌≡◌, ℕ, zero, suc, ◌+◌, ◌≤◌, refl, ap, ap₂, ◌∙◌, arith, List, [], ◌∷◌, map, append_assoc, append-nil, add_assoc, add-zero}
 use Rattle.std.specs.List.{range_with_len}
 use Rattle.packing_terms.specs.Tokens.{PlainToken}
-use Rattle.tree_terms.specs.Trees.{SearchTree, Split, Verdict, Yes, No, nothing, join, join_from, outcome, count_of}
+use Rattle.tree_terms.specs.Trees.{SearchTree, Split, Verdict, Yes, No, no_tokens, join, join_from, outcome, count_of}
 use Rattle.tree_terms.specs.Joined.{join_all}
 
 pub join_assoc : (u v w : Verdict) → join (join u v) w ≡ join u (join v w)
@@ -11,11 +11,11 @@ join_assoc (No ts c) (Yes ns d) w = refl
 join_assoc (No ts c) (No us d) (Yes ns e) = ap (λ k. Yes ns k) (add_assoc c d e)
 join_assoc (No ts c) (No us d) (No ws e) = ap₂ No (append_assoc ts us ws) (add_assoc c d e)
 
-pub join_nothing : (v : Verdict) → join v nothing ≡ v
+pub join_nothing : (v : Verdict) → join v no_tokens ≡ v
 join_nothing (Yes ns c) = refl
 join_nothing (No ts c) = ap₂ No (append-nil ts) (add-zero c)
 
-pub nothing_join : (v : Verdict) → join nothing v ≡ v
+pub nothing_join : (v : Verdict) → join no_tokens v ≡ v
 nothing_join (Yes ns c) = ap (λ k. Yes ns k) (omega arith)
 nothing_join (No ts c) = ap (λ k. No ts k) (omega arith)
 
@@ -39,3 +39,8 @@ split_joins token own n child = ap (join (No (token ∷ []) own)) (join_from_all
 pub count_join_no : (ts : List PlainToken) (c : ℕ) (v : Verdict) → count_of (join (No ts c) v) ≡ c + count_of v
 count_join_no ts c (Yes ns d) = refl
 count_join_no ts c (No us d) = refl
+
+-- what is joined counts no less than its left side
+pub count_left : (v w : Verdict) → count_of v ≤ count_of (join v w)
+count_left (Yes ns c) w = omega arith
+count_left (No ts c) w = let e = count_join_no ts c w in omega (arith, e)

@@ -2,11 +2,11 @@
 -- is the first one or what a decision on the run gave.
 use Rattle.std.proofs.Common.{◌≡◌, ℕ, zero, suc, ◌<◌, ◌≤◌, ◌⊎◌, ◌↔◌, inl, inr, refl, sym, subst, ◌∙◌, arith, Bool, true, false, if◌then◌else◌, nat_lt, IsTrue}
 use Rattle.std.proofs.lemmas.Bool.{true≢false, ltb-true}
-use Rattle.tree_terms.specs.Levels.{PlainLevel, PlacedBy, RefutedBy, SpentAt, PlainReached, distance, halfway, moved, is_over, run_on, run_levels, IsBetween}
-use Rattle.tree_terms.specs.RunEnds.{IsAsked, here, later, HasSpentDecision, IsFromRun, IsRisingEnd, IsFallingEnd}
+use Rattle.tree_terms.specs.Levels.{PlainLevel, PlacedBy, RefutedBy, SpentAt, PlainReached, distance, halfway, moved, is_run_over, run_on, run_levels, IsLevelBetween}
+use Rattle.tree_terms.specs.RunEnds.{IsLevelAsked, here, later, HasSpentDecision, IsFromRun, IsRisingEnd, IsFallingEnd}
 use Rattle.tree_terms.proofs.Runs.{not_over, halfway_between, wider_placed, wider_refuted, run_over, run_ends, run_goes_on}
 
-near_each_other : (r : PlainReached) → is_over r ≡ true → r.spent ≡ false → distance r < 2
+pub near_each_other : (r : PlainReached) → is_run_over r ≡ true → r.spent ≡ false → distance r < 2
 near_each_other r h e = go r.spent e h
   where
     go : (s : Bool) → s ≡ false → (if s then true else nat_lt (distance r) 2) ≡ true → distance r < 2
@@ -23,7 +23,7 @@ Falls first r = (r.placed < r.refuted) × (first.placed ≤ r.placed) × (r.refu
 module _ (answer : ℕ → PlainLevel) (first : PlainReached) where
   rises_on : (k : ℕ) (r : PlainReached) → Rises first r → Rises first (run_on answer k r)
   rises_on zero r l = l
-  rises_on (suc k) r l = go (is_over r) refl (λ s m. rises_on k s m)
+  rises_on (suc k) r l = go (is_run_over r) refl (λ s m. rises_on k s m)
     where
       next : (a : PlainLevel) → 2 ≤ distance r → ((s : PlainReached) → Rises first s → Rises first (run_on answer k s))
           → Rises first (run_on answer k (moved r (halfway r) a))
@@ -31,14 +31,14 @@ module _ (answer : ℕ → PlainLevel) (first : PlainReached) where
       next (RefutedBy ts) far rest = rest (moved r (halfway r) (RefutedBy ts)) (omega (arith, far, l.0), omega (arith, far, l.0, l.1), l.2)
       next SpentAt far rest = rest (moved r (halfway r) SpentAt) l
 
-      go : (b : Bool) → is_over r ≡ b → ((s : PlainReached) → Rises first s → Rises first (run_on answer k s))
+      go : (b : Bool) → is_run_over r ≡ b → ((s : PlainReached) → Rises first s → Rises first (run_on answer k s))
           → Rises first (elim b [ true ↦ r | false ↦ run_on answer k (moved r (halfway r) (answer (halfway r))) ])
       go true e rest = l
       go false e rest = next (answer (halfway r)) (not_over r e).1 rest
 
   falls_on : (k : ℕ) (r : PlainReached) → Falls first r → Falls first (run_on answer k r)
   falls_on zero r l = l
-  falls_on (suc k) r l = go (is_over r) refl (λ s m. falls_on k s m)
+  falls_on (suc k) r l = go (is_run_over r) refl (λ s m. falls_on k s m)
     where
       next : (a : PlainLevel) → 2 ≤ distance r → ((s : PlainReached) → Falls first s → Falls first (run_on answer k s))
           → Falls first (run_on answer k (moved r (halfway r) a))
@@ -46,7 +46,7 @@ module _ (answer : ℕ → PlainLevel) (first : PlainReached) where
       next (RefutedBy ts) far rest = rest (moved r (halfway r) (RefutedBy ts)) (omega (arith, far, l.0), l.1, omega (arith, far, l.0, l.2))
       next SpentAt far rest = rest (moved r (halfway r) SpentAt) l
 
-      go : (b : Bool) → is_over r ≡ b → ((s : PlainReached) → Falls first s → Falls first (run_on answer k s))
+      go : (b : Bool) → is_run_over r ≡ b → ((s : PlainReached) → Falls first s → Falls first (run_on answer k s))
           → Falls first (elim b [ true ↦ r | false ↦ run_on answer k (moved r (halfway r) (answer (halfway r))) ])
       go true e rest = l
       go false e rest = next (answer (halfway r)) (not_over r e).1 rest
@@ -73,45 +73,45 @@ module _ (answer : ℕ → PlainLevel) where
       }
 
   -- each level that is decided lies strictly between the two
-  pub asked_between : {r : PlainReached} {level : ℕ} → IsAsked answer r level → IsBetween r level
+  pub asked_between : {r : PlainReached} {level : ℕ} → IsLevelAsked answer r level → IsLevelBetween r level
   asked_between (here {r = r} o) = halfway_between r (not_over r o).1
   asked_between (later {r = r} {level = level} o d) = go (answer (halfway r)) (asked_between d)
     where
-      go : (a : PlainLevel) → IsBetween (moved r (halfway r) a) level → IsBetween r level
+      go : (a : PlainLevel) → IsLevelBetween (moved r (halfway r) a) level → IsLevelBetween r level
       go (PlacedBy ns) b = wider_placed r ns (not_over r o).1 level b
       go (RefutedBy ts) b = wider_refuted r ts (not_over r o).1 level b
       go SpentAt b = b
 
   -- a step further on the run
-  from_next : (r s : PlainReached) → is_over r ≡ false → IsFromRun answer (moved r (halfway r) (answer (halfway r))) s → IsFromRun answer r s
+  from_next : (r s : PlainReached) → is_run_over r ≡ false → IsFromRun answer (moved r (halfway r) (answer (halfway r))) s → IsFromRun answer r s
   from_next r s o h = record { refuted = first_refuted (answer (halfway r)) refl h.refuted; placed = first_placed (answer (halfway r)) refl h.placed }
     where
-      deeper : (a : PlainLevel) (level : ℕ) → answer (halfway r) ≡ a → IsAsked answer (moved r (halfway r) a) level → IsAsked answer r level
-      deeper a level is d = later o (subst (λ (x : PlainLevel). IsAsked answer (moved r (halfway r) x) level) (sym is) d)
+      deeper : (a : PlainLevel) (level : ℕ) → answer (halfway r) ≡ a → IsLevelAsked answer (moved r (halfway r) a) level → IsLevelAsked answer r level
+      deeper a level is d = later o (subst (λ (x : PlainLevel). IsLevelAsked answer (moved r (halfway r) x) level) (sym is) d)
 
       first_refuted : (a : PlainLevel) → answer (halfway r) ≡ a
-          → ((s.refuted ≡ (moved r (halfway r) a).refuted) × (s.tokens ≡ (moved r (halfway r) a).tokens)) ⊎ (IsAsked answer (moved r (halfway r) a) s.refuted × (answer s.refuted ≡ RefutedBy s.tokens))
-          → ((s.refuted ≡ r.refuted) × (s.tokens ≡ r.tokens)) ⊎ (IsAsked answer r s.refuted × (answer s.refuted ≡ RefutedBy s.tokens))
+          → ((s.refuted ≡ (moved r (halfway r) a).refuted) × (s.tokens ≡ (moved r (halfway r) a).tokens)) ⊎ (IsLevelAsked answer (moved r (halfway r) a) s.refuted × (answer s.refuted ≡ RefutedBy s.tokens))
+          → ((s.refuted ≡ r.refuted) × (s.tokens ≡ r.tokens)) ⊎ (IsLevelAsked answer r s.refuted × (answer s.refuted ≡ RefutedBy s.tokens))
       first_refuted a is (inr (d, e)) = inr (deeper a s.refuted is d, e)
       first_refuted (PlacedBy ns) is (inl (e, f)) = inl (e, f)
       first_refuted (RefutedBy ts) is (inl (e, f)) =
-          inr (subst (λ (m : ℕ). IsAsked answer r m) (sym e) (here o), rw (e, f) is)
+          inr (subst (λ (m : ℕ). IsLevelAsked answer r m) (sym e) (here o), rw (e, f) is)
       first_refuted SpentAt is (inl (e, f)) = inl (e, f)
 
       first_placed : (a : PlainLevel) → answer (halfway r) ≡ a
-          → ((s.placed ≡ (moved r (halfway r) a).placed) × (s.numbers ≡ (moved r (halfway r) a).numbers)) ⊎ (IsAsked answer (moved r (halfway r) a) s.placed × (answer s.placed ≡ PlacedBy s.numbers))
-          → ((s.placed ≡ r.placed) × (s.numbers ≡ r.numbers)) ⊎ (IsAsked answer r s.placed × (answer s.placed ≡ PlacedBy s.numbers))
+          → ((s.placed ≡ (moved r (halfway r) a).placed) × (s.numbers ≡ (moved r (halfway r) a).numbers)) ⊎ (IsLevelAsked answer (moved r (halfway r) a) s.placed × (answer s.placed ≡ PlacedBy s.numbers))
+          → ((s.placed ≡ r.placed) × (s.numbers ≡ r.numbers)) ⊎ (IsLevelAsked answer r s.placed × (answer s.placed ≡ PlacedBy s.numbers))
       first_placed a is (inr (d, e)) = inr (deeper a s.placed is d, e)
       first_placed (PlacedBy ns) is (inl (e, f)) =
-          inr (subst (λ (m : ℕ). IsAsked answer r m) (sym e) (here o), rw (e, f) is)
+          inr (subst (λ (m : ℕ). IsLevelAsked answer r m) (sym e) (here o), rw (e, f) is)
       first_placed (RefutedBy ts) is (inl (e, f)) = inl (e, f)
       first_placed SpentAt is (inl (e, f)) = inl (e, f)
 
   from_run_on : (k : ℕ) (r : PlainReached) → IsFromRun answer r (run_on answer k r)
   from_run_on zero r = record { refuted = inl (refl, refl); placed = inl (refl, refl) }
-  from_run_on (suc k) r = go (is_over r) refl (λ s. from_run_on k s)
+  from_run_on (suc k) r = go (is_run_over r) refl (λ s. from_run_on k s)
     where
-      go : (b : Bool) → is_over r ≡ b → ((s : PlainReached) → IsFromRun answer s (run_on answer k s))
+      go : (b : Bool) → is_run_over r ≡ b → ((s : PlainReached) → IsFromRun answer s (run_on answer k s))
           → IsFromRun answer r (elim b [ true ↦ r | false ↦ run_on answer k (moved r (halfway r) (answer (halfway r))) ])
       go true e rest = record { refuted = inl (refl, refl); placed = inl (refl, refl) }
       go false e rest = from_next r (run_on answer k (moved r (halfway r) (answer (halfway r)))) e (rest (moved r (halfway r) (answer (halfway r))))
@@ -122,23 +122,23 @@ module _ (answer : ℕ → PlainLevel) where
   -- a run is spent exactly where a decision on it was
   spent_on : (k : ℕ) (r : PlainReached) → r.spent ≡ false → (run_on answer k r).spent ≡ true → HasSpentDecision answer r
   spent_on zero r e h = absurd (true≢false (sym h ∙ e))
-  spent_on (suc k) r e h = go (is_over r) refl h (λ s f g. spent_on k s f g)
+  spent_on (suc k) r e h = go (is_run_over r) refl h (λ s f g. spent_on k s f g)
     where
-      deeper : (a : PlainLevel) → answer (halfway r) ≡ a → is_over r ≡ false → HasSpentDecision answer (moved r (halfway r) a) → HasSpentDecision answer r
-      deeper a is o (level, d, f) = (level, later o (subst (λ (x : PlainLevel). IsAsked answer (moved r (halfway r) x) level) (sym is) d), f)
+      deeper : (a : PlainLevel) → answer (halfway r) ≡ a → is_run_over r ≡ false → HasSpentDecision answer (moved r (halfway r) a) → HasSpentDecision answer r
+      deeper a is o (level, d, f) = (level, later o (subst (λ (x : PlainLevel). IsLevelAsked answer (moved r (halfway r) x) level) (sym is) d), f)
 
-      next : (a : PlainLevel) → answer (halfway r) ≡ a → is_over r ≡ false → (run_on answer k (moved r (halfway r) a)).spent ≡ true
+      next : (a : PlainLevel) → answer (halfway r) ≡ a → is_run_over r ≡ false → (run_on answer k (moved r (halfway r) a)).spent ≡ true
           → ((s : PlainReached) → s.spent ≡ false → (run_on answer k s).spent ≡ true → HasSpentDecision answer s) → HasSpentDecision answer r
       next SpentAt is o g rest = (halfway r, here o, is)
       next (PlacedBy ns) is o g rest = deeper (PlacedBy ns) is o (rest (moved r (halfway r) (PlacedBy ns)) e g)
       next (RefutedBy ts) is o g rest = deeper (RefutedBy ts) is o (rest (moved r (halfway r) (RefutedBy ts)) e g)
 
-      go : (b : Bool) → is_over r ≡ b → (elim b as (λ x. PlainReached) [ true ↦ r | false ↦ run_on answer k (moved r (halfway r) (answer (halfway r))) ]).spent ≡ true
+      go : (b : Bool) → is_run_over r ≡ b → (elim b as (λ x. PlainReached) [ true ↦ r | false ↦ run_on answer k (moved r (halfway r) (answer (halfway r))) ]).spent ≡ true
           → ((s : PlainReached) → s.spent ≡ false → (run_on answer k s).spent ≡ true → HasSpentDecision answer s) → HasSpentDecision answer r
       go true o g rest = absurd (true≢false (sym g ∙ e))
       go false o g rest = next (answer (halfway r)) refl o g rest
 
-  decided_spends : (r : PlainReached) (level : ℕ) → IsAsked answer r level → answer level ≡ SpentAt → (run_levels answer r).spent ≡ true
+  decided_spends : (r : PlainReached) (level : ℕ) → IsLevelAsked answer r level → answer level ≡ SpentAt → (run_levels answer r).spent ≡ true
   decided_spends r level (here o) e = rw (run_goes_on answer r o, e, run_ends answer (moved r (halfway r) SpentAt) refl) refl
   decided_spends r level (later o d) e = rw (run_goes_on answer r o) (decided_spends _ level d e)
 

@@ -6,12 +6,12 @@ use Rattle.packing_terms.specs.Packing.{PlainInstance}
 use Rattle.packing_terms.specs.Tokens.{PlainToken}
 use Rattle.packing_terms.specs.Tokens.PlainToken.{Choose, ValueShort}
 use Rattle.packing_terms.specs.OuterRefutation.{Bins, insert_box, with_box, placements, Choice, no_choice, with_taken, with_left}
+use Rattle.packing_terms.proofs.WithBoxes.{child_is}
 use Rattle.tree_terms.specs.Trees.{SearchTree, Settled, Refuted, Split, Verdict, Yes, No, join, join_from, outcome, node_at}
 use Rattle.tree_terms.specs.Rank.{ranked}
 use Rattle.tree_terms.specs.ClassTree.{first_exceeding}
-use Rattle.tree_terms.specs.OuterTrees.{set_verdict, with_answer, bin_numbers, bin_child, bin_node, bin_root, bin_tree, choice_numbers, taken_child, choice_of, is_reached, is_short, choice_node, choice_tree, numbers_of, bin_answer_of, choice_answer_of}
+use Rattle.tree_terms.specs.OuterTrees.{set_verdict, with_answer, bin_numbers, bin_child, bin_node, bin_root, bin_tree, choice_numbers, taken_child, choice_of, is_reached, is_short, choice_node, choice_tree, yes_numbers, bin_answer_of, choice_answer_of}
 use Rattle.tree_terms.specs.Paths.{bins_at, choice_at}
-use Rattle.tree_terms.proofs.BinSearch.{child_is}
 use Rattle.tree_terms.proofs.PathNodes.{some_node, no_node, into}
 
 -- nodes of different kinds
@@ -48,12 +48,12 @@ module _ (f : List ℕ → List ℕ) where
 
 module _ (instance : PlainInstance) (scales : Bool) (k : ℕ) where
   abbrev answer : List ℕ → List ℕ
-  answer set = numbers_of (set_verdict instance scales set)
+  answer set = yes_numbers (set_verdict instance scales set)
 
   -- the answers after a child's bin changed
   next_answers : (bins : Bins) (b v : ℕ) → b < length (placements k bins v)
       → with_answer (map answer bins) b (answer (get_or (get_or (placements k bins v) b []) b [])) ≡ map answer (get_or (placements k bins v) b [])
-  next_answers bins b v l = go (child_is k bins v b l)
+  next_answers bins b v l = go (child_is k bins [] v b l)
     where
       go : ((b < length bins) × (get_or (placements k bins v) b [] ≡ with_box bins b v))
           ⊎ ((b ≡ length bins) × (length bins < k) × (get_or (placements k bins v) b [] ≡ bins ++ (v ∷ []) ∷ []))
@@ -84,7 +84,7 @@ module _ (instance : PlainInstance) (scales : Bool) (k : ℕ) where
       go l (No ts m) is f rest = not_refuted path _ _ numbers c f
       go l (Yes ns m) is f rest =
           rest (get_or (placements k bins v) b []) ns (1 + m)
-          (ap (λ x. with_answer x b ns) a ∙ (ap (λ (x : Verdict). with_answer (map answer bins) b (numbers_of x)) (sym is) ∙ next_answers bins b v l)) f
+          (ap (λ x. with_answer x b ns) a ∙ (ap (λ (x : Verdict). with_answer (map answer bins) b (yes_numbers x)) (sym is) ∙ next_answers bins b v l)) f
 
   pub bin_tree_answer : (path : List ℕ) (numbers : List ℕ) (c : ℕ) → node_at (Some (bin_tree instance k scales)) path ≡ Some (Settled numbers c)
       → numbers ≡ bin_answer_of instance scales (bins_at k [] (bin_tree instance k scales) path)
@@ -134,7 +134,7 @@ module _ (instance : PlainInstance) (scales : Bool) (goal : ℕ) where
       child : (w : Verdict) → set_verdict instance scales (insert_box v c.taken) ≡ w
           → ((ms : List ℕ) (m : ℕ) → AreOf (insert_box v c.taken) ms → IsAnswered (with_taken c v) (choice_node instance scales goal vs (insert_box v c.taken) ms m))
           → IsAnswered (with_taken c v) (taken_child w (λ ms m. choice_node instance scales goal vs (insert_box v c.taken) ms m))
-      child (Yes ms m) is rest = rest ms (1 + m) (ap (λ (x : Verdict). choice_numbers instance (insert_box v c.taken) (numbers_of x)) (sym is))
+      child (Yes ms m) is rest = rest ms (1 + m) (ap (λ (x : Verdict). choice_numbers instance (insert_box v c.taken) (yes_numbers x)) (sym is))
       child (No ts m) is rest = refuted_answered (with_taken c v) _ _
 
   pub choice_tree_answer : (path : List ℕ) (numbers : List ℕ) (own : ℕ) → node_at (Some (choice_tree instance goal scales)) path ≡ Some (Settled numbers own)
@@ -164,7 +164,7 @@ module _ where
           → ((n : ℕ) → join_from (k + 1) m f ≡ Yes numbers n → (j : ℕ) × (j < k + 1 + m) × (o : ℕ) × (f j ≡ Yes numbers o))
           → (j : ℕ) × (j < k + suc m) × (o : ℕ) × (f j ≡ Yes numbers o)
       late ts d (Yes ms n) is h rest =
-          let r = rest n (is ∙ ap (λ x. Yes x n) (ap numbers_of h)) in
+          let r = rest n (is ∙ ap (λ x. Yes x n) (ap yes_numbers h)) in
           let l = r.1 in
           (r.0, omega (arith, l), r.2, r.3)
       late ts d (No us n) is h rest = absurd (true≢false (sym (ap is_yes h)))
@@ -172,11 +172,11 @@ module _ where
       go : (v : Verdict) → f k ≡ v → elim v [ Yes ns d ↦ Yes ns d | No ts d ↦ join (No ts d) (join_from (k + 1) m f) ] ≡ Yes numbers c
           → ((n : ℕ) → join_from (k + 1) m f ≡ Yes numbers n → (j : ℕ) × (j < k + 1 + m) × (o : ℕ) × (f j ≡ Yes numbers o))
           → (j : ℕ) × (j < k + suc m) × (o : ℕ) × (f j ≡ Yes numbers o)
-      go (Yes ns d) is h rest = (k, omega arith, d, is ∙ ap (λ x. Yes x d) (ap numbers_of h))
+      go (Yes ns d) is h rest = (k, omega arith, d, is ∙ ap (λ x. Yes x d) (ap yes_numbers h))
       go (No ts d) is h rest = late ts d (join_from (k + 1) m f) refl h rest
 
   pub yes_settled : (tree : SearchTree) (numbers : List ℕ) (count : ℕ) → outcome tree ≡ Yes numbers count → IsSettledAt tree numbers
-  yes_settled (Settled ns own) numbers count e = ([], own, ap (λ x. Some (Settled x own)) (ap numbers_of e))
+  yes_settled (Settled ns own) numbers count e = ([], own, ap (λ x. Some (Settled x own)) (ap yes_numbers e))
   yes_settled (Refuted ts own) numbers count e = absurd (true≢false (sym (ap is_yes e)))
   yes_settled (Split token own n child) numbers count e = go (join_from 0 n (λ k. outcome (child k))) refl e (λ j. yes_settled (child j) numbers)
     where
@@ -184,7 +184,7 @@ module _ where
           → ((j m : ℕ) → outcome (child j) ≡ Yes numbers m → IsSettledAt (child j) numbers) → IsSettledAt (Split token own n child) numbers
       go (No us m) is h rest = absurd (true≢false (sym (ap is_yes h)))
       go (Yes ms m) is h rest =
-          let r = yes_from (λ k. outcome (child k)) 0 n numbers m (is ∙ ap (λ x. Yes x m) (ap numbers_of h)) in
+          let r = yes_from (λ k. outcome (child k)) 0 n numbers m (is ∙ ap (λ x. Yes x m) (ap yes_numbers h)) in
           let s = rest r.0 r.2 r.3 in
           let l = r.1 in
           let t : r.0 < n = omega (arith, l) in

@@ -6,9 +6,9 @@ use Rattle.std.proofs.lemmas.Bool.{cases_Bool, cases_lt, ltb-true}
 use Rattle.std.proofs.lemmas.List.{length-map, length-append}
 use Rattle.std.proofs.lemmas.List.FromFn.{length-map-range_with_len}
 use Rattle.packing_terms.specs.declared.ScaleFn.{ScaleFn}
-use Rattle.packing_terms.specs.Packing.{PlainInstance, IsPacking, HasSides, no_box, dims, box_count}
+use Rattle.packing_terms.specs.Packing.{PlainInstance, IsPacking, HasPositiveSides, no_box, dims, box_count}
 use Rattle.packing_terms.specs.Rules.{AreBoxes}
-use Rattle.packing_terms.specs.Scales.{sum_below}
+use Rattle.packing_terms.specs.Sums.{sum_below}
 use Rattle.packing_terms.specs.Goals.{subset}
 use Rattle.packing_terms.specs.OuterRefutation.{Bins, with_box, placements}
 use Rattle.packing_terms.proofs.Boxes.{each_from, boxes_few}
@@ -64,7 +64,7 @@ count_joined most from (suc n) f h =
     let d : suc n * most ≡ most + n * most = grind arith in
     omega (arith, first, rest, all, d)
 
-module _ (instance : PlainInstance) (sides : HasSides instance) (some_dim : 1 ≤ dims instance) (scales : Bool) where
+module _ (instance : PlainInstance) (sides : HasPositiveSides instance) (some_dim : 1 ≤ dims instance) (scales : Bool) where
   pub most : ℕ
   most = 3 ^ (dims instance * box_count instance * (box_count instance - 1) / 2)
 

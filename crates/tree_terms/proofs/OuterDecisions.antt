@@ -10,7 +10,7 @@ use Rattle.packing_terms.proofs.BinsRefuted.{none_fits_bins}
 use Rattle.packing_terms.proofs.ValueRefuted.{none_reaches}
 use Rattle.tree_terms.specs.Trees.{Verdict, Yes, No, outcome}
 use Rattle.tree_terms.specs.OuterTrees.{bin_tree, choice_tree}
-use Rattle.tree_terms.specs.Search.{IsYes}
+use Rattle.tree_terms.specs.Search.{IsYesVerdict}
 use Rattle.tree_terms.specs.OuterSearch.{bins_in, places_in, IsBinSearch, IsBinRight, IsChoiceSearch, IsChoiceRight}
 use Rattle.tree_terms.proofs.BinSearch.{bin_search}
 use Rattle.tree_terms.proofs.ChoiceSearch.{choice_search}
@@ -29,30 +29,30 @@ module _ (instance : PlainInstance) (limits : IsInternalInstance instance) where
   pub choice_tree_right : (goal : ℕ) (scales : Bool) → IsChoiceRight instance goal no_choice (outcome (choice_tree instance goal scales))
   choice_tree_right goal scales = value_right instance goal (choice_tree instance goal scales) no_choice (choice_tree_search goal scales)
 
-  pub decides_bins : ExcessLaw → (k : ℕ) (scales : Bool) → FitsInBins instance k ↔ IsYes (outcome (bin_tree instance k scales))
+  pub decides_bins : ExcessLaw → (k : ℕ) (scales : Bool) → FitsInBins instance k ↔ IsYesVerdict (outcome (bin_tree instance k scales))
   decides_bins law k scales = (
     there (outcome (bin_tree instance k scales)) (bin_tree_right k scales),
     back (outcome (bin_tree instance k scales)) (bin_tree_right k scales),
   )
     where
-      there : (v : Verdict) → IsBinRight instance k [] v → FitsInBins instance k → IsYes v
+      there : (v : Verdict) → IsBinRight instance k [] v → FitsInBins instance k → IsYesVerdict v
       there (Yes numbers count) h fits = tt
       there (No tokens count) h fits = none_fits_bins law instance (internal_sides instance limits) k tokens h fits
 
-      back : (v : Verdict) → IsBinRight instance k [] v → IsYes v → FitsInBins instance k
+      back : (v : Verdict) → IsBinRight instance k [] v → IsYesVerdict v → FitsInBins instance k
       back (Yes numbers count) h is_yes = (bins_in instance numbers, places_in instance numbers, h.packing)
       back (No tokens count) h is_yes = absurd is_yes
 
-  pub decides_value : ExcessLaw → (goal : ℕ) (scales : Bool) → ReachesValue instance goal ↔ IsYes (outcome (choice_tree instance goal scales))
+  pub decides_value : ExcessLaw → (goal : ℕ) (scales : Bool) → ReachesValue instance goal ↔ IsYesVerdict (outcome (choice_tree instance goal scales))
   decides_value law goal scales = (
     there (outcome (choice_tree instance goal scales)) (choice_tree_right goal scales),
     back (outcome (choice_tree instance goal scales)) (choice_tree_right goal scales),
   )
     where
-      there : (v : Verdict) → IsChoiceRight instance goal no_choice v → ReachesValue instance goal → IsYes v
+      there : (v : Verdict) → IsChoiceRight instance goal no_choice v → ReachesValue instance goal → IsYesVerdict v
       there (Yes numbers count) h reached = tt
       there (No tokens count) h reached = none_reaches law instance (internal_sides instance limits) goal tokens h reached
 
-      back : (v : Verdict) → IsChoiceRight instance goal no_choice v → IsYes v → ReachesValue instance goal
+      back : (v : Verdict) → IsChoiceRight instance goal no_choice v → IsYesVerdict v → ReachesValue instance goal
       back (Yes numbers count) h is_yes = (h.taken, h.set, h.reached, (h.places, h.packing))
       back (No tokens count) h is_yes = absurd is_yes

@@ -3,8 +3,8 @@ use Rattle.std.proofs.Common.{◌≡◌, ℕ, suc, pred, ◌+◌, ◌<◌, sym, 
 use Rattle.packing_terms.specs.Packing.{PlainInstance}
 use Rattle.packing_terms.specs.Tokens.{PlainToken}
 use Rattle.packing_terms.specs.Tokens.PlainToken.{Assign, Choose}
-use Rattle.packing_terms.specs.OuterRefutation.{Bins, placements, RefutesBins, Choice, with_taken, with_left, RefutesValue, none_left, by_scales, by_value, by_set, by_box, IsUndecided}
-use Rattle.tree_terms.specs.Trees.{SearchTree, Settled, Refuted, Split, Verdict, Yes, No, nothing, join, join_from, outcome}
+use Rattle.packing_terms.specs.OuterRefutation.{Bins, placements, RefutesBins, Choice, with_taken, with_left, RefutesValue, none_left, by_scales, by_value, by_set, by_box, IsOpenBox}
+use Rattle.tree_terms.specs.Trees.{SearchTree, Settled, Refuted, Split, Verdict, Yes, No, no_tokens, join, join_from, outcome}
 use Rattle.tree_terms.specs.OuterSearch.{AreBinNumbers, IsBinSearch, IsBinRight, IsChoiceSearch, IsChoiceRight}
 use Rattle.tree_terms.proofs.Joins.{join_next}
 
@@ -65,10 +65,10 @@ module _ (instance : PlainInstance) (goal : ℕ) where
       by_set some inner (ap (λ z. z ++ y) e ∙ append_assoc a b y) (value_append more rest)
   value_append (by_box free more) rest = by_box free (value_append more rest)
 
-  two_right : (c : Choice) (v own : ℕ) → IsUndecided instance c v → (a b : Verdict)
+  two_right : (c : Choice) (v own : ℕ) → IsOpenBox instance c v → (a b : Verdict)
       → IsChoiceRight instance goal (with_taken c (pred v)) a → IsChoiceRight instance goal (with_left c (pred v)) b
       → IsChoiceRight instance goal c (join (No (Choose v ∷ []) own)
-      (elim a [ Yes ns d ↦ Yes ns d | No ts d ↦ join (No ts d) (elim b [ Yes ns e ↦ Yes ns e | No us e ↦ join (No us e) nothing ]) ]))
+      (elim a [ Yes ns d ↦ Yes ns d | No ts d ↦ join (No ts d) (elim b [ Yes ns e ↦ Yes ns e | No us e ↦ join (No us e) no_tokens ]) ]))
   two_right c v own free (Yes ns d) b ha hb = ha
   two_right c v own free (No ts d) (Yes ns e) ha hb = hb
   two_right c v own free (No ts d) (No us e) ha hb =

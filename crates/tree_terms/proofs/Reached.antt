@@ -26,9 +26,6 @@ pub past_own : (tree : SearchTree) (budget : ℕ) → budget ≤ most_budget →
 past_own tree budget l m = let h = own_least tree in told_past budget (outcome tree) (omega (arith, l, m, h))
 
 -- what is told of a split
-leaf_or_split : (token : PlainToken) (own n : ℕ) → PlainNode
-leaf_or_split token own n = if ltb most_budget own then Leaf else Splits token own n
-
 abbrev own_told : PlainNode → ℕ
 own_told Leaf = 0
 own_told (Splits token own n) = own
@@ -76,10 +73,6 @@ told_split tree token own n = (there tree, λ h. back h.0 h.1 h.2)
         go : (ltb most_budget own ≡ true) ⊎ (ltb most_budget own ≡ false) → (if ltb most_budget own then Leaf else Splits token own n) ≡ Splits token own n
         go (inl k) = absurd (let m = ltb-true most_budget own k in omega (arith, l, m))
         go (inr k) = rw k refl
-
-some_there : (o : Option SearchTree) → IsSome o → (node : SearchTree) × (o ≡ Some node)
-some_there (Some node) h = (node, refl)
-some_there None h = absurd (true≢false (sym h))
 
 pub root_reached : (tree : SearchTree) → IsReachable tree []
 root_reached tree = record { there = refl; within = λ front rest k e node f. absurd (empty front rest k e) }

@@ -7,11 +7,11 @@ use Rattle.packing_terms.specs.Exclusions.{excludes}
 use Rattle.packing_terms.specs.Closure.{Derives}
 use Rattle.packing_terms.specs.Tokens.{PlainToken}
 use Rattle.packing_terms.specs.Tokens.PlainToken.{Apart, Order, Rules, TooLarge, Scales, Assign, Choose, SetRefuted, ValueShort, GlobalScales}
-use Rattle.packing_terms.specs.Refutation.{at, Refutes, by_rules, by_side, by_scales, by_apart, by_order, LeavesOpen}
+use Rattle.packing_terms.specs.Refutation.{exclusion_in_text, Refutes, by_rules, by_side, by_scales, by_apart, by_order, LeavesOpen}
 use Rattle.packing_terms.specs.Feeding.{Accepts, children}
 use Rattle.packing_terms.proofs.Closures.{derives_more, conflict_from}
 use Rattle.packing_terms.proofs.Refuted.{refutes_same}
-use Rattle.tree_terms.specs.Trees.{SearchTree, Settled, Refuted, Split, Verdict, Yes, No, nothing, join, join_from, outcome}
+use Rattle.tree_terms.specs.Trees.{SearchTree, Settled, Refuted, Split, Verdict, Yes, No, no_tokens, join, join_from, outcome}
 use Rattle.tree_terms.specs.Search.{IsSearch, IsRightUnder}
 
 module _ (instance : PlainInstance) where
@@ -23,18 +23,18 @@ module _ (instance : PlainInstance) where
   accepts_same es fs there back (Scales t) h = h
   accepts_same es fs there back (Apart i u v) h = record {
     named = h.named;
-    calm = λ c. h.calm (conflict_from instance (excludes fs) (excludes es) back c);
+    no_conflict = λ c. h.no_conflict (conflict_from instance (excludes fs) (excludes es) back c);
     overlap = λ d. h.overlap (back _ _ _ _ d);
     other = other h.other;
   }
     where
-      other : LeavesOpen instance es (at i u v Before) ⊎ LeavesOpen instance es (at i u v After)
-          → LeavesOpen instance fs (at i u v Before) ⊎ LeavesOpen instance fs (at i u v After)
+      other : LeavesOpen instance es (exclusion_in_text i u v Before) ⊎ LeavesOpen instance es (exclusion_in_text i u v After)
+          → LeavesOpen instance fs (exclusion_in_text i u v Before) ⊎ LeavesOpen instance fs (exclusion_in_text i u v After)
       other (inl k) = inl (λ d. k (back _ _ _ _ d))
       other (inr k) = inr (λ d. k (back _ _ _ _ d))
   accepts_same es fs there back (Order i u v) h = record {
     named = h.named;
-    calm = λ c. h.calm (conflict_from instance (excludes fs) (excludes es) back c);
+    no_conflict = λ c. h.no_conflict (conflict_from instance (excludes fs) (excludes es) back c);
     overlap = there _ _ _ _ h.overlap;
     before = λ d. h.before (back _ _ _ _ d);
     after = λ d. h.after (back _ _ _ _ d);
@@ -51,12 +51,12 @@ module _ (instance : PlainInstance) where
   -- and so are its children
   children_derive : (es fs : List Exclusion) → Derives instance (excludes es) (excludes fs) → (t : PlainToken) (k : ℕ)
       → Derives instance (excludes (child_of es t k)) (excludes (child_of fs t k))
-  children_derive es fs h (Apart i u v) zero = derives_more instance (at i u v Overlap) es fs h
+  children_derive es fs h (Apart i u v) zero = derives_more instance (exclusion_in_text i u v Overlap) es fs h
   children_derive es fs h (Apart i u v) (suc zero) =
-      derives_more instance (at i u v Before) (at i u v After ∷ es) (at i u v After ∷ fs) (derives_more instance (at i u v After) es fs h)
+      derives_more instance (exclusion_in_text i u v Before) (exclusion_in_text i u v After ∷ es) (exclusion_in_text i u v After ∷ fs) (derives_more instance (exclusion_in_text i u v After) es fs h)
   children_derive es fs h (Apart i u v) (suc (suc k)) = λ j a b r d. d
-  children_derive es fs h (Order i u v) zero = derives_more instance (at i u v After) es fs h
-  children_derive es fs h (Order i u v) (suc zero) = derives_more instance (at i u v Before) es fs h
+  children_derive es fs h (Order i u v) zero = derives_more instance (exclusion_in_text i u v After) es fs h
+  children_derive es fs h (Order i u v) (suc zero) = derives_more instance (exclusion_in_text i u v Before) es fs h
   children_derive es fs h (Order i u v) (suc (suc k)) = λ j a b r d. d
   children_derive es fs h Rules k = λ j a b r d. d
   children_derive es fs h (TooLarge v i) k = λ j a b r d. d
@@ -99,7 +99,7 @@ module _ (instance : PlainInstance) where
       → ((x y z : List PlainToken) → Refutes instance l x → Refutes instance r y → z ≡ x ++ y → Refutes instance es (t ∷ z))
       → (a b : Verdict) → IsRightUnder instance l a → IsRightUnder instance r b
       → IsRightUnder instance es (join (No (t ∷ []) own)
-      (elim a [ Yes ns c ↦ Yes ns c | No ts c ↦ join (No ts c) (elim b [ Yes ns d ↦ Yes ns d | No us d ↦ join (No us d) nothing ]) ]))
+      (elim a [ Yes ns c ↦ Yes ns c | No ts c ↦ join (No ts c) (elim b [ Yes ns d ↦ Yes ns d | No us d ↦ join (No us d) no_tokens ]) ]))
   two_children es l r t own build (Yes ns c) b ha hb = ha
   two_children es l r t own build (No x c) (Yes ns d) ha hb = hb
   two_children es l r t own build (No x c) (No y d) ha hb = build x y (x ++ (y ++ [])) ha hb (ap (λ w. x ++ w) (append-nil y))
@@ -117,10 +117,10 @@ module _ (instance : PlainInstance) where
   split_right es (TooLarge v i) own n f a e h = no_children es (TooLarge v i) own n f e (by_side a)
   split_right es (Scales t) own n f a e h = no_children es (Scales t) own n f e (by_scales a)
   split_right es (Apart i u v) own n f a e h =
-      both es (at i u v Overlap ∷ es) (at i u v Before ∷ at i u v After ∷ es) (Apart i u v) own n f e
+      both es (exclusion_in_text i u v Overlap ∷ es) (exclusion_in_text i u v Before ∷ exclusion_in_text i u v After ∷ es) (Apart i u v) own n f e
       (λ x y z l r g. by_apart a g l r) (h 0 (omega (arith, e))) (h 1 (omega (arith, e)))
   split_right es (Order i u v) own n f a e h =
-      both es (at i u v After ∷ es) (at i u v Before ∷ es) (Order i u v) own n f e
+      both es (exclusion_in_text i u v After ∷ es) (exclusion_in_text i u v Before ∷ es) (Order i u v) own n f e
       (λ x y z l r g. by_order a g l r) (h 0 (omega (arith, e))) (h 1 (omega (arith, e)))
   split_right es (Assign v) own n f a e h = absurd a
   split_right es (Choose v) own n f a e h = absurd a

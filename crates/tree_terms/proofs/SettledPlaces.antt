@@ -1,18 +1,21 @@
 -- The places of a settled node are the greatest ends of the boxes before, whatever the bound on chains is, so they are a packing.
-use Rattle.std.proofs.Common.{◌≡◌, ℕ, zero, suc, ◌+◌, ◌*◌, ◌<◌, ◌≤◌, ◌⊎◌, inl, inr, refl, sym, ap, subst, ◌∙◌, arith, max, Bool, true, false, cond, List, [], ◌∷◌, map, length, get_or, IsTrue}
+use Rattle.std.proofs.Common.{◌≡◌, ℕ, zero, suc, ◌+◌, ◌*◌, ◌<◌, ◌≤◌, ◌⊎◌, inl, inr, refl, sym, ap, subst, ◌∙◌, arith, max, true, false, List, [], ◌∷◌, map, length, get_or, IsTrue}
 use Rattle.std.specs.List.{fold, filter}
 use Rattle.std.proofs.lemmas.Bool.{true≢false, cases_Bool, and_parts, and_from}
 use Rattle.std.proofs.lemmas.List.FromFn.{get_or-range_with_len, get_or-map-range_with_len, length-map-range_with_len, length-range_with_len}
+use Rattle.std.proofs.lemmas.List.{nil_from_length}
 use Rattle.packing_terms.specs.declared.Rel.{Rel}
 use Rattle.packing_terms.specs.declared.Rel.TheVariants.{Overlap, Before, After}
-use Rattle.packing_terms.specs.Packing.{PlainInstance, IsPacking, HasSides, dims, box_count, side, place}
+use Rattle.packing_terms.specs.Packing.{PlainInstance, IsPacking, HasPositiveSides, dims, box_count, side, place}
 use Rattle.packing_terms.specs.Scales.{SidesFit}
-use Rattle.packing_terms.specs.Exclusions.{Exclusions, IsPlace, IsSurelyBefore}
+use Rattle.packing_terms.specs.Exclusions.{Exclusions, IsEdge, IsSurelyBefore}
 use Rattle.packing_terms.specs.Closure.{IsStable, IsSymmetric}
 use Rattle.packing_terms.proofs.Members.{IsIn, in_filter, filter_in, in_range}
-use Rattle.packing_terms.proofs.InBins.{joined_at, length_joined}
-use Rattle.rule_terms.specs.Rounds.{below, is_surely_before}
-use Rattle.rule_terms.specs.Places.{IsSettled, HasNoEmptyMask, IsGreatestEnd}
+use Rattle.packing_terms.proofs.InBins.{joined_at}
+use Rattle.packing_terms.proofs.Lengths.{filter_short, length_parts}
+use Rattle.rule_terms.specs.Rounds.{is_surely_before}
+use Rattle.packing_terms.specs.Sums.{below}
+use Rattle.rule_terms.specs.Places.{IsOrdered, HasNoEmptyMask, IsGreatestEnd}
 use Rattle.rule_terms.proofs.RoundsLemmas.{length_filter_fewer}
 use Rattle.rule_terms.proofs.PlacesLemmas.{before_trans, places_pack}
 use Rattle.tree_terms.specs.InnerTree.{place_by, settled_places}
@@ -55,18 +58,6 @@ fold_same f g [] h a = refl
 fold_same f g (x ∷ xs) h a =
     ap (λ m. fold (λ b u. max b (f u)) (max a m) xs) (h x (inl refl)) ∙ fold_same f g xs (λ u i. h u (inr i)) (max a (g x))
 
-no_length : (xs : List ℕ) → length xs ≤ 0 → xs ≡ []
-no_length [] l = refl
-no_length (x ∷ xs) l = absurd (omega (arith, l))
-
-filter_short : (p : ℕ → Bool) (xs : List ℕ) → length (filter p xs) ≤ length xs
-filter_short p [] = omega arith
-filter_short p (x ∷ xs) = go (p x) (filter_short p xs)
-  where
-    go : (b : Bool) → length (filter p xs) ≤ length xs → length (cond b (x ∷ filter p xs) (filter p xs)) ≤ suc (length xs)
-    go true h = omega (arith, h)
-    go false h = omega (arith, h)
-
 module _ (instance : PlainInstance) (X : Exclusions) (i : ℕ)
     (placed : (u v : ℕ) → IsSurelyBefore X i u v → (u < box_count instance) × (v < box_count instance))
     (trans : (u v x : ℕ) → IsSurelyBefore X i u v → IsSurelyBefore X i v x → IsSurelyBefore X i u x)
@@ -102,8 +93,8 @@ module _ (instance : PlainInstance) (X : Exclusions) (i : ℕ)
 
   same_place : (j k v : ℕ) → length (before v) ≤ j → length (before v) ≤ k → place_by instance X i j v ≡ place_by instance X i k v
   same_place zero zero v l m = refl
-  same_place zero (suc k) v l m = rw (no_length (before v) l) refl
-  same_place (suc j) zero v l m = rw (no_length (before v) m) refl
+  same_place zero (suc k) v l m = rw (nil_from_length (before v) (omega (arith, l))) refl
+  same_place (suc j) zero v l m = rw (nil_from_length (before v) (omega (arith, m))) refl
   same_place (suc j) (suc k) v l m = fold_same (λ u. place_by instance X i j u + side instance u i) (λ u. place_by instance X i k u + side instance u i) (before v)
       (λ u h. let f = fewer_before u v (in_before u v h) in
       ap (λ x. x + side instance u i) (same_place j k u (omega (arith, f, l)) (omega (arith, f, m)))) 0
@@ -145,7 +136,7 @@ place_is instance X v i l m =
     ∙ ap (λ u. place_by instance X i (box_count instance) u) (let e = get_or-range_with_len 0 (box_count instance) v 0 l in omega (arith, e)))
 
 module _ (instance : PlainInstance) (X : Exclusions) (stable : IsStable instance X) (symmetric : IsSymmetric X) (full : HasNoEmptyMask instance X)
-    (sides : HasSides instance) (fit : SidesFit instance) (placed : (i u v : ℕ) → IsTrue (X i u v Overlap) → IsPlace instance i u v) where
+    (sides : HasPositiveSides instance) (fit : SidesFit instance) (placed : (i u v : ℕ) → IsTrue (X i u v Overlap) → IsEdge instance i u v) where
   not_both : (i u v : ℕ) → IsSurelyBefore X i u v → ¬ IsSurelyBefore X i v u
   not_both i u v uv vu = go (full i u v (placed i u v uv.0))
     where
@@ -193,11 +184,11 @@ module _ (instance : PlainInstance) (X : Exclusions) (stable : IsStable instance
           inr (u, k, h, place_is instance X v i l m ∙ (e ∙ ap (λ x. x + side instance u i) (sym (place_is instance X u i k m))))
 
   -- so they are a packing
-  pub settled_pack : ((u v : ℕ) → u < v → v < box_count instance → IsSettled instance X u v) → IsPacking instance (settled_places instance X)
+  pub settled_pack : ((u v : ℕ) → u < v → v < box_count instance → IsOrdered instance X u v) → IsPacking instance (settled_places instance X)
   settled_pack settled = places_pack instance X stable symmetric full sides fit (settled_places instance X) settled_ends count settled
     where
       count : length (settled_places instance X) ≡ box_count instance * dims instance
       count =
-          length_joined (λ u. map (λ j. place_by instance X j (box_count instance) u) (below (dims instance))) (dims instance)
+          length_parts (λ u. map (λ j. place_by instance X j (box_count instance) u) (below (dims instance))) (dims instance)
           (λ u. length-map-range_with_len (λ j. place_by instance X j (box_count instance) u) 0 (dims instance)) (below (box_count instance))
           ∙ ap (λ n. n * dims instance) (length-range_with_len 0 (box_count instance))

@@ -6,7 +6,7 @@ use Rattle.std.proofs.Math.Nat.{pow-le-pow_left}
 use Rattle.std.proofs.lemmas.Bool.{cases_Bool, cases_lt}
 use Rattle.packing_terms.specs.Packing.{PlainInstance, dims, box_count}
 use Rattle.packing_terms.specs.Limits.{IsInternalInstance}
-use Rattle.packing_terms.specs.Scales.{sum_below}
+use Rattle.packing_terms.specs.Sums.{sum_below}
 use Rattle.packing_terms.specs.Goals.{with_last_side, HasTooWideBox, HasTooLargeBox, IsLeastHeight, IsLeastBins}
 use Rattle.packing_terms.specs.ExcessLaw.{ExcessLaw}
 use Rattle.packing_terms.proofs.Internal.{internal_sides, some_dimension, some_box}
@@ -14,7 +14,7 @@ use Rattle.packing_terms.proofs.TooLarge.{too_wide, too_large}
 use Rattle.tree_terms.specs.Trees.{Verdict, Yes, No, Decided, outcome, told, count_of}
 use Rattle.tree_terms.specs.ClassTree.{class_tree}
 use Rattle.tree_terms.specs.OuterTrees.{bin_tree, choice_tree}
-use Rattle.tree_terms.specs.Levels.{PlainLevel, SpentAt, PlainReached, run_levels, level_by, last_side, first_heights, height_run, first_bins, bin_run, first_values, value_run, IsBetween}
+use Rattle.tree_terms.specs.Levels.{PlainLevel, SpentAt, PlainReached, run_levels, level_by, last_side, first_heights, height_run, first_bins, bin_run, first_values, value_run, IsLevelBetween}
 use Rattle.tree_terms.specs.RunEnds.{HasSpentDecision, IsRisingEnd, IsFallingEnd, height_answer, bin_answer, value_answer, HasLargeTree}
 use Rattle.tree_terms.proofs.Told.{told_past, told_decided}
 use Rattle.tree_terms.proofs.Counts.{class_count, times_le}
@@ -53,7 +53,7 @@ module _ (tree : ℕ → Verdict) (budget : ℕ) (first : PlainReached) (fresh :
       back (level, d, l) = (level, d, (spent_level budget (tree level)).1 l)
 
   -- a budget that bounds the counts of all levels between is enough
-  enough : ((level : ℕ) → IsBetween first level → count_of (tree level) ≤ budget) → (run_levels answers first).spent ≡ false
+  enough : ((level : ℕ) → IsLevelBetween first level → count_of (tree level) ≤ budget) → (run_levels answers first).spent ≡ false
   enough bound = go (cases_Bool (run_levels answers first).spent)
     where
       none : HasLargeTree answers first budget (λ level. count_of (tree level)) → ⊥
@@ -108,14 +108,14 @@ module _ (instance : PlainInstance) (limits : IsInternalInstance instance) (budg
       → (bin_run instance budget scales).spent ≡ false
   bins_enough l = enough (λ k. outcome (bin_tree instance k scales)) budget (first_bins instance scales) refl bound
     where
-      bound : (k : ℕ) → IsBetween (first_bins instance scales) k → count_of (outcome (bin_tree instance k scales)) ≤ budget
+      bound : (k : ℕ) → IsLevelBetween (first_bins instance scales) k → count_of (outcome (bin_tree instance k scales)) ≤ budget
       bound k b =
           let c = bin_count instance (internal_sides instance limits) (some_dimension instance limits) scales k in
           let m = times_le class_bound (sum_below (box_count instance) (λ j. k ^ (j + 1))) class_bound (sum_below (box_count instance) (λ j. (box_count instance - 1) ^ (j + 1)))
           (omega arith) (more_powers k (box_count instance - 1) (box_count instance) (within b)) in
           omega (arith, c, m, l)
         where
-          within : IsBetween (first_bins instance scales) k → k ≤ box_count instance - 1
+          within : IsLevelBetween (first_bins instance scales) k → k ≤ box_count instance - 1
           within (inl (x, y)) = omega (arith, y)
           within (inr (x, y)) = absurd (omega (arith, y))
 

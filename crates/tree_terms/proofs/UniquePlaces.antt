@@ -10,28 +10,28 @@ use Rattle.packing_terms.specs.Exclusions.{Exclusions, excludes}
 use Rattle.packing_terms.specs.Closure.{IsStable}
 use Rattle.packing_terms.proofs.Sets.{excludes_symmetric}
 use Rattle.packing_terms.proofs.Internal.{internal_sides, some_dimension}
-use Rattle.packing_terms.proofs.InBins.{length_joined}
-use Rattle.rule_terms.specs.Rounds.{below}
+use Rattle.packing_terms.proofs.Lengths.{length_parts}
+use Rattle.packing_terms.specs.Sums.{below}
 use Rattle.rule_terms.specs.Places.{HasNoEmptyMask, IsGreatestEnd}
 use Rattle.rule_terms.specs.Steps.{IsTrail}
 use Rattle.rule_terms.proofs.UniqueEnds.{same_ends}
 use Rattle.tree_terms.specs.InnerTree.{place_by, settled_places}
-use Rattle.tree_terms.specs.Search.{AreAtPlaces}
+use Rattle.tree_terms.specs.Search.{AreAtEdges}
 use Rattle.tree_terms.proofs.Nodes.{excluded_place}
 use Rattle.tree_terms.proofs.SettledPlaces.{settled_ends}
 
 -- a trail is of dimensions and boxes that are there
-pub trail_places : (instance : PlainInstance) (d n : ℕ) (es : List Exclusion) → d ≡ dims instance → n ≡ box_count instance → IsTrail d n es → AreAtPlaces instance es
+pub trail_places : (instance : PlainInstance) (d n : ℕ) (es : List Exclusion) → d ≡ dims instance → n ≡ box_count instance → IsTrail d n es → AreAtEdges instance es
 trail_places instance d n [] e f t = tt
 trail_places instance d n (x ∷ es) e f t = (rw (e, f) at t.0, trail_places instance d n es e f t.2)
 
 pub length_settled : (instance : PlainInstance) (X : Exclusions) → length (settled_places instance X) ≡ box_count instance * dims instance
 length_settled instance X =
-    length_joined (λ u. map (λ j. place_by instance X j (box_count instance) u) (below (dims instance))) (dims instance)
+    length_parts (λ u. map (λ j. place_by instance X j (box_count instance) u) (below (dims instance))) (dims instance)
     (λ u. length-map-range_with_len (λ j. place_by instance X j (box_count instance) u) 0 (dims instance)) (below (box_count instance))
     ∙ ap (λ n. n * dims instance) (length-range_with_len 0 (box_count instance))
 
-module _ (instance : PlainInstance) (es : List Exclusion) (limits : IsInternalInstance instance) (placed : AreAtPlaces instance es)
+module _ (instance : PlainInstance) (es : List Exclusion) (limits : IsInternalInstance instance) (placed : AreAtEdges instance es)
     (stable : IsStable instance (excludes es)) (full : HasNoEmptyMask instance (excludes es)) (fit : SidesFit instance) where
   pub settled_only : (places : List ℕ) → length places ≡ box_count instance * dims instance
       → ((v i : ℕ) → v < box_count instance → i < dims instance → IsGreatestEnd instance (excludes es) places i v)

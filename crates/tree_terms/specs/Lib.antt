@@ -4,6 +4,7 @@ pub mod Rank
 pub mod InnerTree
 pub mod ClassTree
 pub mod OuterTrees
+pub mod Rising
 pub mod Levels
 pub mod RunEnds
 pub mod Search

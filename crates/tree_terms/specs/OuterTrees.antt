@@ -1,5 +1,6 @@
--- The outer search trees: the bin tree, which gives bins to the boxes by rank, and the choice tree, which takes boxes in or leaves them out.
--- Each child whose set of boxes changed decides that set by its class tree, and counts 1 and what that decision cost.
+-- The outer search trees: the bin tree, which gives bins to the boxes by rank, and the choice tree,
+-- which takes boxes in or leaves them out. Each child whose set of boxes changed decides that set
+-- by its class tree, and counts 1 and what that decision cost.
 --
 --     bin tree for 2 bins          choice tree
 --       b 1                          c 1
@@ -14,7 +15,7 @@ use Rattle.packing_terms.specs.Packing.{PlainInstance, dims, box_count}
 use Rattle.packing_terms.specs.Goals.{subset, worth}
 use Rattle.packing_terms.specs.Tokens.PlainToken.{Assign, Choose, SetRefuted, ValueShort, GlobalScales}
 use Rattle.packing_terms.specs.OuterRefutation.{Bins, insert_box, has_box, placements}
-use Rattle.rule_terms.specs.Rounds.{below}
+use Rattle.packing_terms.specs.Sums.{below}
 use Rattle.tree_terms.specs.Trees.{SearchTree, Settled, Refuted, Split, Verdict, Yes, No, outcome}
 use Rattle.tree_terms.specs.Rank.{ranked}
 use Rattle.tree_terms.specs.ClassTree.{class_tree, first_exceeding}
@@ -38,19 +39,22 @@ with_answer (a ∷ answers) (suc b) numbers = a ∷ with_answer answers b number
 abbrev pub coordinates_at : ℕ → List ℕ → ℕ → List ℕ
 coordinates_at d numbers k = map (λ i. slice_index numbers (k * d + i)) (below d)
 
--- The answer of the bin tree: of each box, by rising number, its bin, counted from 0, and its coordinates in the answer of that bin.
+-- The answer of the bin tree: of each box, by rising number, its bin, counted from 0, and its
+-- coordinates in the answer of that bin.
 abbrev pub bin_numbers : PlainInstance → Bins → List (List ℕ) → List ℕ
 bin_numbers instance bins answers =
     flat_map (λ v. let b = index_where (has_box v) bins in
     b ∷ coordinates_at (dims instance) (slice_index_or answers b []) (index_where (λ u. u == v) (slice_index_or bins b [])))
     (below (box_count instance))
 
--- a child by the verdict on its changed bin: `rest` is the child with that bin's answer and its own count
+-- a child by the verdict on its changed bin: `rest` is the child with that bin's answer and its own
+-- count
 abbrev pub bin_child : ℕ → Verdict → (List ℕ → ℕ → SearchTree) → SearchTree
 bin_child b (Yes numbers count) rest = rest numbers (1 + count)
 bin_child b (No tokens count) rest = Refuted (SetRefuted (Some (suc b)) ∷ tokens) (1 + count)
 
--- The node with these boxes left, by rank, these bins with the answers of their trees, and this own count. Child b changes bin b.
+-- The node with these boxes left, by rank, these bins with the answers of their trees, and this own
+-- count. Child b changes bin b.
 abbrev pub bin_node : PlainInstance → Bool → ℕ → List ℕ → Bins → List (List ℕ) → ℕ → SearchTree
 bin_node instance scales k [] bins answers own = Settled (bin_numbers instance bins answers) own
 bin_node instance scales k (v ∷ vs) bins answers own =
@@ -68,7 +72,8 @@ bin_root None tree = tree
 abbrev pub bin_tree : PlainInstance → ℕ → Bool → SearchTree
 bin_tree instance k scales = bin_root (first_exceeding instance k scales) (bin_node instance scales k (ranked instance) [] [] 0)
 
--- The answer of the choice tree: of each box that is in, by rising number, that number, counted from 0, and its coordinates.
+-- The answer of the choice tree: of each box that is in, by rising number, that number, counted
+-- from 0, and its coordinates.
 abbrev pub choice_numbers : PlainInstance → List ℕ → List ℕ → List ℕ
 choice_numbers instance taken numbers =
     flat_map (λ k. slice_index taken k ∷ coordinates_at (dims instance) numbers k) (below (length taken))
@@ -78,7 +83,8 @@ abbrev pub taken_child : Verdict → (List ℕ → ℕ → SearchTree) → Searc
 taken_child (Yes numbers count) rest = rest numbers (1 + count)
 taken_child (No tokens count) rest = Refuted (SetRefuted None ∷ tokens) (1 + count)
 
--- a node, by whether what is in reaches the goal, and whether all that may still be in falls short of it
+-- a node, by whether what is in reaches the goal, and whether all that may still be in falls short
+-- of it
 abbrev pub choice_of : Bool → Bool → List ℕ → ℕ → SearchTree → SearchTree
 choice_of true short numbers own split = Settled numbers own
 choice_of false true numbers own split = Refuted (ValueShort ∷ []) own
@@ -92,7 +98,8 @@ is_reached instance goal taken = nat_le goal (worth instance taken)
 abbrev pub is_short : PlainInstance → ℕ → List ℕ → List ℕ → Bool
 is_short instance goal taken rest = nat_lt (worth instance taken + worth instance rest) goal
 
--- The node with these boxes left, by rank, these that are in with the answer of their tree, and this own count. Its children are in, then out.
+-- The node with these boxes left, by rank, these that are in with the answer of their tree, and
+-- this own count. Its children are in, then out.
 abbrev pub choice_node : PlainInstance → Bool → ℕ → List ℕ → List ℕ → List ℕ → ℕ → SearchTree
 choice_node instance scales goal [] taken numbers own =
     choice_of (is_reached instance goal taken) true (choice_numbers instance taken numbers) own (Refuted (ValueShort ∷ []) own)
@@ -109,14 +116,16 @@ abbrev pub choice_tree : PlainInstance → ℕ → Bool → SearchTree
 choice_tree instance goal scales = choice_node instance scales goal (ranked instance) [] [] 0
 
 -- the answer of a yes
-abbrev pub numbers_of : Verdict → List ℕ
-numbers_of (Yes numbers count) = numbers
-numbers_of (No tokens count) = []
+abbrev pub yes_numbers : Verdict → List ℕ
+yes_numbers (Yes numbers count) = numbers
+yes_numbers (No tokens count) = []
 
--- The answer for bins, read off the bins: the coordinates of a box are those in the answer of the inner tree of its bin's set.
+-- The answer for bins, read off the bins: the coordinates of a box are those in the answer of the
+-- inner tree of its bin's set.
 abbrev pub bin_answer_of : PlainInstance → Bool → Bins → List ℕ
-bin_answer_of instance scales bins = bin_numbers instance bins (map (λ set. numbers_of (set_verdict instance scales set)) bins)
+bin_answer_of instance scales bins = bin_numbers instance bins (map (λ set. yes_numbers (set_verdict instance scales set)) bins)
 
--- the answer for a value, read off the boxes that are in: their coordinates are those in the answer of their set's inner tree
+-- the answer for a value, read off the boxes that are in: their coordinates are those in the answer
+-- of their set's inner tree
 abbrev pub choice_answer_of : PlainInstance → Bool → List ℕ → List ℕ
-choice_answer_of instance scales taken = choice_numbers instance taken (numbers_of (set_verdict instance scales taken))
+choice_answer_of instance scales taken = choice_numbers instance taken (yes_numbers (set_verdict instance scales taken))

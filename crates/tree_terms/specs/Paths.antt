@@ -1,4 +1,5 @@
--- Nodes by their paths: what a node at a path stands for, what is told of it, and which paths a search may come to.
+-- Nodes by their paths: what a node at a path stands for, what is told of it, and which paths a
+-- search may come to.
 use Rattle.std.specs.Prelude.{ℕ, zero, suc, pred, ◌≤◌, ◌≡◌, List, [], ◌∷◌, ◌++◌, Option, Some, None, IsSome, nat_lt, if◌then◌else◌, slice_index_or}
 use Rattle.packing_terms.specs.declared.Exclusion.{Exclusion}
 use Rattle.packing_terms.specs.Tokens.{PlainToken}
@@ -7,7 +8,8 @@ use Rattle.packing_terms.specs.Feeding.{children}
 use Rattle.packing_terms.specs.OuterRefutation.{Bins, placements, Choice, with_taken, with_left}
 use Rattle.tree_terms.specs.Trees.{SearchTree, Settled, Refuted, Split, Verdict, outcome, node_at}
 
--- the exclusions of the node at a path: those of the root, and what each split on the way adds to its child there
+-- the exclusions of the node at a path: those of the root, and what each split on the way adds to
+-- its child there
 abbrev pub exclusions_at : List Exclusion → SearchTree → List ℕ → List Exclusion
 exclusions_at es tree [] = es
 exclusions_at es (Settled numbers own) (k ∷ path) = es
@@ -26,7 +28,8 @@ bins_at k bins (Settled numbers own) (b ∷ path) = bins
 bins_at k bins (Refuted tokens own) (b ∷ path) = bins
 bins_at k bins (Split token own n child) (b ∷ path) = bins_at k (bins_below k bins token b) (child b) path
 
--- the boxes that are in and out at a child of a choice tree: the first has the box of the token in, the second out
+-- the boxes that are in and out at a child of a choice tree: the first has the box of the token in,
+-- the second out
 abbrev pub choice_below : Choice → PlainToken → ℕ → Choice
 choice_below c (Choose v) zero = with_taken c (pred v)
 choice_below c (Choose v) (suc b) = with_left c (pred v)
@@ -49,12 +52,14 @@ own_of (Settled numbers own) = own
 own_of (Refuted tokens own) = own
 own_of (Split token own n child) = own
 
--- a node as it is told: a leaf, or a split with its token, its own count and the number of its children
+-- a node as it is told: a leaf, or a split with its token, its own count and the number of its
+-- children
 pub data PlainNode : Type 0 where
   Leaf : PlainNode
   Splits : (token : PlainToken) (own children : ℕ) → PlainNode
 
--- What is told of a node. A split whose own count is past every budget is told as a leaf: no budget reaches its children.
+-- What is told of a node. A split whose own count is past every budget is told as a leaf: no budget
+-- reaches its children.
 abbrev pub node_told : SearchTree → PlainNode
 node_told (Settled numbers own) = Leaf
 node_told (Refuted tokens own) = Leaf

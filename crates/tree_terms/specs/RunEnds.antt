@@ -5,24 +5,24 @@ use Rattle.packing_terms.specs.Goals.{with_last_side}
 use Rattle.tree_terms.specs.Trees.{outcome, told}
 use Rattle.tree_terms.specs.ClassTree.{class_tree}
 use Rattle.tree_terms.specs.OuterTrees.{bin_tree, choice_tree}
-use Rattle.tree_terms.specs.Levels.{PlainLevel, PlacedBy, RefutedBy, SpentAt, PlainReached, halfway, moved, is_over, level_by}
+use Rattle.tree_terms.specs.Levels.{PlainLevel, PlacedBy, RefutedBy, SpentAt, PlainReached, halfway, moved, is_run_over, level_by}
 
 -- the level is decided on the run from these two levels
-pub data IsAsked (answer : ℕ → PlainLevel) : PlainReached → ℕ → Type 0 where
-  here : {r : PlainReached} → is_over r ≡ false → IsAsked answer r (halfway r)
-  later : {r : PlainReached} {level : ℕ} → is_over r ≡ false → IsAsked answer (moved r (halfway r) (answer (halfway r))) level → IsAsked answer r level
+pub data IsLevelAsked (answer : ℕ → PlainLevel) : PlainReached → ℕ → Type 0 where
+  here : {r : PlainReached} → is_run_over r ≡ false → IsLevelAsked answer r (halfway r)
+  later : {r : PlainReached} {level : ℕ} → is_run_over r ≡ false → IsLevelAsked answer (moved r (halfway r) (answer (halfway r))) level → IsLevelAsked answer r level
 
 -- a decision on the run was spent
 abbrev pub HasSpentDecision : (ℕ → PlainLevel) → PlainReached → Type 0
-HasSpentDecision answer r = (level : ℕ) × IsAsked answer r level × (answer level ≡ SpentAt)
+HasSpentDecision answer r = (level : ℕ) × IsLevelAsked answer r level × (answer level ≡ SpentAt)
 
 -- each of the two levels is the first one, or was decided on the run and has what its decision gave
 pub record IsFromRun (answer : ℕ → PlainLevel) (first r : PlainReached) : Type 0 where
-  pub refuted : ((r.refuted ≡ first.refuted) × (r.tokens ≡ first.tokens)) ⊎ (IsAsked answer first r.refuted × (answer r.refuted ≡ RefutedBy r.tokens))
-  pub placed : ((r.placed ≡ first.placed) × (r.numbers ≡ first.numbers)) ⊎ (IsAsked answer first r.placed × (answer r.placed ≡ PlacedBy r.numbers))
+  pub refuted : ((r.refuted ≡ first.refuted) × (r.tokens ≡ first.tokens)) ⊎ (IsLevelAsked answer first r.refuted × (answer r.refuted ≡ RefutedBy r.tokens))
+  pub placed : ((r.placed ≡ first.placed) × (r.numbers ≡ first.numbers)) ⊎ (IsLevelAsked answer first r.placed × (answer r.placed ≡ PlacedBy r.numbers))
 
--- The end of a run whose refuted level is below the placed one. The order stays, both stay within the first two, and where no decision was spent
--- they are neighbours.
+-- The end of a run whose refuted level is below the placed one. The order stays, both stay within
+-- the first two, and where no decision was spent they are neighbours.
 pub record IsRisingEnd (first r : PlainReached) : Type 0 where
   pub order : r.refuted < r.placed
   pub low : first.refuted ≤ r.refuted
@@ -50,4 +50,4 @@ value_answer instance budget scales t = level_by (told budget (outcome (choice_t
 
 -- some level that the run decides has a tree whose count is past the budget
 abbrev pub HasLargeTree : (ℕ → PlainLevel) → PlainReached → ℕ → (ℕ → ℕ) → Type 0
-HasLargeTree answer first budget count = (level : ℕ) × IsAsked answer first level × (budget < count level)
+HasLargeTree answer first budget count = (level : ℕ) × IsLevelAsked answer first level × (budget < count level)

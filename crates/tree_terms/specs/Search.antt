@@ -1,18 +1,20 @@
--- What the class tree is for: a tree that searches for a packing of an instance that respects a set of exclusions.
+-- What the class tree is for: a tree that searches for a packing of an instance that respects a set
+-- of exclusions.
 use Rattle.std.specs.Prelude.{ℕ, ◌<◌, ◌≡◌, List, [], ◌∷◌, length, slice_index_or}
 use Rattle.packing_terms.specs.declared.Exclusion.{Exclusion}
 use Rattle.packing_terms.specs.Packing.{PlainInstance, IsPacking}
-use Rattle.packing_terms.specs.Exclusions.{IsPlace}
+use Rattle.packing_terms.specs.Exclusions.{IsEdge}
 use Rattle.packing_terms.specs.Refutation.{Refutes}
 use Rattle.packing_terms.specs.Feeding.{Accepts, children}
 use Rattle.tree_terms.specs.Trees.{SearchTree, Settled, Refuted, Split, Verdict, Yes, No}
 
 -- each exclusion of the list is in a dimension that is there, of two boxes that are there
-abbrev pub AreAtPlaces : PlainInstance → List Exclusion → Type 0
-AreAtPlaces instance [] = Unit {0}
-AreAtPlaces instance (e ∷ es) = IsPlace instance e.dim e.u e.v × AreAtPlaces instance es
+abbrev pub AreAtEdges : PlainInstance → List Exclusion → Type 0
+AreAtEdges instance [] = Unit {0}
+AreAtEdges instance (e ∷ es) = IsEdge instance e.dim e.u e.v × AreAtEdges instance es
 
--- Settled nodes have packings, refuted nodes have refutations, and each split is one that a refutation accepts, with the children that it has there.
+-- Settled nodes have packings, refuted nodes have refutations, and each split is one that a
+-- refutation accepts, with the children that it has there.
 abbrev pub IsSearch : PlainInstance → List Exclusion → SearchTree → Type 0
 IsSearch instance es (Settled places own) = IsPacking instance places
 IsSearch instance es (Refuted tokens own) = Refutes instance es tokens
@@ -26,6 +28,6 @@ IsRightUnder instance es (Yes places count) = IsPacking instance places
 IsRightUnder instance es (No tokens count) = Refutes instance es tokens
 
 -- the verdict is yes
-abbrev pub IsYes : Verdict → Type 0
-IsYes (Yes numbers count) = Unit {0}
-IsYes (No tokens count) = ⊥
+abbrev pub IsYesVerdict : Verdict → Type 0
+IsYesVerdict (Yes numbers count) = Unit {0}
+IsYesVerdict (No tokens count) = ⊥

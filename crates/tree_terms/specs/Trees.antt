@@ -2,23 +2,26 @@
 use Rattle.std.specs.Prelude.{ℕ, zero, suc, ◌+◌, List, [], ◌∷◌, ◌++◌, Option, Some, None, nat_lt, if◌then◌else◌}
 use Rattle.packing_terms.specs.Tokens.{PlainToken}
 
--- A finite tree. Each node has its own count of branchings. A settled node has an answer, a refuted one a refutation. A split has a token, and
--- so many children, which are given by their index from 0: only those that are visited are ever computed.
+-- A finite tree. Each node has its own count of branchings. A settled node has an answer, a refuted
+-- one a refutation. A split has a token, and so many children, which are given by their index from
+-- 0: only those that are visited are ever computed.
 pub data SearchTree : Type 0 where
   Settled : (numbers : List ℕ) (own : ℕ) → SearchTree
   Refuted : (tokens : List PlainToken) (own : ℕ) → SearchTree
   Split : (token : PlainToken) (own : ℕ) (children : ℕ) → (ℕ → SearchTree) → SearchTree
 
--- What a search gives: yes with an answer, or no with a refutation, and the count of the nodes that were visited.
+-- What a search gives: yes with an answer, or no with a refutation, and the count of the nodes that
+-- were visited.
 pub data Verdict : Type 0 where
   Yes : (numbers : List ℕ) (count : ℕ) → Verdict
   No : (tokens : List PlainToken) (count : ℕ) → Verdict
 
 -- no, of nothing: the unit of joining
-abbrev pub nothing : Verdict
-nothing = No [] 0
+abbrev pub no_tokens : Verdict
+no_tokens = No [] 0
 
--- One search and then another. A yes on the left wins, and the other isn't visited; else the counts add, and so do the tokens of two noes.
+-- One search and then another. A yes on the left wins, and the other isn't visited; else the counts
+-- add, and so do the tokens of two noes.
 abbrev pub join : Verdict → Verdict → Verdict
 join (Yes ns c) v = Yes ns c
 join (No ts c) (Yes ns d) = Yes ns (c + d)
@@ -26,7 +29,7 @@ join (No ts c) (No us d) = No (ts ++ us) (c + d)
 
 -- so many verdicts joined, from the given index on, read no further than the first yes
 abbrev pub join_from : ℕ → ℕ → (ℕ → Verdict) → Verdict
-join_from k zero verdicts = nothing
+join_from k zero verdicts = no_tokens
 join_from k (suc more) verdicts =
     elim (verdicts k) [ Yes ns c ↦ Yes ns c | No ts c ↦ join (No ts c) (join_from (k + 1) more verdicts) ]
 

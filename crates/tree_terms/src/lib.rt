@@ -1,6 +1,7 @@
 //! The search trees that `pack` explores, as definitions, and the laws over them.
 //!
-//! The definitions stand in specs/, one topic a file. Each law is the contract of a function with an empty body in `laws`.
+//! The definitions stand in specs/, one topic a file. Each law is the contract of a function with
+//! an empty body in `laws`.
 #![tactic(auto)]
 
 mod laws;

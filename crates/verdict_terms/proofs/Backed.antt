@@ -1,5 +1,5 @@
 -- What stands behind the result line, up to `end`, backs its claim.
-use Rattle.std.proofs.Common.{◌≡◌, ℕ, suc, pred, ◌+◌, ◌*◌, ◌≤◌, refl, sym, ap, ap₂, subst, ◌∙◌, arith, Bool, true, false, cond, ◌&&◌, ◌-◌, inl, List, [], ◌∷◌, ◌++◌, length, append_assoc, Option, Some, None, Ok, codes}
+use Rattle.std.proofs.Common.{◌≡◌, ℕ, suc, pred, ◌+◌, ◌*◌, ◌≤◌, refl, sym, ap, ap₂, subst, ◌∙◌, arith, Bool, true, false, cond, ◌&&◌, ◌-◌, inl, List, [], ◌∷◌, ◌++◌, length, append_assoc, Some, None, Ok, codes}
 use Rattle.std.specs.Prelude.{nat_le, nat_lt}
 use Rattle.std.proofs.lemmas.Bool.{and_parts, leb-true, ltb-true}
 use Rattle.std.proofs.lemmas.List.{length-append, length-map}
@@ -13,19 +13,19 @@ use Rattle.check_terms.specs.Judging.{names_box}
 use Rattle.check_terms.proofs.Places.{places_tested}
 use Rattle.document_terms.specs.declared.claim.Claim.{Claim}
 use Rattle.document_terms.specs.declared.claim.Claim.TheVariants.{Fitting, NotFitting, LeastHeight, HeightBetween, NoHeight, LeastBins, BinsBetween, NoBins, GreatestValue, ValueBetween}
-use Rattle.verdict_terms.specs.declared.reason.Reason.{Reason}
 use Rattle.verdict_terms.specs.Reasons.{form, range}
 use Rattle.verdict_terms.specs.declared.reason.Reason.TheVariants.{TooLittle}
 use Rattle.document_terms.specs.TokenLines.{token_of}
 use Rattle.verdict_terms.specs.Trees.{Refuted, ToFit, ToFitIn, ToReach, begun}
-use Rattle.verdict_terms.specs.Stages.{Stage, groups_reason, first_reason, claimed, placed, to_refute, is_word, tree_token, exceeding_token, exceeding_line, words_line}
+use Rattle.verdict_terms.specs.Stages.{Stage, groups_reason, claimed, placed, to_refute, is_word, tree_token, exceeding_token, exceeding_line, words_line}
 use Rattle.verdict_terms.specs.Stages.Stage.{Placing, Sharing, Taking, Proving, Refuting, Exceeding, Ending}
 use Rattle.verdict_terms.specs.Form.{AreNumberedLines, ArePlaced, AreShared, AreTaken, AreRefuting, IsExceedingLine, AreProved, Backs}
-use Rattle.verdict_terms.proofs.Passed.{bind_ok, require_ok, is_word_ok, ok_is}
+use Rattle.verdict_terms.proofs.Passed.{require_ok, is_word_ok, ok_is}
 use Rattle.verdict_terms.proofs.Walk.{read_words}
 use Rattle.verdict_terms.proofs.BinsGood.{bins_good}
 use Rattle.verdict_terms.proofs.TreesTold.{end_told, token_ok, refuting_told}
-use Rattle.verdict_terms.proofs.PlacesTold.{group_good, places_good, places_told, shares_told, takes_told, numbered_count}
+use Rattle.verdict_terms.proofs.PlacesTold.{group_good, places_good, places_told, shares_told, takes_told, numbered_count, no_first}
+use Rattle.text_terms.proofs.Good.{bind_ok}
 
 -- lines up to `end` that back the claim
 pub record BackedTold (instance : PlainInstance) (claim told : Claim) (lines : List (List (List ℕ))) : Type 0 where
@@ -100,16 +100,12 @@ worth_enough : (b : Bool) → cond b None (Some TooLittle) ≡ None → b ≡ tr
 worth_enough true e = refl
 worth_enough false e = absurd (cc (e))
 
-no_reason : (a b : Option Reason) → first_reason a b ≡ None → (a ≡ None) × (b ≡ None)
-no_reason None b e = (refl, e)
-no_reason (Some r) b e = absurd (cc (e))
-
 takes_backed : (instance : PlainInstance) (claim told : Claim) (value : ℕ) (lines : List (List (List ℕ))) → read_words (Taking instance claim value [] []) lines ≡ Ok told
     → (front : List (List (List ℕ))) × (back : List (List (List ℕ))) × (lines ≡ front ++ (codes "proof" ∷ []) ∷ back) × AreTaken instance value front
     × (read_words (Refuting claim (begun (to_refute instance claim))) back ≡ Ok told)
 takes_backed instance claim told value lines e =
     let t = takes_told instance claim told value [] [] lines (record { there = λ k d h. absurd (omega arith); rising = λ k h. absurd (omega arith) }) e in
-    let r = no_reason (groups_reason ((t.more_taken, place_verdict (subset instance t.more_taken) t.more) ∷ [])) (cond (nat_le value (worth instance t.more_taken)) None (Some TooLittle)) t.good in
+    let r = no_first (groups_reason ((t.more_taken, place_verdict (subset instance t.more_taken) t.more) ∷ [])) (cond (nat_le value (worth instance t.more_taken)) None (Some TooLittle)) t.good in
     let count : length t.more ≡ box_count (subset instance t.more_taken) * dims (subset instance t.more_taken) =
     numbered_length (codes "take") (box_count instance) (dims instance) t.front t.more_taken t.more t.are_lines
     ∙ ap (λ n. n * dims instance) (sym (length-map t.more_taken _)) in (

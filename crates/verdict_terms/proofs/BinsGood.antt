@@ -6,7 +6,7 @@ use Rattle.std.proofs.lemmas.List.FromFn.{length-map-range_with_len}
 use Rattle.packing_terms.specs.Packing.{PlainInstance, dims, box_count, place}
 use Rattle.packing_terms.specs.Goals.{subset, in_bin, places_of, IsBinPacking}
 use Rattle.packing_terms.proofs.Members.{in_map, in_range}
-use Rattle.packing_terms.proofs.InBins.{length_joined}
+use Rattle.packing_terms.proofs.Lengths.{length_parts}
 use Rattle.check_terms.specs.declared.answers.PlaceVerdict.TheVariants.{Good}
 use Rattle.check_terms.specs.Placing.{place_verdict}
 use Rattle.check_terms.proofs.Places.{places_tested}
@@ -16,7 +16,7 @@ use Rattle.verdict_terms.proofs.PlacesTold.{group_good}
 -- as many coordinates as a set has
 pub set_places : (instance : PlainInstance) (places keep : List ℕ) → length (places_of instance places keep) ≡ box_count (subset instance keep) * dims (subset instance keep)
 set_places instance places keep =
-    length_joined (λ v. map (λ i. place instance places v i) (range_with_len 0 (dims instance))) (dims instance)
+    length_parts (λ v. map (λ i. place instance places v i) (range_with_len 0 (dims instance))) (dims instance)
     (λ v. length-map-range_with_len (λ i. place instance places v i) 0 (dims instance)) keep
     ∙ ap (λ n. n * dims instance) (sym (length-map keep _))
 

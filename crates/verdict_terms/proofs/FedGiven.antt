@@ -10,9 +10,9 @@ use Rattle.packing_terms.specs.Tokens.{PlainToken}
 use Rattle.packing_terms.specs.Tokens.PlainToken.{Apart, Order, Rules, TooLarge, Scales, Assign, Choose, SetRefuted, ValueShort, GlobalScales}
 use Rattle.text_terms.specs.Lines.{Line, line_of, text_lines, cut_line, cut_words, is_line_feed, same_bytes}
 use Rattle.text_terms.specs.Texts.{Parts, no_parts, add_line, at_end as end_of, refuse, IsWithinLimits, ◌>>=◌}
-use Rattle.text_terms.specs.Feeding.{Lexer, new_lexer, end_line, add_byte, held_of, feed, finish, NumberedLine, told_now, lines_fed, numbered}
+use Rattle.text_terms.specs.Feeding.{Lexer, new_lexer, end_line, add_byte, held_of, feed, finish, NumberedLine, told_now, lines_fed, numbered_lines}
 use Rattle.text_terms.proofs.Cut.{same_front, words_cut}
-use Rattle.text_terms.proofs.Good.{good_start, line_good, parts_limits}
+use Rattle.text_terms.proofs.Good.{good_start, line_good, parts_limits, bind_ok}
 use Rattle.text_terms.proofs.LinesFed.{texts_are_lines}
 use Rattle.check_terms.specs.Judging.{names_box}
 use Rattle.document_terms.specs.declared.claim.SolvingJob.{SolvingJob}
@@ -22,14 +22,15 @@ use Rattle.verdict_terms.specs.declared.reason.Reason.{Reason}
 use Rattle.verdict_terms.specs.Reasons.{form, range}
 use Rattle.verdict_terms.specs.Numbers.{require, numbers_line, coordinates}
 use Rattle.document_terms.specs.TokenLines.{token_of}
+use Rattle.document_terms.proofs.Cuts.{token_cut, cut_rest}
 use Rattle.verdict_terms.specs.Trees.{Refuted, Tree, begun, is_whole, tree_dims, tree_after, refuted_by}
 use Rattle.verdict_terms.specs.Results.{claim_of}
-use Rattle.verdict_terms.specs.Stages.{Stage, text_fault, end_of_parts, is_result, reading_line, rest_of, words_line, share_line, take_line, exceeding_token, refused_by, places_reason, bins_reason, taken_reason, to_refute, is_word, tree_token, coded, late_line, late_by, grown, placed, claimed, filled_line, stage_after, is_blank}
+use Rattle.verdict_terms.specs.Stages.{Stage, text_fault, end_of_parts, is_result, reading_line, rest_of, words_line, share_line, take_box_line, exceeding_token, refused_by, places_reason, bins_reason, taken_reason, to_refute, is_word, tree_token, coded, late_line, late_by, grown_tree, placed, claimed, filled_line, stage_after, is_blank}
 use Rattle.verdict_terms.specs.Stages.Stage.{Beginning, Reading, Placing, Sharing, Taking, Proving, Refuting, Exceeding, Ending, Ended}
-use Rattle.verdict_terms.specs.Documents.{Refusal, at_line, at_end, read_lines, document_verdict}
+use Rattle.verdict_terms.specs.Documents.{Refusal, document_at_line, document_at_end, read_document_lines, document_verdict}
 use Rattle.verdict_terms.specs.Fed.{taken_line, fed_verdict, DocumentsAreFed}
-use Rattle.verdict_terms.proofs.Passed.{bind_ok, require_ok, refused_ok, ok_is}
-use Rattle.verdict_terms.proofs.Cuts.{cut_rest, numbers_cut, is_word_cut, token_cut, answer_cut, claim_cut}
+use Rattle.verdict_terms.proofs.Passed.{require_ok, refused_ok, ok_is}
+use Rattle.verdict_terms.proofs.Cuts.{numbers_cut, is_word_cut, answer_cut, claim_cut}
 use Rattle.verdict_terms.proofs.FormTold.{answer_ok, end_ok, fault_ok}
 use Rattle.verdict_terms.proofs.TreesTold.{refuted_same, refuted_begun, coded_ok}
 
@@ -97,7 +98,7 @@ GivesWell r = (next : Stage) → r ≡ Ok next → IsWell next
 gives_well : (stage : Stage) → IsWell stage → GivesWell (Ok stage)
 gives_well stage well next e = subst IsWell (ok_is stage next e) well
 
-grown_well : (claim : Claim) (tree : Tree) → tree_dims (refuted_by tree) ≤ 4 → IsWell (grown claim tree)
+grown_well : (claim : Claim) (tree : Tree) → tree_dims (refuted_by tree) ≤ 4 → IsWell (grown_tree claim tree)
 grown_well claim tree few = go (is_whole tree)
   where
     go : (b : Bool) → IsWell (cond b (Ending claim (Some (tree_dims (refuted_by tree)))) (Refuting claim tree))
@@ -117,7 +118,7 @@ share_well instance claim k bins places (b ∷ ns) few next e =
     place_well (length (bins ++ pred b ∷ []) == box_count instance) (bins_reason instance k (bins ++ pred b ∷ []) (places ++ c.0)) (placed claim (to_refute instance claim))
     (Sharing instance claim k (bins ++ pred b ∷ []) (places ++ c.0)) (placed_well claim (to_refute instance claim) (refute_well instance few claim)) few next c.2
 
-take_well : (instance : PlainInstance) (claim : Claim) (value : ℕ) (taken places ns : List ℕ) → dims instance ≤ 4 → GivesWell (take_line instance claim value taken places ns)
+take_well : (instance : PlainInstance) (claim : Claim) (value : ℕ) (taken places ns : List ℕ) → dims instance ≤ 4 → GivesWell (take_box_line instance claim value taken places ns)
 take_well instance claim value taken places [] few next e = absurd (cc (e))
 take_well instance claim value taken places (v ∷ ns) few next e =
     let q = require_ok (names_box instance v && list_all (λ u. nat_lt u (pred v)) taken) range _ next e in
@@ -127,13 +128,13 @@ take_well instance claim value taken places (v ∷ ns) few next e =
 taking_well : (instance : PlainInstance) (claim : Claim) (value : ℕ) (taken places : List ℕ) (words : List (List ℕ)) (b : Bool) → dims instance ≤ 4
     → GivesWell (elim b as (λ x. Result Stage Reason) [
       | true ↦ refused_by (taken_reason instance value taken places) (Ok (Refuting claim (begun (to_refute instance claim))))
-      | false ↦ numbers_line (codes "take") (suc (dims instance)) words >>= λ ns. take_line instance claim value taken places ns
+      | false ↦ numbers_line (codes "take") (suc (dims instance)) words >>= λ ns. take_box_line instance claim value taken places ns
     ])
 taking_well instance claim value taken places words true few next e =
     gives_well (Refuting claim (begun (to_refute instance claim))) (begun_well (to_refute instance claim) (refute_well instance few claim)) next
     (refused_ok (taken_reason instance value taken places) (Ok (Refuting claim (begun (to_refute instance claim)))) next e).1
 taking_well instance claim value taken places words false few next e =
-    let n = bind_ok (numbers_line (codes "take") (suc (dims instance)) words) (λ ns. take_line instance claim value taken places ns) next e in
+    let n = bind_ok (numbers_line (codes "take") (suc (dims instance)) words) (λ ns. take_box_line instance claim value taken places ns) next e in
     take_well instance claim value taken places n.0 few next n.2
 
 exceeding_well : (instance : PlainInstance) (claim : Claim) (m : ℕ) (t : PlainToken) → dims instance ≤ 4 → GivesWell (exceeding_token instance claim m t)
@@ -165,9 +166,9 @@ words_well (Taking i c v t p) words well next e = taking_well i c v t p words (i
 words_well (Proving c r) words well next e =
     gives_well (Refuting c (begun r)) (begun_well r well) next (require_ok (is_word (codes "proof") words) form (Ok (Refuting c (begun r))) next e).1
 words_well (Refuting c t) words well next e =
-    let b = bind_ok (tree_token (is_word (codes "end") words) (token_of (tree_dims (refuted_by t)) words)) (λ x. coded (tree_after t x) >>= λ more. Ok (grown c more)) next e in
-    let m = bind_ok (coded (tree_after t b.0)) (λ more. Ok (grown c more)) next b.2 in
-    gives_well (grown c m.0) (grown_well c m.0 (subst (λ r. tree_dims r ≤ 4) (sym (refuted_same t m.0 b.0 (coded_ok (tree_after t b.0) m.0 m.1))) well)) next m.2
+    let b = bind_ok (tree_token (is_word (codes "end") words) (token_of (tree_dims (refuted_by t)) words)) (λ x. coded (tree_after t x) >>= λ more. Ok (grown_tree c more)) next e in
+    let m = bind_ok (coded (tree_after t b.0)) (λ more. Ok (grown_tree c more)) next b.2 in
+    gives_well (grown_tree c m.0) (grown_well c m.0 (subst (λ r. tree_dims r ≤ 4) (sym (refuted_same t m.0 b.0 (coded_ok (tree_after t b.0) m.0 m.1))) well)) next m.2
 words_well (Exceeding i c m) words well next e =
     let b = bind_ok (tree_token (is_word (codes "end") words) (token_of (dims i) words)) (λ x. exceeding_token i c m x) next e in exceeding_well i c m b.0 well next b.2
 words_well (Ending c b) words well next e = gives_well (Ended c) tt next (require_ok (is_word (codes "end") words) (late_line b words) (Ok (Ended c)) next e).1
@@ -218,7 +219,7 @@ abbrev behind_taking : PlainInstance → Claim → ℕ → List ℕ → List ℕ
 behind_taking instance claim value taken places b r =
     elim b [
       | true ↦ refused_by (taken_reason instance value taken places) (Ok (Refuting claim (begun (to_refute instance claim))))
-      | false ↦ r >>= λ ns. take_line instance claim value taken places ns
+      | false ↦ r >>= λ ns. take_box_line instance claim value taken places ns
     ]
 
 words_told : (stage : Stage) (w : List ℕ) (ws : List (List ℕ)) → IsWell stage → words_line stage (take 21 w ∷ cut_rest ws) ≡ words_line stage (w ∷ ws)
@@ -232,7 +233,7 @@ words_told (Taking i c v t p) w ws well =
     ap₂ (λ b x. behind_taking i c v t p b x) (is_word_cut (codes "proof") w ws (omega arith)) (numbers_cut (codes "take") (suc (dims i)) w ws (omega arith) (omega (arith, well)))
 words_told (Proving c r) w ws well = ap (λ b. require b form (Ok (Refuting c (begun r)))) (is_word_cut (codes "proof") w ws (omega arith))
 words_told (Refuting c t) w ws well =
-    ap₂ (λ b o. tree_token b o >>= λ x. coded (tree_after t x) >>= λ more. Ok (grown c more)) (is_word_cut (codes "end") w ws (omega arith)) (token_cut (tree_dims (refuted_by t)) w ws well)
+    ap₂ (λ b o. tree_token b o >>= λ x. coded (tree_after t x) >>= λ more. Ok (grown_tree c more)) (is_word_cut (codes "end") w ws (omega arith)) (token_cut (tree_dims (refuted_by t)) w ws well)
 words_told (Exceeding i c m) w ws well =
     ap₂ (λ b o. tree_token b o >>= λ x. exceeding_token i c m x) (is_word_cut (codes "end") w ws (omega arith)) (token_cut (dims i) w ws well)
 words_told (Ending c (Some d)) w ws well =
@@ -286,8 +287,8 @@ line_told stage false (w ∷ ws) n m well = filled_told stage false w ws n m wel
 -- ---- the lines that are told, one by one
 
 abbrev read_told : Stage → ℕ → List NumberedLine → Result Claim Refusal
-read_told stage n [] = at_end stage n
-read_told stage n (l ∷ ls) = at_line l.number (stage_after stage l.line) >>= λ next. read_told next l.number ls
+read_told stage n [] = document_at_end stage n
+read_told stage n (l ∷ ls) = document_at_line l.number (stage_after stage l.line) >>= λ next. read_told next l.number ls
 
 byte_told : (s : Lexer) (stage : Stage) (b : ℕ) (bytes : List ℕ) (t : Bool) → is_line_feed b ≡ t
     → ((next : Stage) → fed_verdict (feed b s) next bytes ≡ read_told next (feed b s).number (lines_fed (feed b s) bytes))
@@ -303,20 +304,20 @@ byte_told s stage b bytes false e later = later stage ∙ ap (λ n. read_told st
 fed_is_told : (s : Lexer) (stage : Stage) (bytes : List ℕ) → fed_verdict s stage bytes ≡ read_told stage s.number (lines_fed s bytes)
 fed_is_told s stage [] = go s.begun
   where
-    go : (b : Bool) → cond b (taken_line stage (finish s) >>= λ next. at_end next (finish s).number) (at_end stage s.number) ≡ read_told stage s.number (cond b (told_now (finish s) ∷ []) [])
+    go : (b : Bool) → cond b (taken_line stage (finish s) >>= λ next. document_at_end next (finish s).number) (document_at_end stage s.number) ≡ read_told stage s.number (cond b (told_now (finish s) ∷ []) [])
     go true = refl
     go false = refl
 fed_is_told s stage (b ∷ bytes) = byte_told s stage b bytes (is_line_feed b) refl (λ next. fed_is_told (feed b s) next bytes)
 
-told_is_read : (stage : Stage) (n : ℕ) (lines : List (List ℕ)) → IsWell stage → read_told stage n (numbered n lines) ≡ read_lines stage n lines
+told_is_read : (stage : Stage) (n : ℕ) (lines : List (List ℕ)) → IsWell stage → read_told stage n (numbered_lines n lines) ≡ read_document_lines stage n lines
 told_is_read stage n [] well = refl
 told_is_read stage n (line ∷ lines) well =
-    ap (λ r. at_line (n + 1) r >>= λ next. read_told next (n + 1) (numbered (n + 1) lines))
+    ap (λ r. document_at_line (n + 1) r >>= λ next. read_told next (n + 1) (numbered_lines (n + 1) lines))
     (line_told stage (line_of line).bad (line_of line).words (cut_line (line_of line)).count (line_of line).count well)
     ∙ go (stage_after stage (line_of line)) (λ next e. told_is_read next (n + 1) lines (stage_well stage (line_of line) well next e))
   where
-    go : (r : Result Stage Reason) → ((next : Stage) → r ≡ Ok next → read_told next (n + 1) (numbered (n + 1) lines) ≡ read_lines next (n + 1) lines)
-        → (at_line (n + 1) r >>= λ next. read_told next (n + 1) (numbered (n + 1) lines)) ≡ (at_line (n + 1) r >>= λ next. read_lines next (n + 1) lines)
+    go : (r : Result Stage Reason) → ((next : Stage) → r ≡ Ok next → read_told next (n + 1) (numbered_lines (n + 1) lines) ≡ read_document_lines next (n + 1) lines)
+        → (document_at_line (n + 1) r >>= λ next. read_told next (n + 1) (numbered_lines (n + 1) lines)) ≡ (document_at_line (n + 1) r >>= λ next. read_document_lines next (n + 1) lines)
     go (Ok next) later = later next refl
     go (Err reason) later = refl
 

@@ -10,9 +10,10 @@ use Rattle.text_terms.specs.Lines.{text_lines, line_of, content, is_bad, words_o
 use Rattle.text_terms.specs.Codes.{unknown_word}
 use Rattle.text_terms.specs.Texts.{kerf_line, Parts, no_parts, add_line, by_words, at_end as end_of, at_line as on_line, refuse, read_lines as read_instance_lines, ◌>>=◌}
 use Rattle.text_terms.specs.Form.{AreClean, filled_lines, HasForm}
-use Rattle.text_terms.proofs.FormRead.{word_is, filled_with}
+use Rattle.text_terms.proofs.FormRead.{filled_with, heads}
 use Rattle.text_terms.proofs.FormTold.{lines_have_form}
-use Rattle.text_terms.proofs.Good.{good_start, lines_limits}
+use Rattle.text_terms.proofs.Good.{good_start, lines_limits, bind_ok}
+use Rattle.text_terms.proofs.FormNumbers.{word_is}
 use Rattle.document_terms.specs.declared.claim.SolvingJob.{SolvingJob}
 use Rattle.document_terms.specs.declared.claim.Claim.{Claim}
 use Rattle.document_terms.specs.Claims.{job_of, job_word}
@@ -20,16 +21,13 @@ use Rattle.document_terms.specs.declared.claim.SolvingJob.TheVariants.{Fit, Stri
 use Rattle.verdict_terms.specs.Results.{claim_of}
 use Rattle.verdict_terms.specs.Stages.{Stage, claimed, answer_line, text_fault, end_of_parts, reading_line, stage_after}
 use Rattle.verdict_terms.specs.Stages.Stage.{Beginning, Reading}
-use Rattle.verdict_terms.specs.Documents.{read_lines, document_verdict}
+use Rattle.verdict_terms.specs.Documents.{read_document_lines, document_verdict}
 use Rattle.verdict_terms.specs.Form.{IsDocument, DocumentsHaveForm}
-use Rattle.verdict_terms.proofs.Passed.{bind_ok, ok_is}
+use Rattle.verdict_terms.proofs.Passed.{ok_is}
 use Rattle.verdict_terms.proofs.Walk.{read_words}
 use Rattle.verdict_terms.proofs.Taken.{is_same, bound, line_taken, words_taken}
 use Rattle.verdict_terms.proofs.FormTold.{any_end, claimed_later, form_told}
 use Rattle.verdict_terms.proofs.BackedGiven.{result_given, backed_given}
-
-heads : {A : Type 0} {x y : A} {xs ys : List A} → x ∷ xs ≡ y ∷ ys → (x ≡ y) × (xs ≡ ys)
-heads e = (cc, cc)
 
 -- where a line stands among those that aren't blank
 pub record SplitAt (lines : List (List ℕ)) (front : List (List (List ℕ))) (words : List (List ℕ)) (back : List (List (List ℕ))) : Type 0 where
@@ -84,14 +82,14 @@ stage_by stage line words bad is = ap₂ (λ b ws. stage_after stage (record { b
 -- ---- the first line
 
 blanks_taken : (stage : Stage) (n : ℕ) (before rest : List (List ℕ)) → AreClean before → filled_lines before ≡ []
-    → (m : ℕ) × (read_lines stage n (before ++ rest) ≡ read_lines stage m rest)
+    → (m : ℕ) × (read_document_lines stage n (before ++ rest) ≡ read_document_lines stage m rest)
 blanks_taken stage n [] rest clean none = (n, refl)
 blanks_taken stage n (line ∷ before) rest clean none =
     by_words_of (words_of (content line)) refl none (λ f. blanks_taken stage (n + 1) before rest (or_parts _ _ clean).1 f)
   where
     by_words_of : (ws : List (List ℕ)) → words_of (content line) ≡ ws → filled_with ws before ≡ []
-        → (filled_lines before ≡ [] → (m : ℕ) × (read_lines stage (n + 1) (before ++ rest) ≡ read_lines stage m rest))
-        → (m : ℕ) × (read_lines stage n (line ∷ (before ++ rest)) ≡ read_lines stage m rest)
+        → (filled_lines before ≡ [] → (m : ℕ) × (read_document_lines stage (n + 1) (before ++ rest) ≡ read_document_lines stage m rest))
+        → (m : ℕ) × (read_document_lines stage n (line ∷ (before ++ rest)) ≡ read_document_lines stage m rest)
     by_words_of [] is none later =
         let l = later none in
         (l.0, line_taken stage stage n line (before ++ rest) (stage_by stage line [] (or_parts _ _ clean).0 is) ∙ l.1)
@@ -125,7 +123,7 @@ no_result parts c w ws more e = go (same_bytes w (codes "result")) refl
 reading_given : (job : SolvingJob) (parts : Parts) (n k : ℕ) (before : List (List ℕ)) (line : List ℕ) (after : List (List ℕ)) (words : List (List ℕ)) (instance : PlainInstance) (claim : Claim)
     → read_instance_lines parts k before ≡ Ok instance → list_any is_bad (content line) ≡ false → words_of (content line) ≡ codes "result" ∷ words
     → claim_of job instance words ≡ Ok claim
-    → (m : ℕ) × (read_lines (Reading job parts) n (before ++ line ∷ after) ≡ read_lines (claimed instance claim) m after)
+    → (m : ℕ) × (read_document_lines (Reading job parts) n (before ++ line ∷ after) ≡ read_document_lines (claimed instance claim) m after)
 reading_given job parts n k [] line after words instance claim reads bad is says = (
   n + 1,
   line_taken (Reading job parts) (claimed instance claim) n line after
@@ -149,8 +147,8 @@ reading_given job parts n k (first ∷ before) line after words instance claim r
     by_parts : (more : Parts) → add_line parts (line_of first) ≡ Ok more → read_instance_lines more (k + 1) before ≡ Ok instance → (b : Bool) (ws : List (List ℕ))
         → list_any is_bad (content first) ≡ b → words_of (content first) ≡ ws
         → ((next : Parts) → read_instance_lines next (k + 1) before ≡ Ok instance
-        → (m : ℕ) × (read_lines (Reading job next) (n + 1) (before ++ line ∷ after) ≡ read_lines (claimed instance claim) m after))
-        → (m : ℕ) × (read_lines (Reading job parts) n (first ∷ (before ++ line ∷ after)) ≡ read_lines (claimed instance claim) m after)
+        → (m : ℕ) × (read_document_lines (Reading job next) (n + 1) (before ++ line ∷ after) ≡ read_document_lines (claimed instance claim) m after))
+        → (m : ℕ) × (read_document_lines (Reading job parts) n (first ∷ (before ++ line ∷ after)) ≡ read_document_lines (claimed instance claim) m after)
     by_parts more adds rest true ws f g go =
         absurd (let h : ◌≡◌ {A = Result Parts ℕ} (Err 8) (Ok more) = ap (λ b. refuse b 8 (by_words parts (words_of (content first)))) (sym f) ∙ adds in cc (h))
     by_parts more adds rest false [] f g go =
@@ -180,15 +178,15 @@ form_given text claim d =
     let e = clean_split r.before (r.line ∷ r.after) (subst AreClean r.are c_after.1) in
     let e_after = or_parts _ _ e.1 in
     let b = blanks_taken Beginning 0 s.before (s.line ∷ s.after) c.0 s.front_is in
-    let first : read_lines Beginning b.0 (s.line ∷ s.after) ≡ read_lines (Reading (job_of claim) no_parts) (b.0 + 1) s.after =
+    let first : read_document_lines Beginning b.0 (s.line ∷ s.after) ≡ read_document_lines (Reading (job_of claim) no_parts) (b.0 + 1) s.after =
     line_taken Beginning (Reading (job_of claim) no_parts) b.0 s.line s.after
     (stage_by Beginning s.line (codes "answer" ∷ job_word (job_of claim) ∷ []) c_after.0 s.words_are ∙ answer_is (job_of claim)) in
     let reads = (lines_have_form r.before 0 d.instance).1 (e.0, subst (λ ls. HasForm ls d.instance) (sym r.front_is) d.is_instance) in
     let w = reading_given (job_of claim) no_parts (b.0 + 1) 0 r.before r.line r.after d.result d.instance claim reads e_after.0 r.words_are (result_given d.instance claim d.result d.is_result) in
     let two = d.is_instance.is_container.count in
     let some = d.is_instance.count in
-    ap (read_lines Beginning 0) s.are ∙ b.1 ∙ first
-    ∙ ap (read_lines (Reading (job_of claim) no_parts) (b.0 + 1)) r.are ∙ w.1
+    ap (read_document_lines Beginning 0) s.are ∙ b.1 ∙ first
+    ∙ ap (read_document_lines (Reading (job_of claim) no_parts) (b.0 + 1)) r.are ∙ w.1
     ∙ words_taken (claimed d.instance claim) w.0 r.after claim (claimed_later d.instance claim) e_after.1
     (ap (read_words (claimed d.instance claim)) r.back_is
     ∙ backed_given d.instance (omega (arith, two)) (omega (arith, some)) claim d.backing d.backed)

@@ -12,8 +12,11 @@ use Rattle.text_terms.specs.Lines.{text_lines, line_of, content, is_bad, words_o
 use Rattle.text_terms.specs.Codes.{missing_line, no_box_line}
 use Rattle.text_terms.specs.Texts.{Parts, no_parts, add_line, at_end as end_of, at_line as on_line, refuse, is_none, read_lines as read_instance_lines, ◌>>=◌}
 use Rattle.text_terms.specs.Form.{AreClean, filled_lines}
-use Rattle.text_terms.proofs.FormRead.{word_is, filled_with}
+use Rattle.text_terms.proofs.FormRead.{filled_with}
 use Rattle.text_terms.proofs.FormTold.{lines_have_form}
+use Rattle.text_terms.proofs.Good.{bind_ok}
+use Rattle.text_terms.proofs.FormNumbers.{word_is}
+use Rattle.text_terms.proofs.FormLines.{clean_from}
 use Rattle.document_terms.specs.declared.claim.SolvingJob.{SolvingJob}
 use Rattle.document_terms.specs.declared.claim.Claim.{Claim}
 use Rattle.document_terms.specs.Claims.{job_word}
@@ -24,10 +27,10 @@ use Rattle.verdict_terms.specs.Reasons.{form}
 use Rattle.verdict_terms.specs.Results.{claim_of}
 use Rattle.verdict_terms.specs.Stages.{Stage, claimed, job_named, answer_line, text_fault, end_of_parts, result_line, reading_line, stage_after}
 use Rattle.verdict_terms.specs.Stages.Stage.{Beginning, Reading}
-use Rattle.verdict_terms.specs.Documents.{read_lines, document_verdict}
+use Rattle.verdict_terms.specs.Documents.{read_document_lines, document_verdict}
 use Rattle.verdict_terms.specs.Form.{IsDocument}
-use Rattle.verdict_terms.proofs.Passed.{bind_ok, cond_ok, ok_is}
-use Rattle.verdict_terms.proofs.Walk.{IsLater, stepped, words_read, clean_from}
+use Rattle.verdict_terms.proofs.Passed.{cond_ok, ok_is}
+use Rattle.verdict_terms.proofs.Walk.{IsLater, stepped, words_read}
 use Rattle.verdict_terms.proofs.ResultsTold.{result_told}
 use Rattle.verdict_terms.proofs.Backed.{backed_told}
 
@@ -66,21 +69,21 @@ pub record AnswerTold (filled : List (List (List ℕ))) (lines : List (List ℕ)
   pub number : ℕ
   pub are : filled ≡ (codes "answer" ∷ job_word job ∷ []) ∷ filled_lines rest
   pub clean : AreClean rest → AreClean lines
-  pub reads : read_lines (Reading job no_parts) number rest ≡ Ok claim
+  pub reads : read_document_lines (Reading job no_parts) number rest ≡ Ok claim
 
-answer_told : (n : ℕ) (lines : List (List ℕ)) (claim : Claim) → read_lines Beginning n lines ≡ Ok claim → AnswerTold (filled_lines lines) lines claim
+answer_told : (n : ℕ) (lines : List (List ℕ)) (claim : Claim) → read_document_lines Beginning n lines ≡ Ok claim → AnswerTold (filled_lines lines) lines claim
 answer_told n [] claim e = absurd (cc (e))
 answer_told n (line ∷ lines) claim e =
     let s = stepped Beginning n line lines claim e in
     by_parts s.next s.rest (list_any is_bad (content line)) (words_of (content line)) refl s.step (λ r. answer_told (n + 1) lines claim r)
   where
-    by_parts : (next : Stage) → read_lines next (n + 1) lines ≡ Ok claim → (b : Bool) (words : List (List ℕ)) → list_any is_bad (content line) ≡ b
+    by_parts : (next : Stage) → read_document_lines next (n + 1) lines ≡ Ok claim → (b : Bool) (words : List (List ℕ)) → list_any is_bad (content line) ≡ b
         → stage_after Beginning (record { bad = b; count = length words; words = words }) ≡ Ok next
-        → (read_lines Beginning (n + 1) lines ≡ Ok claim → AnswerTold (filled_lines lines) lines claim) → AnswerTold (filled_with words lines) (line ∷ lines) claim
+        → (read_document_lines Beginning (n + 1) lines ≡ Ok claim → AnswerTold (filled_lines lines) lines claim) → AnswerTold (filled_with words lines) (line ∷ lines) claim
     by_parts next rest true [] bad step go = absurd (cc (step))
     by_parts next rest true (w ∷ ws) bad step go = absurd (cc (step))
     by_parts next rest false [] bad step go =
-        let t = go (subst (λ s. read_lines s (n + 1) lines ≡ Ok claim) (sym (ok_is Beginning next step)) rest) in
+        let t = go (subst (λ s. read_document_lines s (n + 1) lines ≡ Ok claim) (sym (ok_is Beginning next step)) rest) in
         record { job = t.job; rest = t.rest; number = t.number; are = t.are; clean = λ c. clean_from line lines bad (t.clean c); reads = t.reads }
     by_parts next rest false (w ∷ ws) bad step go =
         let a = answer_ok (w ∷ ws) next step in record {
@@ -89,7 +92,7 @@ answer_told n (line ∷ lines) claim e =
           number = n + 1;
           are = ap (λ ls. ls ∷ filled_lines lines) a.are;
           clean = λ c. clean_from line lines bad c;
-          reads = subst (λ s. read_lines s (n + 1) lines ≡ Ok claim) (sym a.next_is) rest;
+          reads = subst (λ s. read_document_lines s (n + 1) lines ≡ Ok claim) (sym a.next_is) rest;
         }
 
 -- ---- the lines of the instance
@@ -126,9 +129,9 @@ pub record ReadingTold (job : SolvingJob) (parts : Parts) (lines : List (List �
   pub clean_line : list_any is_bad (content line) ≡ false
   pub words_are : words_of (content line) ≡ codes "result" ∷ words
   pub says : claim_of job instance words ≡ Ok claim
-  pub rest : read_lines (claimed instance claim) number after ≡ Ok told
+  pub rest : read_document_lines (claimed instance claim) number after ≡ Ok told
 
-reading_told : (job : SolvingJob) (parts : Parts) (n : ℕ) (lines : List (List ℕ)) (told : Claim) → read_lines (Reading job parts) n lines ≡ Ok told → ReadingTold job parts lines told
+reading_told : (job : SolvingJob) (parts : Parts) (n : ℕ) (lines : List (List ℕ)) (told : Claim) → read_document_lines (Reading job parts) n lines ≡ Ok told → ReadingTold job parts lines told
 reading_told job parts n [] told e = absurd (cc (e))
 reading_told job parts n (line ∷ lines) told e =
     let s = stepped (Reading job parts) n line lines told e in
@@ -153,7 +156,7 @@ reading_told job parts n (line ∷ lines) told e =
     }
 
     result : (w : List ℕ) (ws : List (List ℕ)) → list_any is_bad (content line) ≡ false → words_of (content line) ≡ w ∷ ws → same_bytes w (codes "result") ≡ true → (next : Stage)
-        → result_line job parts ws ≡ Ok next → read_lines next (n + 1) lines ≡ Ok told → ReadingTold job parts (line ∷ lines) told
+        → result_line job parts ws ≡ Ok next → read_document_lines next (n + 1) lines ≡ Ok told → ReadingTold job parts (line ∷ lines) told
     result w ws bad is key next e rest =
         let i = bind_ok (end_of_parts (end_of parts 0)) (λ instance. claim_of job instance ws >>= λ claim. Ok (claimed instance claim)) next e in
         let c = bind_ok (claim_of job i.0 ws) (λ claim. Ok (claimed i.0 claim)) next i.2 in record {
@@ -169,17 +172,17 @@ reading_told job parts n (line ∷ lines) told e =
           clean_line = bad;
           words_are = is ∙ ap (λ x. x ∷ ws) (word_is w (codes "result") key);
           says = c.1;
-          rest = subst (λ s. read_lines s (n + 1) lines ≡ Ok told) (sym (ok_is (claimed i.0 c.0) next c.2)) rest;
+          rest = subst (λ s. read_document_lines s (n + 1) lines ≡ Ok told) (sym (ok_is (claimed i.0 c.0) next c.2)) rest;
         }
 
-    by_parts : (next : Stage) → read_lines next (n + 1) lines ≡ Ok told → (b : Bool) (words : List (List ℕ)) → list_any is_bad (content line) ≡ b → words_of (content line) ≡ words
+    by_parts : (next : Stage) → read_document_lines next (n + 1) lines ≡ Ok told → (b : Bool) (words : List (List ℕ)) → list_any is_bad (content line) ≡ b → words_of (content line) ≡ words
         → stage_after (Reading job parts) (record { bad = b; count = length words; words = words }) ≡ Ok next
-        → ((more : Parts) → read_lines (Reading job more) (n + 1) lines ≡ Ok told → ReadingTold job more lines told) → ReadingTold job parts (line ∷ lines) told
+        → ((more : Parts) → read_document_lines (Reading job more) (n + 1) lines ≡ Ok told → ReadingTold job more lines told) → ReadingTold job parts (line ∷ lines) told
     by_parts next rest true [] bad is step go = absurd (cc (step))
     by_parts next rest true (w ∷ ws) bad is step go = absurd (cc (step))
     by_parts next rest false [] bad is step go =
         another parts (ap₂ (λ b ws. add_line parts (record { bad = b; count = length ws; words = ws })) bad is)
-        (go parts (subst (λ s. read_lines s (n + 1) lines ≡ Ok told) (sym (ok_is (Reading job parts) next step)) rest))
+        (go parts (subst (λ s. read_document_lines s (n + 1) lines ≡ Ok told) (sym (ok_is (Reading job parts) next step)) rest))
     by_parts next rest false (w ∷ ws) bad is step go = by_key (same_bytes w (codes "result")) refl step
       where
         by_key : (k : Bool) → same_bytes w (codes "result") ≡ k → reading_line k job parts (record { bad = false; count = length (w ∷ ws); words = w ∷ ws }) ≡ Ok next
@@ -188,7 +191,7 @@ reading_told job parts n (line ∷ lines) told e =
         by_key false key f =
             let m = bind_ok (text_fault (add_line parts (record { bad = false; count = length (w ∷ ws); words = w ∷ ws }))) (λ more. Ok (Reading job more)) next f in
             another m.0 (ap₂ (λ b ws. add_line parts (record { bad = b; count = length ws; words = ws })) bad is ∙ fault_ok _ m.0 m.1)
-            (go m.0 (subst (λ s. read_lines s (n + 1) lines ≡ Ok told) (sym (ok_is (Reading job m.0) next m.2)) rest))
+            (go m.0 (subst (λ s. read_document_lines s (n + 1) lines ≡ Ok told) (sym (ok_is (Reading job m.0) next m.2)) rest))
 
 -- ---- the whole
 

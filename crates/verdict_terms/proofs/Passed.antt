@@ -3,16 +3,13 @@ use Rattle.std.proofs.Common.{◌≡◌, ℕ, refl, sym, ap, subst, ◌∙◌, a
 use Rattle.std.proofs.lemmas.Bool.{and_parts, leb-true, eqb-true}
 use Rattle.text_terms.specs.Lines.{number_of}
 use Rattle.text_terms.specs.Texts.{◌>>=◌}
-use Rattle.text_terms.proofs.FormRead.{word_is}
+use Rattle.text_terms.proofs.Good.{bind_ok}
+use Rattle.text_terms.proofs.FormNumbers.{word_is}
 use Rattle.verdict_terms.specs.declared.reason.Reason.{Reason}
 use Rattle.verdict_terms.specs.Reasons.{form}
 use Rattle.verdict_terms.specs.Form.{AreCoordinates}
 use Rattle.verdict_terms.specs.Numbers.{most_coordinate, require, wanted_by, wanted, all_wanted, numbers_line, are_coordinates, coordinates}
 use Rattle.verdict_terms.specs.Stages.{refused_by, is_word}
-
-pub bind_ok : {A B E : Type 0} (r : Result A E) (f : A → Result B E) (y : B) → (r >>= f) ≡ Ok y → (x : A) × (r ≡ Ok x) × (f x ≡ Ok y)
-bind_ok (Ok x) f y e = (x, refl, e)
-bind_ok (Err c) f y e = absurd (cc (e))
 
 pub require_ok : {A : Type 0} (test : Bool) (reason : Reason) (rest : Result A Reason) (x : A) → require test reason rest ≡ Ok x → (test ≡ true) × (rest ≡ Ok x)
 require_ok true reason rest x e = (refl, e)

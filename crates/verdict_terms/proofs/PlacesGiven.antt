@@ -1,5 +1,5 @@
 -- The lines of packings are taken.
-use Rattle.std.proofs.Common.{◌≡◌, ℕ, suc, ◌+◌, ◌*◌, ◌<◌, ◌≤◌, ◌⊎◌, inl, inr, refl, sym, ap, ap₂, subst, ◌∙◌, arith, Bool, true, false, cond, ◌&&◌, ◌==◌, List, [], ◌∷◌, ◌++◌, length, map, append_assoc, append-nil, get_or, Some, None, Result, Ok, codes}
+use Rattle.std.proofs.Common.{◌≡◌, ℕ, suc, ◌+◌, ◌*◌, ◌<◌, ◌≤◌, ◌⊎◌, inl, inr, refl, sym, ap, ap₂, subst, ◌∙◌, arith, Bool, true, false, cond, ◌&&◌, ◌==◌, List, [], ◌∷◌, ◌++◌, length, map, append_assoc, append-nil, Some, None, Result, Ok, codes}
 use Rattle.std.specs.Prelude.{nat_le, nat_lt}
 use Rattle.std.specs.List.{list_all, range_with_len}
 use Rattle.std.specs.List.Sorted.{IsStrictlyIncreasing}
@@ -8,6 +8,7 @@ use Rattle.std.proofs.lemmas.List.{length-append}
 use Rattle.packing_terms.specs.Packing.{PlainInstance, dims, box_count, IsPacking}
 use Rattle.packing_terms.specs.Goals.{subset, in_bin, places_of, worth, IsBinPacking}
 use Rattle.packing_terms.proofs.Members.{IsIn, map_in, range_in}
+use Rattle.packing_terms.proofs.ValueRefuted.{rising_later}
 use Rattle.text_terms.specs.Texts.{◌>>=◌}
 use Rattle.check_terms.specs.declared.answers.PlaceVerdict.{PlaceVerdict}
 use Rattle.check_terms.specs.declared.answers.PlaceVerdict.TheVariants.{Good, Outside, Overlap}
@@ -20,7 +21,7 @@ use Rattle.verdict_terms.specs.Reasons.{range}
 use Rattle.verdict_terms.specs.declared.reason.Reason.TheVariants.{TooLittle}
 use Rattle.verdict_terms.specs.Numbers.{wanted, all_wanted, numbers_line, coordinates}
 use Rattle.verdict_terms.specs.Trees.{Refuted, begun}
-use Rattle.verdict_terms.specs.Stages.{Stage, first_outside, first_overlap, first_reason, groups_reason, places_reason, bins_reason, taken_reason, refused_by, to_refute, placed, place_line, share_line, take_line, words_line, is_word}
+use Rattle.verdict_terms.specs.Stages.{Stage, first_outside, first_overlap, first_reason, groups_reason, places_reason, bins_reason, taken_reason, refused_by, to_refute, placed, place_line, share_line, take_box_line, words_line, is_word}
 use Rattle.verdict_terms.specs.Stages.Stage.{Placing, Sharing, Taking, Refuting}
 use Rattle.verdict_terms.specs.Form.{IsPlaceLine, IsNumberedLine, ArePlaceLines, AreNumberedLines}
 use Rattle.verdict_terms.proofs.Walk.{read_words}
@@ -185,12 +186,6 @@ shares_given instance claim k bins places (n ∷ ns) more (words ∷ front) back
 
 -- ---- taken boxes
 
-rising_later : (u : ℕ) (us : List ℕ) → IsStrictlyIncreasing (u ∷ us) → IsStrictlyIncreasing us
-rising_later u us h k l =
-    let e : suc k + 1 ≡ suc (k + 1) = omega arith in
-    let n : get_or us k 0 < get_or (u ∷ us) (suc k + 1) 0 = h (suc k) (omega (arith, l)) in
-    subst (λ (m : ℕ). get_or us k 0 < get_or (u ∷ us) m 0) e n
-
 -- the first of rising numbers is below each later one
 first_below : (u : ℕ) (us : List ℕ) → IsStrictlyIncreasing (u ∷ us) → (x : ℕ) → IsIn x us → u < x
 first_below u [] h x i = absurd i
@@ -211,7 +206,7 @@ abbrev behind_take : PlainInstance → Claim → ℕ → List ℕ → List ℕ �
 behind_take instance claim value taken places words t =
     elim t as (λ x. Result Stage Reason) [
       | true ↦ refused_by (taken_reason instance value taken places) (Ok (Refuting claim (begun (to_refute instance claim))))
-      | false ↦ numbers_line (codes "take") (suc (dims instance)) words >>= λ ns. take_line instance claim value taken places ns
+      | false ↦ numbers_line (codes "take") (suc (dims instance)) words >>= λ ns. take_box_line instance claim value taken places ns
     ]
 
 take_taken : (instance : PlainInstance) (claim : Claim) (value v : ℕ) (taken places xs : List ℕ) (words : List (List ℕ)) → IsNumberedLine (codes "take") (box_count instance) (dims instance) words v xs
@@ -219,7 +214,7 @@ take_taken : (instance : PlainInstance) (claim : Claim) (value v : ℕ) (taken p
     → words_line (Taking instance claim value taken places) words ≡ Ok (Taking instance claim value (taken ++ v ∷ []) (places ++ xs))
 take_taken instance claim value v taken places xs words line below =
     ap (behind_take instance claim value taken places words) (ap (is_word (codes "proof")) line.are)
-    ∙ bound (numbers_line (codes "take") (suc (dims instance)) words) (suc v ∷ xs) (λ ns. take_line instance claim value taken places ns)
+    ∙ bound (numbers_line (codes "take") (suc (dims instance)) words) (suc v ∷ xs) (λ ns. take_box_line instance claim value taken places ns)
     (numbered_taken (codes "take") (box_count instance) (dims instance) v words xs line)
     ∙ required (names_box instance (suc v) && list_all (λ u. nat_lt u v) taken) range (coordinates xs >>= λ ys. Ok (Taking instance claim value (taken ++ v ∷ []) (places ++ ys)))
     (and_from _ _ (and_from _ _ (le-leb 1 (suc v) (omega arith)) (le-leb (suc v) (box_count instance) line.is_number.most)) below)

@@ -8,8 +8,9 @@ use Rattle.std.proofs.lemmas.List.{length-append, get_or_append_left, get_or_pus
 use Rattle.std.proofs.lemmas.List.Elements.{All-append}
 use Rattle.packing_terms.specs.Packing.{PlainInstance, dims, box_count, IsPacking}
 use Rattle.packing_terms.specs.Goals.{IsBoxSet}
-use Rattle.packing_terms.proofs.Members.{IsIn, all_at}
+use Rattle.packing_terms.proofs.Members.{IsIn, all_at, index_in}
 use Rattle.text_terms.specs.Texts.{◌>>=◌}
+use Rattle.text_terms.proofs.Good.{bind_ok}
 use Rattle.check_terms.specs.declared.answers.PlaceVerdict.{PlaceVerdict}
 use Rattle.check_terms.specs.declared.answers.PlaceVerdict.TheVariants.{Good, Outside, Overlap}
 use Rattle.check_terms.specs.Placing.{place_verdict}
@@ -20,15 +21,15 @@ use Rattle.verdict_terms.specs.declared.reason.Reason.{Reason}
 use Rattle.verdict_terms.specs.Reasons.{range}
 use Rattle.verdict_terms.specs.Numbers.{wanted, all_wanted, numbers_line, coordinates}
 use Rattle.verdict_terms.specs.Trees.{Refuted, begun}
-use Rattle.verdict_terms.specs.Stages.{Stage, first_outside, first_overlap, first_reason, groups_reason, places_reason, bins_reason, taken_reason, refused_by, to_refute, placed, place_line, share_line, take_line, words_line, is_word}
+use Rattle.verdict_terms.specs.Stages.{Stage, first_outside, first_overlap, first_reason, groups_reason, places_reason, bins_reason, taken_reason, refused_by, to_refute, placed, place_line, share_line, take_box_line, words_line, is_word}
 use Rattle.verdict_terms.specs.Stages.Stage.{Placing, Sharing, Taking, Refuting}
 use Rattle.verdict_terms.specs.Form.{AreCoordinates, IsPlaceLine, IsNumberedLine, ArePlaceLines, AreNumberedLines}
-use Rattle.verdict_terms.proofs.Passed.{bind_ok, require_ok, refused_ok, wanted_ok, numbers_are, NumbersLine, numbers_line_ok, coordinates_ok, is_word_ok, ok_is}
+use Rattle.verdict_terms.proofs.Passed.{require_ok, refused_ok, wanted_ok, numbers_are, NumbersLine, numbers_line_ok, coordinates_ok, is_word_ok, ok_is}
 use Rattle.verdict_terms.proofs.Walk.{read_words}
 
 -- ---- no reason is a packing
 
-no_first : (a b : Option Reason) → first_reason a b ≡ None → (a ≡ None) × (b ≡ None)
+pub no_first : (a b : Option Reason) → first_reason a b ≡ None → (a ≡ None) × (b ≡ None)
 no_first None b e = (refl, e)
 no_first (Some r) b e = absurd (cc (e))
 
@@ -258,11 +259,6 @@ pub record TakesTold (instance : PlainInstance) (claim told : Claim) (value : �
   pub good : taken_reason instance value (taken ++ more_taken) (places ++ more) ≡ None
   pub rest : read_words (Refuting claim (begun (to_refute instance claim))) back ≡ Ok told
 
-in_list : (xs : List ℕ) (i : ℕ) → i < length xs → IsIn (get_or xs i 0) xs
-in_list [] i h = absurd (omega arith)
-in_list (x ∷ xs) zero h = inl refl
-in_list (x ∷ xs) (suc i) h = inr (in_list xs i (omega arith))
-
 rising_push : (us : List ℕ) (v : ℕ) → IsStrictlyIncreasing us → list_all (λ u. nat_lt u v) us ≡ true → IsStrictlyIncreasing (us ++ v ∷ [])
 rising_push us v rising below k h = go (cases_lt (k + 1) (length us))
   where
@@ -279,7 +275,7 @@ rising_push us v rising below k h = go (cases_lt (k + 1) (length us))
         let n : length us ≡ k + 1 = omega (arith, l, h, e) in
         let a = get_or_append_left us (v ∷ []) 0 k (omega (arith, n)) in
         let b = get_or_push us v 0 (k + 1) n in
-        let small = ltb-true (get_or us k 0) v (all_at (λ u. nat_lt u v) (get_or us k 0) us below (in_list us k (omega (arith, n)))) in
+        let small = ltb-true (get_or us k 0) v (all_at (λ u. nat_lt u v) (get_or us k 0) us below (index_in 0 us k (omega (arith, n)))) in
         omega (arith, a, b, small)
 
 pub set_push : (instance : PlainInstance) (taken : List ℕ) (v : ℕ) → IsBoxSet instance taken → v < box_count instance → list_all (λ u. nat_lt u v) taken ≡ true
@@ -291,7 +287,7 @@ set_push instance taken v set there below = record {
 
 -- a line of a taken box and coordinates
 take_told : (instance : PlainInstance) (claim told : Claim) (value : ℕ) (taken places : List ℕ) (words : List (List ℕ)) (lines : List (List (List ℕ))) (ns : List ℕ) → IsBoxSet instance taken
-    → numbers_line (codes "take") (suc (dims instance)) words ≡ Ok ns → (next : Stage) → take_line instance claim value taken places ns ≡ Ok next
+    → numbers_line (codes "take") (suc (dims instance)) words ≡ Ok ns → (next : Stage) → take_box_line instance claim value taken places ns ≡ Ok next
     → read_words next lines ≡ Ok told
     → ((c ps : List ℕ) → IsBoxSet instance c → read_words (Taking instance claim value c ps) lines ≡ Ok told → TakesTold instance claim told value c ps lines)
     → TakesTold instance claim told value taken places (words ∷ lines)
@@ -330,7 +326,7 @@ takes_told instance claim told value taken places (words ∷ lines) set e =
     go : (t : Bool) → is_word (codes "proof") words ≡ t → (next : Stage)
         → ◌≡◌ {A = Result Stage Reason} (elim t [
           | true ↦ refused_by (taken_reason instance value taken places) (Ok (Refuting claim (begun (to_refute instance claim))))
-          | false ↦ numbers_line (codes "take") (suc (dims instance)) words >>= λ ns. take_line instance claim value taken places ns
+          | false ↦ numbers_line (codes "take") (suc (dims instance)) words >>= λ ns. take_box_line instance claim value taken places ns
         ]) (Ok next)
         → read_words next lines ≡ Ok told
         → ((c ps : List ℕ) → IsBoxSet instance c → read_words (Taking instance claim value c ps) lines ≡ Ok told → TakesTold instance claim told value c ps lines)
@@ -349,5 +345,5 @@ takes_told instance claim told value taken places (words ∷ lines) set e =
           rest = subst (λ s. read_words s lines ≡ Ok told) (sym (ok_is (Refuting claim (begun (to_refute instance claim))) next g.1)) r;
         }
     go false t next f r later =
-        let n = bind_ok (numbers_line (codes "take") (suc (dims instance)) words) (λ ns. take_line instance claim value taken places ns) next f in
+        let n = bind_ok (numbers_line (codes "take") (suc (dims instance)) words) (λ ns. take_box_line instance claim value taken places ns) next f in
         take_told instance claim told value taken places words lines n.0 set n.1 next n.2 r later

@@ -5,7 +5,8 @@ use Rattle.std.proofs.lemmas.Bool.{and_parts, leb-true, ltb-true}
 use Rattle.packing_terms.specs.Packing.{PlainInstance, box_count}
 use Rattle.text_terms.specs.Lines.{same_bytes}
 use Rattle.text_terms.specs.Texts.{◌>>=◌}
-use Rattle.text_terms.proofs.FormRead.{word_is}
+use Rattle.text_terms.proofs.Good.{bind_ok}
+use Rattle.text_terms.proofs.FormNumbers.{word_is}
 use Rattle.document_terms.specs.declared.claim.SolvingJob.{SolvingJob}
 use Rattle.document_terms.specs.declared.claim.Claim.{Claim}
 use Rattle.document_terms.specs.Claims.{job_of}
@@ -19,7 +20,7 @@ use Rattle.document_terms.specs.Claims.{most_worth}
 use Rattle.verdict_terms.specs.Numbers.{require, wanted}
 use Rattle.verdict_terms.specs.Results.{none_claim, one_claim, two_claim, claim_of}
 use Rattle.verdict_terms.specs.Form.{SaysOne, SaysTwo, IsResult}
-use Rattle.verdict_terms.proofs.Passed.{bind_ok, require_ok, cond_ok, wanted_ok, ok_is}
+use Rattle.verdict_terms.proofs.Passed.{require_ok, cond_ok, wanted_ok, ok_is}
 
 -- the claim says what the words say, and is one of the job
 pub record ResultTold (job : SolvingJob) (instance : PlainInstance) (words : List (List ℕ)) (claim : Claim) : Type 0 where

@@ -9,7 +9,7 @@ use Rattle.verdict_terms.specs.declared.reason.Reason.{Reason}
 use Rattle.verdict_terms.specs.declared.reason.Reason.TheVariants.{TooShort}
 use Rattle.verdict_terms.specs.Stages.{Stage, stage_after}
 use Rattle.verdict_terms.specs.Stages.Stage.{Beginning, Reading, Placing, Sharing, Taking, Proving, Refuting, Exceeding, Ending, Ended}
-use Rattle.verdict_terms.specs.Documents.{Refusal, at_line, at_end, read_lines, document_verdict}
+use Rattle.verdict_terms.specs.Documents.{Refusal, document_at_line, document_at_end, read_document_lines, document_verdict}
 use Rattle.verdict_terms.specs.Fed.{RefusalsStay}
 
 -- ---- lines
@@ -45,7 +45,7 @@ lines_more front more =
 
 -- ---- refusals
 
-pub end_line : (stage : Stage) (n : ℕ) (r : Refusal) → at_end stage n ≡ Err r → r.line ≡ n + 1
+pub end_line : (stage : Stage) (n : ℕ) (r : Refusal) → document_at_end stage n ≡ Err r → r.line ≡ n + 1
 end_line (Ended c) n r e = absurd (cc (e))
 end_line Beginning n r e = let same : record { line = n + 1; reason = TooShort } ≡ r = cc (e) in ap (λ x. x.line) (sym same)
 end_line (Reading j p) n r e = let same : record { line = n + 1; reason = TooShort } ≡ r = cc (e) in ap (λ x. x.line) (sym same)
@@ -57,22 +57,22 @@ end_line (Refuting c t) n r e = let same : record { line = n + 1; reason = TooSh
 end_line (Exceeding i c m) n r e = let same : record { line = n + 1; reason = TooShort } ≡ r = cc (e) in ap (λ x. x.line) (sym same)
 end_line (Ending c b) n r e = let same : record { line = n + 1; reason = TooShort } ≡ r = cc (e) in ap (λ x. x.line) (sym same)
 
-stays : (stage : Stage) (n : ℕ) (xs ys : List (List ℕ)) (r : Refusal) → read_lines stage n xs ≡ Err r → r.line ≤ n + length xs → read_lines stage n (xs ++ ys) ≡ Err r
+stays : (stage : Stage) (n : ℕ) (xs ys : List (List ℕ)) (r : Refusal) → read_document_lines stage n xs ≡ Err r → r.line ≤ n + length xs → read_document_lines stage n (xs ++ ys) ≡ Err r
 stays stage n [] ys r e l = absurd (let h = end_line stage n r e in omega (arith, h, l))
 stays stage n (x ∷ xs) ys r e l = go (stage_after stage (line_of x)) e (λ next f. stays next (n + 1) xs ys r f (omega (arith, l)))
   where
-    go : (s : Result Stage Reason) → ◌≡◌ {A = Result Claim Refusal} (at_line (n + 1) s >>= λ next. read_lines next (n + 1) xs) (Err r)
-        → ((next : Stage) → read_lines next (n + 1) xs ≡ Err r → read_lines next (n + 1) (xs ++ ys) ≡ Err r)
-        → ◌≡◌ {A = Result Claim Refusal} (at_line (n + 1) s >>= λ next. read_lines next (n + 1) (xs ++ ys)) (Err r)
+    go : (s : Result Stage Reason) → ◌≡◌ {A = Result Claim Refusal} (document_at_line (n + 1) s >>= λ next. read_document_lines next (n + 1) xs) (Err r)
+        → ((next : Stage) → read_document_lines next (n + 1) xs ≡ Err r → read_document_lines next (n + 1) (xs ++ ys) ≡ Err r)
+        → ◌≡◌ {A = Result Claim Refusal} (document_at_line (n + 1) s >>= λ next. read_document_lines next (n + 1) (xs ++ ys)) (Err r)
     go (Ok next) e later = later next e
     go (Err reason) e later = e
 
 pub refusals_stay : RefusalsStay
 unfolding document_verdict
 refusals_stay bytes more refusal e ends =
-    let here : read_lines Beginning 0 (text_lines (ends.front ++ 10 ∷ [])) ≡ Err refusal = ap (λ b. read_lines Beginning 0 (text_lines b)) (sym ends.are) ∙ e in
+    let here : read_document_lines Beginning 0 (text_lines (ends.front ++ 10 ∷ [])) ≡ Err refusal = ap (λ b. read_document_lines Beginning 0 (text_lines b)) (sym ends.are) ∙ e in
     let last : refusal.line ≡ length (text_lines (ends.front ++ 10 ∷ [])) = ends.is_last ∙ ap (λ b. length (text_lines b)) ends.are in
-    ap (λ b. read_lines Beginning 0 (text_lines (b ++ more))) ends.are
-    ∙ ap (λ b. read_lines Beginning 0 (text_lines b)) (append_assoc ends.front (10 ∷ []) more)
-    ∙ ap (read_lines Beginning 0) (lines_more ends.front more)
+    ap (λ b. read_document_lines Beginning 0 (text_lines (b ++ more))) ends.are
+    ∙ ap (λ b. read_document_lines Beginning 0 (text_lines b)) (append_assoc ends.front (10 ∷ []) more)
+    ∙ ap (read_document_lines Beginning 0) (lines_more ends.front more)
     ∙ stays Beginning 0 (text_lines (ends.front ++ 10 ∷ [])) (text_lines more) refusal here (omega (arith, last))

@@ -1,12 +1,13 @@
 -- What passes the tests is taken: the other direction of what it says that tests were passed.
 use Rattle.std.proofs.Common.{◌≡◌, ℕ, ◌+◌, refl, ap, ap₂, ◌∙◌, Bool, true, false, cond, List, [], ◌∷◌, length, Some, Result, Ok, Err}
 use Rattle.std.specs.List.{list_any}
-use Rattle.std.proofs.lemmas.Bool.{and_from, le-leb, eq-eqb, or_parts}
+use Rattle.std.proofs.lemmas.Bool.{and_from, le-leb, eq-eqb}
 use Rattle.text_terms.specs.Lines.{line_of, content, is_bad, words_of, number_of, same_bytes}
 use Rattle.text_terms.specs.Texts.{◌>>=◌}
 use Rattle.text_terms.specs.Form.{AreClean, filled_lines}
 use Rattle.text_terms.proofs.Keys.{same_bytes_Decides}
-use Rattle.text_terms.proofs.FormRead.{filled_with}
+use Rattle.text_terms.proofs.FormRead.{filled_with, clean_parts}
+use Rattle.text_terms.proofs.Good.{bind_ok}
 use Rattle.document_terms.specs.declared.claim.Claim.{Claim}
 use Rattle.verdict_terms.specs.declared.reason.Reason.{Reason}
 use Rattle.verdict_terms.specs.Reasons.{form, range}
@@ -14,8 +15,7 @@ use Rattle.verdict_terms.specs.Form.{AreCoordinates}
 use Rattle.verdict_terms.specs.Numbers.{most_coordinate, require, wanted_by, wanted, all_wanted, numbers_line, are_coordinates, coordinates}
 use Rattle.verdict_terms.specs.Stages.{Stage, words_line, filled_line, stage_after}
 use Rattle.verdict_terms.specs.Stages.Stage.{Beginning, Reading, Placing, Sharing, Taking, Proving, Refuting, Exceeding, Ending, Ended}
-use Rattle.verdict_terms.specs.Documents.{at_line, at_end, read_lines}
-use Rattle.verdict_terms.proofs.Passed.{bind_ok}
+use Rattle.verdict_terms.specs.Documents.{document_at_line, document_at_end, read_document_lines}
 use Rattle.verdict_terms.proofs.Walk.{IsLater, claim_read, read_words, words_later}
 
 pub is_same : (word : List ℕ) → same_bytes word word ≡ true
@@ -54,7 +54,7 @@ numbers_line_is key count numbers ns e f =
 
 -- ---- lines
 
-at_end_is : (stage : Stage) (n : ℕ) (claim : Claim) → claim_read stage ≡ Ok claim → at_end stage n ≡ Ok claim
+at_end_is : (stage : Stage) (n : ℕ) (claim : Claim) → claim_read stage ≡ Ok claim → document_at_end stage n ≡ Ok claim
 at_end_is (Ended c) n claim e = let same : c ≡ claim = cc (e) in ap Ok same
 at_end_is Beginning n claim e = absurd (cc (e))
 at_end_is (Reading j p) n claim e = absurd (cc (e))
@@ -80,23 +80,20 @@ filled_is (Refuting x t) next c words later e = e
 filled_is (Exceeding i x m) next c words later e = e
 filled_is (Ending x s) next c words later e = e
 
-pub clean_parts : (line : List ℕ) (lines : List (List ℕ)) → AreClean (line ∷ lines) → (list_any is_bad (content line) ≡ false) × AreClean lines
-clean_parts line lines c = or_parts _ _ c
-
 pub line_taken : (stage next : Stage) (n : ℕ) (line : List ℕ) (lines : List (List ℕ)) → stage_after stage (line_of line) ≡ Ok next
-    → read_lines stage n (line ∷ lines) ≡ read_lines next (n + 1) lines
-line_taken stage next n line lines e = ap (λ r. at_line (n + 1) r >>= λ s. read_lines s (n + 1) lines) e
+    → read_document_lines stage n (line ∷ lines) ≡ read_document_lines next (n + 1) lines
+line_taken stage next n line lines e = ap (λ r. document_at_line (n + 1) r >>= λ s. read_document_lines s (n + 1) lines) e
 
 -- from a later stage on, the words of the lines that aren't blank give the claim
 pub words_taken : (stage : Stage) (n : ℕ) (lines : List (List ℕ)) (claim : Claim) → IsLater stage → AreClean lines → read_words stage (filled_lines lines) ≡ Ok claim
-    → read_lines stage n lines ≡ Ok claim
+    → read_document_lines stage n lines ≡ Ok claim
 words_taken stage n [] claim later clean e = at_end_is stage n claim e
 words_taken stage n (line ∷ lines) claim later clean e =
     let c = clean_parts line lines clean in
     by_words (words_of (content line)) refl c.0 e (λ next l r. words_taken next (n + 1) lines claim l c.1 r)
   where
     by_words : (words : List (List ℕ)) → words_of (content line) ≡ words → list_any is_bad (content line) ≡ false → read_words stage (filled_with words lines) ≡ Ok claim
-        → ((next : Stage) → IsLater next → read_words next (filled_lines lines) ≡ Ok claim → read_lines next (n + 1) lines ≡ Ok claim) → read_lines stage n (line ∷ lines) ≡ Ok claim
+        → ((next : Stage) → IsLater next → read_words next (filled_lines lines) ≡ Ok claim → read_document_lines next (n + 1) lines ≡ Ok claim) → read_document_lines stage n (line ∷ lines) ≡ Ok claim
     by_words [] is bad e go =
         line_taken stage stage n line lines (ap₂ (λ b ws. stage_after stage (record { bad = b; count = length ws; words = ws })) bad is) ∙ go stage later e
     by_words (w ∷ ws) is bad e go =

@@ -6,15 +6,16 @@ use Rattle.packing_terms.specs.OuterRefutation.{no_choice}
 use Rattle.packing_terms.specs.OuterFeeding.{Outer}
 use Rattle.text_terms.specs.Lines.{same_bytes}
 use Rattle.text_terms.specs.Texts.{◌>>=◌}
+use Rattle.text_terms.proofs.Good.{bind_ok}
 use Rattle.check_terms.specs.Checking.{inner_after, bins_after, value_after}
 use Rattle.check_terms.proofs.Refuting.{inner_refutes, bins_refute, value_refutes}
 use Rattle.document_terms.specs.declared.claim.Claim.{Claim}
 use Rattle.document_terms.specs.TokenLines.{token_of}
 use Rattle.verdict_terms.specs.Trees.{Refuted, ToFit, ToFitIn, ToReach, tree_dims, AreRefutation, Tree, InnerTree, BinTree, ValueTree, begun, refuted_by, map_ok, tree_after, is_whole}
-use Rattle.verdict_terms.specs.Stages.{is_word, tree_token, coded, grown, tree_line, words_line, late_line}
+use Rattle.verdict_terms.specs.Stages.{is_word, tree_token, coded, grown_tree, tree_line, words_line, late_line}
 use Rattle.verdict_terms.specs.Stages.Stage.{Refuting, Ending, Ended}
 use Rattle.verdict_terms.specs.Form.{AreTokenLines, AreRefuting}
-use Rattle.verdict_terms.proofs.Passed.{bind_ok, is_word_ok, ok_is}
+use Rattle.verdict_terms.proofs.Passed.{is_word_ok, ok_is}
 use Rattle.verdict_terms.proofs.Taken.{is_same, required, bound}
 use Rattle.verdict_terms.proofs.Walk.{read_words}
 use Rattle.verdict_terms.proofs.TreesTold.{tree_after_all, all_after, refuted_same, refuted_begun}
@@ -46,11 +47,11 @@ whole_stuck (ValueTree instance y []) next t w e = absurd (cc (e))
 whole_stuck (ValueTree instance y (n ∷ nodes)) next t w e = absurd (cc (w))
 
 token_line : (claim : Claim) (tree next : Tree) (words : List (List ℕ)) (t : PlainToken) → token_of (tree_dims (refuted_by tree)) words ≡ Some t → tree_after tree t ≡ Ok next
-    → tree_line claim tree words ≡ Ok (grown claim next)
+    → tree_line claim tree words ≡ Ok (grown_tree claim next)
 token_line claim tree next words t is after =
-    bound (tree_token (is_word (codes "end") words) (token_of (tree_dims (refuted_by tree)) words)) t (λ t. coded (tree_after tree t) >>= λ more. Ok (grown claim more))
+    bound (tree_token (is_word (codes "end") words) (token_of (tree_dims (refuted_by tree)) words)) t (λ t. coded (tree_after tree t) >>= λ more. Ok (grown_tree claim more))
     (ap (λ b. tree_token b (token_of (tree_dims (refuted_by tree)) words)) (not_end (tree_dims (refuted_by tree)) words t is) ∙ ap (tree_token false) is)
-    ∙ ap (λ r. coded r >>= λ more. Ok (grown claim more)) after
+    ∙ ap (λ r. coded r >>= λ more. Ok (grown_tree claim more)) after
 
 -- the tree behind a token: whole with no line but `end` left, or open
 grown_given : (claim : Claim) (tree next left : Tree) (ts : List PlainToken) (body : List (List (List ℕ))) → AreTokenLines (tree_dims (refuted_by next)) body ts
@@ -73,7 +74,7 @@ tree_given claim tree left (t ∷ ts) [] are e whole not_whole = absurd are
 tree_given claim tree left (t ∷ ts) (words ∷ body) are e whole not_whole =
     let b = bind_ok (tree_after tree t) (λ next. tree_after_all next ts) left e in
     let d : AreTokenLines (tree_dims (refuted_by b.0)) body ts = subst (λ x. AreTokenLines (tree_dims x) body ts) (sym (refuted_same tree b.0 t b.1)) are.1 in
-    bound (words_line (Refuting claim tree) words) (grown claim b.0) (λ next. read_words next (body ++ (codes "end" ∷ []) ∷ [])) (token_line claim tree b.0 words t are.0 b.1)
+    bound (words_line (Refuting claim tree) words) (grown_tree claim b.0) (λ next. read_words next (body ++ (codes "end" ∷ []) ∷ [])) (token_line claim tree b.0 words t are.0 b.1)
     ∙ grown_given claim tree b.0 left ts body d b.2 (is_whole b.0) refl (λ w. tree_given claim b.0 left ts body d b.2 whole w)
 
 -- a refutation leaves a begun tree whole

@@ -6,16 +6,17 @@ use Rattle.packing_terms.specs.Tokens.{PlainToken}
 use Rattle.packing_terms.specs.OuterRefutation.{no_choice}
 use Rattle.packing_terms.specs.OuterFeeding.{Outer}
 use Rattle.text_terms.specs.Texts.{◌>>=◌}
+use Rattle.text_terms.proofs.Good.{bind_ok}
 use Rattle.check_terms.specs.declared.answers.RefuseCode.{RefuseCode}
 use Rattle.check_terms.specs.Checking.{inner_after, bins_after, value_after, nodes_after_all, if_ok}
 use Rattle.check_terms.proofs.Refuting.{inner_refutes, bins_refute, value_refutes}
 use Rattle.document_terms.specs.declared.claim.Claim.{Claim}
 use Rattle.document_terms.specs.TokenLines.{token_of}
 use Rattle.verdict_terms.specs.Trees.{Refuted, ToFit, ToFitIn, ToReach, tree_dims, AreRefutation, Tree, InnerTree, BinTree, ValueTree, begun, refuted_by, map_ok, tree_after, is_whole}
-use Rattle.verdict_terms.specs.Stages.{Stage, is_word, tree_token, coded, grown, tree_line}
+use Rattle.verdict_terms.specs.Stages.{is_word, tree_token, coded, grown_tree, tree_line}
 use Rattle.verdict_terms.specs.Stages.Stage.{Refuting, Ending, Ended}
 use Rattle.verdict_terms.specs.Form.{AreTokenLines, AreRefuting}
-use Rattle.verdict_terms.proofs.Passed.{bind_ok, require_ok, is_word_ok, ok_is}
+use Rattle.verdict_terms.proofs.Passed.{require_ok, is_word_ok, ok_is}
 use Rattle.verdict_terms.proofs.Walk.{read_words}
 
 -- ---- `end`
@@ -121,10 +122,10 @@ pub tree_told : (claim told : Claim) (tree : Tree) (lines : List (List (List ℕ
 tree_told claim told tree [] e = absurd (cc (e))
 tree_told claim told tree (words ∷ lines) e =
     let b = bind_ok (tree_line claim tree words) (λ next. read_words next lines) told e in
-    let t = bind_ok (tree_token (is_word (codes "end") words) (token_of (tree_dims (refuted_by tree)) words)) (λ t. coded (tree_after tree t) >>= λ more. Ok (grown claim more)) b.0 b.1 in
-    let m = bind_ok (coded (tree_after tree t.0)) (λ more. Ok (grown claim more)) b.0 t.2 in
+    let t = bind_ok (tree_token (is_word (codes "end") words) (token_of (tree_dims (refuted_by tree)) words)) (λ t. coded (tree_after tree t) >>= λ more. Ok (grown_tree claim more)) b.0 b.1 in
+    let m = bind_ok (coded (tree_after tree t.0)) (λ more. Ok (grown_tree claim more)) b.0 t.2 in
     let after : tree_after tree t.0 ≡ Ok m.0 = coded_ok (tree_after tree t.0) m.0 m.1 in
-    go t.0 m.0 (token_ok _ _ t.0 t.1) after (is_whole m.0) refl (subst (λ s. read_words s lines ≡ Ok told) (sym (ok_is (grown claim m.0) b.0 m.2)) b.2)
+    go t.0 m.0 (token_ok _ _ t.0 t.1) after (is_whole m.0) refl (subst (λ s. read_words s lines ≡ Ok told) (sym (ok_is (grown_tree claim m.0) b.0 m.2)) b.2)
     (λ r. tree_told claim told m.0 lines r)
   where
     go : (t : PlainToken) (next : Tree) → token_of (tree_dims (refuted_by tree)) words ≡ Some t → tree_after tree t ≡ Ok next → (w : Bool) → is_whole next ≡ w

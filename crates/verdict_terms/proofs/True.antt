@@ -2,7 +2,7 @@
 use Rattle.std.proofs.Common.{ℕ, zero, suc, ◌-◌, ◌<◌, ◌≤◌, ◌⊎◌, inl, inr, arith, List}
 use Rattle.std.proofs.Math.ListN.{length-set}
 use Rattle.std.proofs.lemmas.Bool.{cases_lt}
-use Rattle.packing_terms.specs.Packing.{PlainInstance, HasSides, dims, box_count}
+use Rattle.packing_terms.specs.Packing.{PlainInstance, HasPositiveSides, dims, box_count}
 use Rattle.packing_terms.specs.Goals.{with_last_side, HasTooWideBox, HasTooLargeBox, ReachesValue}
 use Rattle.packing_terms.specs.Refutation.{IsTooLarge}
 use Rattle.packing_terms.proofs.Internal.{internal_sides, written_internal}
@@ -18,8 +18,8 @@ use Rattle.document_terms.specs.declared.claim.Claim.TheVariants.{Fitting, NotFi
 use Rattle.verdict_terms.proofs.FormGiven.{document_limits}
 use Rattle.verdict_terms.specs.Form.{IsResult, AreTaken, Backs, DocumentsAreTrue}
 
-module _ (instance : PlainInstance) (sides : HasSides instance) where
-  higher_sides : (h : ℕ) → HasSides (with_last_side instance h)
+module _ (instance : PlainInstance) (sides : HasPositiveSides instance) where
+  higher_sides : (h : ℕ) → HasPositiveSides (with_last_side instance h)
   higher_sides h v i l m = sides v i l (let e = length-set instance.container (dims instance - 1) h in omega (arith, e, m))
 
   wide : (v i : ℕ) → IsTooLarge instance v i → i ≤ dims instance - 1 → HasTooWideBox instance

@@ -2,11 +2,13 @@
 use Rattle.std.proofs.Common.{◌≡◌, ℕ, suc, pred, ◌+◌, ◌*◌, ◌&&◌, ◌==◌, ◌++◌, codes, refl, sym, ap, subst, ◌∙◌, Bool, true, false, cond, List, [], ◌∷◌, length, Option, Some, Result, Ok, Err}
 use Rattle.std.specs.Prelude.{nat_le, nat_lt}
 use Rattle.std.specs.List.{list_any, list_all}
-use Rattle.std.proofs.lemmas.Bool.{or_from, true≢false}
+use Rattle.std.proofs.lemmas.Bool.{true≢false}
 use Rattle.text_terms.specs.Lines.{line_of, content, is_bad, words_of}
 use Rattle.text_terms.specs.Texts.{◌>>=◌}
 use Rattle.text_terms.specs.Form.{AreClean, filled_lines}
 use Rattle.text_terms.proofs.FormRead.{filled_with}
+use Rattle.text_terms.proofs.Good.{bind_ok}
+use Rattle.text_terms.proofs.FormLines.{clean_from}
 use Rattle.packing_terms.specs.Packing.{PlainInstance, dims, box_count, container_side, side}
 use Rattle.packing_terms.specs.Tokens.{PlainToken}
 use Rattle.packing_terms.specs.Tokens.PlainToken.{Apart, Order, Rules, TooLarge, Scales, Assign, Choose, SetRefuted, ValueShort, GlobalScales}
@@ -19,10 +21,10 @@ use Rattle.document_terms.specs.TokenLines.{token_of}
 use Rattle.verdict_terms.specs.declared.reason.Reason.{Reason}
 use Rattle.verdict_terms.specs.Reasons.{form, range, after}
 use Rattle.verdict_terms.specs.declared.reason.Reason.TheVariants.{TooShort}
-use Rattle.verdict_terms.specs.Stages.{Stage, words_line, share_line, take_line, exceeding_token, refused_by, places_reason, bins_reason, taken_reason, to_refute, is_word, tree_token, coded, late_line, grown, filled_line, stage_after, placed}
+use Rattle.verdict_terms.specs.Stages.{Stage, words_line, share_line, take_box_line, exceeding_token, refused_by, places_reason, bins_reason, taken_reason, to_refute, is_word, tree_token, coded, late_line, grown_tree, filled_line, stage_after, placed}
 use Rattle.verdict_terms.specs.Stages.Stage.{Beginning, Reading, Placing, Sharing, Taking, Proving, Refuting, Exceeding, Ending, Ended}
-use Rattle.verdict_terms.specs.Documents.{at_line, at_end, read_lines}
-use Rattle.verdict_terms.proofs.Passed.{bind_ok, require_ok, refused_ok, ok_is}
+use Rattle.verdict_terms.specs.Documents.{document_at_line, document_at_end, read_document_lines}
+use Rattle.verdict_terms.proofs.Passed.{require_ok, refused_ok, ok_is}
 
 -- behind the result line
 abbrev pub IsLater : Stage → Type 0
@@ -40,7 +42,7 @@ abbrev pub read_words : Stage → List (List (List ℕ)) → Result Claim Reason
 read_words stage [] = claim_read stage
 read_words stage (words ∷ lines) = words_line stage words >>= λ next. read_words next lines
 
-pub end_read : (stage : Stage) (n : ℕ) (claim : Claim) → at_end stage n ≡ Ok claim → claim_read stage ≡ Ok claim
+pub end_read : (stage : Stage) (n : ℕ) (claim : Claim) → document_at_end stage n ≡ Ok claim → claim_read stage ≡ Ok claim
 end_read (Ended c) n claim e = let same : c ≡ claim = cc (e) in ap Ok same
 end_read Beginning n claim e = absurd (cc (e))
 end_read (Reading j p) n claim e = absurd (cc (e))
@@ -52,19 +54,19 @@ end_read (Refuting c t) n claim e = absurd (cc (e))
 end_read (Exceeding i c m) n claim e = absurd (cc (e))
 end_read (Ending c b) n claim e = absurd (cc (e))
 
-pub line_ok : {A : Type 0} (n : ℕ) (r : Result A Reason) (x : A) → at_line n r ≡ Ok x → r ≡ Ok x
+pub line_ok : {A : Type 0} (n : ℕ) (r : Result A Reason) (x : A) → document_at_line n r ≡ Ok x → r ≡ Ok x
 line_ok n (Ok y) x e = let same : y ≡ x = cc (e) in ap Ok same
 line_ok n (Err reason) x e = absurd (cc (e))
 
 pub record Stepped (stage : Stage) (n : ℕ) (line : List ℕ) (lines : List (List ℕ)) (claim : Claim) : Type 0 where
   pub next : Stage
   pub step : stage_after stage (line_of line) ≡ Ok next
-  pub rest : read_lines next (n + 1) lines ≡ Ok claim
+  pub rest : read_document_lines next (n + 1) lines ≡ Ok claim
 
-pub stepped : (stage : Stage) (n : ℕ) (line : List ℕ) (lines : List (List ℕ)) (claim : Claim) → read_lines stage n (line ∷ lines) ≡ Ok claim
+pub stepped : (stage : Stage) (n : ℕ) (line : List ℕ) (lines : List (List ℕ)) (claim : Claim) → read_document_lines stage n (line ∷ lines) ≡ Ok claim
     → Stepped stage n line lines claim
 stepped stage n line lines claim e =
-    let b = bind_ok (at_line (n + 1) (stage_after stage (line_of line))) (λ next. read_lines next (n + 1) lines) claim e in
+    let b = bind_ok (document_at_line (n + 1) (stage_after stage (line_of line))) (λ next. read_document_lines next (n + 1) lines) claim e in
     record { next = b.0; step = line_ok (n + 1) (stage_after stage (line_of line)) b.0 b.1; rest = b.2 }
 
 -- a line of a later stage that isn't blank has no bad byte, and its words are taken
@@ -134,14 +136,14 @@ share_later instance claim k bins places (b ∷ ns) next e =
     (refused_gives (bins_reason instance k (bins ++ pred b ∷ []) (places ++ c.0)) (placed claim (to_refute instance claim)) (placed_later claim (to_refute instance claim)))
     (gives (Sharing instance claim k (bins ++ pred b ∷ []) (places ++ c.0)) tt) next c.2
 
-take_later : (instance : PlainInstance) (claim : Claim) (value : ℕ) (taken places ns : List ℕ) → GivesLater (take_line instance claim value taken places ns)
+take_later : (instance : PlainInstance) (claim : Claim) (value : ℕ) (taken places ns : List ℕ) → GivesLater (take_box_line instance claim value taken places ns)
 take_later instance claim value taken places [] next e = refuses form next e
 take_later instance claim value taken places (v ∷ ns) next e =
     let q = require_ok (names_box instance v && list_all (λ u. nat_lt u (pred v)) taken) range _ next e in
     let c = bind_ok (coordinates ns) _ next q.1 in
     gives (Taking instance claim value (taken ++ pred v ∷ []) (places ++ c.0)) tt next c.2
 
-grown_later : (claim : Claim) (tree : Tree) → IsLater (grown claim tree)
+grown_later : (claim : Claim) (tree : Tree) → IsLater (grown_tree claim tree)
 grown_later claim tree = go (is_whole tree)
   where
     go : (b : Bool) → IsLater (cond b (Ending claim (Some (tree_dims (refuted_by tree)))) (Refuting claim tree))
@@ -175,36 +177,33 @@ words_later (Sharing i c k b p) words later next e =
     bind_gives (numbers_line (codes "place") (suc (dims i)) words) (λ ns. share_line i c k b p ns) (λ ns. share_later i c k b p ns) next e
 words_later (Taking i c v t p) words later next e =
     bool_gives (is_word (codes "proof") words) _ _ (refused_gives (taken_reason i v t p) (Refuting c (begun (to_refute i c))) tt)
-    (bind_gives (numbers_line (codes "take") (suc (dims i)) words) (λ ns. take_line i c v t p ns) (λ ns. take_later i c v t p ns)) next e
+    (bind_gives (numbers_line (codes "take") (suc (dims i)) words) (λ ns. take_box_line i c v t p ns) (λ ns. take_later i c v t p ns)) next e
 words_later (Proving c r) words later next e = require_gives (is_word (codes "proof") words) form (Ok (Refuting c (begun r))) (gives (Refuting c (begun r)) tt) next e
 words_later (Refuting c t) words later next e =
-    let b = bind_ok (tree_token (is_word (codes "end") words) (token_of (tree_dims (refuted_by t)) words)) (λ x. coded (tree_after t x) >>= λ more. Ok (grown c more)) next e in
-    let m = bind_ok (coded (tree_after t b.0)) (λ more. Ok (grown c more)) next b.2 in
-    gives (grown c m.0) (grown_later c m.0) next m.2
+    let b = bind_ok (tree_token (is_word (codes "end") words) (token_of (tree_dims (refuted_by t)) words)) (λ x. coded (tree_after t x) >>= λ more. Ok (grown_tree c more)) next e in
+    let m = bind_ok (coded (tree_after t b.0)) (λ more. Ok (grown_tree c more)) next b.2 in
+    gives (grown_tree c m.0) (grown_later c m.0) next m.2
 words_later (Exceeding i c m) words later next e =
     bind_gives (tree_token (is_word (codes "end") words) (token_of (dims i) words)) (λ x. exceeding_token i c m x) (λ x. exceeding_later i c m x) next e
 words_later (Ending c b) words later next e = require_gives (is_word (codes "end") words) (late_line b words) (Ok (Ended c)) (gives (Ended c) tt) next e
 words_later (Ended c) words later next e = refuses after next e
 
-pub clean_from : (line : List ℕ) (lines : List (List ℕ)) → list_any is_bad (content line) ≡ false → AreClean lines → AreClean (line ∷ lines)
-clean_from line lines f c = or_from _ _ f c
-
 -- from a later stage on, no line has a bad byte, and the words of those that aren't blank give the claim
-pub words_read : (stage : Stage) (n : ℕ) (lines : List (List ℕ)) (claim : Claim) → IsLater stage → read_lines stage n lines ≡ Ok claim
+pub words_read : (stage : Stage) (n : ℕ) (lines : List (List ℕ)) (claim : Claim) → IsLater stage → read_document_lines stage n lines ≡ Ok claim
     → AreClean lines × (read_words stage (filled_lines lines) ≡ Ok claim)
 words_read stage n [] claim later e = (refl, end_read stage n claim e)
 words_read stage n (line ∷ lines) claim later e =
     let s = stepped stage n line lines claim e in
     by_parts s.next s.rest (list_any is_bad (content line)) (words_of (content line)) refl s.step (λ next l r. words_read next (n + 1) lines claim l r)
   where
-    by_parts : (next : Stage) → read_lines next (n + 1) lines ≡ Ok claim → (b : Bool) (words : List (List ℕ)) → list_any is_bad (content line) ≡ b
+    by_parts : (next : Stage) → read_document_lines next (n + 1) lines ≡ Ok claim → (b : Bool) (words : List (List ℕ)) → list_any is_bad (content line) ≡ b
         → stage_after stage (record { bad = b; count = length words; words = words }) ≡ Ok next
-        → ((s : Stage) → IsLater s → read_lines s (n + 1) lines ≡ Ok claim → AreClean lines × (read_words s (filled_lines lines) ≡ Ok claim))
+        → ((s : Stage) → IsLater s → read_document_lines s (n + 1) lines ≡ Ok claim → AreClean lines × (read_words s (filled_lines lines) ≡ Ok claim))
         → AreClean (line ∷ lines) × (read_words stage (filled_with words lines) ≡ Ok claim)
     by_parts next rest true [] bad step go = absurd (true≢false (filled_ok stage next true 0 [] later step).0)
     by_parts next rest true (w ∷ ws) bad step go = absurd (true≢false (filled_ok stage next true (length (w ∷ ws)) (w ∷ ws) later step).0)
     by_parts next rest false [] bad step go =
-        let r = go stage later (subst (λ s. read_lines s (n + 1) lines ≡ Ok claim) (sym (ok_is stage next step)) rest) in
+        let r = go stage later (subst (λ s. read_document_lines s (n + 1) lines ≡ Ok claim) (sym (ok_is stage next step)) rest) in
         (clean_from line lines bad r.0, r.1)
     by_parts next rest false (w ∷ ws) bad step go =
         let f = filled_ok stage next false (length (w ∷ ws)) (w ∷ ws) later step in

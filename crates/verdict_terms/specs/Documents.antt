@@ -1,4 +1,5 @@
--- The verdict on a document: its claim where it is verified, else the first refused line, counted from 1, with the reason.
+-- The verdict on a document: its claim where it is verified, else the first refused line, counted
+-- from 1, with the reason.
 use Rattle.std.specs.Prelude.{ℕ, ◌+◌, List, [], ◌∷◌, ◌++◌, Result, Ok, Err, codes}
 use Rattle.std.specs.Fmt.{decimal}
 use Rattle.text_terms.specs.Lines.{text_lines, line_of}
@@ -17,23 +18,23 @@ pub record Refusal : Type 0 where
   pub line : ℕ
   pub reason : Reason
 
-abbrev pub at_line : {A : Type 0} → ℕ → Result A Reason → Result A Refusal
-at_line n (Ok x) = Ok x
-at_line n (Err reason) = Err (record { line = n; reason = reason })
+abbrev pub document_at_line : {A : Type 0} → ℕ → Result A Reason → Result A Refusal
+document_at_line n (Ok x) = Ok x
+document_at_line n (Err reason) = Err (record { line = n; reason = reason })
 
 -- the end of the text after n lines: it comes too early before the line `end`
-abbrev pub at_end : Stage → ℕ → Result Claim Refusal
-at_end (Ended claim) n = Ok claim
-at_end stage n = Err (record { line = n + 1; reason = TooShort })
+abbrev pub document_at_end : Stage → ℕ → Result Claim Refusal
+document_at_end (Ended claim) n = Ok claim
+document_at_end stage n = Err (record { line = n + 1; reason = TooShort })
 
 -- the lines after the first n
-abbrev pub read_lines : Stage → ℕ → List (List ℕ) → Result Claim Refusal
-read_lines stage n [] = at_end stage n
-read_lines stage n (line ∷ lines) = at_line (n + 1) (stage_after stage (line_of line)) >>= λ next. read_lines next (n + 1) lines
+abbrev pub read_document_lines : Stage → ℕ → List (List ℕ) → Result Claim Refusal
+read_document_lines stage n [] = document_at_end stage n
+read_document_lines stage n (line ∷ lines) = document_at_line (n + 1) (stage_after stage (line_of line)) >>= λ next. read_document_lines next (n + 1) lines
 
 -- the claim that is verified, or the first refusal
 unfoldable pub document_verdict : List ℕ → Result Claim Refusal
-document_verdict text = read_lines Beginning 0 (text_lines text)
+document_verdict text = read_document_lines Beginning 0 (text_lines text)
 
 -- the words of the one line that is written
 abbrev pub verdict_words : Result Claim Refusal → List (List ℕ)

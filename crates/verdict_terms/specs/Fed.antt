@@ -1,20 +1,21 @@
--- Documents fed byte by byte: a lexer tells each line as it ends, and the line is taken at once. Nothing of a line is kept.
+-- Documents fed byte by byte: a lexer tells each line as it ends, and the line is taken at once.
+-- Nothing of a line is kept.
 use Rattle.std.specs.Prelude.{ℕ, ◌≡◌, cond, List, [], ◌∷◌, ◌++◌, length, Result, Err}
 use Rattle.text_terms.specs.Lines.{text_lines, is_line_feed}
 use Rattle.text_terms.specs.Texts.{◌>>=◌}
-use Rattle.text_terms.specs.Feeding.{Lexer, new_lexer, told, feed, finish}
+use Rattle.text_terms.specs.Feeding.{Lexer, new_lexer, ended_line, feed, finish}
 use Rattle.document_terms.specs.declared.claim.Claim.{Claim}
 use Rattle.verdict_terms.specs.Stages.{Stage, stage_after}
 use Rattle.verdict_terms.specs.Stages.Stage.{Beginning}
-use Rattle.verdict_terms.specs.Documents.{Refusal, at_line, at_end, document_verdict}
+use Rattle.verdict_terms.specs.Documents.{Refusal, document_at_line, document_at_end, document_verdict}
 
 -- what the line that ended last makes of the stage
 abbrev pub taken_line : Stage → Lexer → Result Stage Refusal
-taken_line stage s = at_line s.number (stage_after stage (told s.held))
+taken_line stage s = document_at_line s.number (stage_after stage (ended_line s.held))
 
 -- the verdict of these bytes, behind what is held of a line begun and the stage of the lines before
 abbrev pub fed_verdict : Lexer → Stage → List ℕ → Result Claim Refusal
-fed_verdict s stage [] = cond s.begun (taken_line stage (finish s) >>= λ next. at_end next (finish s).number) (at_end stage s.number)
+fed_verdict s stage [] = cond s.begun (taken_line stage (finish s) >>= λ next. document_at_end next (finish s).number) (document_at_end stage s.number)
 fed_verdict s stage (b ∷ bytes) =
     cond (is_line_feed b) (taken_line stage (feed b s) >>= λ next. fed_verdict (feed b s) next bytes) (fed_verdict (feed b s) stage bytes)
 
@@ -28,7 +29,8 @@ pub record EndsRefused (bytes : List ℕ) (refusal : Refusal) : Type 0 where
   pub are : bytes ≡ front ++ 10 ∷ []
   pub is_last : refusal.line ≡ length (text_lines bytes)
 
--- no line of the bytes that a line feed ends is refused: no front of them ends in the line feed of a refused line
+-- no line of the bytes that a line feed ends is refused: no front of them ends in the line feed of
+-- a refused line
 abbrev pub NoneRefused : List ℕ → Type 0
 NoneRefused bytes = (front rest : List ℕ) (refusal : Refusal) → bytes ≡ front ++ rest → EndsRefused front refusal → document_verdict front ≡ Err refusal → ⊥
 

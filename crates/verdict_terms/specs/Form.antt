@@ -1,7 +1,8 @@
--- The form of a document: what its lines that aren't blank are, in order, and what stands behind the result line of each claim.
+-- The form of a document: what its lines that aren't blank are, in order, and what stands behind
+-- the result line of each claim.
 --
--- A claim is backed by places of what it says to be placed, and by tokens that refute what it says to be refuted. So a document of this form
--- shows its claim to whoever checks those two.
+-- A claim is backed by places of what it says to be placed, and by tokens that refute what it says
+-- to be refuted. So a document of this form shows its claim to whoever checks those two.
 use Rattle.std.specs.Prelude.{ℕ, pred, suc, ◌-◌, ◌<◌, ◌≤◌, ◌≡◌, ◌↔◌, List, [], ◌∷◌, ◌++◌, length, Some, Ok, codes}
 use Rattle.packing_terms.specs.Packing.{PlainInstance, dims, box_count, IsPacking}
 use Rattle.packing_terms.specs.Goals.{with_last_side, subset, IsBinPacking, IsBoxSet, worth}
@@ -67,7 +68,8 @@ pub record IsPlaceLine (d : ℕ) (words : List (List ℕ)) (xs : List ℕ) : Typ
   pub count : length numbers ≡ d
   pub are_coordinates : AreCoordinates numbers xs
 
--- a first word, a number within these ends, and d coordinates; the number of the text is one more than the bin or the box that it names
+-- a first word, a number within these ends, and d coordinates; the number of the text is one more
+-- than the bin or the box that it names
 pub record IsNumberedLine (key : List ℕ) (most d : ℕ) (words : List (List ℕ)) (n : ℕ) (xs : List ℕ) : Type 0 where
   pub number : List ℕ
   pub numbers : List (List ℕ)
@@ -162,8 +164,9 @@ Backs instance NoBins lines = IsExceedingLine instance (dims instance) lines
 Backs instance (GreatestValue v) lines = AreProved (AreTaken instance v) (AreRefuting (ToReach instance (suc v))) lines
 Backs instance (ValueBetween a b) lines = AreProved (AreTaken instance a) (AreRefuting (ToReach instance b)) lines
 
--- The text is a document of the claim: no line has a bad byte, and the lines that aren't blank are, in this order, `answer JOB`, the lines of an
--- instance, the result line, what backs the claim, and `end`.
+-- The text is a document of the claim: no line has a bad byte, and the lines that aren't blank are,
+-- in this order, `answer JOB`, the lines of an instance, the result line, what backs the claim, and
+-- `end`.
 pub record IsDocument (text : List ℕ) (claim : Claim) : Type 0 where
   pub instance : PlainInstance
   pub written : List (List (List ℕ))

@@ -1,4 +1,5 @@
--- The claim of a result line. The tests are, in this order, its form, the ranges of its numbers, and that it claims something.
+-- The claim of a result line. The tests are, in this order, its form, the ranges of its numbers,
+-- and that it claims something.
 use Rattle.std.specs.Prelude.{ℕ, ◌&&◌, cond, List, [], ◌∷◌, Result, Ok, Err, nat_le, nat_lt, codes}
 use Rattle.packing_terms.specs.Packing.{PlainInstance, box_count}
 use Rattle.text_terms.specs.Lines.{same_bytes}

@@ -1,4 +1,5 @@
--- How the lines of a document are taken one by one: where a document stands between two lines, and what the next line makes of that.
+-- How the lines of a document are taken one by one: where a document stands between two lines, and
+-- what the next line makes of that.
 --
 --     answer JOB        Beginning
 --     format ..         Reading: the parts of the instance so far
@@ -190,9 +191,9 @@ share_line instance claim k bins places (b ∷ ns) =
     ])
 
 -- a box that comes behind those taken, and coordinates
-abbrev pub take_line : PlainInstance → Claim → ℕ → List ℕ → List ℕ → List ℕ → Result Stage Reason
-take_line instance claim value taken places [] = Err form
-take_line instance claim value taken places (v ∷ ns) =
+abbrev pub take_box_line : PlainInstance → Claim → ℕ → List ℕ → List ℕ → List ℕ → Result Stage Reason
+take_box_line instance claim value taken places [] = Err form
+take_box_line instance claim value taken places (v ∷ ns) =
     require (names_box instance v && list_all (λ u. nat_lt u (pred v)) taken) range (coordinates ns >>= λ xs.
     Ok (Taking instance claim value (taken ++ pred v ∷ []) (places ++ xs)))
 
@@ -207,14 +208,15 @@ tree_token false None = Err form
 tree_token false (Some t) = Ok t
 
 -- the tree, and `end` behind it where it is whole
-abbrev pub grown : Claim → Tree → Stage
-grown claim tree = cond (is_whole tree) (Ending claim (Some (tree_dims (refuted_by tree)))) (Refuting claim tree)
+abbrev pub grown_tree : Claim → Tree → Stage
+grown_tree claim tree = cond (is_whole tree) (Ending claim (Some (tree_dims (refuted_by tree)))) (Refuting claim tree)
 
 abbrev pub tree_line : Claim → Tree → List (List ℕ) → Result Stage Reason
 tree_line claim tree words =
-    tree_token (is_word (codes "end") words) (token_of (tree_dims (refuted_by tree)) words) >>= λ t. coded (tree_after tree t) >>= λ more. Ok (grown claim more)
+    tree_token (is_word (codes "end") words) (token_of (tree_dims (refuted_by tree)) words) >>= λ t. coded (tree_after tree t) >>= λ more. Ok (grown_tree claim more)
 
--- the `t` line of `none`: the box exceeds the container in one of the first dimensions, of which there are so many
+-- the `t` line of `none`: the box exceeds the container in one of the first dimensions, of which
+-- there are so many
 abbrev pub exceeding_token : PlainInstance → Claim → ℕ → PlainToken → Result Stage Reason
 exceeding_token instance claim m (TooLarge v i) =
     require (names_box instance v && (nat_le 1 i && nat_le i m)) range (
@@ -245,7 +247,7 @@ words_line (Sharing instance claim k bins places) words =
 words_line (Taking instance claim value taken places) words =
     elim (is_word (codes "proof") words) [
       | true ↦ refused_by (taken_reason instance value taken places) (Ok (Refuting claim (begun (to_refute instance claim))))
-      | false ↦ numbers_line (codes "take") (suc (dims instance)) words >>= λ ns. take_line instance claim value taken places ns
+      | false ↦ numbers_line (codes "take") (suc (dims instance)) words >>= λ ns. take_box_line instance claim value taken places ns
     ]
 words_line (Proving claim refuted) words = require (is_word (codes "proof") words) form (Ok (Refuting claim (begun refuted)))
 words_line (Refuting claim tree) words = tree_line claim tree words

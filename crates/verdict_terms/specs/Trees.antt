@@ -9,7 +9,8 @@ use Rattle.packing_terms.specs.OuterFeeding.{OpenNode, Outer}
 use Rattle.check_terms.specs.declared.answers.RefuseCode.{RefuseCode}
 use Rattle.check_terms.specs.Checking.{inner_after, bins_after, value_after}
 
--- what is to be refuted: that the instance fits, that it fits in so many bins, that it reaches a value
+-- what is to be refuted: that the instance fits, that it fits in so many bins, that it reaches a
+-- value
 pub data Refuted : Type 0 where
   ToFit : (instance : PlainInstance) → Refuted
   ToFitIn : (instance : PlainInstance) (bins : ℕ) → Refuted

@@ -1,9 +1,10 @@
-// What the definitions promise, each the contract of a function with an empty body.
+//! What the definitions promise, each the contract of a function with an empty body.
 ghost use Rattle.verdict_terms.specs.Fed.{DocumentsAreFed, RefusalsStay};
 ghost use Rattle.verdict_terms.specs.Form.{DocumentsHaveForm, DocumentsAreTrue};
 
-/// A text is verified with a claim exactly where it is a document of it: no line has a bad byte, and the lines that aren't blank are, in this
-/// order, `answer JOB`, the lines of an instance, the result line of the claim, what backs it, and `end`.
+/// A text is verified with a claim exactly where it is a document of it: no line has a bad byte,
+/// and the lines that aren't blank are, in this order, `answer JOB`, the lines of an instance, the
+/// result line of the claim, what backs it, and `end`.
 pub fn documents_have_form()
     ensures { DocumentsHaveForm }
 {}
@@ -13,13 +14,15 @@ pub fn documents_are_true()
     ensures { DocumentsAreTrue }
 {}
 
-/// The refusal of a line that a line feed ends is that of every text which begins with the bytes up to there. So whoever reads on needn't.
+/// The refusal of a line that a line feed ends is that of every text which begins with the bytes up
+/// to there. So whoever reads on needn't.
 pub fn refusals_stay()
     ensures { RefusalsStay }
 {}
 
-/// The bytes of a document, fed from its start to a lexer with each line taken as it ends, give its verdict. A line is told by its first 12
-/// words of at most 21 bytes, and nothing else of it is kept.
+/// The bytes of a document, fed from its start to a lexer with each line taken as it ends, give its
+/// verdict. A line is told by its first 12 words of at most 21 bytes, and nothing else of it is
+/// kept.
 pub fn documents_are_fed()
     ensures { DocumentsAreFed }
 {}

@@ -1,4 +1,5 @@
-//! Documents: which texts are verified, with which claim, and at which line and for which reason the others are refused.
+//! Documents: which texts are verified, with which claim, and at which line and for which reason
+//! the others are refused.
 #![tactic(auto)]
 
 mod laws;

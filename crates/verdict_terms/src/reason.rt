@@ -1,4 +1,4 @@
-// Why a line of a document is refused.
+//! Why a line of a document is refused.
 
 use check_terms::RefuseCode;
 

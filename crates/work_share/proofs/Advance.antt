@@ -2,7 +2,7 @@
 use Rattle.std.proofs.Common.{◌≡◌, ℕ, zero, suc, ◌+◌, ◌<◌, ◌≤◌, refl, sym, ap, ◌∙◌, subst, arith, List, [], ◌∷◌, ◌++◌, length, take, drop, Bool, true, false, if◌then◌else◌, get_or, ◌==◌, ◌-◌}
 use Rattle.std.proofs.lemmas.Bool.{true≢false}
 use Rattle.std.proofs.lemmas.Option.{slice_get_read}
-use Rattle.std.proofs.lemmas.List.{take_more, drop_more, drop_all}
+use Rattle.std.proofs.lemmas.List.{take_more, drop_more}
 use Rattle.board_terms.specs.Board.{PlainEntry, SplitEntry, TaskEntry, PlainTaskState, Waits, Out, Done, at_first, state_waits, waits_as, is_out}
 use Rattle.board_terms.specs.Kept.{AreBelow}
 use Rattle.board_terms.proofs.Outs.{out_is}
@@ -10,7 +10,7 @@ use Rattle.work_share.specs.declared.slot.Slot.{Slot}
 use Rattle.work_share.specs.declared.slot.Piece.{Piece}
 use Rattle.work_share.specs.declared.slot.Piece.TheVariants.{Open, Refuted}
 use Rattle.work_share.specs.Slots.{entry_of, entry_or, entries_of}
-use Rattle.work_share.specs.Fronts.{piece_of, IsRefuted, AreRefuted, count_in, counted, Ends, EndsWithFirst, IsOpen, StandsAt, HasFront, HasFrontTo, IsFront}
+use Rattle.work_share.specs.Fronts.{piece_of, IsRefutedPiece, AreRefuted, count_in, counted, Ends, EndsWithFirst, IsOpen, StandsAt, HasFront, HasFrontTo, IsFront}
 
 -- ---- one entry more
 
@@ -18,7 +18,7 @@ use Rattle.work_share.specs.Fronts.{piece_of, IsRefuted, AreRefuted, count_in, c
 abbrev pub no_entry : PlainEntry
 no_entry = TaskEntry 0 [] Waits
 
-refuted_push : (es : List PlainEntry) (e : PlainEntry) → AreRefuted es → IsRefuted (piece_of e) → AreRefuted (es ++ e ∷ [])
+refuted_push : (es : List PlainEntry) (e : PlainEntry) → AreRefuted es → IsRefutedPiece (piece_of e) → AreRefuted (es ++ e ∷ [])
 refuted_push [] e a r = (r, tt)
 refuted_push (x ∷ es) e a r = (a.0, refuted_push es e a.1 r)
 
@@ -34,7 +34,7 @@ front_more budget es d len count more f l p small =
     let w = f.within in
     record {
       inside = omega (arith, l);
-      refuted = subst AreRefuted (sym push) (refuted_push (take len es) e f.refuted (subst IsRefuted p tt));
+      refuted = subst AreRefuted (sym push) (refuted_push (take len es) e f.refuted (subst IsRefutedPiece p tt));
       sum =
           let c = ap counted push ∙ counted_push (take len es) e in
           let m : count_in (piece_of e) ≡ more = sym (ap count_in p) in
@@ -51,9 +51,6 @@ pub front_ends : (budget : ℕ) (es : List PlainEntry) (d : PlainEntry) (len cou
     → p ≡ piece_of (get_or es len d) → Ends budget count p → IsFront budget es len count true
 front_ends budget es d len count p f l e h =
     record { known = f; stands = subst (EndsWithFirst budget count) (sym (drop_more es len d l)) (subst (Ends budget count) e h) }
-
-pub front_all : (budget : ℕ) (es : List PlainEntry) (len count : ℕ) → HasFront budget es len count → length es ≤ len → IsFront budget es len count false
-front_all budget es len count f l = record { known = f; stands = subst IsOpen (sym (drop_all len es l)) tt }
 
 -- ---- an entry behind the front changes
 
@@ -74,8 +71,8 @@ waits_open n (TaskEntry number path state) h = go (number == n) state h
 pub out_open : (n : ℕ) → FindsOpen (is_out n)
 out_open n e h = ap piece_of (out_is n e h).1
 
-open_not_refuted : (p : Piece) → p ≡ Open → IsRefuted p → ⊥
-open_not_refuted p e r = subst IsRefuted e r
+open_not_refuted : (p : Piece) → p ≡ Open → IsRefutedPiece p → ⊥
+open_not_refuted p e r = subst IsRefutedPiece e r
 
 module _ (test : PlainEntry → Bool) (change : PlainEntry → List PlainEntry) (finds : FindsOpen test) where
   -- the entries of the front stay

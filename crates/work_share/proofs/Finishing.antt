@@ -1,12 +1,12 @@
 -- A task is done.
 use Rattle.std.proofs.Common.{◌≡◌, ℕ, ◌<◌, inl, inr, refl, sym, ap, ◌∙◌, subst, arith, List, [], ◌∷◌, ◌++◌, length, reverse, Option, Some, None, Bool, true, false, if◌then◌else◌, IsSome, IfSome}
-use Rattle.std.proofs.lemmas.Bool.{true≢false, eq-eqb}
+use Rattle.std.proofs.lemmas.Bool.{true≢false}
 use Rattle.std.proofs.lemmas.List.{length_push}
 use Rattle.tree_terms.specs.Trees.{SearchTree, Verdict, PlainOutcome, Past, count_of, outcome, node_at}
 use Rattle.tree_terms.specs.Paths.{IsReachable, outcome_at, outcome_of}
 use Rattle.board_terms.specs.declared.Event.{Event}
 use Rattle.board_terms.specs.declared.Event.TheVariants as event
-use Rattle.board_terms.specs.Board.{PlainEntry, TaskEntry, PlainTask, Out, Done, with_state, is_out, number_of, path_of, out_path}
+use Rattle.board_terms.specs.Board.{PlainEntry, TaskEntry, PlainTask, Out, Done, with_state, is_out, entry_number, entry_path, out_path}
 use Rattle.board_terms.specs.Steps.{finished, outcome_given, Finishes}
 use Rattle.board_terms.specs.Kept.{AreBelow, IsOutcomeOf, AreTasksRight}
 use Rattle.board_terms.proofs.Changes.{right_tail}
@@ -22,24 +22,21 @@ use Rattle.work_share.specs.Fronts.{IsFront, HasFrontTo}
 use Rattle.work_share.specs.Boards.{stored_state, waiting_tasks, owed, IsIn, IsKept}
 use Rattle.work_share.proofs.Stored.{length_with_slot, put_at, put_in}
 use Rattle.work_share.proofs.Advance.{out_open, front_known}
-use Rattle.work_share.proofs.Standing.{in_below, out_there, finished_rest}
+use Rattle.work_share.proofs.Standing.{in_below, out_there, finished_rest, is_out_task}
 use Rattle.work_share.proofs.Kept.{keeps_stored, apart_stored, distinct_order, below_order, replay_more}
 
-out_number_of : (n : ℕ) (e : PlainEntry) → is_out n e ≡ true → number_of e ≡ n
-out_number_of n e h = ap number_of (out_is n e h).1
-
-out_self : (n : ℕ) (p : List ℕ) → is_out n (TaskEntry n p Out) ≡ true
-out_self n p = rw (eq-eqb n n refl) refl
+out_number_of : (n : ℕ) (e : PlainEntry) → is_out n e ≡ true → entry_number e ≡ n
+out_number_of n e h = ap entry_number (out_is n e h).1
 
 -- the path of a task that is out may be reached
 pub out_reached : (tree : SearchTree) (budget : ℕ) (es : List PlainEntry) (n : ℕ) (p : List ℕ) → out_path n es ≡ Some p → AreTasksRight tree budget es
     → IsReachable tree p
 out_reached tree budget [] n p h a = absurd (cc h)
 out_reached tree budget (e ∷ es) n p h a =
-    elim (is_out n e) as (λ b. is_out n e ≡ b → (if b then path_of e else out_path n es) ≡ Some p → IsReachable tree p) [
+    elim (is_out n e) as (λ b. is_out n e ≡ b → (if b then entry_path e else out_path n es) ≡ Some p → IsReachable tree p) [
       | true ↦ λ f g.
           let at = out_is n e f in
-          let path : at.0 ≡ p = same_path at.0 p (sym (ap path_of at.1) ∙ g) in
+          let path : at.0 ≡ p = same_path at.0 p (sym (ap entry_path at.1) ∙ g) in
           let right : AreTasksRight tree budget (TaskEntry n p Out ∷ es) = subst (λ x. AreTasksRight tree budget (x ∷ es)) (at.1 ∙ ap (λ q. TaskEntry n q Out) path) a in
           right.0.0
       | false ↦ λ _ g. out_reached tree budget es n p g (right_tail tree budget e es a)
@@ -86,7 +83,7 @@ module _ (tree : SearchTree) (budget : ℕ) (slots : List Slot) (order : List �
   finish_entries o =
       let keeps = keeps_stored tree budget slots order short history kept.replays in
       let here = there.1 in
-      put_in slots n (stored.Done o) (is_out n) (λ e. with_state (Done (plain_outcome o)) e ∷ []) (out_number_of n) (ap (is_out n) here ∙ out_self n p)
+      put_in slots n (stored.Done o) (is_out n) (λ e. with_state (Done (plain_outcome o)) e ∷ []) (out_number_of n) (ap (is_out n) here ∙ is_out_task n p)
       (ap (λ e. with_state (Done (plain_outcome o)) e ∷ []) here ∙ sym (ap (λ e. e ∷ []) (put_at slots n (stored.Done o) p Out here)))
       order (distinct_order tree budget slots order keeps)
 

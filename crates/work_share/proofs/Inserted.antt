@@ -99,10 +99,6 @@ not_in_no n [] i a = i
 not_in_no n (m ∷ order) (inl e) a = a.0 e
 not_in_no n (m ∷ order) (inr i) a = not_in_no n order i a.1
 
-pub length_range : (n c : ℕ) → length (range_with_len n c) ≡ c
-length_range n zero = refl
-length_range n (suc c) = ap suc (length_range (n + 1) c)
-
 -- ---- the stack
 
 pub stack_inserted : (front middle back : List PlainTask) (stack : List PlainTask) (n : ℕ) → stack ≡ reverse (front ++ back) → n ≡ length stack - length front

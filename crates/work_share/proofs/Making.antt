@@ -1,5 +1,5 @@
 -- The children of a split, made one after another.
-use Rattle.std.proofs.Common.{◌≡◌, ℕ, suc, ◌+◌, ◌-◌, ◌<◌, ◌≤◌, refl, sym, ap, ap₂, ◌∙◌, arith, add-one, add-zero, List, [], ◌∷◌, ◌++◌, length, append_assoc, append-nil}
+use Rattle.std.proofs.Common.{◌≡◌, ℕ, suc, ◌+◌, ◌-◌, ◌<◌, sym, ap, ap₂, ◌∙◌, arith, add-one, add-zero, List, [], ◌∷◌, ◌++◌, length, append_assoc}
 use Rattle.std.specs.List.{range_with_len}
 use Rattle.board_terms.specs.Board.{TaskEntry, Waits, children_from}
 use Rattle.work_share.specs.declared.slot.Slot.{Slot}
@@ -30,12 +30,3 @@ numbers_next k children first l =
 -- one more in front of what is left
 pub moved_over : {A : Type 0} (xs : List A) (x : A) (ys zs all : List A) → zs ≡ x ∷ ys → xs ++ zs ≡ all → (xs ++ x ∷ []) ++ ys ≡ all
 moved_over xs x ys zs all e h = append_assoc xs (x ∷ []) ys ∙ (ap (λ l. xs ++ l) (sym e) ∙ h)
-
-pub none_left : {A : Type 0} (xs zs all : List A) → zs ≡ [] → xs ++ zs ≡ all → xs ≡ all
-none_left xs zs all e h = sym (append-nil xs) ∙ (ap (λ l. xs ++ l) (sym e) ∙ h)
-
-pub no_children : (path : List ℕ) (k children n : ℕ) → children ≤ k → children_from path k (children - k) n ≡ []
-no_children path k children n l = let left : children - k ≡ 0 = omega (arith, l) in rw left refl
-
-pub no_numbers : (k children n : ℕ) → children ≤ k → range_with_len n (children - k) ≡ []
-no_numbers k children n l = let left : children - k ≡ 0 = omega (arith, l) in rw left refl

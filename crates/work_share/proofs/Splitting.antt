@@ -3,6 +3,7 @@ use Rattle.std.proofs.Common.{◌≡◌, ℕ, zero, suc, ◌+◌, ◌*◌, ◌-�
 use Rattle.std.specs.List.{range_with_len}
 use Rattle.std.proofs.lemmas.Bool.{true≢false, cases_lt, eq-eqb}
 use Rattle.std.proofs.lemmas.List.{length-append, length_push, length-map, map-append, take-append-drop, take_more, drop_more, take_all, take-map, length-reverse}
+use Rattle.std.proofs.lemmas.List.FromFn.{length-range_with_len}
 use Rattle.tree_terms.specs.Trees.{SearchTree, node_at}
 use Rattle.tree_terms.specs.Paths.{Splits, node_told}
 use Rattle.board_terms.specs.declared.Event.{Event}
@@ -18,19 +19,19 @@ use Rattle.work_share.specs.declared.slot.Slot.{Slot}
 use Rattle.work_share.specs.declared.slot.Piece.TheVariants.{Open}
 use Rattle.work_share.specs.declared.slot.SlotState.TheVariants as stored
 use Rattle.work_share.specs.Slots.{entry_at, entries_of, entries_from, with_slot}
-use Rattle.work_share.specs.Fronts.{piece_of, IsRefuted, AreRefuted, IsFront, HasFrontTo}
+use Rattle.work_share.specs.Fronts.{piece_of, IsRefutedPiece, AreRefuted, IsFront, HasFrontTo}
 use Rattle.work_share.specs.Boards.{stored_state, waiting_tasks, owed, owed_short, IsIn, IsKept}
 use Rattle.work_share.proofs.Stored.{length_with_slot, put_at, put_beside}
 use Rattle.work_share.proofs.Waiting.{waiting_append, waiting_none, owed_append}
 use Rattle.work_share.proofs.Advance.{out_open, front_known}
 use Rattle.work_share.proofs.Standing.{out_there}
 use Rattle.work_share.proofs.Finishing.{out_reached}
-use Rattle.work_share.proofs.Inserted.{entry_left, entries_left, entries_right, length_from, length_children, owed_children, change_behind, change_here, in_insert, in_middle, in_range, not_in_no, length_range, stack_inserted}
+use Rattle.work_share.proofs.Inserted.{entry_left, entries_left, entries_right, length_from, length_children, owed_children, change_behind, change_here, in_insert, in_middle, in_range, not_in_no, stack_inserted}
 use Rattle.work_share.proofs.Kept.{keeps_stored, apart_stored, distinct_order, below_order, replay_more}
 
 -- ---- what stands in the front
 
-refuted_waits : (e : PlainEntry) → IsRefuted (piece_of e) → waits e ≡ false
+refuted_waits : (e : PlainEntry) → IsRefutedPiece (piece_of e) → waits e ≡ false
 refuted_waits (SplitEntry number path token own children) r = refl
 refuted_waits (TaskEntry number path Waits) r = absurd r
 refuted_waits (TaskEntry number path Out) r = refl
@@ -43,7 +44,7 @@ none_waiting (e ∷ es) r = ap₂ (λ xs ys. xs ++ ys) (waiting_none e (refuted_
 open_apart : (slots : List Slot) (n : ℕ) (order : List ℕ) → piece_of (entry_at slots n) ≡ Open → AreRefuted (entries_of slots order) → IsNotIn n order
 open_apart slots n [] p r = tt
 open_apart slots n (m ∷ order) p r =
-    ((λ e. subst IsRefuted (ap (λ k. piece_of (entry_at slots k)) (sym e) ∙ p) r.0), open_apart slots n order p r.1)
+    ((λ e. subst IsRefutedPiece (ap (λ k. piece_of (entry_at slots k)) (sym e) ∙ p) r.0), open_apart slots n order p r.1)
 
 distinct_rest : (n : ℕ) (pre post : List ℕ) → AreDistinct (pre ++ n ∷ post) → IsNotIn n post
 distinct_rest n [] post d = d.0
@@ -160,9 +161,6 @@ module _ (tree : SearchTree) (budget : ℕ) (slots : List Slot) (order : List �
   pub split_apart : IsNotIn n (take len order)
   split_apart = open_apart slots n (take len order) (out_is_open n p (entry_at slots n) there.1) front_is
 
-  pub split_inside : len ≤ length order
-  split_inside = subst (λ k. len ≤ k) (length-map order (entry_at slots)) kept.front.known.inside
-
   pub split_below : AreBelow (length slots) order
   split_below = below_order tree budget slots order (keeps_stored tree budget slots order short history kept.replays) kept.size
 
@@ -235,7 +233,7 @@ module _ (tree : SearchTree) (budget : ℕ) (slots : List Slot) (order : List �
           let m = sym (length_from (length slots) made) ∙ (ap length children ∙ length_children p 0 c (length slots)) in
           let d = length-append (take (place + 1) order) (range_with_len (length slots) c ++ drop (place + 1) order) in
           let e = length-append (range_with_len (length slots) c) (drop (place + 1) order) in
-          let f = length_range (length slots) c in
+          let f = length-range_with_len (length slots) c in
           let h = sym (length-append (take (place + 1) order) (drop (place + 1) order)) ∙ ap length (take-append-drop (place + 1) order) in
           let k = kept.size in
           omega (arith, a, b, m, d, e, f, h, k)
@@ -254,7 +252,7 @@ module _ (tree : SearchTree) (budget : ℕ) (slots : List Slot) (order : List �
       split_count =
           let d = length-append (take (place + 1) order) (range_with_len (length slots) c ++ drop (place + 1) order) in
           let e = length-append (range_with_len (length slots) c) (drop (place + 1) order) in
-          let f = length_range (length slots) c in
+          let f = length-range_with_len (length slots) c in
           let h = sym (length-append (take (place + 1) order) (drop (place + 1) order)) ∙ ap length (take-append-drop (place + 1) order) in
           omega (arith, d, e, f, h)
 

@@ -2,7 +2,7 @@
 use Rattle.std.proofs.Common.{◌≡◌, ℕ, suc, ◌<◌, ◌⊎◌, inl, inr, refl, sym, ap, ◌∙◌, subst, arith, List, [], ◌∷◌, ◌++◌, Some, None, Bool, true, false, if◌then◌else◌, ◌==◌, option_to_list}
 use Rattle.std.proofs.lemmas.Bool.{true≢false, eq-eqb}
 use Rattle.tree_terms.specs.Trees.{PlainOutcome}
-use Rattle.board_terms.specs.Board.{PlainEntry, SplitEntry, TaskEntry, PlainTask, Waits, Out, Done, waits, waits_as, is_out, state_waits, task_of, path_of, number_of, first_waiting, out_path, with_state}
+use Rattle.board_terms.specs.Board.{PlainEntry, SplitEntry, TaskEntry, PlainTask, Waits, Out, Done, waits, waits_as, is_out, state_waits, task_of, entry_path, entry_number, first_waiting, out_path, with_state}
 use Rattle.board_terms.specs.Steps.{handed_out, finished}
 use Rattle.board_terms.specs.Kept.{AreBelow}
 use Rattle.board_terms.proofs.Outs.{out_is, same_path}
@@ -18,32 +18,32 @@ in_below n k (m ∷ order) b (inr i) = in_below n k order b.1 i
 
 -- the number of the task in an entry that is out
 pub out_number : (slots : List Slot) (n m : ℕ) → is_out n (entry_at slots m) ≡ true → m ≡ n
-out_number slots n m h = sym (at_number slots m) ∙ ap number_of (out_is n (entry_at slots m) h).1
+out_number slots n m h = sym (at_number slots m) ∙ ap entry_number (out_is n (entry_at slots m) h).1
 
 -- a task that is out stands at its number
 pub out_there : (slots : List Slot) (order : List ℕ) (n : ℕ) (p : List ℕ) → out_path n (entries_of slots order) ≡ Some p
     → IsIn n order × (entry_at slots n ≡ TaskEntry n p Out)
 out_there slots [] n p h = absurd (cc h)
 out_there slots (m ∷ order) n p h =
-    elim (is_out n (entry_at slots m)) as (λ b. is_out n (entry_at slots m) ≡ b → (if b then path_of (entry_at slots m) else out_path n (entries_of slots order)) ≡ Some p
+    elim (is_out n (entry_at slots m)) as (λ b. is_out n (entry_at slots m) ≡ b → (if b then entry_path (entry_at slots m) else out_path n (entries_of slots order)) ≡ Some p
     → IsIn n (m ∷ order) × (entry_at slots n ≡ TaskEntry n p Out)) [
       | true ↦ λ f g.
           let at = out_is n (entry_at slots m) f in
           let same = out_number slots n m f in
-          let path : at.0 ≡ p = same_path at.0 p (sym (ap path_of at.1) ∙ g) in
+          let path : at.0 ≡ p = same_path at.0 p (sym (ap entry_path at.1) ∙ g) in
           (inl (sym same), subst (λ k. entry_at slots k ≡ TaskEntry n p Out) same (at.1 ∙ ap (λ q. TaskEntry n q Out) path))
       | false ↦ λ _ g. let rest = out_there slots order n p g in (inr rest.0, rest.1)
     ] refl h
 
-is_out_task : (n : ℕ) (p : List ℕ) → is_out n (TaskEntry n p Out) ≡ true
+pub is_out_task : (n : ℕ) (p : List ℕ) → is_out n (TaskEntry n p Out) ≡ true
 is_out_task n p = rw (eq-eqb n n refl) refl
 
 pub out_found : (slots : List Slot) (order : List ℕ) (n : ℕ) (p : List ℕ) → IsIn n order → entry_at slots n ≡ TaskEntry n p Out
     → out_path n (entries_of slots order) ≡ Some p
 out_found slots [] n p i e = absurd i
 out_found slots (m ∷ order) n p i e =
-    elim (is_out n (entry_at slots m)) as (λ b. is_out n (entry_at slots m) ≡ b → (if b then path_of (entry_at slots m) else out_path n (entries_of slots order)) ≡ Some p) [
-      | true ↦ λ f. ap path_of (ap (entry_at slots) (out_number slots n m f) ∙ e)
+    elim (is_out n (entry_at slots m)) as (λ b. is_out n (entry_at slots m) ≡ b → (if b then entry_path (entry_at slots m) else out_path n (entries_of slots order)) ≡ Some p) [
+      | true ↦ λ f. ap entry_path (ap (entry_at slots) (out_number slots n m f) ∙ e)
       | false ↦ λ f. out_found slots order n p (behind i f) e
     ] refl
   where
@@ -91,7 +91,7 @@ waiting_there slots (m ∷ order) t ts h =
     → IsIn t.number (m ∷ order) × (entry_at slots t.number ≡ TaskEntry t.number t.path Waits)) [
       | true ↦ λ w g.
           let is = (first_entry (entry_at slots m) (waiting_tasks (entries_of slots order)) ts t w g).0 in
-          let same : m ≡ t.number = sym (at_number slots m) ∙ ap number_of is in
+          let same : m ≡ t.number = sym (at_number slots m) ∙ ap entry_number is in
           (inl (sym same), subst (λ k. entry_at slots k ≡ TaskEntry t.number t.path Waits) same is)
       | false ↦ λ _ g. let rest = waiting_there slots order t ts g in (inr rest.0, rest.1)
     ] refl h
@@ -134,7 +134,7 @@ pub finished_rest : (es : List PlainEntry) (o : PlainOutcome) (n : ℕ) (p : Lis
     → (waiting_tasks (finished o n es) ≡ waiting_tasks es) × (owed es ≡ suc (owed (finished o n es)))
 finished_rest [] o n p h = absurd (cc h)
 finished_rest (e ∷ es) o n p h =
-    elim (is_out n e) as (λ b. is_out n e ≡ b → (if b then path_of e else out_path n es) ≡ Some p
+    elim (is_out n e) as (λ b. is_out n e ≡ b → (if b then entry_path e else out_path n es) ≡ Some p
     → (waiting_tasks (if b then (with_state (Done o) e ∷ []) ++ es else e ∷ finished o n es) ≡ waiting_tasks (e ∷ es))
     × (owed (e ∷ es) ≡ suc (owed (if b then (with_state (Done o) e ∷ []) ++ es else e ∷ finished o n es)))) [
       | true ↦ λ f _.

@@ -3,7 +3,7 @@ use Rattle.std.proofs.Common.{◌≡◌, ℕ, zero, suc, ◌<◌, ◌⊎◌, inl
 use Rattle.std.specs.Prelude.{slice_get}
 use Rattle.std.proofs.lemmas.Bool.{cases_eq}
 use Rattle.std.proofs.lemmas.Option.{same_Some}
-use Rattle.board_terms.specs.Board.{PlainEntry, SplitEntry, TaskEntry, PlainTaskState, number_of, at_first}
+use Rattle.board_terms.specs.Board.{PlainEntry, SplitEntry, TaskEntry, PlainTaskState, entry_number, at_first}
 use Rattle.board_terms.specs.Kept.{IsNotIn, AreDistinct}
 use Rattle.work_share.specs.declared.slot.Slot.{Slot}
 use Rattle.work_share.specs.declared.slot.SlotState.{SlotState}
@@ -36,7 +36,7 @@ get_other (x ∷ slots) (suc n) (suc m) state d = get_other slots n m state (λ 
 
 -- ---- what stands at a number
 
-as_number : (n : ℕ) (path : List ℕ) (state : SlotState) → number_of (entry_as n path state) ≡ n
+as_number : (n : ℕ) (path : List ℕ) (state : SlotState) → entry_number (entry_as n path state) ≡ n
 as_number n path Waits = refl
 as_number n path Out = refl
 as_number n path (Done outcome) = refl
@@ -52,14 +52,14 @@ as_path n path Out = refl
 as_path n path (Done outcome) = refl
 as_path n path (Split token own children) = refl
 
-pub at_number : (slots : List Slot) (n : ℕ) → number_of (entry_at slots n) ≡ n
+pub at_number : (slots : List Slot) (n : ℕ) → entry_number (entry_at slots n) ≡ n
 at_number slots n = go (slice_get slots n)
   where
-    go : (o : Option Slot) → number_of (entry_or n o) ≡ n
+    go : (o : Option Slot) → entry_number (entry_or n o) ≡ n
     go None = refl
     go (Some slot) = as_number n slot.path.items slot.state
 
-pub numbers_are : (slots : List Slot) (order : List ℕ) → map number_of (entries_of slots order) ≡ order
+pub numbers_are : (slots : List Slot) (order : List ℕ) → map entry_number (entries_of slots order) ≡ order
 numbers_are slots [] = refl
 numbers_are slots (n ∷ order) = ap₂ (λ x xs. x ∷ xs) (at_number slots n) (numbers_are slots order)
 
@@ -84,17 +84,8 @@ put_beside slots n state (m ∷ order) a = ap₂ (λ x xs. x ∷ xs) (put_other 
 
 -- where a test finds no entry but that of this number, the change of the first that passes is the change at the number
 module _ (slots : List Slot) (n : ℕ) (state : SlotState) (test : PlainEntry → Bool) (change : PlainEntry → List PlainEntry)
-    (only : (e : PlainEntry) → test e ≡ true → number_of e ≡ n) (passes : test (entry_at slots n) ≡ true)
+    (only : (e : PlainEntry) → test e ≡ true → entry_number e ≡ n) (passes : test (entry_at slots n) ≡ true)
     (changed : change (entry_at slots n) ≡ entry_at (with_slot slots n state) n ∷ []) where
-  pub none_passes : (order : List ℕ) → IsNotIn n order → at_first test change (entries_of slots order) ≡ entries_of slots order
-  none_passes [] a = refl
-  none_passes (m ∷ order) a =
-      elim (test (entry_at slots m)) as (λ b. test (entry_at slots m) ≡ b
-      → (if b then change (entry_at slots m) ++ entries_of slots order else entry_at slots m ∷ at_first test change (entries_of slots order)) ≡ entry_at slots m ∷ entries_of slots order) [
-        | true ↦ λ f. absurd (a.0 (sym (sym (at_number slots m) ∙ only (entry_at slots m) f)))
-        | false ↦ λ f. ap (λ xs. entry_at slots m ∷ xs) (none_passes order a.1)
-      ] refl
-
   pub put_in : (order : List ℕ) → AreDistinct order → entries_of (with_slot slots n state) order ≡ at_first test change (entries_of slots order)
   put_in [] d = refl
   put_in (m ∷ order) d = pick (cases_eq m n) (put_in order d.1)

@@ -6,7 +6,7 @@ use Rattle.tree_terms.specs.Trees.{SearchTree}
 use Rattle.tree_terms.specs.Paths.{IsReachable}
 use Rattle.board_terms.specs.declared.Event.{Event}
 use Rattle.board_terms.specs.declared.Event.TheVariants as event
-use Rattle.board_terms.specs.Board.{PlainEntry, SplitEntry, TaskEntry, PlainTask, Waits, Out as PlainOut, with_state, waits, task_of, waits_as, state_waits, number_of, first_waiting, out_path}
+use Rattle.board_terms.specs.Board.{PlainEntry, SplitEntry, TaskEntry, PlainTask, Waits, Out as PlainOut, with_state, waits, task_of, waits_as, state_waits, entry_number, first_waiting, out_path}
 use Rattle.board_terms.specs.Steps.{handed_out}
 use Rattle.board_terms.specs.Kept.{AreTasksRight}
 use Rattle.board_terms.proofs.Changes.{right_tail}
@@ -21,7 +21,7 @@ use Rattle.work_share.proofs.Advance.{waits_open, front_same}
 use Rattle.work_share.proofs.Standing.{in_below, waiting_there, first_entry, first_is, taken_rest, out_found}
 use Rattle.work_share.proofs.Kept.{keeps_stored, apart_stored, distinct_order, below_order, replay_more, stack_top}
 
-waits_number : (n : ℕ) (e : PlainEntry) → waits_as n e ≡ true → number_of e ≡ n
+waits_number : (n : ℕ) (e : PlainEntry) → waits_as n e ≡ true → entry_number e ≡ n
 waits_number n (SplitEntry number path token own children) h = absurd (true≢false (sym h))
 waits_number n (TaskEntry number path state) h = go (number == n) refl h
   where

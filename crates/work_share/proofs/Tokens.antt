@@ -16,7 +16,7 @@ use Rattle.work_share.specs.declared.slot.SlotState.{SlotState}
 use Rattle.work_share.specs.declared.slot.SlotState.TheVariants.{Waits, Out, Done, Split}
 use Rattle.work_share.specs.Slots.{entry_as, entry_of, entry_or, entry_at, entries_of}
 use Rattle.work_share.specs.Fronts.{Ends, EndsWithFirst, piece_of, counted, IsFront}
-use Rattle.work_share.specs.Joining.{tokens_in, tokens_of}
+use Rattle.work_share.specs.Joining.{tokens_in, entry_tokens}
 use Rattle.work_share.proofs.Advance.{below_at}
 use Rattle.work_share.proofs.Fronts.{run_at}
 
@@ -40,44 +40,40 @@ distinct_at (x ∷ order) (suc k) d l =
 -- one entry more: what it has goes behind the tokens so far
 pub tokens_more : (slots : List Slot) (order : List ℕ) (k : ℕ) (slot new : Slot) (had now all : List PlainToken) → AreBelow (length slots) order → AreDistinct order
     → k < length order → slot ≡ get_or slots (get_or order k 0) slot → ((number : ℕ) → now ≡ had ++ tokens_in (entry_of number slot))
-    → had ++ tokens_of (entries_of slots (drop k order)) ≡ all
-    → now ++ tokens_of (entries_of (set slots (get_or order k 0) new) (drop (k + 1) order)) ≡ all
+    → had ++ entry_tokens (entries_of slots (drop k order)) ≡ all
+    → now ++ entry_tokens (entries_of (set slots (get_or order k 0) new) (drop (k + 1) order)) ≡ all
 tokens_more slots order k slot new had now all b d l is pushed h =
     let n = get_or order k 0 in
     let entry : entry_at slots n ≡ entry_of n slot = ap (entry_or n) (slice_get_read slots (length slots) n slot refl (below_at (length slots) order k b l) is) in
     let beside = set_beside slots n new (drop (k + 1) order) (distinct_at order k d l) in
-    let here : tokens_of (entries_of slots (drop k order)) ≡ tokens_in (entry_of n slot) ++ tokens_of (entries_of slots (drop (k + 1) order)) =
-    ap (λ ns. tokens_of (entries_of slots ns)) (drop_more order k 0 l) ∙ ap (λ e. tokens_in e ++ tokens_of (entries_of slots (drop (k + 1) order))) entry in
-    ap₂ (λ ts es. ts ++ tokens_of es) (pushed n) beside
-    ∙ (append_assoc had (tokens_in (entry_of n slot)) (tokens_of (entries_of slots (drop (k + 1) order))) ∙ (ap (λ ts. had ++ ts) (sym here) ∙ h))
-
-pub tokens_all : (slots : List Slot) (order : List ℕ) (k : ℕ) (had all : List PlainToken) → length order ≤ k → had ++ tokens_of (entries_of slots (drop k order)) ≡ all
-    → had ≡ all
-tokens_all slots order k had all l h = sym (append-nil had) ∙ (ap (λ ns. had ++ tokens_of (entries_of slots ns)) (sym (drop_all k order l)) ∙ h)
+    let here : entry_tokens (entries_of slots (drop k order)) ≡ tokens_in (entry_of n slot) ++ entry_tokens (entries_of slots (drop (k + 1) order)) =
+    ap (λ ns. entry_tokens (entries_of slots ns)) (drop_more order k 0 l) ∙ ap (λ e. tokens_in e ++ entry_tokens (entries_of slots (drop (k + 1) order))) entry in
+    ap₂ (λ ts es. ts ++ entry_tokens es) (pushed n) beside
+    ∙ (append_assoc had (tokens_in (entry_of n slot)) (entry_tokens (entries_of slots (drop (k + 1) order))) ∙ (ap (λ ts. had ++ ts) (sym here) ∙ h))
 
 -- ---- what the run comes to
 
 -- a run whose front is all
 pub joined_all : (budget len count : ℕ) (es : List PlainEntry) → IsFront budget es len count false → length es ≤ len
-    → Decided (No (tokens_of es) count) ≡ told budget (run_of budget es).verdict
+    → Decided (No (entry_tokens es) count) ≡ told budget (run_of budget es).verdict
 joined_all budget len count es f l =
     let at = run_at budget len es f.known.refuted in
     let rest : drop len es ≡ [] = drop_all len es l in
     let front : take len es ≡ es = sym (append-nil (take len es)) ∙ (ap (λ xs. take len es ++ xs) (sym rest) ∙ take-append-drop len es) in
-    let verdict : (run_of budget es).verdict ≡ No (tokens_of es) count =
+    let verdict : (run_of budget es).verdict ≡ No (entry_tokens es) count =
     ap (λ (r : Run). r.verdict) at
-    ∙ (ap (λ xs. join (No (tokens_of (take len es)) (counted (take len es))) (run_of budget xs).verdict) rest
-    ∙ (join_nothing (No (tokens_of (take len es)) (counted (take len es))) ∙ ap₂ (λ xs n. No (tokens_of xs) n) front f.known.sum)) in
-    sym (ap (told budget) verdict ∙ told_decided budget (No (tokens_of es) count) f.known.within)
+    ∙ (ap (λ xs. join (No (entry_tokens (take len es)) (counted (take len es))) (run_of budget xs).verdict) rest
+    ∙ (join_nothing (No (entry_tokens (take len es)) (counted (take len es))) ∙ ap₂ (λ xs n. No (entry_tokens xs) n) front f.known.sum)) in
+    sym (ap (told budget) verdict ∙ told_decided budget (No (entry_tokens es) count) f.known.within)
 
 -- a run that ends with the entry behind its front
 pub joined_end : (budget len count : ℕ) (es : List PlainEntry) (d : PlainEntry) → IsFront budget es len count true
-    → told budget (join (No (tokens_of (take len es)) count) (with_entry budget (get_or es len d) (run_of budget (drop (len + 1) es))).verdict)
+    → told budget (join (No (entry_tokens (take len es)) count) (with_entry budget (get_or es len d) (run_of budget (drop (len + 1) es))).verdict)
     ≡ told budget (run_of budget es).verdict
 joined_end budget len count es d f =
     let at = run_at budget len es f.known.refuted in
     let here : run_of budget (drop len es) ≡ with_entry budget (get_or es len d) (run_of budget (drop (len + 1) es)) = ap (run_of budget) (drop_more es len d (not_all es f.stands)) in
-    ap (told budget) (sym (ap (λ (r : Run). r.verdict) at ∙ ap₂ (λ n (r : Run). join (No (tokens_of (take len es)) n) r.verdict) f.known.sum here))
+    ap (told budget) (sym (ap (λ (r : Run). r.verdict) at ∙ ap₂ (λ n (r : Run). join (No (entry_tokens (take len es)) n) r.verdict) f.known.sum here))
   where
     not_all : (xs : List PlainEntry) → EndsWithFirst budget count (drop len xs) → len < length xs
     not_all xs e = go (cases_lt len (length xs))

@@ -46,8 +46,9 @@ abbrev pub IsIn : ℕ → List ℕ → Type 0
 IsIn n [] = ⊥
 IsIn n (m ∷ ms) = (n ≡ m) ⊎ IsIn n ms
 
--- The history replays to the state, no path of a task that is out is a prefix of another's, and each done task has its node's outcome. Beside
--- these: each number stands in the order, the tasks that wait are on the stack with the leftmost on top, the front of the leftmost finished run is
+-- The history replays to the state, no path of a task that is out is a prefix of another's, and
+-- each done task has its node's outcome. Beside these: each number stands in the order, the tasks
+-- that wait are on the stack with the leftmost on top, the front of the leftmost finished run is
 -- known, and the history has room for all events that are still to come.
 pub record IsKept (tree : SearchTree) (budget : ℕ) (slots : List Slot) (order : List ℕ) (stack : List PlainTask) (len count : ℕ) (is_ended is_short : Bool)
     (history : List Event) (capacity : ℕ) : Type 0 where

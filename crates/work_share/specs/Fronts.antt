@@ -1,11 +1,13 @@
--- The leftmost finished run, as far as it is known: how many entries at the front are finished with no, and their count.
+-- The leftmost finished run, as far as it is known: how many entries at the front are finished with
+-- no, and their count.
 use Rattle.std.specs.Prelude.{ℕ, ◌+◌, ◌<◌, ◌≤◌, ◌≡◌, List, [], ◌∷◌, length, take, drop, Bool, true, false}
 use Rattle.tree_terms.specs.Trees.{Yes, No, PlainOutcome, Decided, Past}
 use Rattle.board_terms.specs.Board.{PlainEntry, SplitEntry, TaskEntry, PlainTaskState, Waits, Out, Done}
 use Rattle.work_share.specs.declared.slot.Piece.{Piece}
 use Rattle.work_share.specs.declared.slot.Piece.TheVariants.{Open, Found, Refuted, Spent}
 
--- what an entry is for the run: it ends before it, it ends with it, it goes on with this count more, or it is past the budget
+-- what an entry is for the run: it ends before it, it ends with it, it goes on with this count
+-- more, or it is past the budget
 abbrev pub outcome_piece : PlainOutcome → Piece
 outcome_piece (Decided (Yes numbers count)) = Found
 outcome_piece (Decided (No tokens count)) = Refuted count
@@ -20,16 +22,16 @@ abbrev pub piece_of : PlainEntry → Piece
 piece_of (SplitEntry number path token own children) = Refuted own
 piece_of (TaskEntry number path state) = state_piece state
 
-abbrev pub IsRefuted : Piece → Type 0
-IsRefuted Open = ⊥
-IsRefuted Found = ⊥
-IsRefuted (Refuted count) = Unit {0}
-IsRefuted Spent = ⊥
+abbrev pub IsRefutedPiece : Piece → Type 0
+IsRefutedPiece Open = ⊥
+IsRefutedPiece Found = ⊥
+IsRefutedPiece (Refuted count) = Unit {0}
+IsRefutedPiece Spent = ⊥
 
 -- each entry is finished with no
 abbrev pub AreRefuted : List PlainEntry → Type 0
 AreRefuted [] = Unit {0}
-AreRefuted (e ∷ es) = IsRefuted (piece_of e) × AreRefuted es
+AreRefuted (e ∷ es) = IsRefutedPiece (piece_of e) × AreRefuted es
 
 abbrev pub count_in : Piece → ℕ
 count_in Open = 0

@@ -19,6 +19,6 @@ abbrev pub tokens_in : PlainEntry → List PlainToken
 tokens_in (SplitEntry number path token own children) = token ∷ []
 tokens_in (TaskEntry number path state) = tokens_done state
 
-abbrev pub tokens_of : List PlainEntry → List PlainToken
-tokens_of [] = []
-tokens_of (e ∷ es) = tokens_in e ++ tokens_of es
+abbrev pub entry_tokens : List PlainEntry → List PlainToken
+entry_tokens [] = []
+entry_tokens (e ∷ es) = tokens_in e ++ entry_tokens es

@@ -1,9 +1,9 @@
-// The work board.
+//! The work board.
 ghost use Rattle.std.specs.Prelude.{◌≡◌, ◌+◌, ◌*◌, ◌^◌, ◌≤◌, ◌<◌, IfOk, OnOk, OnErr, IfErr, IfSome, IsTrue, MatchBool, Some, true, false, vec_len, vec_capacity};
 ghost use Rattle.tree_terms.specs.Trees.{node_at, outcome, told};
 ghost use Rattle.tree_terms.specs.Paths.{Splits, node_told, outcome_at, IsReachable};
 ghost use Rattle.board_terms.specs.Board.{board_start, out_path};
-ghost use Rattle.board_terms.specs.Runs.{is_over, board_joined};
+ghost use Rattle.board_terms.specs.Runs.{is_board_over, board_joined};
 ghost use Rattle.board_terms.specs.Steps.{AskTask, AskSplit, AskFinish, NoteShort, IsDone, BoardStep};
 ghost use Rattle.board_terms.specs.Replay.{replay};
 ghost use Rattle.board_terms.specs.Kept.{IsOutcomeOf};
@@ -23,12 +23,14 @@ use proof_tree::{Outcome, Token};
 use std::alloc::{AllocError, Global};
 use std::marker::Model;
 
-/// The tasks into which one search tree is cut, under one budget, and what they have given so far. It is seen as its tree, its
-/// budget and its state: the entries in prefix order, and whether a worker was short of memory.
+/// The tasks into which one search tree is cut, under one budget, and what they have given so far.
+/// It is seen as its tree, its budget and its state: the entries in prefix order, and whether a
+/// worker was short of memory.
 ///
-/// It keeps the history of its events: each task that was taken, each split, each finish, and the first note of a shortage. The
-/// history replays to the state; no path of a task that is out is a prefix of another's; and each done task has its node's
-/// outcome, or past where the count of that exceeds the budget.
+/// It keeps the history of its events: each task that was taken, each split, each finish, and the
+/// first note of a shortage. The history replays to the state; no path of a task that is out is a
+/// prefix of another's; and each done task has its node's outcome, or past where the count of that
+/// exceeds the budget.
 #[derive(Drop)]
 pub struct Board<'a, T: Tree> {
     tree: &'a T,
@@ -51,9 +53,14 @@ impl<'a, T: Tree> Model for Board<'a, T> {
 
     ghost Value = { PlainBoard T };
 
-    ghost view = { λ b. record { tree = b.tree.now; budget = b.budget; state = stored_state b.slots.items b.order.items b.is_short } };
+    ghost view = { λ b. record {
+      tree = b.tree.now;
+      budget = b.budget;
+      state = stored_state b.slots.items b.order.items b.is_short;
+    } };
 
-    ghost invariant = { λ b. IsKept (T.shape b.tree.now) b.budget b.slots.items b.order.items b.waiting.items b.front.len b.front.count b.front.is_ended b.is_short
+    ghost invariant = { λ b. IsKept (T.shape b.tree.now) b.budget b.slots.items b.order.items
+        b.waiting.items b.front.len b.front.count b.front.is_ended b.is_short
         b.history.items (vec_capacity b.history) };
 }
 
@@ -86,7 +93,8 @@ fn reserve_for(
     ensures slots_room { OnOk result (vec_len slots.new + children ≤ vec_capacity slots.new) }
     ensures order_room { OnOk result (vec_len order.new + children ≤ vec_capacity order.new) }
     ensures waiting_room { OnOk result (vec_len waiting.new + children ≤ vec_capacity waiting.new) }
-    ensures history_room { OnOk result (2 * (vec_len order.new + children) + 1 ≤ vec_capacity history.new) }
+    ensures history_room { OnOk result
+        (2 * (vec_len order.new + children) + 1 ≤ vec_capacity history.new) }
 {
     slots.reserve(children)?;
     order.reserve(children)?;
@@ -98,7 +106,11 @@ fn reserve_for(
 impl<'a, T: Tree> Board<'a, T> {
     /// The board with one task that waits, the root.
     pub fn start(alloc: Global, tree: &'a T, budget: u64) -> Result<Board<'a, T>, NoMemory>
-        ensures { IfOk result (λ b. b ≡ record { tree = tree.entry.now; budget = budget; state = board_start }) }
+        ensures { IfOk result (λ b. b ≡ record {
+          tree = tree.entry.now;
+          budget = budget;
+          state = board_start;
+        }) }
     {
         let Ok(board) = Board::with_root(alloc, tree, budget) else {
             return Err(NoMemory);
@@ -107,7 +119,11 @@ impl<'a, T: Tree> Board<'a, T> {
     }
 
     fn with_root(alloc: Global, tree: &'a T, budget: u64) -> Result<Board<'a, T>, AllocError>
-        ensures { IfOk result (λ b. b ≡ record { tree = tree.entry.now; budget = budget; state = board_start }) }
+        ensures { IfOk result (λ b. b ≡ record {
+          tree = tree.entry.now;
+          budget = budget;
+          state = board_start;
+        }) }
     {
         let mut slots = Vec::new(alloc);
         slots.push(Slot {
@@ -133,23 +149,25 @@ impl<'a, T: Tree> Board<'a, T> {
         })
     }
 
-    /// Whether there is nothing left to do: a worker was short of memory, or every task that is needed is finished, or the counts
-    /// of the leftmost finished run exceed the budget.
+    /// Whether there is nothing left to do: a worker was short of memory, or every task that is
+    /// needed is finished, or the counts of the leftmost finished run exceed the budget.
     pub fn is_over(&self) -> bool
-        ensures { result ≡ is_over self.now.budget self.now.state }
+        ensures { result ≡ is_board_over self.now.budget self.now.state }
     {
         self.is_short || self.front.is_ended || self.front.len == self.order.len()
     }
 
     /// Hands out the leftmost task that waits, unless the board is over.
     ///
-    /// `Over` comes exactly where it is over, and `Empty` exactly where it isn't and no task waits; then some task is out. It takes
-    /// no memory, and doesn't go through the entries.
+    /// `Over` comes exactly where it is over, and `Empty` exactly where it isn't and no task waits;
+    /// then some task is out. It takes no memory, and doesn't go through the entries.
     pub fn take(&mut self) -> Take
-        ensures step { BoardStep (T.shape self.old.tree) self.old.budget self.old.state AskTask (reply_of result) self.new.state }
+        ensures step { BoardStep (T.shape self.old.tree) self.old.budget self.old.state AskTask
+            (reply_of result) self.new.state }
         ensures same { self.new ≡ record self.old { state = self.new.state } }
         ensures path { IfJob result (λ task. IsReachable (T.shape self.old.tree) task.path) }
-        ensures out { IfJob result (λ task. out_path task.number self.new.state.entries ≡ Some task.path) }
+        ensures out { IfJob result
+            (λ task. out_path task.number self.new.state.entries ≡ Some task.path) }
     {
         if self.is_over() {
             return Take::Over;
@@ -166,10 +184,13 @@ impl<'a, T: Tree> Board<'a, T> {
         }
     }
 
-    /// Whether this task is out: the task of its number is, and has its path. Then its path may be reached.
+    /// Whether this task is out: the task of its number is, and has its path. Then its path may be
+    /// reached.
     pub fn is_out(&self, task: &Task) -> bool
         ensures reached { IsTrue result → IsReachable (T.shape self.now.tree) task.now.path }
-        ensures exactly { MatchBool result (out_path task.now.number self.now.state.entries ≡ Some task.now.path) (¬ (out_path task.now.number self.now.state.entries ≡ Some task.now.path)) }
+        ensures exactly { MatchBool result
+            (out_path task.now.number self.now.state.entries ≡ Some task.now.path)
+            (¬ (out_path task.now.number self.now.state.entries ≡ Some task.now.path)) }
     {
         match self.slots.get(task.number() as usize) {
             Some(slot) => slot.is_out_at(task.path()),
@@ -177,15 +198,18 @@ impl<'a, T: Tree> Board<'a, T> {
         }
     }
 
-    /// Puts the children of a split in the place of its task: they wait, and are numbered from left to right, beginning with the
-    /// number of entries that there were before.
+    /// Puts the children of a split in the place of its task: they wait, and are numbered from left
+    /// to right, beginning with the number of entries that there were before.
     ///
-    /// The task is out, and the tree's node there is told as this split. `Err` is want of memory; it hands the task back, and the
-    /// board is as before.
+    /// The task is out, and the tree's node there is told as this split. `Err` is want of memory;
+    /// it hands the task back, and the board is as before.
     pub fn split(&mut self, task: Task, token: Token, own: u64, children: u32) -> Result<(), Task>
         requires out { out_path task.number self.old.state.entries ≡ Some task.path }
-        requires told { IfSome (node_at (Some (T.shape self.old.tree)) task.path) (λ node. node_told node ≡ Splits (plain_token token) own children) }
-        ensures step { OnOk result (BoardStep (T.shape self.old.tree) self.old.budget self.old.state (AskSplit task.number) IsDone self.new.state) }
+        requires told { IfSome (node_at (Some (T.shape self.old.tree)) task.path)
+            (λ node. node_told node ≡ Splits (plain_token token) own children) }
+        ensures step { OnOk result
+            (BoardStep (T.shape self.old.tree) self.old.budget self.old.state (AskSplit task.number)
+            IsDone self.new.state) }
         ensures unchanged { OnErr result (self.new ≡ self.old) }
         ensures back { IfErr result (λ t. t ≡ task) }
         ensures same { self.new ≡ record self.old { state = self.new.state } }
@@ -229,12 +253,14 @@ impl<'a, T: Tree> Board<'a, T> {
 
     /// Stores what a task gave.
     ///
-    /// The task is out, and the outcome is the tree's at its path, or `Past` where the count of that exceeds the budget. It takes no
-    /// memory.
+    /// The task is out, and the outcome is the tree's at its path, or `Past` where the count of
+    /// that exceeds the budget. It takes no memory.
     pub fn finish(&mut self, task: Task, outcome: Outcome)
         requires out { out_path task.number self.old.state.entries ≡ Some task.path }
-        requires right { IfSome (outcome_at (T.shape self.old.tree) task.path) (λ verdict. IsOutcomeOf self.old.budget verdict (plain_outcome outcome)) }
-        ensures step { BoardStep (T.shape self.old.tree) self.old.budget self.old.state (AskFinish task.number (is_past (plain_outcome outcome))) IsDone self.new.state }
+        requires right { IfSome (outcome_at (T.shape self.old.tree) task.path)
+            (λ verdict. IsOutcomeOf self.old.budget verdict (plain_outcome outcome)) }
+        ensures step { BoardStep (T.shape self.old.tree) self.old.budget self.old.state
+            (AskFinish task.number (is_past (plain_outcome outcome))) IsDone self.new.state }
         ensures same { self.new ≡ record self.old { state = self.new.state } }
     {
         let past = is_past(&outcome);
@@ -252,7 +278,8 @@ impl<'a, T: Tree> Board<'a, T> {
 
     /// Notes that a worker was short of memory.
     pub fn short(&mut self)
-        ensures step { BoardStep (T.shape self.old.tree) self.old.budget self.old.state NoteShort IsDone self.new.state }
+        ensures step { BoardStep (T.shape self.old.tree) self.old.budget self.old.state NoteShort
+            IsDone self.new.state }
         ensures same { self.new ≡ record self.old { state = self.new.state } }
     {
         if !self.is_short {
@@ -268,9 +295,11 @@ impl<'a, T: Tree> Board<'a, T> {
         self.is_short
     }
 
-    /// Whether the board is for this tree and this budget: its tree was made from equal parts, and its budget is the same.
+    /// Whether the board is for this tree and this budget: its tree was made from equal parts, and
+    /// its budget is the same.
     pub fn is_for(&self, tree: &T, budget: u64) -> bool
-        ensures { MatchBool result (T.AreSame self.now.tree tree.now × (self.now.budget ≡ budget)) (¬ (T.AreSame self.now.tree tree.now × (self.now.budget ≡ budget))) }
+        ensures { MatchBool result (T.AreSame self.now.tree tree.now × (self.now.budget ≡ budget))
+            (¬ (T.AreSame self.now.tree tree.now × (self.now.budget ≡ budget))) }
     {
         self.budget == budget && self.tree.same(tree)
     }
@@ -282,15 +311,18 @@ impl<'a, T: Tree> Board<'a, T> {
         self.history.as_slice()
     }
 
-    /// The pieces of a board that is over, joined from left to right: the first yes, or a no with all tokens, or `Past` where the
-    /// count exceeds the budget. It is the outcome of the whole tree under the budget.
+    /// The pieces of a board that is over, joined from left to right: the first yes, or a no with
+    /// all tokens, or `Past` where the count exceeds the budget. It is the outcome of the whole
+    /// tree under the budget.
     ///
     /// The board is over, and no worker was short of memory.
     pub fn joined(self, alloc: Global) -> Result<Outcome, NoMemory>
-        requires over { is_over self.budget self.state ≡ true }
+        requires over { is_board_over self.budget self.state ≡ true }
         requires enough { self.state.is_short ≡ false }
-        ensures joined { IfOk result (λ r. plain_outcome r ≡ board_joined self.entry.budget self.entry.state) }
-        ensures outcome { IfOk result (λ r. plain_outcome r ≡ told self.entry.budget (outcome (T.shape self.entry.tree))) }
+        ensures joined { IfOk result
+            (λ r. plain_outcome r ≡ board_joined self.entry.budget self.entry.state) }
+        ensures outcome { IfOk result
+            (λ r. plain_outcome r ≡ told self.entry.budget (outcome (T.shape self.entry.tree))) }
     {
         let Board {
             slots,

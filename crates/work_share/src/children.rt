@@ -1,4 +1,4 @@
-// The children of a split, as they come onto a board.
+//! The children of a split, as they come onto a board.
 ghost use Rattle.std.specs.Prelude.{◌≡◌, ◌<◌, ◌+◌, ◌-◌, ◌≤◌, ◌^◌, ◌++◌, ◌∷◌, [], length, reverse, take, drop, slice_index, IfOk, vec_len, vec_capacity};
 ghost use Rattle.std.specs.List.{range_with_len};
 ghost use Rattle.board_terms.specs.Board.{children_from};
@@ -10,7 +10,8 @@ use crate::slot::{Slot, SlotState, put_state};
 use crate::task::Task;
 use std::alloc::{AllocError, Global};
 
-// The children of one split: their entries and their numbers from left to right, and their tasks from right to left.
+// The children of one split: their entries and their numbers from left to right, and their tasks
+// from right to left.
 #[derive(Drop)]
 pub struct Children {
     pub slots: Vec<Slot>,
@@ -37,9 +38,11 @@ pub fn children_of(
 ) -> Result<Children, AllocError>
     requires deep { length path.now + 1 < 2 ^ 32 }
     requires fits { first + children < 2 ^ 64 }
-    ensures slots { IfOk result (λ c. entries_from first c.slots.items ≡ children_from path.now 0 children first) }
+    ensures slots { IfOk result
+        (λ c. entries_from first c.slots.items ≡ children_from path.now 0 children first) }
     ensures numbers { IfOk result (λ c. c.numbers.items ≡ range_with_len first children) }
-    ensures tasks { IfOk result (λ c. c.tasks.items ≡ reverse (waiting_tasks (children_from path.now 0 children first))) }
+    ensures tasks { IfOk result
+        (λ c. c.tasks.items ≡ reverse (waiting_tasks (children_from path.now 0 children first))) }
 {
     let mut slots = Vec::with_capacity(alloc, children as usize)?;
     let mut numbers = Vec::with_capacity(alloc, children as usize)?;
@@ -61,7 +64,8 @@ pub fn children_of(
     })
 }
 
-// Puts a split, which is this state, and its children in the place of its task. There is room for them.
+// Puts a split, which is this state, and its children in the place of its task. There is room for
+// them.
 pub fn put_children(
     slots: &mut Vec<Slot>,
     order: &mut Vec<usize>,
@@ -76,9 +80,13 @@ pub fn put_children(
     requires slots_room { vec_len slots.old + vec_len made.slots ≤ vec_capacity slots.old }
     requires order_room { vec_len order.old + vec_len made.numbers ≤ vec_capacity order.old }
     requires waiting_room { vec_len waiting.old + vec_len made.tasks ≤ vec_capacity waiting.old }
-    ensures slots { slots.new.items ≡ with_slot slots.old.items (slice_index order.old.items place.index) state ++ made.slots.items }
-    ensures order { order.new.items ≡ take (place.index + 1) order.old.items ++ (made.numbers.items ++ drop (place.index + 1) order.old.items) }
-    ensures waiting { waiting.new.items ≡ take (vec_len waiting.old - place.waiting) waiting.old.items
+    ensures slots { slots.new.items
+        ≡ with_slot slots.old.items (slice_index order.old.items place.index) state
+        ++ made.slots.items }
+    ensures order { order.new.items ≡ take (place.index + 1) order.old.items
+        ++ (made.numbers.items ++ drop (place.index + 1) order.old.items) }
+    ensures waiting { waiting.new.items
+        ≡ take (vec_len waiting.old - place.waiting) waiting.old.items
         ++ (made.tasks.items ++ drop (vec_len waiting.old - place.waiting) waiting.old.items) }
 {
     put_state(slots, order[place.index], state);

@@ -1,4 +1,4 @@
-// What a worker finds of a task.
+//! What a worker finds of a task.
 ghost use Rattle.std.specs.Prelude.{◌≡◌, IfOk, IfSome, Some, length};
 ghost use Rattle.tree_terms.specs.Trees.{node_at};
 ghost use Rattle.tree_terms.specs.Paths.{IsReachable};
@@ -11,7 +11,8 @@ use box_instances::NoMemory;
 use proof_tree::{Outcome, Token};
 use std::alloc::Global;
 
-// What exploring a task gives: the whole outcome of its node under the budget, or the split into which it is cut.
+// What exploring a task gives: the whole outcome of its node under the budget, or the split into
+// which it is cut.
 #[derive(Drop)]
 pub enum Found {
     Whole(Outcome),
@@ -29,7 +30,8 @@ fn cap_of(depth: u32, budget: u64) -> u64
     budget.min(1024u64.saturating_mul(2u64.saturating_pow(depth)))
 }
 
-// The split of a node whose count exceeds the cap of its depth, or its outcome under the whole budget where it is a leaf.
+// The split of a node whose count exceeds the cap of its depth, or its outcome under the whole
+// budget where it is a leaf.
 fn split_task<T: Tree>(alloc: Global, tree: &T, budget: u64, task: &Task) -> Result<Found, NoMemory>
     requires reached { IsReachable (T.shape tree.now) task.now.path }
     requires above { IfSome (node_at (Some (T.shape tree.now)) task.now.path)
@@ -50,8 +52,9 @@ fn split_task<T: Tree>(alloc: Global, tree: &T, budget: u64, task: &Task) -> Res
     }
 }
 
-// Explores a task under the cap of its depth. Where the count exceeds that, and the cap is below the budget, it gives the split, or
-// explores again under the whole budget where the node is a leaf.
+// Explores a task under the cap of its depth. Where the count exceeds that, and the cap is below
+// the budget, it gives the split, or explores again under the whole budget where the node is a
+// leaf.
 pub fn explore_task<T: Tree>(
     alloc: Global,
     tree: &T,

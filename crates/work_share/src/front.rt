@@ -1,4 +1,4 @@
-// The leftmost finished run of a board, as far as it is known.
+//! The leftmost finished run of a board, as far as it is known.
 ghost use Rattle.std.specs.Prelude.{◌≡◌, ◌<◌, length, slice_index_or};
 ghost use Rattle.board_terms.specs.Board.{PlainEntry};
 ghost use Rattle.board_terms.specs.Kept.{AreBelow};
@@ -7,7 +7,8 @@ ghost use Rattle.work_share.specs.Fronts.{piece_of, HasFrontTo, IsFront};
 
 use crate::slot::{Piece, Slot};
 
-// So many entries at the front are finished with no, with this count together, and whether the run ends with the next.
+// So many entries at the front are finished with no, with this count together, and whether the run
+// ends with the next.
 #[derive(Clone, Copy)]
 pub struct Front {
     pub len: usize,
@@ -31,7 +32,8 @@ impl Front {
 fn piece_at(slots: &[Slot], order: &[usize], place: usize) -> Piece
     requires below { AreBelow (length slots.now) order.now }
     requires inside { place < length order.now }
-    ensures { (d : PlainEntry) → result ≡ piece_of (slice_index_or (entries_of slots.now order.now) place d) }
+    ensures { (d : PlainEntry)
+        → result ≡ piece_of (slice_index_or (entries_of slots.now order.now) place d) }
 {
     slots[order[place]].piece()
 }
@@ -39,8 +41,10 @@ fn piece_at(slots: &[Slot], order: &[usize], place: usize) -> Piece
 // The front, taken on as far as it goes.
 pub fn advance(slots: &[Slot], order: &[usize], budget: u64, front: Front) -> Front
     requires below { AreBelow (length slots.now) order.now }
-    requires known { HasFrontTo budget (entries_of slots.now order.now) front.len front.count front.is_ended }
-    ensures { IsFront budget (entries_of slots.now order.now) result.len result.count result.is_ended }
+    requires known { HasFrontTo budget (entries_of slots.now order.now) front.len front.count
+        front.is_ended }
+    ensures { IsFront budget (entries_of slots.now order.now) result.len result.count
+        result.is_ended }
 {
     if front.is_ended {
         return front;

@@ -1,7 +1,8 @@
-// What is told of each task that a worker explores.
+//! What is told of each task that a worker explores.
 
-/// What is called around the exploring of each task, outside the lock of the board, with the number of the task. No answer depends
-/// on it: a test uses it to see that tasks are explored at the same time.
+/// What is called around the exploring of each task, outside the lock of the board, with the number
+/// of the task. No answer depends on it: a test uses it to see that tasks are explored at the same
+/// time.
 pub trait Gate {
     /// Before a worker explores the task.
     fn before(&self, number: u64);

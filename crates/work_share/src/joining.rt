@@ -1,4 +1,4 @@
-// The joining of a finished run.
+//! The joining of a finished run.
 ghost use Rattle.std.specs.Prelude.{◌≡◌, ◌≤◌, ◌<◌, ◌++◌, ℕ, List, length, map, IfOk, OnOk, true, false};
 ghost use Rattle.packing_terms.specs.Tokens.{PlainToken};
 ghost use Rattle.tree_terms.specs.Trees.{No, join, told};
@@ -7,7 +7,7 @@ ghost use Rattle.board_terms.specs.Runs.{Run, run_of, with_entry};
 ghost use Rattle.proof_tree.specs.Plain.{plain_outcome, plain_token};
 ghost use Rattle.work_share.specs.Slots.{entry_of, entries_of};
 ghost use Rattle.work_share.specs.Fronts.{IsFront, Ends, piece_of};
-ghost use Rattle.work_share.specs.Joining.{tokens_told, tokens_in, tokens_of};
+ghost use Rattle.work_share.specs.Joining.{tokens_told, tokens_in, entry_tokens};
 
 use crate::front::Front;
 use crate::slot::{Slot, SlotState};
@@ -21,7 +21,8 @@ fn end_run(slot: &mut Slot, budget: u64, before: u64) -> Outcome
     requires within { before ≤ budget }
     requires ends { (number : ℕ) → Ends budget before (piece_of (entry_of number slot.old)) }
     ensures { (number : ℕ) (tokens : List PlainToken) (run : Run)
-        → plain_outcome result ≡ told budget (join (No tokens before) (with_entry budget (entry_of number slot.old) run).verdict) }
+        → plain_outcome result ≡ told budget (join (No tokens before)
+        (with_entry budget (entry_of number slot.old) run).verdict) }
 {
     match mem::replace(&mut slot.state, SlotState::Out) {
         SlotState::Done(Outcome::Yes { numbers, count }) if count <= budget - before => {
@@ -36,7 +37,8 @@ fn end_run(slot: &mut Slot, budget: u64, before: u64) -> Outcome
 
 // Moves the tokens of an outcome behind others.
 fn push_told(tokens: &mut Vec<Token>, outcome: Outcome) -> Result<(), AllocError>
-    ensures { OnOk result (map plain_token tokens.new.items ≡ map plain_token tokens.old.items ++ tokens_told (plain_outcome outcome)) }
+    ensures { OnOk result (map plain_token tokens.new.items ≡ map plain_token tokens.old.items
+        ++ tokens_told (plain_outcome outcome)) }
 {
     match outcome {
         Outcome::No {
@@ -53,7 +55,8 @@ fn push_told(tokens: &mut Vec<Token>, outcome: Outcome) -> Result<(), AllocError
 
 // Moves the tokens of a finished entry behind others.
 fn push_tokens(tokens: &mut Vec<Token>, slot: &mut Slot) -> Result<(), AllocError>
-    ensures { OnOk result ((number : ℕ) → map plain_token tokens.new.items ≡ map plain_token tokens.old.items ++ tokens_in (entry_of number slot.old)) }
+    ensures { OnOk result ((number : ℕ) → map plain_token tokens.new.items
+        ≡ map plain_token tokens.old.items ++ tokens_in (entry_of number slot.old)) }
 {
     match mem::replace(&mut slot.state, SlotState::Out) {
         SlotState::Done(outcome) => push_told(tokens, outcome),
@@ -78,7 +81,8 @@ fn join_tokens(
 ) -> Result<Vec<Token>, AllocError>
     requires below { AreBelow (length slots.items) order.now }
     requires distinct { AreDistinct order.now }
-    ensures { IfOk result (λ tokens. map plain_token tokens.items ≡ tokens_of (entries_of slots.items order.now)) }
+    ensures { IfOk result (λ tokens. map plain_token tokens.items
+        ≡ entry_tokens (entries_of slots.items order.now)) }
 {
     let mut tokens = Vec::new(alloc);
     for number in order {
@@ -97,9 +101,11 @@ pub fn join_run(
 ) -> Result<Outcome, NoMemory>
     requires below { AreBelow (length slots.items) order.now }
     requires distinct { AreDistinct order.now }
-    requires front { IsFront budget (entries_of slots.items order.now) front.len front.count front.is_ended }
+    requires front { IsFront budget (entries_of slots.items order.now) front.len front.count
+        front.is_ended }
     requires over { front.is_ended ≡ false → front.len ≡ length order.now }
-    ensures { IfOk result (λ r. plain_outcome r ≡ told budget (run_of budget (entries_of slots.items order.now)).verdict) }
+    ensures { IfOk result (λ r. plain_outcome r
+        ≡ told budget (run_of budget (entries_of slots.items order.now)).verdict) }
 {
     if front.is_ended {
         return Ok(end_run(&mut slots[order[front.len]], budget, front.count));

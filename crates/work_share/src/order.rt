@@ -1,4 +1,4 @@
-// The order of the entries, and lists into which others are put.
+//! The order of the entries, and lists into which others are put.
 ghost use Rattle.std.specs.Prelude.{◌≡◌, ◌≤◌, ◌<◌, ◌+◌, ◌++◌, [], length, take, drop, slice_index, vec_len, vec_capacity};
 ghost use Rattle.board_terms.specs.Board.{waits};
 ghost use Rattle.board_terms.specs.Kept.{AreBelow, IsNotIn};
@@ -23,7 +23,8 @@ fn waits_at(slots: &[Slot], order: &[usize], place: usize) -> bool
     slots[order[place]].waits()
 }
 
-// The place of a number in the order. Before the index `from` no task waits, and the number doesn't stand there.
+// The place of a number in the order. Before the index `from` no task waits, and the number doesn't
+// stand there.
 pub fn place_of(slots: &[Slot], order: &[usize], from: usize, number: usize) -> Place
     requires below { AreBelow (length slots.now) order.now }
     requires before { waiting_tasks (entries_of slots.now (take from order.now)) ≡ [] }
@@ -32,7 +33,8 @@ pub fn place_of(slots: &[Slot], order: &[usize], from: usize, number: usize) -> 
     ensures none { IsNotIn number (take result.index order.now) }
     ensures here { result.index < length order.now → slice_index order.now result.index ≡ number }
     ensures index { result.index ≤ length order.now }
-    ensures waiting { length (waiting_tasks (entries_of slots.now (take result.index order.now))) ≡ result.waiting }
+    ensures waiting { length (waiting_tasks (entries_of slots.now (take result.index order.now)))
+        ≡ result.waiting }
 {
     let mut waiting = 0;
     for index in from..order.len() {
@@ -53,7 +55,8 @@ pub fn place_of(slots: &[Slot], order: &[usize], from: usize, number: usize) -> 
 pub fn insert_all<T: Drop>(list: &mut Vec<T>, place: usize, mut items: Vec<T>)
     requires inside { place ≤ vec_len list.old }
     requires room { vec_len list.old + vec_len items ≤ vec_capacity list.old }
-    ensures { list.new.items ≡ take place list.old.items ++ (items.items ++ drop place list.old.items) }
+    ensures { list.new.items ≡ take place list.old.items
+        ++ (items.items ++ drop place list.old.items) }
 {
     let behind = list.len() - place;
     let Ok(()) = list.append(&mut items) else {

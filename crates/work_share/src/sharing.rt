@@ -1,4 +1,4 @@
-// One search tree, explored by several workers.
+//! One search tree, explored by several workers.
 ghost use Rattle.std.specs.Prelude.{◌≡◌, IfOk, IfSome, Some};
 ghost use Rattle.tree_terms.specs.Trees.{outcome, told};
 ghost use Rattle.tree_terms.specs.Paths.{IsReachable};
@@ -20,17 +20,20 @@ use std::thread::Threads;
 // The greatest number of workers.
 const MOST_WORKERS: usize = 64;
 
-// What the workers share: the board, and a signal for those that wait that tasks were added or that the board is over.
+// What the workers share: the board, and a signal for those that wait that tasks were added or that
+// the board is over.
 struct Desk<'a, T: Tree> {
     board: Mutex<Board<'a, T>>,
     moved: Condvar,
 }
 
-// Puts what was found of a task that is out into its board, in one step. A split without memory is noted as a shortage.
+// Puts what was found of a task that is out into its board, in one step. A split without memory is
+// noted as a shortage.
 fn put_found<T: Tree>(board: &mut Board<'_, T>, task: Task, found: Found)
     requires out { out_path task.number board.old.state.entries ≡ Some task.path }
     requires found { IsFoundAt (T.shape board.old.tree) board.old.budget task.path found }
-    ensures step { PutsFound (T.shape board.old.tree) board.old.budget board.old.state task.number found
+    ensures step { PutsFound (T.shape board.old.tree) board.old.budget board.old.state task.number
+        found
         board.new.state }
     ensures same { board.new ≡ record board.old { state = board.new.state } }
 {
@@ -48,8 +51,9 @@ fn put_found<T: Tree>(board: &mut Board<'_, T>, task: Task, found: Found)
     }
 }
 
-// Hands in what a worker found of a task, or that it was short of memory. Nothing is known of the board that the worker finds:
-// where it isn't for the worker's tree and budget, or the task isn't out, what was found is dropped.
+// Hands in what a worker found of a task, or that it was short of memory. Nothing is known of the
+// board that the worker finds: where it isn't for the worker's tree and budget, or the task isn't
+// out, what was found is dropped.
 fn hand_in<T: Tree>(
     board: &mut Board<'_, T>,
     tree: &T,
@@ -75,10 +79,12 @@ fn hand_in<T: Tree>(
     }
 }
 
-// What a board gives a worker that asks for a task. To one of another tree or budget it gives nothing.
+// What a board gives a worker that asks for a task. To one of another tree or budget it gives
+// nothing.
 fn take_from<T: Tree>(board: &mut Board<'_, T>, tree: &T, budget: u64) -> Take
     ensures taken { T.AreSame board.old.tree tree.now → board.old.budget ≡ budget
-        → BoardStep (T.shape tree.now) budget board.old.state AskTask (reply_of result) board.new.state }
+        → BoardStep (T.shape tree.now) budget board.old.state AskTask (reply_of result)
+        board.new.state }
     ensures path { IfJob result (λ task. IsReachable (T.shape tree.now) task.path) }
     ensures same { board.new ≡ record board.old { state = board.new.state } }
 {
@@ -106,8 +112,9 @@ fn explore_between<T: Tree, G: Gate>(
     found
 }
 
-// The next task. None comes where there is nothing left to do, and where the board isn't for this tree and budget. Where no task
-// waits, but the board isn't over, the worker sleeps until it is woken.
+// The next task. None comes where there is nothing left to do, and where the board isn't for this
+// tree and budget. Where no task waits, but the board isn't over, the worker sleeps until it is
+// woken.
 fn next_task<R: Wait, T: Tree>(rt: &R, tree: &T, budget: u64, desk: &Desk<'_, T>) -> Option<Task>
     ensures { IfSome result (λ task. IsReachable (T.shape tree.now) task.path) }
 {
@@ -122,8 +129,8 @@ fn next_task<R: Wait, T: Tree>(rt: &R, tree: &T, budget: u64, desk: &Desk<'_, T>
     None
 }
 
-// Takes the lock and hands in what was found. Answers whether those that wait have a reason to look again: tasks may have been
-// added, or nothing is left to do.
+// Takes the lock and hands in what was found. Answers whether those that wait have a reason to look
+// again: tasks may have been added, or nothing is left to do.
 fn hand_back<R: Wait, T: Tree>(
     rt: &R,
     tree: &T,
@@ -140,7 +147,8 @@ fn hand_back<R: Wait, T: Tree>(
     has_pieces || board.is_over()
 }
 
-// A worker: it takes tasks, explores them outside the lock, and hands in what it found, until there is no further task for it.
+// A worker: it takes tasks, explores them outside the lock, and hands in what it found, until there
+// is no further task for it.
 fn work<R: Wait, T: Tree, G: Gate>(
     rt: &R,
     alloc: Global,
@@ -199,7 +207,8 @@ fn work_together<'a, R: Threads + Wait + Sync, T: Tree + Sync, G: Gate + Sync>(
     board.into_inner()
 }
 
-// The answer of a board, of which nothing is known: where it isn't for this tree and budget, or isn't over, one thread explores.
+// The answer of a board, of which nothing is known: where it isn't for this tree and budget, or
+// isn't over, one thread explores.
 fn answer_of<T: Tree>(
     alloc: Global,
     tree: &T,
@@ -218,14 +227,17 @@ fn answer_of<T: Tree>(
     board.joined(alloc)
 }
 
-/// What a search tree gives under the budget: its outcome where that has a count of at most the budget, and `Past` exactly where its
-/// count is greater. It is the same for every number of workers and every gate. `Err` is want of memory, of any worker.
+/// What a search tree gives under the budget: its outcome where that has a count of at most the
+/// budget, and `Past` exactly where its count is greater. It is the same for every number of
+/// workers and every gate. `Err` is want of memory, of any worker.
 ///
-/// With one worker, or none, the calling thread explores alone, takes no lock and calls no gate. With more, of which 64 at most are
-/// used, the tree is cut into tasks, the first of which is the root. A task is explored under a cap of 1,024 branchings, doubled
-/// with each step down from the root; where its count is greater, it is split, or explored again under the whole budget where its
-/// node is a leaf. The calling thread explores the root; threads are started only where that leaves tasks. The gate is called
-/// before and after the exploring of each task, outside the lock of the board.
+/// With one worker, or none, the calling thread explores alone, takes no lock and calls no gate.
+/// With more, of which 64 at most are used, the tree is cut into tasks, the first of which is the
+/// root. A task is explored under a cap of 1,024 branchings, doubled with each step down from the
+/// root; where its count is greater, it is split, or explored again under the whole budget where
+/// its node is a leaf. The calling thread explores the root; threads are started only where that
+/// leaves tasks. The gate is called before and after the exploring of each task, outside the lock
+/// of the board.
 ///
 /// Nothing is promised of which worker explores what and when, of progress, or of speed.
 pub fn solve_shared<R: Threads + Wait + Sync, T: Tree + Sync, G: Gate + Sync>(
@@ -235,7 +247,8 @@ pub fn solve_shared<R: Threads + Wait + Sync, T: Tree + Sync, G: Gate + Sync>(
     settings: &Settings,
     gate: &G,
 ) -> Result<Outcome, NoMemory>
-    ensures { IfOk result (λ r. plain_outcome r ≡ told settings.now.budget (outcome (T.shape tree.now))) }
+    ensures { IfOk result (λ r. plain_outcome r
+        ≡ told settings.now.budget (outcome (T.shape tree.now))) }
 {
     if settings.workers <= 1 {
         return tree.explore(alloc, &[], settings.budget);

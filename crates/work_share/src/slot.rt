@@ -1,4 +1,4 @@
-// The entries of a board as they are stored, each at the index of its number.
+//! The entries of a board as they are stored, each at the index of its number.
 ghost use Rattle.std.specs.Prelude.{◌≡◌, ◌<◌, ℕ, MatchBool, vec_len, vec_capacity};
 ghost use Rattle.board_terms.specs.Board.{TaskEntry, Out as PlainOut, waits};
 ghost use Rattle.proof_tree.specs.Plain.{plain_outcome};
@@ -26,8 +26,8 @@ pub enum SlotState {
     },
 }
 
-// What an entry is for the leftmost finished run: it isn't finished; it is done with yes; it is finished with no, with this
-// count; or it is past the budget.
+// What an entry is for the leftmost finished run: it isn't finished; it is done with yes; it is
+// finished with no, with this count; or it is past the budget.
 #[derive(Clone, Copy)]
 pub enum Piece {
     Open,
@@ -68,7 +68,9 @@ impl Slot {
 
     // Whether the entry is the task of this path, and out.
     pub fn is_out_at(&self, path: &[u32]) -> bool
-        ensures { (number : ℕ) → MatchBool result (entry_of number self.now ≡ TaskEntry number path.now PlainOut) (¬ (entry_of number self.now ≡ TaskEntry number path.now PlainOut)) }
+        ensures { (number : ℕ) → MatchBool result
+            (entry_of number self.now ≡ TaskEntry number path.now PlainOut)
+            (¬ (entry_of number self.now ≡ TaskEntry number path.now PlainOut)) }
     {
         match self.state {
             SlotState::Out => self.path.as_slice() == path,

@@ -1,4 +1,4 @@
-// Tasks, as they are handed out.
+//! Tasks, as they are handed out.
 ghost use Rattle.std.specs.Prelude.{◌≡◌, ◌<◌, ◌^◌, length};
 
 use std::marker::Model;
@@ -54,7 +54,8 @@ impl Task {
 
 /// What a board replies to a worker that asks for a task.
 ///
-/// `Job`: this task, which is out from now on. `Empty`: none waits, but some are out. `Over`: there is nothing left to do.
+/// `Job`: this task, which is out from now on. `Empty`: none waits, but some are out. `Over`: there
+/// is nothing left to do.
 #[derive(Drop)]
 pub enum Take {
     Job(Task),

@@ -1,5 +1,5 @@
-// Bins, each document whole.
-use crate::runs::told_of;
+//! Bins, each document whole.
+use program_runs::told_of;
 use std::test::Fail;
 
 const PLANKS: &[u8] = b"format 1\ncontainer 10 10\nbox 10 5\nbox 10 5\nbox 10 5\n";
@@ -17,7 +17,8 @@ const KERF: &[u8] = b"format 2\ncontainer 9 9\nkerf 1 0\nbox 4 9\nbox 4 9\nbox 5
 const LEAST_2: &[u8] =
     b"result least 2\nplace 1 0 0\nplace 1 0 5\nplace 2 0 0\nproof\ng id id\nend\n";
 
-// Words, an instance in its one spelling, the status, and what the document has behind the instance.
+// Words, an instance in its one spelling, the status, and what the document has behind the
+// instance.
 const ROWS: [(&[&str], &[u8], u8, &[u8]); 9] = [
     (&["bins"], PLANKS, 0, LEAST_2),
     (&["bins", "--budget", "5"], PLANKS, 0, LEAST_2),

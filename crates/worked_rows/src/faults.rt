@@ -1,14 +1,11 @@
-// Faults of the source and of the sinks.
-use crate::runs::told_with;
+//! Faults of the source and of the sinks.
 use pack_streams::{ReadStep, WriteStep};
+use program_runs::{EIGHT_IN_A_ROW, told_with};
 use std::test::Fail;
 
 const UNIT: &[u8] = b"format 1\ncontainer 1 1\nbox 1 1\n";
 
 const PAIR: &[u8] = b"format 1\ncontainer 10 10\nbox 6 4\nbox 6 6\n";
-
-const EIGHT_IN_A_ROW: &[u8] =
-    b"format 1\ncontainer 23 10\nbox 3 6\nbox 3 6\nbox 3 6\nbox 3 6\nbox 3 6\nbox 3 6\nbox 3 6\nbox 3 6\n";
 
 #[test]
 fn a_failed_write_leaves_a_prefix(rt: HostRuntime) -> Result<(), Fail> {

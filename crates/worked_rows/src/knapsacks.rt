@@ -1,5 +1,5 @@
-// Knapsacks, each document whole.
-use crate::runs::told_of;
+//! Knapsacks, each document whole.
+use program_runs::told_of;
 use std::test::Fail;
 
 const THREE: &[u8] =
@@ -20,7 +20,8 @@ const KERF: &[u8] =
 const GREATEST_8: &[u8] =
     b"result greatest 8\ntake 1 0 0\ntake 3 6 0\nproof\nc 1\nc 2\ns\nx\nw\nw\nend\n";
 
-// Words, an instance in its one spelling, the status, and what the document has behind the instance.
+// Words, an instance in its one spelling, the status, and what the document has behind the
+// instance.
 const ROWS: [(&[&str], &[u8], u8, &[u8]); 8] = [
     (&["knapsack"], THREE, 0, GREATEST_8),
     (&["knapsack", "--budget", "6"], THREE, 0, GREATEST_8),

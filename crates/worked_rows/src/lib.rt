@@ -12,6 +12,4 @@ mod knapsacks;
 #[cfg(test)]
 mod refusals;
 #[cfg(test)]
-mod runs;
-#[cfg(test)]
 mod strips;

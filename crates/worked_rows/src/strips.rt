@@ -1,5 +1,5 @@
-// Strips, each document whole.
-use crate::runs::told_of;
+//! Strips, each document whole.
+use program_runs::told_of;
 use std::test::Fail;
 
 const STRIP: &[u8] = b"format 1\ncontainer 10 1\nbox 6 3\nbox 6 2\nbox 4 4\n";
@@ -22,7 +22,8 @@ const ALONE: &[u8] = b"format 1\ncontainer 3 3 7\nbox 3 3 9\n";
 
 const LEAST_5: &[u8] = b"result least 5\nplace 0 0\nplace 0 3\nplace 6 0\nproof\nx\nend\n";
 
-// Words, an instance in its one spelling, the status, and what the document has behind the instance.
+// Words, an instance in its one spelling, the status, and what the document has behind the
+// instance.
 const ROWS: [(&[&str], &[u8], u8, &[u8]); 10] = [
     (&["strip"], STRIP, 0, LEAST_5),
     (&["strip", "--budget", "3"], STRIP, 0, LEAST_5),

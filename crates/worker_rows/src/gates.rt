@@ -1,6 +1,6 @@
-// Tasks are explored at the same time: one is held until another was explored.
-use crate::rows::EIGHT_IN_A_ROW;
+//! Tasks are explored at the same time: one is held until another was explored.
 use crate::runs::{told_at, told_by};
+use program_runs::EIGHT_IN_A_ROW;
 use std::sync::atomic::{AtomicBool, Ordering};
 use std::test::Fail;
 use work_share::Gate;
@@ -53,9 +53,10 @@ impl Gate for Holding {
     }
 }
 
-// A job, the task that is held, and the one that is awaited. Two tasks wait at once: the root of `fit`, and of `knapsack` at value 8,
-// passes its cap, so that it is split into the tasks 1 and 2; so does the only child of the root of `bins` at 4 bins, since eight boxes in
-// one bin have 5,039 branchings, and it is split into the tasks 2 and 3.
+// A job, the task that is held, and the one that is awaited. Two tasks wait at once: the root of
+// `fit`, and of `knapsack` at value 8, passes its cap, so that it is split into the tasks 1 and 2;
+// so does the only child of the root of `bins` at 4 bins, since eight boxes in one bin have 5,039
+// branchings, and it is split into the tasks 2 and 3.
 const CASES: [(&str, u64, u64); 3] = [("fit", 1, 2), ("bins", 2, 3), ("knapsack", 1, 2)];
 
 #[test]

@@ -1,5 +1,5 @@
-//! Tests of the whole program with several workers, and of `make`: nothing that is written depends on the number of workers, and
-//! tasks are explored at the same time.
+//! Tests of the whole program with several workers, and of `make`: nothing that is written depends
+//! on the number of workers, and tasks are explored at the same time.
 #![tactic(auto)]
 
 #[cfg(test)]

@@ -1,11 +1,6 @@
-// Generated instances, decided by one worker and by several.
-use crate::runs::{Told, is_same_by, told_by};
+//! Generated instances, decided by one worker and by several.
+use crate::runs::{is_same_by, told_by};
 use std::test::Fail;
-
-// Whether exactly this was written, with this status.
-fn is_summary(told: &Told, status: u8, lines: &str) -> bool {
-    told.status == status && told.err.is_empty() && told.out.as_slice() == lines.as_bytes()
-}
 
 // Words, and the status and the lines that they have.
 const ROWS: [(&[&str], u8, &str); 5] = [
@@ -41,7 +36,7 @@ fn made_instances_have_their_lines(rt: HostRuntime) -> Result<(), Fail> {
     for (words, status, lines) in ROWS {
         for workers in ["1", "8"] {
             let told = told_by(&rt, words, workers, b"not read")?;
-            assert!(rt; is_summary(&told, status, lines), "{lines}");
+            assert!(rt; told.is_line(status, lines), "{lines}");
         }
     }
     Ok(())

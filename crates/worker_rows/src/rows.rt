@@ -1,10 +1,7 @@
-// The same bytes by every number of workers.
+//! The same bytes by every number of workers.
 use crate::runs::is_same_by;
+use program_runs::EIGHT_IN_A_ROW;
 use std::test::Fail;
-
-/// Eight boxes in a row, which have a leaf for each order of seven of them: 5,039 branchings.
-pub const EIGHT_IN_A_ROW: &[u8] =
-    b"format 1\ncontainer 23 10\nbox 3 6\nbox 3 6\nbox 3 6\nbox 3 6\nbox 3 6\nbox 3 6\nbox 3 6\nbox 3 6\n";
 
 const STRIP: &[u8] = b"format 1\ncontainer 10 1\nbox 6 3\nbox 6 2\nbox 4 4\n";
 

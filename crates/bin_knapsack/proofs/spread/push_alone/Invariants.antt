@@ -1,5 +1,5 @@
 use Rattle.std.proofs.Common.{◌≡◌, ◌++◌, ◌∷◌, map}
-use Rattle.rule_terms.specs.Rounds.{below}
+use Rattle.packing_terms.specs.Sums.{below}
 use Rattle.bin_knapsack.proofs.spread.push_alone.Given as goal
 
 abbrev pub invariant-loop : goal.invariant-loop

@@ -1,8 +1,8 @@
 use Rattle.std.proofs.Common.{◌≡◌}
 use Rattle.std.specs.List.{flat_map}
 use Rattle.packing_terms.specs.Packing.{dims}
-use Rattle.rule_terms.specs.Rounds.{below}
-use Rattle.bin_knapsack.specs.Counts.{alone}
+use Rattle.packing_terms.specs.Sums.{below}
+use Rattle.bin_knapsack.specs.Alone.{alone}
 use Rattle.bin_knapsack.proofs.spread.spread_all.Given as goal
 
 abbrev pub invariant-loop-v : goal.invariant-loop-v

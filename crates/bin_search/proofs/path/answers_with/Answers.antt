@@ -1,6 +1,6 @@
 use Rattle.std.proofs.Common.{◌≡◌, ◌+◌, ◌++◌, ◌∷◌, [], ℕ, List, ap, ◌∙◌, arith, take, drop, map, Vec, Global}
-use Rattle.class_search.proofs.Lists.{map_last}
-use Rattle.tree_terms.specs.OuterTrees.{set_verdict, numbers_of}
+use Rattle.std.proofs.lemmas.List.{map_push}
+use Rattle.tree_terms.specs.OuterTrees.{set_verdict, yes_numbers}
 use Rattle.set_search.specs.Children.{IsFoundSet}
 use Rattle.bin_search.specs.Lists.{lists_of}
 use Rattle.bin_search.proofs.Answering.{in_take, in_drop, all_behind, with_parts, with_new}
@@ -16,10 +16,10 @@ push_answers-requires-then-b-bins c =
 
 pub returns-clause-answers : goal.returns-clause-answers
 returns-clause-answers c =
-    let f = λ (set : List ℕ). numbers_of (set_verdict c.args.search.now.instance c.args.search.now.scales set) in
+    let f = λ (set : List ℕ). yes_numbers (set_verdict c.args.search.now.instance c.args.search.now.scales set) in
     let one : lists_of c.push.new.self.items ≡ map f (lists_of (take c.args.b c.args.bins.now)) ++ c.args.numbers.items ∷ []
     = ap lists_of c.in-Ok.ensures.items
-    ∙ (map_last (λ (x : Vec ℕ Global). x.items) c.push_answers.new.answers.items c.args.numbers
+    ∙ (map_push (λ (x : Vec ℕ Global). x.items) c.push_answers.new.answers.items c.args.numbers
     ∙ ap (λ (xs : List (List ℕ)). xs ++ c.args.numbers.items ∷ []) (c.in_ok-push_answers.ensures.answers ∙ ap (λ (xs : List (Vec ℕ Global)). lists_of xs ++ map f (lists_of (take c.args.b c.args.bins.now))) c.new-answers.ensures.items)) in
     elim c.if-b-bins.branch [
       | then-b-bins+in_ok-push_answers-2 w ↦

@@ -1,7 +1,6 @@
 use Rattle.std.proofs.Common.{◌<◌, ◌++◌, ◌∷◌, [], ℕ, List, ap, ap₂, sym, ◌∙◌, arith, length, Vec, Global, append_assoc}
-use Rattle.std.proofs.lemmas.List.{length-map}
-use Rattle.class_search.proofs.Lists.{map_last}
-use Rattle.tree_terms.specs.OuterTrees.{set_verdict, numbers_of}
+use Rattle.std.proofs.lemmas.List.{length-map, map_push}
+use Rattle.tree_terms.specs.OuterTrees.{set_verdict, yes_numbers}
 use Rattle.bin_search.specs.Lists.{lists_of}
 use Rattle.bin_search.proofs.ListsOf.{list_at}
 use Rattle.bin_search.proofs.Answering.{answers_next}
@@ -21,10 +20,10 @@ loop-k-preserved c =
     record {
       answers =
           ap lists_of c.in-Ok.ensures.items
-          ∙ (map_last (λ (x : Vec ℕ Global). x.items) c.loop-k.answers.items c.in_ok-answer.answer
+          ∙ (map_push (λ (x : Vec ℕ Global). x.items) c.loop-k.answers.items c.in_ok-answer.answer
           ∙ (ap₂ (λ (xs : List (List ℕ)) (x : List ℕ). xs ++ x ∷ []) c.loop-k.invariant.answers e
           ∙ (append_assoc (lists_of c.args.answers.now.items) _ _
           ∙ ap (λ (xs : List (List ℕ)). lists_of c.args.answers.now.items ++ xs)
-          (sym (answers_next (λ set. numbers_of (set_verdict c.args.search.now.instance c.args.search.now.scales set)) c.args.sets.now c.loop-k.k c.index-sets-k.result l c.index-sets-k.is)))));
+          (sym (answers_next (λ set. yes_numbers (set_verdict c.args.search.now.instance c.args.search.now.scales set)) c.args.sets.now c.loop-k.k c.index-sets-k.result l c.index-sets-k.is)))));
       same = c.in_ok-answer.ensures.same ∙ c.loop-k.invariant.same;
     }

@@ -2,7 +2,7 @@ use Rattle.std.proofs.Common.{ap, arith, length}
 use Rattle.packing_terms.specs.Packing.{box_count}
 use Rattle.tree_terms.specs.Rank.{ranked}
 use Rattle.tree_terms.proofs.RankLemmas.{ranked_are_boxes}
-use Rattle.set_search.proofs.Sets.{below_at}
+use Rattle.tree_terms.proofs.ChoiceSearch.{below_at}
 use Rattle.bin_search.proofs.walk.assign.Goals as goal
 
 pub overflow_add-result : goal.overflow_add-result

@@ -1,4 +1,5 @@
 use Rattle.std.proofs.Common.{◌≡◌, ℕ, suc, ◌+◌, ◌++◌, ◌<◌, refl, ap, sym, ◌∙◌, arith, map, reverse, length, drop, List, [], ◌∷◌, Some}
+use Rattle.std.proofs.lemmas.List.{drop_all}
 use Rattle.packing_terms.specs.Tokens.{PlainToken}
 use Rattle.packing_terms.specs.Tokens.PlainToken.{Assign, SetRefuted}
 use Rattle.tree_terms.specs.Rank.{ranked}
@@ -6,7 +7,7 @@ use Rattle.tree_terms.specs.Trees.{Verdict, Yes, Decided, outcome}
 use Rattle.tree_terms.specs.OuterTrees.{bin_node}
 use Rattle.tree_terms.proofs.Told.{told_past}
 use Rattle.proof_tree.specs.Plain.{plain_token}
-use Rattle.class_search.proofs.Lists.{reverse_last, reverse_none, drop_all}
+use Rattle.class_search.proofs.Lists.{reverse_last, reverse_none}
 use Rattle.set_search.proofs.Verdicts.{finished}
 use Rattle.bin_search.specs.declared.node.Placed.{Placed}
 use Rattle.bin_search.specs.Lists.{lists_of}
@@ -152,7 +153,7 @@ returns-then-child-order c =
     let m = ap length c.requires.order in
     let n = c.if-child-order.true in
     ap (λ (ns : List ℕ). Decided (Yes ns (c.loop-node.count + c.in-Entered.own))) (rw (c.deref-then-child-order.ensures.value, c.deref-then-child-order-2.ensures.value) at c.in_ok-numbers-in-Entered.ensures)
-    ∙ finished c.args.cap _ whole (entered_last t whole (map plain_token c.loop-node.tokens.items) c.loop-node.count c.loop-node.node (reverse c.loop-node.stack.items) left more _ c.in-Entered.child c.in-Entered.own h (drop_all (ranked c.args.instance.now) c.in-Entered.child.placed (omega (arith, m, n))))
+    ∙ finished c.args.cap _ whole (entered_last t whole (map plain_token c.loop-node.tokens.items) c.loop-node.count c.loop-node.node (reverse c.loop-node.stack.items) left more _ c.in-Entered.child c.in-Entered.own h (drop_all c.in-Entered.child.placed (ranked c.args.instance.now) (omega (arith, m, n))))
     (let l = h.within in omega (arith, l, c.loop-node.invariant.within))
 
 pub loop-node-preserved : goal.loop-node-preserved

@@ -2,8 +2,9 @@ use Rattle.std.proofs.Common.{◌≡◌, ◌≤◌, ◌+◌, ◌∙◌, sym, ap,
 use Rattle.std.proofs.lemmas.List.FromFn.{length-range_with_len}
 use Rattle.packing_terms.specs.Packing.{box_count}
 use Rattle.packing_terms.specs.Goals.{subset, IsBoxSet}
+use Rattle.packing_terms.proofs.Ranges.{range_front}
 use Rattle.box_instances.specs.Sets.{AreFirstSets}
-use Rattle.box_instances.proofs.Ranges.{range_front, range_set}
+use Rattle.box_instances.proofs.Ranges.{range_set}
 use Rattle.box_instances.proofs.BoxSets.{sets_more}
 use Rattle.box_instances.proofs.sets.first_sets.Goals as goal
 

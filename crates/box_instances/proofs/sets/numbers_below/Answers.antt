@@ -1,6 +1,6 @@
 use Rattle.std.proofs.Common.{◌∙◌, sym, ap, arith, length, ◌++◌, [], ◌∷◌}
 use Rattle.std.proofs.lemmas.List.FromFn.{length-range_with_len}
-use Rattle.box_instances.proofs.Ranges.{numbers_more}
+use Rattle.packing_terms.proofs.Ranges.{numbers_more}
 use Rattle.box_instances.proofs.sets.numbers_below.Goals as goal
 
 pub push_reserved-requires : goal.push_reserved-requires

@@ -1,7 +1,7 @@
 use Rattle.std.proofs.Common.{arith}
 use Rattle.packing_terms.specs.Packing.{box_count}
 use Rattle.packing_terms.proofs.Boxes.{boxes_few}
-use Rattle.set_search.proofs.Sets.{below_at}
+use Rattle.tree_terms.proofs.ChoiceSearch.{below_at}
 use Rattle.choice_search.proofs.node.worth_of.Goals as goal
 
 pub value-sum-requires : goal.value-sum-requires

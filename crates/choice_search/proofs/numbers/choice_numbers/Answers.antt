@@ -1,7 +1,7 @@
 use Rattle.std.proofs.Common.{◌∷◌, [], ◌++◌, List, sym, ap, ◌∙◌, get_or, append_assoc}
 use Rattle.packing_terms.specs.Packing.{dims}
+use Rattle.packing_terms.proofs.Ranges.{flat_map_last_below}
 use Rattle.tree_terms.specs.OuterTrees.{coordinates_at}
-use Rattle.set_search.proofs.Ranges.{flat_map_last_below}
 use Rattle.choice_search.proofs.numbers.choice_numbers.Goals as goal
 
 pub loop-k-preserved : goal.loop-k-preserved

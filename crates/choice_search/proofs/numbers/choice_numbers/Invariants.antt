@@ -1,6 +1,6 @@
 use Rattle.std.proofs.Common.{◌≡◌, ◌∷◌, get_or}
 use Rattle.std.specs.List.{flat_map}
-use Rattle.rule_terms.specs.Rounds.{below}
+use Rattle.packing_terms.specs.Sums.{below}
 use Rattle.packing_terms.specs.Packing.{dims}
 use Rattle.tree_terms.specs.OuterTrees.{coordinates_at}
 use Rattle.choice_search.proofs.numbers.choice_numbers.Given as goal

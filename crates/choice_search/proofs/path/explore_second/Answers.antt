@@ -13,8 +13,8 @@ returns-then-cap-eq0 c =
     let p = second_past t c.args.above.decided c.args.above.taken.items c.requires.above in
     sym (told_past c.args.cap (outcome (child_tree t c.args.above.decided c.args.above.taken.items 1)) (omega (arith, p, c.if-cap-eq0.true)))
 
-pub answer_of-requires-clause-set : goal.answer_of-requires-clause-set
-answer_of-requires-clause-set c =
+pub class_answer-requires-clause-set : goal.class_answer-requires-clause-set
+class_answer-requires-clause-set c =
     rw (c.requires.search, c.deref.ensures.value) (box_set c.args.instance.now c.args.above.taken.items c.requires.above.chosen.boxes c.requires.above.chosen.rising)
 
 pub walk-requires-clause-node : goal.walk-requires-clause-node

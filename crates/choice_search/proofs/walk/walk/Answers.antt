@@ -13,7 +13,7 @@ use Rattle.choice_search.specs.declared.node.NodeKind.TheVariants.{Reached, Shor
 use Rattle.choice_search.specs.Choices.{PlainChoiceTree, IsMet}
 use Rattle.choice_search.specs.Walks.{node_verdict}
 use Rattle.choice_search.proofs.Choosing.{more_set}
-use Rattle.choice_search.proofs.Walking.{starts, reached_last, short_last, short_past, short_next, split_past, inside_next, refuted_past, outside_next}
+use Rattle.choice_search.proofs.Walking.{starts, reached_last, short_last, short_past, short_next, inside_next, outside_next, opened_past}
 use Rattle.choice_search.proofs.walk.walk.Goals as goal
 
 pub loop-node-init : goal.loop-node-init
@@ -30,13 +30,13 @@ returns-in-Reached c =
     ap (λ (ns : List ℕ). Decided (Yes ns c.loop-node.count)) (c.in_ok-numbers-in-Reached.ensures ∙ ap₂ (choice_numbers c.args.instance.now) c.deref-in-Reached.ensures.value c.deref-in-Reached-2.ensures.value)
     ∙ finished c.args.cap _ whole (reached_last t whole (map plain_token c.loop-node.tokens.items) c.loop-node.count c.loop-node.node (reverse c.loop-node.stack.items) c.loop-node.invariant.left met) c.loop-node.invariant.within
 
-pub returns-in-None : goal.returns-in-None
-returns-in-None c =
+pub returns-in_default : goal.returns-in_default
+returns-in_default c =
     let t : PlainChoiceTree = record { instance = c.args.instance.now; goal = c.args.value; scales = c.args.search.now.scales } in
     let whole : Verdict = node_verdict t c.args.node c.args.own in
     let met : IsMet c.args.instance.now c.args.value c.loop-node.node.decided c.loop-node.node.taken.items Short
     = subst (λ us. IsMet c.args.instance.now c.args.value c.loop-node.node.decided us Short) c.deref.ensures.value c.in-Short.ensures in
-    let e = reverse_none c.loop-node.stack.items (omega (arith, c.loop-node.stack.ok.0, c.in-None.ensures.cases.0)) in
+    let e = reverse_none c.loop-node.stack.items (omega (arith, c.loop-node.stack.ok.0, c.in_default.ensures.cases.0)) in
     ap (λ (l : List PlainToken). Decided (No l c.loop-node.count)) c.in_ok-push_token-in-Short.ensures
     ∙ finished c.args.cap _ whole (short_last t whole (map plain_token c.loop-node.tokens.items) c.loop-node.count c.loop-node.node met.0 met.1 (rw e at c.loop-node.invariant.left)) c.loop-node.invariant.within
 
@@ -50,8 +50,8 @@ returns-then-count-cap c =
     let p = short_past t whole (map plain_token c.loop-node.tokens.items) c.loop-node.count c.loop-node.node met.0 met.1 c.in-Some.waiting (reverse c.pop.new.self.items) (rw e at c.loop-node.invariant.left) in
     sym (told_past c.args.cap whole (omega (arith, p, c.if-count-cap.true)))
 
-pub loop-node-preserved-in-Some : goal.loop-node-preserved-in-Some
-loop-node-preserved-in-Some c =
+pub loop-node-preserved-in-Short : goal.loop-node-preserved-in-Short
+loop-node-preserved-in-Short c =
     let t : PlainChoiceTree = record { instance = c.args.instance.now; goal = c.args.value; scales = c.args.search.now.scales } in
     let whole : Verdict = node_verdict t c.args.node c.args.own in
     let met : IsMet c.args.instance.now c.args.value c.loop-node.node.decided c.loop-node.node.taken.items Short
@@ -63,11 +63,11 @@ loop-node-preserved-in-Some c =
       same = c.loop-node.invariant.same;
     })
 
-pub grow-requires : goal.grow-requires
-grow-requires c =
+pub open_first-requires : goal.open_first-requires
+open_first-requires c =
     let met : IsMet c.args.instance.now c.args.value c.loop-node.node.decided c.loop-node.node.taken.items (Divided c.in-Divided.v)
     = subst (λ us. IsMet c.args.instance.now c.args.value c.loop-node.node.decided us (Divided c.in-Divided.v)) c.deref.ensures.value c.in-Divided.ensures in
-    rw (c.loop-node.invariant.same, c.requires.search, c.deref-in-Divided.ensures.value)
+    rw (c.loop-node.invariant.same, c.requires.search)
     (more_set c.args.instance.now c.loop-node.node.decided c.loop-node.node.taken.items c.loop-node.node.numbers.items c.loop-node.invariant.left.node c.in-Divided.v met.2)
 
 pub returns-in-Past : goal.returns-in-Past
@@ -76,20 +76,9 @@ returns-in-Past c =
     let whole : Verdict = node_verdict t c.args.node c.args.own in
     let met : IsMet c.args.instance.now c.args.value c.loop-node.node.decided c.loop-node.node.taken.items (Divided c.in-Divided.v)
     = subst (λ us. IsMet c.args.instance.now c.args.value c.loop-node.node.decided us (Divided c.in-Divided.v)) c.deref.ensures.value c.in-Divided.ensures in
-    let h = rw (c.loop-node.invariant.same, c.requires.search, c.deref-in-Divided.ensures.value, c.in-Past.is) at c.in_ok-grow-in-Divided.ensures.child in
-    let p = split_past t whole (map plain_token c.loop-node.tokens.items) c.loop-node.count c.loop-node.node (reverse c.loop-node.stack.items) c.loop-node.invariant.left c.in-Divided.v met.0 met.1 met.2 in
+    let h = rw (c.loop-node.invariant.same, c.requires.search, c.in-Past.is) at c.in_ok-open_first-in-Divided.ensures.opened in
+    let p = opened_past t whole (map plain_token c.loop-node.tokens.items) c.loop-node.count c.loop-node.node (reverse c.loop-node.stack.items) c.loop-node.invariant.left c.in-Divided.v met.0 met.1 met.2 in
     sym (told_past c.args.cap whole (omega (arith, p, h, c.loop-node.invariant.within)))
-
-pub returns-then-count-cap-2 : goal.returns-then-count-cap-2
-returns-then-count-cap-2 c =
-    let t : PlainChoiceTree = record { instance = c.args.instance.now; goal = c.args.value; scales = c.args.search.now.scales } in
-    let whole : Verdict = node_verdict t c.args.node c.args.own in
-    let met : IsMet c.args.instance.now c.args.value c.loop-node.node.decided c.loop-node.node.taken.items (Divided c.in-Divided.v)
-    = subst (λ us. IsMet c.args.instance.now c.args.value c.loop-node.node.decided us (Divided c.in-Divided.v)) c.deref.ensures.value c.in-Divided.ensures in
-    let h = rw (c.loop-node.invariant.same, c.requires.search, c.deref-in-Divided.ensures.value, c.in-Refuted.is) at c.in_ok-grow-in-Divided.ensures.child in
-    let p = refuted_past t whole (map plain_token c.loop-node.tokens.items) c.loop-node.count c.loop-node.node (reverse c.loop-node.stack.items) c.loop-node.invariant.left c.in-Divided.v met.0 met.1 met.2 (map plain_token c.in-Refuted.inner.items) h.cost h.is in
-    let k = h.counted in
-    sym (told_past c.args.cap whole (omega (arith, p, k, c.if-count-cap-2.true)))
 
 pub loop-node-preserved-in-Refuted : goal.loop-node-preserved-in-Refuted
 loop-node-preserved-in-Refuted c =
@@ -97,15 +86,17 @@ loop-node-preserved-in-Refuted c =
     let whole : Verdict = node_verdict t c.args.node c.args.own in
     let met : IsMet c.args.instance.now c.args.value c.loop-node.node.decided c.loop-node.node.taken.items (Divided c.in-Divided.v)
     = subst (λ us. IsMet c.args.instance.now c.args.value c.loop-node.node.decided us (Divided c.in-Divided.v)) c.deref.ensures.value c.in-Divided.ensures in
-    let h = rw (c.loop-node.invariant.same, c.requires.search, c.deref-in-Divided.ensures.value, c.in-Refuted.is) at c.in_ok-grow-in-Divided.ensures.child in
+    let h = rw (c.loop-node.invariant.same, c.requires.search, c.in-Refuted.is) at c.in_ok-open_first-in-Divided.ensures.opened in
     let number : c.in-Divided.v + 1 ≡ suc c.in-Divided.v = omega arith in
     let tokens : map plain_token c.push_refuted.new.tokens.items ≡ (map plain_token c.loop-node.tokens.items ++ Choose (suc c.in-Divided.v) ∷ []) ++ SetRefuted None ∷ map plain_token c.in-Refuted.inner.items
     = c.in_ok-push_refuted-in-Refuted.ensures ∙ ap (λ (l : List PlainToken). l ++ SetRefuted None ∷ map plain_token c.in-Refuted.inner.items)
     (c.in_ok-push_token-in-Divided.ensures ∙ ap (λ n. map plain_token c.loop-node.tokens.items ++ Choose n ∷ []) number) in
-    rw (tokens, h.counted) (record {
+    let k = h.counted in
+    let count : c.loop-node.count + c.in-Refuted.own ≡ c.loop-node.count + (1 + h.cost) + 1 = omega (arith, k) in
+    rw (tokens, count) (record {
       left = outside_next t whole (map plain_token c.loop-node.tokens.items) c.loop-node.count c.loop-node.node (reverse c.loop-node.stack.items) c.loop-node.invariant.left c.in-Divided.v met.0 met.1 met.2 (map plain_token c.in-Refuted.inner.items) h.cost h.is;
-      within = (let l = h.within in let k = h.counted in omega (arith, l, k, c.if-count-cap-2.false, c.loop-node.invariant.within));
-      same = c.in_ok-grow-in-Divided.ensures.same ∙ c.loop-node.invariant.same;
+      within = (let l = h.within in omega (arith, l, k, c.loop-node.invariant.within));
+      same = c.in_ok-open_first-in-Divided.ensures.same ∙ c.loop-node.invariant.same;
     })
 
 pub loop-node-preserved : goal.loop-node-preserved
@@ -114,16 +105,17 @@ loop-node-preserved c =
     let whole : Verdict = node_verdict t c.args.node c.args.own in
     let met : IsMet c.args.instance.now c.args.value c.loop-node.node.decided c.loop-node.node.taken.items (Divided c.in-Divided.v)
     = subst (λ us. IsMet c.args.instance.now c.args.value c.loop-node.node.decided us (Divided c.in-Divided.v)) c.deref.ensures.value c.in-Divided.ensures in
-    let h = rw (c.loop-node.invariant.same, c.requires.search, c.deref-in-Divided.ensures.value, c.in-Fits.is) at c.in_ok-grow-in-Divided.ensures.child in
+    let h = rw (c.loop-node.invariant.same, c.requires.search, c.in-Entered.is) at c.in_ok-open_first-in-Divided.ensures.opened in
+    let f = h.fits in
     let number : c.in-Divided.v + 1 ≡ suc c.in-Divided.v = omega arith in
     let tokens : map plain_token c.push_token-in-Divided.new.tokens.items ≡ map plain_token c.loop-node.tokens.items ++ Choose (suc c.in-Divided.v) ∷ []
     = c.in_ok-push_token-in-Divided.ensures ∙ ap (λ n. map plain_token c.loop-node.tokens.items ++ Choose n ∷ []) number in
     let waiting : reverse c.push.new.self.items ≡ record c.loop-node.node { decided = c.loop-node.node.decided + 1 } ∷ reverse c.loop-node.stack.items
     = ap reverse c.in-Ok.ensures.items ∙ (reverse_last c.loop-node.stack.items c.replace.result ∙ ap (λ (x : Chosen). x ∷ reverse c.loop-node.stack.items) c.replace.ensures.value) in
-    rw (tokens, waiting, h.counted) (record {
-      left = inside_next t whole (map plain_token c.loop-node.tokens.items) c.loop-node.count c.loop-node.node (reverse c.loop-node.stack.items) c.loop-node.invariant.left c.in-Divided.v met.0 met.1 met.2 c.in-Fits.numbers.items h.cost h.is c.replace.new.dest
-          (ap (λ (x : Chosen). x.decided) c.replace.ensures.after) (ap (λ (x : Chosen). x.taken.items) c.replace.ensures.after ∙ h.same)
-          (ap (λ (x : Chosen). x.numbers.items) c.replace.ensures.after) (places_count c.args.instance.now _ c.in-Fits.numbers.items h.packing);
-      within = (let l = h.within in let k = h.counted in omega (arith, l, k, c.loop-node.invariant.within));
-      same = c.in_ok-grow-in-Divided.ensures.same ∙ c.loop-node.invariant.same;
+    rw (tokens, waiting, f.counted) (record {
+      left = inside_next t whole (map plain_token c.loop-node.tokens.items) c.loop-node.count c.loop-node.node (reverse c.loop-node.stack.items) c.loop-node.invariant.left c.in-Divided.v met.0 met.1 met.2 c.in-Entered.inside.numbers.items f.cost f.is c.replace.new.dest
+          (ap (λ (x : Chosen). x.decided) c.replace.ensures.after ∙ h.decided) (ap (λ (x : Chosen). x.taken.items) c.replace.ensures.after ∙ f.same)
+          (ap (λ (x : Chosen). x.numbers.items) c.replace.ensures.after) (places_count c.args.instance.now _ c.in-Entered.inside.numbers.items f.packing);
+      within = (let l = f.within in let k = f.counted in omega (arith, l, k, c.loop-node.invariant.within));
+      same = c.in_ok-open_first-in-Divided.ensures.same ∙ c.loop-node.invariant.same;
     })

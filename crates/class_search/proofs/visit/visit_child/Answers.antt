@@ -8,7 +8,7 @@ use Rattle.class_search.proofs.visit.visit_child.Goals as goal
 pub close_since-requires-clause-full : goal.close_since-requires-clause-full
 close_since-requires-clause-full c =
     let old = c.args.state.now.trail in
-    rw (c.enter.ensures, c.mark-closed.ensures, cut_back old (with_all (added c.args.split c.args.second) old) (with_grows (added c.args.split c.args.second) old)) c.requires.divided.calm.full
+    rw (c.enter.ensures, c.mark-closed.ensures, cut_back old (with_all (added c.args.split c.args.second) old) (with_grows (added c.args.split c.args.second) old)) c.requires.divided.no_conflict.full
 
 pub next_kind-requires-clause-settled : goal.next_kind-requires-clause-settled
 next_kind-requires-clause-settled c =

@@ -1,7 +1,7 @@
 use Rattle.std.proofs.Common.{map}
 use Rattle.std.specs.Fmt.{decimal}
 use Rattle.packing_terms.specs.Packing.{place}
-use Rattle.rule_terms.specs.Rounds.{below}
+use Rattle.packing_terms.specs.Sums.{below}
 use Rattle.pack_streams.specs.Writing.{Continues}
 use Rattle.instance_text.specs.Writing.{after_spaces}
 use Rattle.pack_command.proofs.documents.write_coordinates.Given as goal

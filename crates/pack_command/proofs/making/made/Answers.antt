@@ -1,4 +1,4 @@
-use Rattle.std.proofs.Common.{◌≡◌, ◌∙◌, refl, ap, []}
+use Rattle.std.proofs.Common.{◌∙◌, refl, ap, []}
 use Rattle.packing_terms.specs.Packing.{PlainInstance}
 use Rattle.tree_terms.specs.Trees.{outcome, told}
 use Rattle.tree_terms.specs.ClassTree.{class_tree}

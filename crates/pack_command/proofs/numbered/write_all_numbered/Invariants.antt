@@ -1,5 +1,5 @@
 use Rattle.std.proofs.Common.{map}
-use Rattle.rule_terms.specs.Rounds.{below}
+use Rattle.packing_terms.specs.Sums.{below}
 use Rattle.pack_streams.specs.Writing.{Continues}
 use Rattle.text_terms.specs.Spelling.{lines_text}
 use Rattle.answer_terms.specs.Answers.{numbered_words}

@@ -1,6 +1,6 @@
 use Rattle.std.proofs.Common.{◌+◌, map, get_or}
 use Rattle.std.specs.Fmt.{decimal}
-use Rattle.rule_terms.specs.Rounds.{below}
+use Rattle.packing_terms.specs.Sums.{below}
 use Rattle.pack_streams.specs.Writing.{Continues}
 use Rattle.instance_text.specs.Writing.{after_spaces}
 use Rattle.pack_command.proofs.numbered.write_behind.Given as goal

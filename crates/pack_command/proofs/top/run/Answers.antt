@@ -1,6 +1,6 @@
 use Rattle.std.proofs.Common.{◌∙◌, sym, ap, Err}
 use Rattle.document_terms.specs.declared.claim.SolvingJob.TheVariants.{Fit, Strip, Bins, Knapsack}
-use Rattle.pack_command.specs.Stops.{status_of}
+use Rattle.pack_command.specs.Stops.{stop_status}
 use Rattle.pack_command.proofs.OwnWritten.{own_written}
 use Rattle.pack_command.proofs.Generating.{made_exactly, never_broken_off, never_four}
 use Rattle.pack_command.proofs.Stopped.{never_stops}
@@ -35,27 +35,27 @@ returns-in-Ok-clause-enough g c = λ job settings bytes instance asks told read 
 pub returns-in-Err-clause-answers : goal.returns-in-Err-clause-answers
 returns-in-Err-clause-answers g c = λ job settings bytes instance asks told within read in_stood out_stood some.
     absurd (never_stops _ _ _ _ _ job settings bytes instance asks told within read c.in-Err.stop (solved_undone _ _ _ _ _ _ job settings asks c.in-Err.ensures.stopped)
-    (λ e. in_stood (c.in-Err.ensures.read_fault (ap Err e))) (λ e. out_stood (c.in-Err.ensures.write_fault (ap Err e))) (λ e. some (c.status.ensures ∙ ap status_of e)))
+    (λ e. in_stood (c.in-Err.ensures.read_fault (ap Err e))) (λ e. out_stood (c.in-Err.ensures.write_fault (ap Err e))) (λ e. some (c.status.ensures ∙ ap stop_status e)))
 
 pub returns-in-Err-clause-decides : goal.returns-in-Err-clause-decides
 returns-in-Err-clause-decides g c = λ settings bytes instance asks told within read in_stood out_stood some.
     absurd (never_stops _ _ _ _ _ Fit settings bytes instance asks told within read c.in-Err.stop (solved_undone _ _ _ _ _ _ Fit settings asks c.in-Err.ensures.stopped)
-    (λ e. in_stood (c.in-Err.ensures.read_fault (ap Err e))) (λ e. out_stood (c.in-Err.ensures.write_fault (ap Err e))) (λ e. some (c.status.ensures ∙ ap status_of e)))
+    (λ e. in_stood (c.in-Err.ensures.read_fault (ap Err e))) (λ e. out_stood (c.in-Err.ensures.write_fault (ap Err e))) (λ e. some (c.status.ensures ∙ ap stop_status e)))
 
 pub returns-in-Err-clause-least : goal.returns-in-Err-clause-least
 returns-in-Err-clause-least g c = λ settings bytes instance asks told within read in_stood out_stood some.
     absurd (never_stops _ _ _ _ _ Strip settings bytes instance asks told within read c.in-Err.stop (solved_undone _ _ _ _ _ _ Strip settings asks c.in-Err.ensures.stopped)
-    (λ e. in_stood (c.in-Err.ensures.read_fault (ap Err e))) (λ e. out_stood (c.in-Err.ensures.write_fault (ap Err e))) (λ e. some (c.status.ensures ∙ ap status_of e)))
+    (λ e. in_stood (c.in-Err.ensures.read_fault (ap Err e))) (λ e. out_stood (c.in-Err.ensures.write_fault (ap Err e))) (λ e. some (c.status.ensures ∙ ap stop_status e)))
 
 pub returns-in-Err-clause-fewest : goal.returns-in-Err-clause-fewest
 returns-in-Err-clause-fewest g c = λ settings bytes instance asks told within read in_stood out_stood some.
     absurd (never_stops _ _ _ _ _ Bins settings bytes instance asks told within read c.in-Err.stop (solved_undone _ _ _ _ _ _ Bins settings asks c.in-Err.ensures.stopped)
-    (λ e. in_stood (c.in-Err.ensures.read_fault (ap Err e))) (λ e. out_stood (c.in-Err.ensures.write_fault (ap Err e))) (λ e. some (c.status.ensures ∙ ap status_of e)))
+    (λ e. in_stood (c.in-Err.ensures.read_fault (ap Err e))) (λ e. out_stood (c.in-Err.ensures.write_fault (ap Err e))) (λ e. some (c.status.ensures ∙ ap stop_status e)))
 
 pub returns-in-Err-clause-greatest : goal.returns-in-Err-clause-greatest
 returns-in-Err-clause-greatest g c = λ settings bytes instance asks told within read in_stood out_stood some.
     absurd (never_stops _ _ _ _ _ Knapsack settings bytes instance asks told within read c.in-Err.stop (solved_undone _ _ _ _ _ _ Knapsack settings asks c.in-Err.ensures.stopped)
-    (λ e. in_stood (c.in-Err.ensures.read_fault (ap Err e))) (λ e. out_stood (c.in-Err.ensures.write_fault (ap Err e))) (λ e. some (c.status.ensures ∙ ap status_of e)))
+    (λ e. in_stood (c.in-Err.ensures.read_fault (ap Err e))) (λ e. out_stood (c.in-Err.ensures.write_fault (ap Err e))) (λ e. some (c.status.ensures ∙ ap stop_status e)))
 
 pub returns-in-Ok-clause-checks : goal.returns-in-Ok-clause-checks
 returns-in-Ok-clause-checks g c = λ bytes asks told within in_stood out_stood some.

@@ -1,4 +1,4 @@
-use Rattle.std.proofs.Common.{◌≡◌, arith, drop}
+use Rattle.std.proofs.Common.{arith, drop}
 use Rattle.std.proofs.lemmas.List.{length-drop}
 use Rattle.proof_tree.proofs.TokenWords.{three_else}
 use Rattle.proof_tree.proofs.reading.three_parameters.Goals as goal

@@ -1,4 +1,4 @@
-use Rattle.std.proofs.Common.{◌≡◌, ◌+◌, ◌∷◌, [], arith, length, length-append, ◌∙◌}
+use Rattle.std.proofs.Common.{◌∷◌, [], arith, length-append, ◌∙◌}
 use Rattle.proof_tree.proofs.TokenWords.{read_more, read_long}
 use Rattle.proof_tree.proofs.reading.tuple_behind.Goals as goal
 

@@ -1,4 +1,4 @@
-use Rattle.std.proofs.Common.{◌≡◌, arith, drop}
+use Rattle.std.proofs.Common.{arith, drop}
 use Rattle.std.proofs.lemmas.List.{length-drop}
 use Rattle.proof_tree.proofs.TokenWords.{two_else}
 use Rattle.proof_tree.proofs.reading.two_parameters.Goals as goal

@@ -5,9 +5,9 @@ use Rattle.packing_terms.specs.Packing.{box_count}
 use Rattle.packing_terms.specs.Exclusions.{excludes}
 use Rattle.relation_table.specs.Masks.{mask_has}
 use Rattle.edge_state.specs.BitRows.{row_has}
-use Rattle.edge_state.specs.Edges.{is_other}
+use Rattle.edge_state.specs.Edges.{is_other_box}
 use Rattle.edge_state.proofs.Kept.{by_rel}
-use Rattle.closure_terms.specs.Rows.{may, of_three}
+use Rattle.closure_terms.specs.Rows.{may, in_each_relation}
 use Rattle.closure_terms.proofs.Beyond.{covered_beyond, within_beyond}
 use Rattle.refutation_check.proofs.rows.beyond_compositions.Goals as goal
 
@@ -17,12 +17,12 @@ returns-clause-within g c x on =
     let es = c.args.state.now.trail in
     let u = c.args.u in
     let q = mask_has c.mask-mask.result in
-    let s = of_three (row_has c.row_in-overlap.result x) (row_has c.row_in-before.result x) (row_has c.row_in-after.result x) in
-    let t = of_three (row_has c.row_in-here_overlap.result x) (row_has c.row_in-here_before.result x) (row_has c.row_in-here_after.result x) in
+    let s = in_each_relation (row_has c.row_in-overlap.result x) (row_has c.row_in-before.result x) (row_has c.row_in-after.result x) in
+    let t = in_each_relation (row_has c.row_in-here_overlap.result x) (row_has c.row_in-here_before.result x) (row_has c.row_in-here_after.result x) in
     let to = rw c.requires.sizes.same_boxes at c.row_in-here_overlap.ensures in
     let tb = rw c.requires.sizes.same_boxes at c.row_in-here_before.ensures in
     let ta = rw c.requires.sizes.same_boxes at c.row_in-here_after.ensures in
-    let ht : (r : Rel) → t r ≡ is_other (box_count instance) u x && not (excludes es c.args.dim u x r) = by_rel t _ (to x) (tb x) (ta x) in
+    let ht : (r : Rel) → t r ≡ is_other_box (box_count instance) u x && not (excludes es c.args.dim u x r) = by_rel t _ (to x) (tb x) (ta x) in
     let e : row_has c.without.result x ≡ (((t Overlap && not (may Overlap q s)) || (t Before && not (may Before q s))) || (t After && not (may After q s))) && not (eqb x c.args.v)
     = rw (
       c.without.ensures x,
@@ -45,16 +45,16 @@ returns-clause-others g c x small off =
     let u = c.args.u in
     let v = c.args.v in
     let q = mask_has c.mask-mask.result in
-    let s = of_three (row_has c.row_in-overlap.result x) (row_has c.row_in-before.result x) (row_has c.row_in-after.result x) in
-    let t = of_three (row_has c.row_in-here_overlap.result x) (row_has c.row_in-here_before.result x) (row_has c.row_in-here_after.result x) in
+    let s = in_each_relation (row_has c.row_in-overlap.result x) (row_has c.row_in-before.result x) (row_has c.row_in-after.result x) in
+    let t = in_each_relation (row_has c.row_in-here_overlap.result x) (row_has c.row_in-here_before.result x) (row_has c.row_in-here_after.result x) in
     let to = rw c.requires.sizes.same_boxes at c.row_in-here_overlap.ensures in
     let tb = rw c.requires.sizes.same_boxes at c.row_in-here_before.ensures in
     let ta = rw c.requires.sizes.same_boxes at c.row_in-here_after.ensures in
-    let ht : (r : Rel) → t r ≡ is_other (box_count instance) u x && not (excludes es j u x r) = by_rel t _ (to x) (tb x) (ta x) in
+    let ht : (r : Rel) → t r ≡ is_other_box (box_count instance) u x && not (excludes es j u x r) = by_rel t _ (to x) (tb x) (ta x) in
     let so = rw c.requires.sizes.same_boxes at c.row_in-overlap.ensures in
     let sb = rw c.requires.sizes.same_boxes at c.row_in-before.ensures in
     let sa = rw c.requires.sizes.same_boxes at c.row_in-after.ensures in
-    let hs : (r : Rel) → s r ≡ is_other (box_count instance) v x && not (excludes es j v x r) = by_rel s _ (so x) (sb x) (sa x) in
+    let hs : (r : Rel) → s r ≡ is_other_box (box_count instance) v x && not (excludes es j v x r) = by_rel s _ (so x) (sb x) (sa x) in
     let e : row_has c.without.result x ≡ (((t Overlap && not (may Overlap q s)) || (t Before && not (may Before q s))) || (t After && not (may After q s))) && not (eqb x v)
     = rw (
       c.without.ensures x,

@@ -1,16 +1,15 @@
 use Rattle.std.proofs.Common.{◌≡◌, ◌⊎◌, inl, inr, sym, ◌∙◌, false}
-use Rattle.std.proofs.lemmas.Bool.{and_parts}
+use Rattle.std.proofs.lemmas.Bool.{and_parts, and_cases}
 use Rattle.packing_terms.specs.declared.Rel.TheVariants.{Before, After}
 use Rattle.packing_terms.proofs.Sets.{excludes_symmetric}
 use Rattle.edge_state.specs.BitRows.{row_has}
-use Rattle.closure_terms.proofs.Filters.{both_off}
 use Rattle.rule_closure.proofs.rows.cycle_seconds.Goals as goal
 
 pub returns-clause-within : goal.returns-clause-within
 returns-clause-within g c x on = c.gone-first.ensures.within x (and_parts _ _ (sym (c.and.ensures x) ∙ on)).0
 
 pub returns-clause-others : goal.returns-clause-others
-returns-clause-others g c x small first second off one two = go (both_off _ _ (sym (c.and.ensures x) ∙ off))
+returns-clause-others g c x small first second off one two = go (and_cases _ _ (sym (c.and.ensures x) ∙ off))
   where
     go : (row_has c.gone-first.result x ≡ false) ⊎ (row_has c.gone.result x ≡ false) → ⊥
     go (inl f) = c.gone-first.ensures.others x small first f one.0 one.1

@@ -1,5 +1,5 @@
 use Rattle.std.proofs.Common.{◌≤◌, ◌<◌, ◌-◌, ◌*◌, ◌/◌, ◌∙◌, refl, arith, length}
-use Rattle.packing_terms.specs.Exclusions.{IsPlace}
+use Rattle.packing_terms.specs.Exclusions.{IsEdge}
 use Rattle.rule_terms.proofs.Applied.{extends_refl, extends_trans}
 use Rattle.closure_terms.proofs.Worked.{worked_kept}
 use Rattle.closure_terms.proofs.Settled.{change_place, trail_short, behind_within, grown_past, settled_all, chained_all}
@@ -32,8 +32,8 @@ is_empty_at-requires g c =
       v = omega (arith, place.second, c.loop-change.invariant.same_boxes, c.requires.boxes);
     }
 
-pub dirtied-more-requires-clause-place : goal.dirtied-more-requires-clause-place
-dirtied-more-requires-clause-place g c =
+pub dirtied-more-requires-clause-edge : goal.dirtied-more-requires-clause-edge
+dirtied-more-requires-clause-edge g c =
     let s = c.loop-change.state in
     change_place s.dims s.boxes s.trail c.loop-change.next _ c.in-Some.change c.dims-sizes.ensures.limits.trail c.in-Some.ensures
 
@@ -87,7 +87,7 @@ loop-change-preserved g c =
     let place = change_place s.dims s.boxes s.trail c.loop-change.next _ c.in-Some.change c.dims-sizes.ensures.limits.trail change in
     let work = worked_kept _ _ _ _ _ c.if-spread.false c.spread.ensures in
     let past = behind_within s.trail c.loop-change.next c.behind-after.result c.in-Some.change change.before_last c.behind-after.ensures in
-    let here : IsPlace c.args.instance.now c.in-Some.change.dim c.in-Some.change.u c.in-Some.change.v
+    let here : IsEdge c.args.instance.now c.in-Some.change.dim c.in-Some.change.u c.in-Some.change.v
     = record { dim = omega (arith, place.dim, c.loop-change.invariant.same_dims, c.requires.dims); first = omega (arith, place.first, c.loop-change.invariant.same_boxes, c.requires.boxes); second = omega (arith, place.second, c.loop-change.invariant.same_boxes, c.requires.boxes); distinct = place.distinct } in
     record {
       same_dims = work.same_dims ∙ c.loop-change.invariant.same_dims;

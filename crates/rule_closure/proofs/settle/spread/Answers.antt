@@ -1,6 +1,6 @@
 use Rattle.std.proofs.Common.{arith, sym}
 use Rattle.packing_terms.specs.Rules.{Rule}
-use Rattle.closure_terms.specs.Work.{IsReached}
+use Rattle.closure_terms.specs.Work.{IsAppliedAt}
 use Rattle.closure_terms.proofs.Worked.{worked_then, worked_lost_first, worked_kept, sizes_worked}
 use Rattle.rule_closure.proofs.settle.spread.Goals as goal
 
@@ -33,5 +33,5 @@ returns g c =
     let j = c.args.dim in
     let u = c.args.u in
     let v = c.args.v in
-    let first = worked_kept c.args.instance.now _ _ _ (IsReached j u v) c.if-spread_from.false c.spread_from.ensures in
-    worked_then c.args.instance.now _ _ _ _ (λ (rule : Rule). IsReached j u v rule) (λ (rule : Rule). IsReached j v u rule) first c.spread_from-2.ensures
+    let first = worked_kept c.args.instance.now _ _ _ (IsAppliedAt j u v) c.if-spread_from.false c.spread_from.ensures in
+    worked_then c.args.instance.now _ _ _ _ (λ (rule : Rule). IsAppliedAt j u v rule) (λ (rule : Rule). IsAppliedAt j v u rule) first c.spread_from-2.ensures

@@ -1,5 +1,5 @@
 use Rattle.std.proofs.Common.{◌≡◌, ◌+◌, ◌*◌, ◌++◌, map, get_or}
-use Rattle.rule_terms.specs.Rounds.{below}
+use Rattle.packing_terms.specs.Sums.{below}
 use Rattle.set_search.proofs.answer.push_coordinates.Given as goal
 
 abbrev pub invariant-loop-i : goal.invariant-loop-i

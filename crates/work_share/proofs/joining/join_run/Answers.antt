@@ -5,7 +5,7 @@ use Rattle.tree_terms.specs.Trees.{No, Decided, told, join}
 use Rattle.board_terms.specs.Runs.{run_of, with_entry}
 use Rattle.work_share.specs.Slots.{entry_at, entries_of}
 use Rattle.work_share.specs.Fronts.{IsFront, Ends, piece_of}
-use Rattle.work_share.specs.Joining.{tokens_of}
+use Rattle.work_share.specs.Joining.{entry_tokens}
 use Rattle.work_share.proofs.Advance.{no_entry, below_at, stored_at}
 use Rattle.work_share.proofs.Tokens.{joined_all, joined_end, ends_at, piece_any}
 use Rattle.work_share.proofs.joining.join_run.Goals as goal
@@ -38,8 +38,8 @@ returns-then-front c =
     let inside : c.args.front.len < length c.args.order.now = subst (λ n. c.args.front.len < n) (length-map c.args.order.now (entry_at c.args.slots.items)) at.0 in
     let is = stored_at c.args.slots.items c.args.order.now c.args.front.len c.index_mut.result.now no_entry c.requires.below inside c.index_mut.ensures.value in
     let rest = run_of c.args.budget (drop (c.args.front.len + 1) es) in
-    c.end_run.ensures (get_or c.args.order.now c.args.front.len 0) (tokens_of (take c.args.front.len es)) rest
-    ∙ (ap (λ e. told c.args.budget (join (No (tokens_of (take c.args.front.len es)) c.args.front.count) (with_entry c.args.budget e rest).verdict)) (sym is)
+    c.end_run.ensures (get_or c.args.order.now c.args.front.len 0) (entry_tokens (take c.args.front.len es)) rest
+    ∙ (ap (λ e. told c.args.budget (join (No (entry_tokens (take c.args.front.len es)) c.args.front.count) (with_entry c.args.budget e rest).verdict)) (sym is)
     ∙ joined_end c.args.budget c.args.front.len c.args.front.count es no_entry f)
 
 pub returns-in-Ok : goal.returns-in-Ok

@@ -1,4 +1,4 @@
-use Rattle.std.proofs.Common.{◌≡◌, ℕ, ◌∙◌, ap, sym, length, replicate, cond}
+use Rattle.std.proofs.Common.{◌≡◌, ℕ, ◌∙◌, ap, sym, length, cond}
 use Rattle.edge_state.specs.RowTables.{PlainTable, filled_table}
 use Rattle.edge_state.proofs.Paired.{filled, length_paired}
 use Rattle.edge_state.proofs.row_table.RowTable.fill.Goals as goal

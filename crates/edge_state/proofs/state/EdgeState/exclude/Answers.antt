@@ -1,14 +1,14 @@
 use Rattle.std.proofs.Common.{arith, reverse}
 use Rattle.std.proofs.lemmas.List.{length-reverse}
-use Rattle.rule_terms.specs.Steps.{at_pair}
-use Rattle.packing_terms.specs.Exclusions.{excludes, IsPlaceAmong}
+use Rattle.packing_terms.specs.Exclusions.{exclusion_at}
+use Rattle.packing_terms.specs.Exclusions.{excludes, IsEdgeAmong}
 use Rattle.edge_state.proofs.Kept.{open_is, kept_room, table_more, reverse_push, told_new}
 use Rattle.edge_state.proofs.state.EdgeState.exclude.Goals as goal
 
 pub push_reserved-requires : goal.push_reserved-requires
 push_reserved-requires c =
     let e = c.self.view_is in
-    let place : IsPlaceAmong c.self.inside.dims c.self.inside.boxes c.args.dim c.args.u c.args.v = rw (← e) at c.requires in
+    let place : IsEdgeAmong c.self.inside.dims c.self.inside.boxes c.args.dim c.args.u c.args.v = rw (← e) at c.requires in
     let is = rw (← e) at c.allows.ensures in
     let none = open_is (excludes (reverse c.self.inside.trail.items) c.args.dim c.args.u c.args.v c.args.rel) _ is c.if-not-allows.false in
     let h = kept_room _ _ _ _ _ _ c.args.rel c.self.invariant place none in
@@ -17,12 +17,12 @@ push_reserved-requires c =
 pub invariant_of-self : goal.invariant_of-self
 invariant_of-self c =
     let e = c.self.view_is in
-    let place : IsPlaceAmong c.self.inside.dims c.self.inside.boxes c.args.dim c.args.u c.args.v = rw (← e) at c.requires in
+    let place : IsEdgeAmong c.self.inside.dims c.self.inside.boxes c.args.dim c.args.u c.args.v = rw (← e) at c.requires in
     let is = rw (← e) at c.allows.ensures in
     let none = open_is (excludes (reverse c.self.inside.trail.items) c.args.dim c.args.u c.args.v c.args.rel) _ is c.if-not-allows.false in
     let first = rw c.index_of-at.ensures at c.remove.ensures in
     let second = rw (c.index_of-back.ensures, c.mirrored.ensures) at c.remove-2.ensures in
-    rw (c.push_reserved.ensures.items, reverse_push c.self.inside.trail.items (at_pair c.args.dim c.args.u c.args.v c.args.rel))
+    rw (c.push_reserved.ensures.items, reverse_push c.self.inside.trail.items (exclusion_at c.args.dim c.args.u c.args.v c.args.rel))
     (table_more _ _ _ _ _ _ _ _ _ _ c.self.invariant place none first second (omega (arith, c.push_reserved.ensures.capacity)))
 
 pub returns-clause-answer : goal.returns-clause-answer
@@ -30,6 +30,6 @@ returns-clause-answer c =
     let e = c.self.view_is in
     let is = rw (← e) at c.allows.ensures in
     let none = open_is (excludes (reverse c.self.inside.trail.items) c.args.dim c.args.u c.args.v c.args.rel) _ is c.if-not-allows.false in
-    let has = rw (c.push_reserved.ensures.items, reverse_push c.self.inside.trail.items (at_pair c.args.dim c.args.u c.args.v c.args.rel)) at c.mask-2.ensures in
+    let has = rw (c.push_reserved.ensures.items, reverse_push c.self.inside.trail.items (exclusion_at c.args.dim c.args.u c.args.v c.args.rel)) at c.mask-2.ensures in
     rw (← e, c.told-2.ensures.value)
-    (told_new (reverse c.self.inside.trail.items) (at_pair c.args.dim c.args.u c.args.v c.args.rel) _ c.told-2.ensures.limit has none)
+    (told_new (reverse c.self.inside.trail.items) (exclusion_at c.args.dim c.args.u c.args.v c.args.rel) _ c.told-2.ensures.limit has none)

@@ -1,5 +1,4 @@
-use Rattle.std.proofs.Common.{◌≤◌, ◌∙◌, sym, ap, arith, length, cond, ltb}
-use Rattle.edge_state.specs.Edges.{PlainEdges}
+use Rattle.std.proofs.Common.{◌≤◌, ◌∙◌, sym, ap, arith, cond, ltb}
 use Rattle.edge_state.proofs.Kept.{kept_new}
 use Rattle.edge_state.proofs.Filled.{filled_all, filled_count, filled_seconds, narrow_few, seconds_kept}
 use Rattle.edge_state.proofs.state.EdgeState.resize.Goals as goal

@@ -2,11 +2,11 @@ use Rattle.std.proofs.Common.{◌-◌, ◌≤◌, refl, sym, ap, subst, ◌∙�
 use Rattle.packing_terms.specs.Goals.{subset}
 use Rattle.packing_terms.specs.Packing.{IsPacking}
 use Rattle.packing_terms.specs.OuterRefutation.{insert_box}
+use Rattle.packing_terms.proofs.WithBoxes.{inserted_some}
 use Rattle.tree_terms.specs.Trees.{Yes, No, told}
 use Rattle.tree_terms.specs.OuterTrees.{set_verdict}
 use Rattle.proof_tree.specs.Plain.{plain_outcome, plain_token}
 use Rattle.class_search.specs.Right.{IsRight}
-use Rattle.set_search.proofs.Sets.{inserted_some}
 use Rattle.set_search.proofs.Verdicts.{told_same}
 use Rattle.set_search.proofs.search.SetSearch.grow.Goals as goal
 

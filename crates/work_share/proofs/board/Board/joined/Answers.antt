@@ -2,7 +2,7 @@ use Rattle.std.proofs.Common.{◌≡◌, ◌∙◌, sym, ap, subst, length, true
 use Rattle.std.proofs.lemmas.Bool.{eqb-true}
 use Rattle.std.proofs.lemmas.List.{length-map}
 use Rattle.std.proofs.lemmas.Result.{IfOk-weaker}
-use Rattle.board_terms.specs.Runs.{is_over}
+use Rattle.board_terms.specs.Runs.{is_board_over}
 use Rattle.board_terms.proofs.RunRight.{joins_right}
 use Rattle.work_share.specs.Slots.{entry_at, entries_of}
 use Rattle.work_share.specs.Boards.{PlainBoard, stored_state}
@@ -26,7 +26,7 @@ pub join_run-requires-clause-over : goal.join_run-requires-clause-over
 join_run-requires-clause-over g c = λ not_ended.
     let b = c.self.inside in
     let es = entries_of b.slots.items b.order.items in
-    let over = subst (λ (v : PlainBoard g.row.T.Denot). is_over v.budget v.state ≡ true) (sym c.self.view_is) c.requires.over in
+    let over = subst (λ (v : PlainBoard g.row.T.Denot). is_board_over v.budget v.state ≡ true) (sym c.self.view_is) c.requires.over in
     let enough = subst (λ (v : PlainBoard g.row.T.Denot). v.state.is_short ≡ false) (sym c.self.view_is) c.requires.enough in
     let len = over_len b.budget b.front.len b.front.count es b.is_short b.front.is_ended c.self.invariant.front not_ended enough in
     let all = eqb-true b.front.len (length es) (len ∙ over) in
@@ -37,7 +37,7 @@ returns-clause-outcome g c =
     let b = c.self.inside in
     let tree = g.T.Tree.shape b.tree.now in
     let keeps = keeps_stored tree b.budget b.slots.items b.order.items b.is_short b.history.items c.self.invariant.replays in
-    let over = subst (λ (v : PlainBoard g.row.T.Denot). is_over v.budget v.state ≡ true) (sym c.self.view_is) c.requires.over in
+    let over = subst (λ (v : PlainBoard g.row.T.Denot). is_board_over v.budget v.state ≡ true) (sym c.self.view_is) c.requires.over in
     let enough = subst (λ (v : PlainBoard g.row.T.Denot). v.state.is_short ≡ false) (sym c.self.view_is) c.requires.enough in
     let joins = joins_right tree b.budget (stored_state b.slots.items b.order.items b.is_short) keeps over enough in
     rw (← c.self.view_is) (IfOk-weaker c.join_run.result _ _ (λ r h. (rw c.deref.ensures.value at h) ∙ joins) c.join_run.ensures)

@@ -1,5 +1,6 @@
 use Rattle.std.proofs.Common.{rules, arith, ◌≡◌, ◌<◌, ◌≤◌, ◌+◌, ◌*◌, ◌-◌, ◌++◌, ◌∷◌, [], ◌∙◌, sym, ap, ap₂, subst, length, reverse, take, drop, get_or, vec_len, vec_capacity, Some, IfSome}
 use Rattle.std.specs.List.{range_with_len}
+use Rattle.std.proofs.lemmas.List.FromFn.{length-range_with_len}
 use Rattle.tree_terms.specs.Trees.{node_at}
 use Rattle.tree_terms.specs.Paths.{Splits, node_told}
 use Rattle.board_terms.specs.declared.Event.TheVariants as event
@@ -11,7 +12,6 @@ use Rattle.work_share.specs.Slots.{entries_of, entries_from, with_slot}
 use Rattle.work_share.specs.Boards.{PlainBoard, waiting_tasks}
 use Rattle.work_share.proofs.Kept.{kept_roomier}
 use Rattle.work_share.proofs.Finishing.{out_inside, out_room}
-use Rattle.work_share.proofs.Inserted.{length_range}
 use Rattle.work_share.proofs.Splitting.{split_before, split_apart, split_below, place_inside, waiting_enough, split_made, split_tasks, split_new_below, split_known, split_step, split_kept}
 use Rattle.work_share.proofs.board.Board.split.Goals as goal
 
@@ -164,7 +164,7 @@ put_children-requires-clause-order_room g c =
     let numbers : c.in-Ok.made.numbers.items ≡ range_with_len (length b.slots.items) c.args.children = c.in-Ok.ensures.numbers ∙ ap (λ k. range_with_len k c.args.children) fresh in
     let tasks : c.in-Ok.made.tasks.items ≡ reverse (waiting_tasks (children_from p 0 c.args.children (length b.slots.items))) =
     c.in-Ok.ensures.tasks ∙ ap₂ (λ q k. reverse (waiting_tasks (children_from q 0 c.args.children k))) c.path.ensures fresh in
-    let made = ap length numbers ∙ length_range (length b.slots.items) c.args.children in
+    let made = ap length numbers ∙ length-range_with_len (length b.slots.items) c.args.children in
     let count : vec_len c.in-Ok.made.numbers ≡ length c.in-Ok.made.numbers.items = search rules in
     let room = c.in-Ok-reserve_for.ensures.order_room in
     omega (arith, made, count, room)

@@ -1,0 +1,131 @@
+//! What follows from a changed edge: the instances of the rules that read its mask.
+//!
+//! Each call applies some instances one after another and answers whether a mask is empty;
+//! empty; it stops there.
+ghost use Rattle.std.specs.Prelude.{◌≡◌, ◌<◌, ℕ, nat_lt};
+ghost use Rattle.packing_terms.specs.Packing.{box_count};
+ghost use Rattle.edge_state.specs.BitRows.{HoldsBoxes, row_has};
+ghost use Rattle.closure_terms.specs.States.{IsSized};
+ghost use Rattle.closure_terms.specs.Work.{IsWorked, IsAppliedAt};
+ghost use Rattle.rule_closure.specs.Reached.{IsReachedApart, IsReachedJoined, IsReachedOrdered};
+
+use crate::orders::{orders_crossed, orders_first, orders_second};
+use crate::work::{aparts, chords, composes, cycles, triples};
+use box_instances::Instance;
+use edge_state::{BitRow, EdgeState, Rel};
+
+// The instances that ask for two boxes that are apart.
+#[inline]
+fn spread_apart<const K: usize>(
+    instance: &Instance,
+    state: &mut EdgeState,
+    all: BitRow<K>,
+    dim: u32,
+    p: u32,
+    q: u32,
+) -> bool
+    requires words { HoldsBoxes K (box_count instance.now) }
+    requires sizes { IsSized instance.now state.old dim }
+    requires p { p < box_count instance.now }
+    requires q { q < box_count instance.now }
+    requires distinct { p ≡ q → ⊥ }
+    requires all { (x : ℕ) → row_has all x ≡ nat_lt x (box_count instance.now) }
+    ensures { IsWorked instance.now state.old state.new result
+        (IsReachedApart instance.now dim p q) }
+{
+    if state.mask(dim, p, q).has(Rel::Overlap) {
+        return false;
+    }
+    if triples::<K>(instance, state, dim, p, q) {
+        return true;
+    }
+    chords(instance, state, all, dim, p, q)
+}
+
+// The instances that ask for two boxes that are joined.
+#[inline]
+fn spread_joined<const K: usize>(
+    instance: &Instance,
+    state: &mut EdgeState,
+    all: BitRow<K>,
+    dim: u32,
+    p: u32,
+    q: u32,
+) -> bool
+    requires words { HoldsBoxes K (box_count instance.now) }
+    requires sizes { IsSized instance.now state.old dim }
+    requires p { p < box_count instance.now }
+    requires q { q < box_count instance.now }
+    requires distinct { p ≡ q → ⊥ }
+    requires all { (x : ℕ) → row_has all x ≡ nat_lt x (box_count instance.now) }
+    ensures { IsWorked instance.now state.old state.new result
+        (IsReachedJoined instance.now dim p q) }
+{
+    if !state.joined(dim, p, q) {
+        return false;
+    }
+    if aparts(instance, state, dim, p, q) {
+        return true;
+    }
+    cycles(instance, state, all, dim, p, q)
+}
+
+// The instances that ask for a box that is surely before another.
+#[inline]
+fn spread_ordered<const K: usize>(
+    instance: &Instance,
+    state: &mut EdgeState,
+    all: BitRow<K>,
+    dim: u32,
+    p: u32,
+    q: u32,
+) -> bool
+    requires words { HoldsBoxes K (box_count instance.now) }
+    requires sizes { IsSized instance.now state.old dim }
+    requires p { p < box_count instance.now }
+    requires q { q < box_count instance.now }
+    requires distinct { p ≡ q → ⊥ }
+    requires all { (x : ℕ) → row_has all x ≡ nat_lt x (box_count instance.now) }
+    ensures { IsWorked instance.now state.old state.new result
+        (IsReachedOrdered instance.now dim p q) }
+{
+    if !state.sure_before(dim, p, q) {
+        return false;
+    }
+    if orders_first(instance, state, all, dim, p, q) {
+        return true;
+    }
+    orders_second(instance, state, all, dim, p, q)
+}
+
+/// The instances that read the mask of two boxes in this order, up to those that add the same.
+pub fn spread_from<const K: usize>(
+    instance: &Instance,
+    state: &mut EdgeState,
+    all: BitRow<K>,
+    dim: u32,
+    p: u32,
+    q: u32,
+) -> bool
+    requires words { HoldsBoxes K (box_count instance.now) }
+    requires sizes { IsSized instance.now state.old dim }
+    requires p { p < box_count instance.now }
+    requires q { q < box_count instance.now }
+    requires distinct { p ≡ q → ⊥ }
+    requires all { (x : ℕ) → row_has all x ≡ nat_lt x (box_count instance.now) }
+    ensures { IsWorked instance.now state.old state.new result (IsAppliedAt dim p q) }
+{
+    if composes::<K>(instance, state, dim, p, q) {
+        return true;
+    }
+    if spread_apart(instance, state, all, dim, p, q) {
+        return true;
+    }
+    if spread_joined(instance, state, all, dim, p, q) {
+        return true;
+    }
+    if spread_ordered(instance, state, all, dim, p, q) {
+        return true;
+    }
+    orders_crossed(instance, state, all, dim, p, q)
+}
