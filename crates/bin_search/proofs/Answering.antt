@@ -20,7 +20,7 @@ in_drop P [] (suc b) h c l = absurd (omega (arith, l))
 in_drop P (x ∷ xs) zero h c l = h c l
 in_drop P (x ∷ xs) (suc b) h c l = in_drop P xs b (λ d m. h (suc d) (omega (arith, m))) c l
 
--- all that stand behind a place
+-- all that stand behind a position
 pub all_behind : (sets : List (Vec ℕ Global)) (k : ℕ) → take (length sets - k) (drop k sets) ≡ drop k sets
 all_behind sets k = take_all (length sets - k) (drop k sets) (let e = length-drop k sets in omega (arith, e))
 

@@ -7,3 +7,4 @@ pub mod Answering
 pub mod Children
 pub mod Rights
 pub mod PathNodes
+pub mod Positions

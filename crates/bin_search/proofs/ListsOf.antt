@@ -1,11 +1,11 @@
 -- Lists of vectors, as lists of lists.
 use Rattle.std.proofs.Common.{◌≡◌, ℕ, zero, suc, ◌+◌, ◌<◌, ◌≤◌, refl, sym, ap, ◌∙◌, arith, List, [], ◌∷◌, ◌++◌, length, get_or, slice_set, Vec, Global, append_assoc, ◌==◌}
-use Rattle.std.specs.List.{flat_map}
+use Rattle.std.specs.List.{flat_map, position_or_len}
 use Rattle.std.proofs.lemmas.List.{get_or-map}
 use Rattle.packing_terms.specs.Sums.{below}
 use Rattle.packing_terms.specs.OuterRefutation.{has_box}
 use Rattle.packing_terms.proofs.Ranges.{flat_map_last_below}
-use Rattle.tree_terms.specs.OuterTrees.{with_answer, index_where, coordinates_at}
+use Rattle.tree_terms.specs.OuterTrees.{with_answer, coordinates_at}
 use Rattle.bin_search.specs.Lists.{lists_of}
 
 pub replaced : (lists : List (Vec ℕ Global)) (at : ℕ) (list : Vec ℕ Global) → at < length lists → lists_of (slice_set lists at list) ≡ with_answer (lists_of lists) at list.items
@@ -24,10 +24,10 @@ list_at lists b x l e = ap (λ (y : Vec ℕ Global). y.items) e ∙ sym (get_or-
 
 -- the numbers of one box more
 pub numbers_next : (bins answers : List (List ℕ)) (d v b p : ℕ) (all ns : List ℕ)
-    → all ≡ flat_map (λ u. let k = index_where (has_box u) bins in k ∷ coordinates_at d (get_or answers k []) (index_where (λ w. w == u) (get_or bins k []))) (below v)
-    → b ≡ index_where (has_box v) bins → p ≡ index_where (λ w. w == v) (get_or bins b []) → ns ≡ get_or answers b []
+    → all ≡ flat_map (λ u. let k = position_or_len (has_box u) bins in k ∷ coordinates_at d (get_or answers k []) (position_or_len (λ w. w == u) (get_or bins k []))) (below v)
+    → b ≡ position_or_len (has_box v) bins → p ≡ position_or_len (λ w. w == v) (get_or bins b []) → ns ≡ get_or answers b []
     → (all ++ b ∷ []) ++ coordinates_at d ns p
-    ≡ flat_map (λ u. let k = index_where (has_box u) bins in k ∷ coordinates_at d (get_or answers k []) (index_where (λ w. w == u) (get_or bins k []))) (below (v + 1))
+    ≡ flat_map (λ u. let k = position_or_len (has_box u) bins in k ∷ coordinates_at d (get_or answers k []) (position_or_len (λ w. w == u) (get_or bins k []))) (below (v + 1))
 numbers_next bins answers d v b p all ns h e f g =
-    rw (h, g, f, e) (append_assoc _ (index_where (has_box v) bins ∷ []) _
-    ∙ sym (flat_map_last_below (λ u. let k = index_where (has_box u) bins in k ∷ coordinates_at d (get_or answers k []) (index_where (λ w. w == u) (get_or bins k []))) v))
+    rw (h, g, f, e) (append_assoc _ (position_or_len (has_box v) bins ∷ []) _
+    ∙ sym (flat_map_last_below (λ u. let k = position_or_len (has_box u) bins in k ∷ coordinates_at d (get_or answers k []) (position_or_len (λ w. w == u) (get_or bins k []))) v))

@@ -1,6 +1,6 @@
 -- Nodes of a bin tree, and their children.
 use Rattle.std.proofs.Common.{◌≡◌, ℕ, zero, suc, ◌+◌, ◌*◌, ◌<◌, ◌≤◌, ◌⊎◌, inl, inr, refl, sym, ap, subst, ◌∙◌, arith, Bool, true, false, eqb, List, [], ◌∷◌, length, get_or, drop}
-use Rattle.std.specs.List.{list_any, AllByRecursion}
+use Rattle.std.specs.List.{list_any, AllByRecursion, position_or_len}
 use Rattle.std.proofs.lemmas.Bool.{true≢false, cases_eq}
 use Rattle.std.proofs.lemmas.Nat.{mul-le}
 use Rattle.std.proofs.lemmas.List.{drop_all}
@@ -15,7 +15,7 @@ use Rattle.packing_terms.proofs.Boxes.{not_found, each_from, insert_boxes, found
 use Rattle.packing_terms.proofs.OuterViews.{has_at}
 use Rattle.packing_terms.proofs.WithBoxes.{in_none}
 use Rattle.tree_terms.specs.Rank.{ranked}
-use Rattle.tree_terms.specs.OuterTrees.{with_answer, index_where}
+use Rattle.tree_terms.specs.OuterTrees.{with_answer}
 use Rattle.tree_terms.proofs.RankLemmas.{ranked_are_boxes, in_ranked}
 use Rattle.tree_terms.proofs.BinNumbers.{index_found}
 use Rattle.tree_terms.proofs.BinSearch.{Holds, IsNext, next_is, next_holds}
@@ -148,15 +148,15 @@ module _ (instance : PlainInstance) (limits : IsInternalInstance instance) (k : 
       none e = true≢false (sym e ∙ ap (λ us. has_box v us) (drop_all placed (ranked instance) over))
 
       here : (has_box v (drop placed (ranked instance)) ≡ true) ⊎ (list_any (has_box v) bins ≡ true)
-          → (index_where (has_box v) bins < length bins) × (index_where (has_box v) bins < length answers) × (length bins ≤ 128)
-          × ((index_where (λ u. eqb u v) (get_or bins (index_where (has_box v) bins) []) + 1) * dims instance ≤ length (get_or answers (index_where (has_box v) bins) []))
+          → (position_or_len (has_box v) bins < length bins) × (position_or_len (has_box v) bins < length answers) × (length bins ≤ 128)
+          × ((position_or_len (λ u. eqb u v) (get_or bins (position_or_len (has_box v) bins) []) + 1) * dims instance ≤ length (get_or answers (position_or_len (has_box v) bins) []))
       here (inl i) = absurd (none i)
       here (inr e) =
           let f = index_found (has_box v) bins [] e in
-          let g = index_found (λ u. eqb u v) (get_or bins (index_where (has_box v) bins) []) 0 f.1 in
+          let g = index_found (λ u. eqb u v) (get_or bins (position_or_len (has_box v) bins) []) 0 f.1 in
           let same = h.lengths in
           let most = h.few in
-          let size = places_count instance (get_or bins (index_where (has_box v) bins) []) (get_or answers (index_where (has_box v) bins) []) (h.packs (index_where (has_box v) bins) f.0) in
-          let times = mul-le (index_where (λ u. eqb u v) (get_or bins (index_where (has_box v) bins) []) + 1) (dims instance)
-          (length (get_or bins (index_where (has_box v) bins) [])) (dims instance) (omega (arith, g)) (omega arith) in
+          let size = places_count instance (get_or bins (position_or_len (has_box v) bins) []) (get_or answers (position_or_len (has_box v) bins) []) (h.packs (position_or_len (has_box v) bins) f.0) in
+          let times = mul-le (position_or_len (λ u. eqb u v) (get_or bins (position_or_len (has_box v) bins) []) + 1) (dims instance)
+          (length (get_or bins (position_or_len (has_box v) bins) [])) (dims instance) (omega (arith, g)) (omega arith) in
           (f.0, omega (arith, f, same), omega (arith, few, most), omega (arith, size, times))

@@ -1,19 +1,20 @@
 -- Nodes of a bin tree by their paths, and the answers of their bins.
 use Rattle.std.specs.Prelude.{ℕ, ◌+◌, ◌-◌, ◌*◌, ◌<◌, ◌≤◌, ◌≡◌, ◌==◌, List, [], ◌∷◌, length, map, take, drop, slice_index_or, Option, Some, Bool}
+use Rattle.std.specs.List.{position_or_len}
 use Rattle.packing_terms.specs.Packing.{PlainInstance, dims, box_count}
 use Rattle.packing_terms.specs.OuterRefutation.{Bins, insert_box, has_box, placements}
 use Rattle.tree_terms.specs.Rank.{ranked}
 use Rattle.tree_terms.specs.Trees.{SearchTree}
-use Rattle.tree_terms.specs.OuterTrees.{set_verdict, yes_numbers, index_where, with_answer, bin_child, bin_node}
+use Rattle.tree_terms.specs.OuterTrees.{set_verdict, yes_numbers, with_answer, bin_child, bin_node}
 use Rattle.set_search.specs.Children.{IsFoundSet}
 use Rattle.bin_search.specs.Nodes.{AreInBins}
 use Rattle.bin_search.specs.Trees.{PlainBinTree}
 
 -- each box is in one of the bins, and the answer of that bin has its coordinates
 abbrev pub HasAnswers : PlainInstance → Bins → List (List ℕ) → Type 0
-HasAnswers instance bins answers = (v : ℕ) → v < box_count instance → (b : ℕ) → b ≡ index_where (has_box v) bins
+HasAnswers instance bins answers = (v : ℕ) → v < box_count instance → (b : ℕ) → b ≡ position_or_len (has_box v) bins
     → (b < length bins) × (b < length answers) × (length bins ≤ 128)
-    × ((index_where (λ u. u == v) (slice_index_or bins b []) + 1) * dims instance ≤ length (slice_index_or answers b []))
+    × ((position_or_len (λ u. u == v) (slice_index_or bins b []) + 1) * dims instance ≤ length (slice_index_or answers b []))
 
 -- the box that comes next
 abbrev pub box_at : PlainInstance → ℕ → ℕ
@@ -59,6 +60,6 @@ pub record IsChildStep (t : PlainBinTree) (placed : ℕ) (bins : Bins) (b : ℕ)
 -- the last step of a path: the position of its box by rank, the bins before it, and the number of
 -- the child
 pub record IsLastStep (order path : List ℕ) (placed : ℕ) (bins : Bins) (b : ℕ) : Type 0 where
-  pub place : placed ≡ length path - 1
+  pub position : placed ≡ length path - 1
   pub before : bins ≡ bins_along [] order (take (length path - 1) path)
   pub last : b ≡ slice_index_or path (length path - 1) 0

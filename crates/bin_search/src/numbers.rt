@@ -1,7 +1,8 @@
 //! The numbers of an answer.
 ghost use Rattle.std.specs.Prelude.{◌≡◌, ◌+◌, ◌==◌, IfOk};
+ghost use Rattle.std.specs.List.{position_or_len};
 ghost use Rattle.packing_terms.specs.OuterRefutation.{has_box};
-ghost use Rattle.tree_terms.specs.OuterTrees.{index_where, bin_numbers};
+ghost use Rattle.tree_terms.specs.OuterTrees.{bin_numbers};
 ghost use Rattle.bin_search.specs.Lists.{lists_of};
 ghost use Rattle.bin_search.specs.Paths.{HasAnswers};
 
@@ -17,27 +18,19 @@ fn has_box(keep: &[u32], v: u32) -> bool
 }
 
 // The index of a box in a set, and its length where it isn't there.
-fn place_of(keep: &[u32], v: u32) -> usize
-    ensures { result ≡ index_where (λ u. u == v) keep.now }
+fn position_of(keep: &[u32], v: u32) -> usize
+    ensures { result ≡ position_or_len (λ u. u == v) keep.now }
 {
-    for k in 0..keep.len() {
-        if keep[k] == v {
-            return k;
-        }
-    }
-    keep.len()
+    keep.iter().position(|u| *u == v).unwrap_or(keep.len())
 }
 
 // The first bin that has a box, and the number of bins where none has it.
 fn bin_of(bins: &[Vec<u32>], v: u32) -> usize
-    ensures { result ≡ index_where (has_box v) (lists_of bins.now) }
+    ensures { result ≡ position_or_len (has_box v) (lists_of bins.now) }
 {
-    for b in 0..bins.len() {
-        if has_box(bins[b].as_slice(), v) {
-            return b;
-        }
-    }
-    bins.len()
+    bins.iter()
+        .position(|bin| has_box(bin.as_slice(), v))
+        .unwrap_or(bins.len())
 }
 
 // The answer of the bin tree: of each box its bin and its coordinates.
@@ -59,7 +52,7 @@ pub fn bin_numbers(
         };
         push_coordinates(
             instance,
-            place_of(bins[b].as_slice(), v),
+            position_of(bins[b].as_slice(), v),
             answers[b].as_slice(),
             &mut all,
         )?;

@@ -6,7 +6,7 @@ use Rattle.packing_terms.specs.Packing.{PlainInstance, no_box, dims, box_count}
 use Rattle.packing_terms.specs.Goals.{subset, IsBoxSet}
 use Rattle.packing_terms.specs.Limits.{IsBox, IsInternalInstance}
 
--- numbers that rise are never below their places
+-- numbers that rise are never below their positions
 at_least : (vs : List ℕ) → IsStrictlyIncreasing vs → (k : ℕ) → k < length vs → k ≤ get_or vs k 0
 at_least vs h zero l = omega arith
 at_least vs h (suc k) l =

@@ -2,7 +2,6 @@
 use crate::runs::{told_of, told_with};
 use pack_command::check_stream;
 use pack_streams::{MemorySink, MemorySource, ReadStep, WriteStep};
-use program_runs::listed;
 use std::test::Fail;
 
 const PAIR: &[u8] =
@@ -36,7 +35,7 @@ fn nothing_behind_a_refused_line_is_read(rt: HostRuntime) -> Result<(), Fail> {
         assert!(rt; told.left.as_slice() == b"format 1\n".as_slice());
     }
     let alloc = rt.alloc();
-    let mut broken = listed(alloc, &[ReadStep::Give(1); 12])?;
+    let mut broken = Vec::from_slice(alloc, &[ReadStep::Give(1); 12])?;
     broken.push(ReadStep::Fail)?;
     let told = told_with(&rt, FORM, &broken, &[])?;
     assert!(rt; told.is_line(1, "refused 1 form\n"));
@@ -94,7 +93,7 @@ fn a_line_is_given_in_one_piece(rt: HostRuntime) -> Result<(), Fail> {
 #[test]
 fn a_stream_is_checked_without_words(rt: HostRuntime) -> Result<(), Fail> {
     let alloc = rt.alloc();
-    let mut source = MemorySource::new(listed(alloc, PAIR)?, Vec::new(alloc));
+    let mut source = MemorySource::new(Vec::from_slice(alloc, PAIR)?, Vec::new(alloc));
     let mut out = MemorySink::new(alloc, 64, Vec::new(alloc))?;
     assert_eq!(rt; check_stream(alloc, &mut source, &mut out), 0);
     assert!(rt; out.written() == LINE);

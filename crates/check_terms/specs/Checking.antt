@@ -1,6 +1,7 @@
 -- A tree that is checked token by token: the open nodes, the next one first, and the refusal if
 -- there was one.
 use Rattle.std.specs.Prelude.{ℕ, List, [], ◌∷◌, ◌++◌, Bool, true, false, Option, Some, None, Result, Ok, Err}
+use Rattle.packing_terms.specs.Results.{◌>>=◌}
 use Rattle.packing_terms.specs.declared.Exclusion.{Exclusion}
 use Rattle.packing_terms.specs.Packing.{PlainInstance}
 use Rattle.packing_terms.specs.Tokens.{PlainToken}
@@ -76,13 +77,8 @@ answered_by None (n ∷ nodes) = More
 abbrev pub answered : {Node : Type 0} → Checked Node → FeedVerdict
 answered s = answered_by s.refused s.nodes
 
--- what follows, where there is a value
-abbrev pub if_ok : {A B E : Type 0} → Result A E → (A → Result B E) → Result B E
-if_ok (Ok x) f = f x
-if_ok (Err e) f = Err e
-
 -- all tokens, one by one
 abbrev pub nodes_after_all : {Node : Type 0} → (List Node → PlainToken → Result (List Node) RefuseCode) → List Node → List PlainToken
     → Result (List Node) RefuseCode
 nodes_after_all after nodes [] = Ok nodes
-nodes_after_all after nodes (t ∷ ts) = if_ok (after nodes t) (λ left. nodes_after_all after left ts)
+nodes_after_all after nodes (t ∷ ts) = after nodes t >>= λ left. nodes_after_all after left ts

@@ -46,9 +46,6 @@ module _ (instance : PlainInstance) where
             let m = go us k (subst (λ n. drop k us ≡ v ∷ drop n (u ∷ us)) s f) (omega (arith, l)) in
             omega (arith, m)
 
-    pub next_small : v < box_count instance
-    next_small = all_left.0
-
     pub more_boxes : AreBoxes instance (insert_box v taken)
     more_boxes = insert_boxes (box_count instance) v taken all_left.0 (not_found v taken all_apart.0) h.boxes
 

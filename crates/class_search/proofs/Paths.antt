@@ -1,5 +1,5 @@
 -- The way down a path.
-use Rattle.std.proofs.Common.{◌≡◌, ℕ, zero, suc, refl, sym, ap, ◌∙◌, arith, Bool, true, false, not, ltb, if◌then◌else◌, ◌==◌, List, ◌∷◌, ◌++◌, Some, None, IsSome}
+use Rattle.std.proofs.Common.{◌≡◌, ℕ, zero, suc, refl, sym, ap, ◌∙◌, arith, Bool, true, false, ltb, if◌then◌else◌, List, ◌∷◌, ◌++◌, Some, None, IsSome}
 use Rattle.std.proofs.lemmas.Bool.{true≢false, ltb-true}
 use Rattle.packing_terms.specs.declared.Exclusion.{Exclusion}
 use Rattle.packing_terms.specs.Packing.{PlainInstance}
@@ -9,7 +9,7 @@ use Rattle.tree_terms.proofs.NodeSteps.{set_tree}
 use Rattle.class_search.specs.declared.splits.Split.{Split}
 use Rattle.class_search.specs.declared.visit.NodeKind.{NodeKind}
 use Rattle.class_search.specs.declared.visit.NodeKind.TheVariants.{Divided}
-use Rattle.class_search.specs.Splits.{plain_split, added, with_all}
+use Rattle.class_search.specs.Splits.{plain_split, added, child_numbered, with_all}
 use Rattle.class_search.specs.Visits.{kind_tree, IsMet}
 use Rattle.class_search.proofs.Closings.{with_sets}
 
@@ -25,7 +25,7 @@ module _ (instance : PlainInstance) (fs : List Exclusion) where
   child_is : (add gs : List Exclusion) (kind : NodeKind) → IsMet instance (with_all add fs) gs kind → tree_below instance (add ++ fs) ≡ kind_tree instance gs kind
   child_is add gs kind met = sym (set_tree instance (with_all add fs) (add ++ fs) (with_sets add fs)) ∙ met.tree
 
-  pub path_next : (s : Split) (k c : ℕ) (path : List ℕ) (gs : List Exclusion) (kind : NodeKind) → IsMet instance (with_all (added s (not (c == 0))) fs) gs kind
+  pub path_next : (s : Split) (k c : ℕ) (path : List ℕ) (gs : List Exclusion) (kind : NodeKind) → IsMet instance (with_all (added s (child_numbered c)) fs) gs kind
       → IsSome (node_at (Some (kind_tree instance fs (Divided s k))) (c ∷ path))
       → node_at (Some (kind_tree instance fs (Divided s k))) (c ∷ path) ≡ node_at (Some (kind_tree instance gs kind)) path
   path_next s k zero path gs kind met h = ap (λ t. node_at (Some t) path) (child_is (plain_split s).first gs kind met)

@@ -1,5 +1,5 @@
 -- Each turn of the walk leaves what is still to be given.
-use Rattle.std.proofs.Common.{◌≡◌, ℕ, zero, suc, ◌+◌, ◌-◌, ◌<◌, ◌≤◌, inl, inr, refl, sym, ap, ap₂, subst, ◌∙◌, arith, Bool, true, false, not, cond, List, [], ◌∷◌, ◌++◌, length, Some, None, append_assoc, add-zero}
+use Rattle.std.proofs.Common.{◌≡◌, ℕ, zero, suc, ◌+◌, ◌<◌, ◌≤◌, inl, inr, refl, sym, ap, ap₂, subst, ◌∙◌, arith, Bool, true, false, not, cond, List, [], ◌∷◌, ◌++◌, length, Some, None, append_assoc, add-zero}
 use Rattle.std.specs.List.{find}
 use Rattle.std.proofs.lemmas.Bool.{true≢false, not_from_true, not_from_false}
 use Rattle.packing_terms.specs.declared.Exclusion.{Exclusion}
@@ -12,12 +12,15 @@ use Rattle.packing_terms.proofs.Sets.{excludes_right, excludes_symmetric}
 use Rattle.packing_terms.proofs.Found.{find_none}
 use Rattle.packing_terms.proofs.Members.{IsIn}
 use Rattle.rule_terms.specs.Places.{IsOrdered}
+use Rattle.edge_state.specs.Edges.{oldest}
+use Rattle.edge_state.proofs.Oldest.{oldest_more, oldest_all}
 use Rattle.tree_terms.specs.Trees.{SearchTree, Verdict, No, no_tokens, join, outcome, count_of}
 use Rattle.tree_terms.specs.Rank.{ranked_pairs}
 use Rattle.tree_terms.specs.InnerTree.{SplitNode, is_settled, is_unsettled, tree_below}
 use Rattle.tree_terms.proofs.RankLemmas.{ranked_rise, pair_ranked}
 use Rattle.tree_terms.proofs.Nodes.{settled_pair}
 use Rattle.tree_terms.proofs.Joins.{join_assoc, join_nothing, split_joins, count_join_no}
+use Rattle.class_search.specs.declared.splits.Child.TheVariants.{First, Second}
 use Rattle.class_search.specs.declared.splits.Split.{Split}
 use Rattle.class_search.specs.declared.visit.NodeKind.{NodeKind}
 use Rattle.class_search.specs.declared.visit.NodeKind.TheVariants.{Conflict, Divided}
@@ -25,7 +28,7 @@ use Rattle.class_search.specs.declared.walk.Waiting.{Waiting}
 use Rattle.class_search.specs.Settling.{pair_at, ArePairsAmong, AreSettledBefore}
 use Rattle.class_search.specs.Splits.{plain_split, added, with_all}
 use Rattle.class_search.specs.Visits.{Grows, kind_tree, IsMet}
-use Rattle.class_search.specs.Walks.{IsPastSettled, oldest, waiting_verdict, AreWaiting, IsLeft}
+use Rattle.class_search.specs.Walks.{IsPastSettled, waiting_verdict, AreWaiting, IsLeft}
 use Rattle.class_search.proofs.Firsts.{find_at, find_never}
 use Rattle.tree_terms.proofs.NodeSteps.{set_tree}
 use Rattle.class_search.proofs.Closings.{with_sets}
@@ -36,18 +39,9 @@ length_more : (more es : List Exclusion) → length es ≤ length (more ++ es)
 length_more [] es = omega arith
 length_more (x ∷ more) es = let l = length_more more es in omega (arith, l)
 
-pub oldest_more : (m : ℕ) (more es : List Exclusion) → m ≤ length es → oldest m (more ++ es) ≡ oldest m es
-oldest_more m [] es l = refl
-oldest_more m (x ∷ more) es l =
-    let e : suc (length (more ++ es)) - m ≡ suc (length (more ++ es) - m) = let h = length_more more es in omega (arith, h, l) in
-    rw e (oldest_more m more es l)
-
-oldest_all : (es : List Exclusion) → oldest (length es) es ≡ es
-oldest_all es = let e : length es - length es ≡ 0 = omega arith in rw e refl
-
 -- the oldest of a list that grew are the list before
 pub cut_back : (fs gs : List Exclusion) → Grows fs gs → oldest (length fs) gs ≡ fs
-cut_back fs gs g = rw g.grown (oldest_more (length fs) g.more fs (omega arith) ∙ oldest_all fs)
+cut_back fs gs g = rw g.grown (oldest_more (length fs) g.more fs (omega arith) ∙ oldest_all fs (length fs) refl)
 
 pub with_grows : (add es : List Exclusion) → Grows es (with_all add es)
 with_grows [] es = record { more = []; grown = refl }
@@ -141,11 +135,11 @@ past_count tokens count token v w =
 
 module _ (instance : PlainInstance) (whole : Verdict) (tokens : List PlainToken) (count : ℕ) where
   pub conflict_next : (w : Waiting) (ws : List Waiting) (fs gs : List Exclusion) (kind : NodeKind) → IsLeft instance whole tokens count (w ∷ ws) fs Conflict
-      → IsMet instance (with_all (added w.split true) (oldest w.mark fs)) gs kind → IsLeft instance whole (tokens ++ Rules ∷ []) count ws gs kind
+      → IsMet instance (with_all (added w.split Second) (oldest w.mark fs)) gs kind → IsLeft instance whole (tokens ++ Rules ∷ []) count ws gs kind
   conflict_next w ws fs gs kind left met = record {
     joined =
         ap₂ (λ (t : SearchTree) v. join (No (tokens ++ Rules ∷ []) count) (join (outcome t) v))
-        (sym met.tree ∙ set_tree instance (with_all (added w.split true) (oldest w.mark fs)) (added w.split true ++ oldest w.mark fs) (with_sets (added w.split true) (oldest w.mark fs)))
+        (sym met.tree ∙ set_tree instance (with_all (added w.split Second) (oldest w.mark fs)) (added w.split Second ++ oldest w.mark fs) (with_sets (added w.split Second) (oldest w.mark fs)))
         (verdict_grown instance ws (oldest w.mark fs) gs grows left.waits.2)
         ∙ (sym (leaf_joins tokens (Rules ∷ []) count (waiting_verdict instance (w ∷ ws) fs)) ∙ left.joined);
     waits = waiting_grown instance ws (oldest w.mark fs) gs grows left.waits.2;
@@ -153,7 +147,7 @@ module _ (instance : PlainInstance) (whole : Verdict) (tokens : List PlainToken)
   }
     where
       grows : Grows (oldest w.mark fs) gs
-      grows = grows_on (oldest w.mark fs) (with_all (added w.split true) (oldest w.mark fs)) gs (with_grows (added w.split true) (oldest w.mark fs)) met.grown
+      grows = grows_on (oldest w.mark fs) (with_all (added w.split Second) (oldest w.mark fs)) gs (with_grows (added w.split Second) (oldest w.mark fs)) met.grown
 
   -- at a split
   module _ (s : Split) (k : ℕ) (ws : List Waiting) (fs : List Exclusion) (left : IsLeft instance whole tokens count ws fs (Divided s k)) where
@@ -175,8 +169,8 @@ module _ (instance : PlainInstance) (whole : Verdict) (tokens : List PlainToken)
         (ap (λ v. join (No tokens count) (join v (waiting_verdict instance ws fs))) (sym outcome_here) ∙ left.joined)
         (past_count tokens count here.token (join first_child (join second_child no_tokens)) (waiting_verdict instance ws fs))
 
-    pub split_next : (gs : List Exclusion) (kind : NodeKind) → IsMet instance (with_all (added s false) fs) gs kind
-        → IsLeft instance whole (tokens ++ here.token ∷ []) (count + 1) (record { split = s; mark = length fs; place = k } ∷ ws) gs kind
+    pub split_next : (gs : List Exclusion) (kind : NodeKind) → IsMet instance (with_all (added s First) fs) gs kind
+        → IsLeft instance whole (tokens ++ here.token ∷ []) (count + 1) (record { split = s; mark = length fs; rank = k } ∷ ws) gs kind
     split_next gs kind met = record {
       joined =
           ap₂ (λ (t : SearchTree) v. join (No (tokens ++ here.token ∷ []) (count + 1)) (join (outcome t) v))

@@ -25,7 +25,7 @@ pub record IsCalm (instance : PlainInstance) (es : List Exclusion) : Type 0 wher
   pub stable : IsStable instance (excludes es)
   pub full : HasNoEmptyMask instance (excludes es)
 
--- the pair at position k by rank is the first that isn't settled, and this is its split
+-- the pair at rank k is the first that isn't settled, and this is its split
 pub record IsNextSplit (instance : PlainInstance) (es : List Exclusion) (s : Split) (k : ℕ) : Type 0 where
   pub there : k < length (ranked_pairs instance)
   pub before : AreSettledBefore (excludes es) (dims instance) (ranked_pairs instance) k

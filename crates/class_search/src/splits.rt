@@ -3,7 +3,7 @@ ghost use Rattle.std.specs.Prelude.{◌≡◌, ◌≢◌, ◌<◌, None, true, f
 ghost use Rattle.packing_terms.specs.Exclusions.{excludes};
 ghost use Rattle.tree_terms.specs.InnerTree.{is_apart_somewhere, order_dim, apart_dim, chosen_split};
 ghost use Rattle.proof_tree.specs.Plain.{plain_token};
-ghost use Rattle.class_search.specs.Splits.{plain_split, added, with_all, IsSplitAmong, MaySplit};
+ghost use Rattle.class_search.specs.Splits.{plain_split, added, child_numbered, with_all, IsSplitAmong, MaySplit};
 
 use crate::pairs::{apart_dim, is_apart, order_dim};
 use edge_state::EdgeState;
@@ -15,6 +15,25 @@ use relation_table::Rel;
 pub enum Choice {
     Apart,
     Order,
+}
+
+/// A child of a split. The first is visited first.
+#[derive(Clone, Copy, Debug, PartialEq, Eq)]
+pub enum Child {
+    First,
+    Second,
+}
+
+impl Child {
+    // The child of a number, counted from 0.
+    pub fn numbered(number: u32) -> Child
+        ensures { result ≡ child_numbered number }
+    {
+        match number {
+            0 => Child::First,
+            _ => Child::Second,
+        }
+    }
 }
 
 /// A split of a pair in a dimension. `u` is the lower number.
@@ -32,7 +51,7 @@ impl Split {
         requires rising { u < v }
         requires there { v < state.now.boxes }
         requires divided { MaySplit (excludes state.now.trail) state.now.dims (u, v) }
-        ensures place { IsSplitAmong state.now.dims state.now.boxes result }
+        ensures among { IsSplitAmong state.now.dims state.now.boxes result }
         ensures value { plain_split result
             ≡ chosen_split (u, v) (is_apart_somewhere (excludes state.now.trail) state.now.dims
             (u, v))
@@ -73,26 +92,25 @@ impl Split {
         }
     }
 
-    // Adds what its first child excludes, or its second.
-    pub fn enter(&self, state: &mut EdgeState, second: bool)
+    // Adds what the child excludes.
+    pub fn enter(&self, state: &mut EdgeState, child: Child)
         requires { IsSplitAmong state.old.dims state.old.boxes self.now }
         ensures { state.new ≡ record state.old {
-          trail = with_all (added self.now second)
-              state.old.trail;
+          trail = with_all (added self.now child) state.old.trail;
         } }
     {
-        match (self.choice, second) {
-            (Choice::Apart, false) => {
+        match (self.choice, child) {
+            (Choice::Apart, Child::First) => {
                 state.exclude(self.dim, self.u, self.v, Rel::Overlap);
             }
-            (Choice::Apart, true) => {
+            (Choice::Apart, Child::Second) => {
                 state.exclude(self.dim, self.u, self.v, Rel::After);
                 state.exclude(self.dim, self.u, self.v, Rel::Before);
             }
-            (Choice::Order, false) => {
+            (Choice::Order, Child::First) => {
                 state.exclude(self.dim, self.u, self.v, Rel::After);
             }
-            (Choice::Order, true) => {
+            (Choice::Order, Child::Second) => {
                 state.exclude(self.dim, self.u, self.v, Rel::Before);
             }
         }

@@ -10,7 +10,7 @@ ghost use Rattle.class_search.specs.Splits.{MaySplit, added, with_all};
 ghost use Rattle.class_search.specs.Visits.{IsNextPair, IsMet, IsDivided};
 
 use crate::pairs::first_unsettled;
-use crate::splits::Split;
+use crate::splits::{Child, Split};
 use box_instances::Instance;
 use edge_state::EdgeState;
 use rule_closure::{Closed, Closer};
@@ -21,7 +21,7 @@ use rule_closure::{Closed, Closer};
 pub enum NodeKind {
     Conflict,
     Settled,
-    Divided { split: Split, place: usize },
+    Divided { split: Split, rank: usize },
 }
 
 // The kind of a closed state, where the pairs before `from` are settled.
@@ -41,12 +41,12 @@ pub fn next_kind(
         → MaySplit (excludes state.now.trail) (dims instance.now) p }
     ensures { IsNextPair instance.now state.now.trail result }
 {
-    let Some(place) = first_unsettled(state, pairs, from) else {
+    let Some(rank) = first_unsettled(state, pairs, from) else {
         return NodeKind::Settled;
     };
-    let (u, v) = pairs[place];
+    let (u, v) = pairs[rank];
     let split = Split::of_pair(state, u, v);
-    NodeKind::Divided { split, place }
+    NodeKind::Divided { split, rank }
 }
 
 // Closes the state of the root of an inner tree, and tells its kind.
@@ -71,32 +71,32 @@ pub fn visit_root(
     }
 }
 
-// Goes from a node that is split, whose closed state this is, to its first child or its second. It
-// closes what follows from the child's own exclusions, and tells the child's kind.
+// Goes from a node that is split, whose closed state this is, to a child. It closes what follows
+// from the child's own exclusions, and tells the child's kind.
 pub fn visit_child(
     instance: &Instance,
     pairs: &[(u32, u32)],
     state: &mut EdgeState,
     closer: &mut Closer,
     split: Split,
-    place: usize,
-    second: bool,
+    rank: usize,
+    child: Child,
 ) -> NodeKind
     requires limits { IsInternalInstance instance.now }
     requires dims { state.old.dims ≡ dims instance.now }
     requires boxes { state.old.boxes ≡ box_count instance.now }
     requires room { closer.old ≡ record { dims = state.old.dims; boxes = state.old.boxes } }
     requires pairs { pairs.now ≡ ranked_pairs instance.now }
-    requires divided { IsDivided instance.now state.old.trail split place }
+    requires divided { IsDivided instance.now state.old.trail split rank }
     ensures sizes { state.new ≡ record state.old { trail = state.new.trail } }
     ensures closer { closer.new ≡ closer.old }
-    ensures met { IsMet instance.now (with_all (added split second) state.old.trail) state.new.trail
+    ensures met { IsMet instance.now (with_all (added split child) state.old.trail) state.new.trail
         result }
 {
     let closed = state.mark();
-    split.enter(state, second);
+    split.enter(state, child);
     match closer.close_since(instance, state, closed) {
         Closed::Conflict => NodeKind::Conflict,
-        Closed::Stable => next_kind(instance, pairs, state, place),
+        Closed::Stable => next_kind(instance, pairs, state, rank),
     }
 }

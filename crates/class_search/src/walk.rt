@@ -13,7 +13,7 @@ ghost use Rattle.work_share.specs.Nodes.{plain_node};
 ghost use Rattle.class_search.specs.Visits.{kind_tree, IsKind, IsAmong};
 
 use crate::places::places_of;
-use crate::splits::Split;
+use crate::splits::{Child, Split};
 use crate::visit::{NodeKind, visit_child};
 use box_instances::{Instance, NoMemory};
 use edge_state::{EdgeState, Mark};
@@ -28,7 +28,7 @@ use work_share::Node;
 pub struct Waiting {
     split: Split,
     mark: Mark,
-    place: usize,
+    rank: usize,
 }
 
 // What the tree of a node gives under a cap. This is the node's kind and its closed state.
@@ -67,8 +67,9 @@ pub fn walk(
                     None => return Ok(Outcome::No { tokens, count }),
                     Some(waiting) => {
                         state.undo(waiting.mark);
-                        let (split, place) = (waiting.split, waiting.place);
-                        node = visit_child(instance, pairs, state, closer, split, place, true);
+                        let (split, rank) = (waiting.split, waiting.rank);
+                        let child = Child::Second;
+                        node = visit_child(instance, pairs, state, closer, split, rank, child);
                     }
                 }
             }
@@ -76,7 +77,7 @@ pub fn walk(
                 let numbers = places_of(alloc, instance, state)?;
                 return Ok(Outcome::Yes { numbers, count });
             }
-            NodeKind::Divided { split, place } => {
+            NodeKind::Divided { split, rank } => {
                 if count == cap {
                     return Ok(Outcome::Past);
                 }
@@ -85,10 +86,10 @@ pub fn walk(
                     return Err(NoMemory);
                 };
                 let mark = state.mark();
-                let Ok(()) = stack.push(Waiting { split, mark, place }) else {
+                let Ok(()) = stack.push(Waiting { split, mark, rank }) else {
                     return Err(NoMemory);
                 };
-                node = visit_child(instance, pairs, state, closer, split, place, false);
+                node = visit_child(instance, pairs, state, closer, split, rank, Child::First);
             }
         }
     }
@@ -118,10 +119,11 @@ pub fn descend(
     ensures known { IsKind instance.now state.new.trail result }
 {
     let mut node = node;
-    for child in path {
+    for number in path {
         match node {
-            NodeKind::Divided { split, place } => {
-                node = visit_child(instance, pairs, state, closer, split, place, *child != 0);
+            NodeKind::Divided { split, rank } => {
+                let child = Child::numbered(*number);
+                node = visit_child(instance, pairs, state, closer, split, rank, child);
             }
             NodeKind::Conflict => unreachable!(),
             NodeKind::Settled => unreachable!(),
@@ -137,7 +139,7 @@ pub fn told(node: NodeKind) -> Node
         → plain_node result ≡ node_told (kind_tree instance es node) }
 {
     match node {
-        NodeKind::Divided { split, place: _ } => Node::Split {
+        NodeKind::Divided { split, rank: _ } => Node::Split {
             token: split.token(),
             own: 1,
             children: 2,

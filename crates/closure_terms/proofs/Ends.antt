@@ -62,7 +62,7 @@ some_rel m l = each (λ x s. eqb x 0 || list_any (λ r. mask_has x r) rels) refl
 
 pub empty_or_left : (instance : PlainInstance) (X : Exclusions) (i u v m : ℕ) → IsEdge instance i u v → m < 8 → ((r : Rel) → mask_has m r ≡ not (X i u v r))
     → MatchBool (eqb m 0) (HasEmptyMask instance X) (HasRelationLeft instance X i u v)
-empty_or_left instance X i u v m place l has = go (eqb m 0) refl
+empty_or_left instance X i u v m edge l has = go (eqb m 0) refl
   where
     zero_has : (r : Rel) → mask_has 0 r ≡ false
     zero_has Overlap = refl
@@ -86,7 +86,7 @@ empty_or_left instance X i u v m place l has = go (eqb m 0) refl
       dim = i;
       u = u;
       v = v;
-      edge = place;
+      edge = edge;
       each = λ r. flipped (mask_has m r) (X i u v r) (has r) (rw (eqb-true m 0 e) (zero_has r));
     }
     go false e = record { some = λ p. left (or_cases _ _ (some_rel m l)) e }

@@ -1,4 +1,4 @@
--- The instances that are applied for a place are those that it reaches.
+-- The instances that are applied for an edge are those that it reaches.
 use Rattle.std.proofs.Common.{ℕ, inl, inr, refl, Bool}
 use Rattle.packing_terms.specs.Packing.{PlainInstance}
 use Rattle.packing_terms.specs.Exclusions.{excludes}

@@ -1,5 +1,5 @@
 -- What was looked through, and what is left to do.
-use Rattle.std.proofs.Common.{◌≡◌, ℕ, ◌+◌, ◌-◌, ◌*◌, ◌<◌, ◌≤◌, ◌⊎◌, inl, inr, refl, sym, ap, ◌∙◌, arith, Bool, true, false, not, ◌&&◌, eqb, List, length, drop}
+use Rattle.std.proofs.Common.{◌≡◌, ℕ, ◌+◌, ◌-◌, ◌*◌, ◌<◌, ◌≤◌, ◌⊎◌, inl, inr, refl, sym, ap, ◌∙◌, arith, Bool, true, false, not, ◌&&◌, eqb, List, length}
 use Rattle.std.proofs.lemmas.Bool.{true≢false, cases_Bool, cases_eq, and_parts, eqb-true}
 use Rattle.std.proofs.lemmas.List.{length-append}
 use Rattle.packing_terms.specs.declared.Rel.{Rel}
@@ -11,7 +11,7 @@ use Rattle.packing_terms.proofs.Sets.{excludes_symmetric}
 use Rattle.rule_terms.specs.Applied.{Extends}
 use Rattle.relation_table.specs.Masks.{mask_has}
 use Rattle.edge_state.specs.BitRows.{row_has, members_below}
-use Rattle.edge_state.specs.Edges.{PlainEdges}
+use Rattle.edge_state.specs.Edges.{PlainEdges, oldest}
 use Rattle.edge_state.specs.Answers.{IsChangeAfter}
 use Rattle.edge_state.proofs.RowBits.{members_fewer}
 use Rattle.closure_terms.specs.States.{HasRelationLeft}
@@ -39,27 +39,27 @@ unordered es e m o b a has ho hb ha off = record {
     tested false true true h f (inl g) = true≢false g
     tested false true true h f (inr g) = true≢false g
 
--- the changes at one place are looked through
+-- the changes at one edge are looked through
 pub looked_step : (instance : PlainInstance) (s t : PlainEdges) (e : Exclusion) (mark next : ℕ) (dirty more : List ℕ) → IsEdge instance e.dim e.u e.v
     → HasRelationLeft instance (excludes s.trail) e.dim e.u e.v → IsWorked instance s t false (λ rule. IsAppliedAt e.dim e.u e.v rule ⊎ IsAppliedAt e.dim e.v e.u rule)
     → IsChangeAfter s.trail mark e (mark + 1) → IsBehind s.trail mark e next
     → ((i : ℕ) → row_has more i ≡ false → row_has dirty i ≡ false) → ((i : ℕ) → row_has more i ≡ false → e.dim ≡ i → IsUnordered (excludes s.trail) e)
     → ((i : ℕ) → row_has more i ≡ true → (i ≡ e.dim) ⊎ (row_has dirty i ≡ true))
-    → IsLookedThrough instance (drop (length s.trail - mark) s.trail) s.trail dirty → IsLookedThrough instance (drop (length t.trail - next) t.trail) t.trail more
-looked_step instance s t e mark next dirty more place left work change behind clean free within looked = record {
-  settled = settled_step instance s t e place left work mark next looked.settled change behind;
-  chained = λ i h off. chained_step instance s t e place left work i mark next (free i off) (looked.chained i h (clean i off)) change behind;
+    → IsLookedThrough instance (oldest mark s.trail) s.trail dirty → IsLookedThrough instance (oldest next t.trail) t.trail more
+looked_step instance s t e mark next dirty more edge left work change behind clean free within looked = record {
+  settled = settled_step instance s t e edge left work mark next looked.settled change behind;
+  chained = λ i h off. chained_step instance s t e edge left work i mark next (free i off) (looked.chained i h (clean i off)) change behind;
   within = λ i on. there i (within i on);
 }
   where
     there : (i : ℕ) → (i ≡ e.dim) ⊎ (row_has dirty i ≡ true) → i < dims instance
-    there i (inl is) = rw is place.dim
+    there i (inl is) = rw is edge.dim
     there i (inr on) = looked.within i on
 
 -- CHAIN was applied in one dimension, on top of what was looked through
 pub looked_after : (instance : PlainInstance) (s t : PlainEdges) (k dim : ℕ) (dirty less : List ℕ) → IsLookedThrough instance s.trail s.trail dirty
     → IsWorked instance s t false (IsChainIn dim) → k ≡ length s.trail → ((x : ℕ) → row_has less x ≡ row_has dirty x && not (eqb x dim))
-    → IsLookedThrough instance (drop (length t.trail - k) t.trail) t.trail less
+    → IsLookedThrough instance (oldest k t.trail) t.trail less
 looked_after instance s t k dim dirty less looked work e one = record {
   settled = settled_after instance s.trail t.trail k work.extends e looked.settled;
   chained = λ i h off. chained_after instance i s.trail t.trail k work.extends e (go i h (sym (one i) ∙ off) (cases_Bool (eqb i dim)));
@@ -101,6 +101,6 @@ less_to_do instance old mid new room k dim dirty less more first second e short 
     grown_second : length new ≡ length second.more + length mid
     grown_second = rw second.grown (length-append second.more mid)
 
--- a place of the list stays one where exclusions come on top
+-- a position of the list stays one where exclusions come on top
 pub marked : (instance : PlainInstance) (k : ℕ) (old new : List Exclusion) → k ≡ length old → Extends instance old new → k ≤ length new
 marked instance k old new e more = omega (arith, e, ap length more.grown ∙ length-append more.more old)

@@ -118,7 +118,7 @@ module _ (instance : PlainInstance) (es : List Exclusion) where
       added (mirror r) (is.0, four_bd _ a b c d is.1)
       (joined_turned i d a p.3, joined_turned i c d p.2, joined_turned i b c p.1, joined_turned i a b p.0, p.4) (not_overlap r k)
 
-  -- an instance that is applied for the place and adds no less
+  -- an instance that is applied for the edge and adds no less
   abbrev pub HasReached : ℕ → ℕ → ℕ → Rule → Type 0
   HasReached j p q rule = (other : Rule) × (IsAppliedAt j p q other ⊎ IsAppliedAt j q p other)
       × ((k a b : ℕ) (r : Rel) → Adds instance (excludes es) rule k a b r → Adds instance (excludes es) other k a b r)
@@ -143,7 +143,7 @@ swap_sum : {A B : Type 0} → A ⊎ B → B ⊎ A
 swap_sum (inl a) = inr a
 swap_sum (inr b) = inl b
 
--- The step of the worklist's invariant: where all instances that are applied for the place of the oldest exclusion that wasn't looked through yet cover
+-- The step of the worklist's invariant: where all instances that are applied for the edge of the oldest exclusion that wasn't looked through yet cover
 -- what they add, that exclusion is looked through.
 pub settled_next : (instance : PlainInstance) (e : Exclusion) (seen old new : List Exclusion) → IsSubset (excludes (e ∷ seen)) (excludes old)
     → IsUpToDate instance seen new → ((r : Rel) × (excludes old e.dim e.u e.v r ≡ false))
@@ -151,7 +151,7 @@ pub settled_next : (instance : PlainInstance) (e : Exclusion) (seen old new : Li
     → IsUpToDate instance (e ∷ seen) new
 settled_next instance e seen old new within settled left done = record {
   covered = λ rule local. record { holds = λ i u v r add. go rule local i u v r add (touched_or_old instance e seen rule local) };
-  full = λ i u v place. still i u v place (decide_at e i u v);
+  full = λ i u v edge. still i u v edge (decide_at e i u v);
 }
   where
     by_reached : (rule : Rule) (p q : ℕ) → HasReached instance (e ∷ seen) e.dim p q rule
@@ -170,13 +170,13 @@ settled_next instance e seen old new within settled left done = record {
         by_reached rule e.v e.u (reached instance (e ∷ seen) e.dim e.v e.u rule t) (λ other s. done other (swap_sum s)) i u v r add
 
     still : (i u v : ℕ) → IsEdge instance i u v → IsAt e i u v ⊎ (IsAt e i u v → ⊥) → (r : Rel) × (excludes (e ∷ seen) i u v r ≡ false)
-    still i u v place (inr off) = let k = settled.full i u v place in (k.0, still_open e seen i u v k.0 off k.1)
-    still i u v place (inl (d, inl h)) = (
+    still i u v edge (inr off) = let k = settled.full i u v edge in (k.0, still_open e seen i u v k.0 off k.1)
+    still i u v edge (inl (d, inl h)) = (
       left.0,
       open_less (excludes (e ∷ seen)) (excludes old) within i u v left.0 (subst (λ (j : ℕ). excludes old j u v left.0 ≡ false) d
           (subst (λ (a : ℕ). excludes old e.dim a v left.0 ≡ false) h.0 (subst (λ (b : ℕ). excludes old e.dim e.u b left.0 ≡ false) h.1 left.1))),
     )
-    still i u v place (inl (d, inr h)) = (
+    still i u v edge (inl (d, inr h)) = (
       mirror left.0,
       open_less (excludes (e ∷ seen)) (excludes old) within i u v (mirror left.0) (subst (λ (j : ℕ). excludes old j u v (mirror left.0) ≡ false) d
           (subst (λ (a : ℕ). excludes old e.dim a v (mirror left.0) ≡ false) h.1 (subst (λ (b : ℕ). excludes old e.dim e.v b (mirror left.0) ≡ false) h.0

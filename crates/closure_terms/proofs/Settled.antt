@@ -1,5 +1,5 @@
 -- The worklist's invariant from one exclusion to the next, from the first to the last.
-use Rattle.std.proofs.Common.{◌≡◌, ℕ, zero, suc, ◌+◌, ◌-◌, ◌*◌, ◌/◌, ◌<◌, ◌≤◌, ◌⊎◌, inl, inr, refl, sym, subst, ◌∙◌, arith, true, false, List, [], ◌∷◌, ◌++◌, length, drop}
+use Rattle.std.proofs.Common.{◌≡◌, ℕ, zero, suc, ◌+◌, ◌-◌, ◌*◌, ◌/◌, ◌<◌, ◌≤◌, ◌⊎◌, inl, inr, refl, sym, subst, ◌∙◌, arith, true, false, List, [], ◌∷◌, length, drop}
 use Rattle.std.proofs.lemmas.Bool.{true≢false, cases_lt, or_right}
 use Rattle.std.proofs.lemmas.List.{length-append}
 use Rattle.packing_terms.specs.declared.Rel.{Rel}
@@ -15,7 +15,7 @@ use Rattle.rule_terms.specs.Places.{HasNoEmptyMask}
 use Rattle.rule_terms.specs.Runs.{IsTransitive}
 use Rattle.rule_terms.specs.Steps.{IsTrail}
 use Rattle.rule_terms.proofs.Steps.{trail_room, few_open}
-use Rattle.edge_state.specs.Edges.{PlainEdges}
+use Rattle.edge_state.specs.Edges.{PlainEdges, oldest}
 use Rattle.edge_state.specs.Answers.{IsChangeAfter}
 use Rattle.closure_terms.specs.States.{HasRelationLeft}
 use Rattle.closure_terms.specs.Work.{IsLocal, IsAppliedAt, IsCovered, IsExhausted, IsWorked, IsUpToDate, IsChained, IsUnordered, IsBehind, behind_one, behind_two}
@@ -23,19 +23,7 @@ use Rattle.closure_terms.proofs.Touched.{adds_more}
 use Rattle.closure_terms.proofs.Worked.{covered_not}
 use Rattle.closure_terms.proofs.Reached.{settled_next, pair_turned}
 use Rattle.closure_terms.proofs.Chained.{chained_next, chained_grown, chained_first}
-
--- what is dropped from a longer list
-drop_past : (more old : List Exclusion) (k m : ℕ) → m ≡ length more + k → drop m (more ++ old) ≡ drop k old
-drop_past [] old k m e = let same : m ≡ k = omega (arith, e) in rw same refl
-drop_past (x ∷ more) old k zero e = absurd (omega (arith, e))
-drop_past (x ∷ more) old k (suc m) e = drop_past more old k m (omega (arith, e))
-
-pub drop_grown : (more old new : List Exclusion) (next : ℕ) → new ≡ more ++ old → next ≤ length old → drop (length new - next) new ≡ drop (length old - next) old
-drop_grown more old new next e h =
-    rw e (drop_past more old (length old - next) (length (more ++ old) - next) (omega (arith, length-append more old, h)))
-
-pub drop_none : (es : List Exclusion) (k : ℕ) → k ≡ length es → drop (length es - k) es ≡ es
-drop_none es k e = let z : length es - k ≡ 0 = omega (arith, e) in rw z refl
+use Rattle.edge_state.proofs.Oldest.{oldest_grown, oldest_all, oldest_none}
 
 -- what is left of a list excludes no more
 drop_within : (k : ℕ) (es : List Exclusion) → IsSubset (excludes (drop k es)) (excludes es)
@@ -48,9 +36,9 @@ trail_drop d n zero es h = h
 trail_drop d n (suc k) [] h = h
 trail_drop d n (suc k) (e ∷ es) h = trail_drop d n k es h.2
 
--- what comes next is at a place
-pub change_place : (d n : ℕ) (es : List Exclusion) (mark next : ℕ) (e : Exclusion) → IsTrail d n es → IsChangeAfter es mark e next → IsEdgeAmong d n e.dim e.u e.v
-change_place d n es mark next e trail change =
+-- what comes next is at an edge
+pub change_edge : (d n : ℕ) (es : List Exclusion) (mark next : ℕ) (e : Exclusion) → IsTrail d n es → IsChangeAfter es mark e next → IsEdgeAmong d n e.dim e.u e.v
+change_edge d n es mark next e trail change =
     (subst (λ (l : List Exclusion). IsTrail d n l) change.newest (trail_drop d n (length es - next) es trail)).0
 
 -- there are not more exclusions than relations
@@ -65,59 +53,59 @@ settled_grown instance seen old new more h = record {
   full = h.full;
 }
 
-module _ (instance : PlainInstance) (s t : PlainEdges) (e : Exclusion) (place : IsEdge instance e.dim e.u e.v) (left : HasRelationLeft instance (excludes s.trail) e.dim e.u e.v)
+module _ (instance : PlainInstance) (s t : PlainEdges) (e : Exclusion) (edge : IsEdge instance e.dim e.u e.v) (left : HasRelationLeft instance (excludes s.trail) e.dim e.u e.v)
     (work : IsWorked instance s t false (λ rule. IsAppliedAt e.dim e.u e.v rule ⊎ IsAppliedAt e.dim e.v e.u rule)) where
   -- what was looked through after one change more
-  seen_next : (mark next : ℕ) (f : Exclusion) → IsChangeAfter s.trail mark f next → drop (length t.trail - next) t.trail ≡ f ∷ drop (length s.trail - mark) s.trail
+  seen_next : (mark next : ℕ) (f : Exclusion) → IsChangeAfter s.trail mark f next → oldest next t.trail ≡ f ∷ oldest mark s.trail
   seen_next mark next f change =
-      drop_grown work.extends.more s.trail t.trail next work.extends.grown (let h = change.before_last in omega (arith, change.counted)) ∙ change.newest
+      oldest_grown work.extends.more s.trail t.trail next work.extends.grown (let h = change.before_last in omega (arith, change.counted)) ∙ change.newest
 
-  seen_within : (mark next : ℕ) (f : Exclusion) → IsChangeAfter s.trail mark f next → IsSubset (excludes (f ∷ drop (length s.trail - mark) s.trail)) (excludes s.trail)
+  seen_within : (mark next : ℕ) (f : Exclusion) → IsChangeAfter s.trail mark f next → IsSubset (excludes (f ∷ oldest mark s.trail)) (excludes s.trail)
   seen_within mark next f change = subst (λ (l : List Exclusion). IsSubset (excludes l) (excludes s.trail)) change.newest (drop_within (length s.trail - next) s.trail)
 
-  seen_before : (mark : ℕ) → mark ≤ length s.trail → drop (length t.trail - mark) t.trail ≡ drop (length s.trail - mark) s.trail
-  seen_before mark h = drop_grown work.extends.more s.trail t.trail mark work.extends.grown h
+  seen_before : (mark : ℕ) → mark ≤ length s.trail → oldest mark t.trail ≡ oldest mark s.trail
+  seen_before mark h = oldest_grown work.extends.more s.trail t.trail mark work.extends.grown h
 
-  -- one change more at the place
+  -- one change more at the edge
   settled_one : (mark next : ℕ) (f : Exclusion) → IsChangeAfter s.trail mark f next → f.dim ≡ e.dim → f.u ≡ e.u → f.v ≡ e.v
-      → IsUpToDate instance (drop (length s.trail - mark) s.trail) t.trail → IsUpToDate instance (drop (length t.trail - next) t.trail) t.trail
+      → IsUpToDate instance (oldest mark s.trail) t.trail → IsUpToDate instance (oldest next t.trail) t.trail
   settled_one mark next f change d u v settled =
       subst (λ (l : List Exclusion). IsUpToDate instance l t.trail) (sym (seen_next mark next f change))
-      (settled_next instance f (drop (length s.trail - mark) s.trail) s.trail t.trail (seen_within mark next f change) settled
-      (rw (d, u, v) (left.some place)) (rw (d, u, v) (work.done refl)))
+      (settled_next instance f (oldest mark s.trail) s.trail t.trail (seen_within mark next f change) settled
+      (rw (d, u, v) (left.some edge)) (rw (d, u, v) (work.done refl)))
 
   chained_one : (i mark next : ℕ) (f : Exclusion) → IsChangeAfter s.trail mark f next → f.dim ≡ e.dim → f.u ≡ e.u → f.v ≡ e.v
       → (e.dim ≡ i → IsUnordered (excludes s.trail) e)
-      → IsChained instance i (drop (length s.trail - mark) s.trail) t.trail → IsChained instance i (drop (length t.trail - next) t.trail) t.trail
+      → IsChained instance i (oldest mark s.trail) t.trail → IsChained instance i (oldest next t.trail) t.trail
   chained_one i mark next f change d u v free chained =
       subst (λ (l : List Exclusion). IsChained instance i l t.trail) (sym (seen_next mark next f change))
-      (chained_next instance f (drop (length s.trail - mark) s.trail) s.trail t.trail i (seen_within mark next f change)
+      (chained_next instance f (oldest mark s.trail) s.trail t.trail i (seen_within mark next f change)
       (λ is. let h = free (sym d ∙ is) in record { forth = rw (d, u, v) h.forth; back = rw (d, u, v) h.back }) chained)
 
-  -- all changes at the place that stand together
-  pub settled_step : (mark next : ℕ) → IsUpToDate instance (drop (length s.trail - mark) s.trail) s.trail → IsChangeAfter s.trail mark e (mark + 1)
-      → IsBehind s.trail mark e next → IsUpToDate instance (drop (length t.trail - next) t.trail) t.trail
+  -- all changes at the edge that stand together
+  pub settled_step : (mark next : ℕ) → IsUpToDate instance (oldest mark s.trail) s.trail → IsChangeAfter s.trail mark e (mark + 1)
+      → IsBehind s.trail mark e next → IsUpToDate instance (oldest next t.trail) t.trail
   settled_step mark next settled change behind = go behind
     where
-      one : IsUpToDate instance (drop (length t.trail - (mark + 1)) t.trail) t.trail
+      one : IsUpToDate instance (oldest (mark + 1) t.trail) t.trail
       one = settled_one mark (mark + 1) e change refl refl refl
-          (settled_grown instance (drop (length s.trail - mark) s.trail) s.trail t.trail work.extends.kept settled)
+          (settled_grown instance (oldest mark s.trail) s.trail t.trail work.extends.kept settled)
 
-      go : IsBehind s.trail mark e next → IsUpToDate instance (drop (length t.trail - next) t.trail) t.trail
+      go : IsBehind s.trail mark e next → IsUpToDate instance (oldest next t.trail) t.trail
       go (behind_one is) = rw is one
       go (behind_two f more d u v) =
           settled_one (mark + 1) next f more d u v
           (subst (λ (l : List Exclusion). IsUpToDate instance l t.trail) (seen_before (mark + 1) (let h = change.before_last in omega arith)) one)
 
-  pub chained_step : (i mark next : ℕ) → (e.dim ≡ i → IsUnordered (excludes s.trail) e) → IsChained instance i (drop (length s.trail - mark) s.trail) s.trail
-      → IsChangeAfter s.trail mark e (mark + 1) → IsBehind s.trail mark e next → IsChained instance i (drop (length t.trail - next) t.trail) t.trail
+  pub chained_step : (i mark next : ℕ) → (e.dim ≡ i → IsUnordered (excludes s.trail) e) → IsChained instance i (oldest mark s.trail) s.trail
+      → IsChangeAfter s.trail mark e (mark + 1) → IsBehind s.trail mark e next → IsChained instance i (oldest next t.trail) t.trail
   chained_step i mark next free chained change behind = go behind
     where
-      one : IsChained instance i (drop (length t.trail - (mark + 1)) t.trail) t.trail
+      one : IsChained instance i (oldest (mark + 1) t.trail) t.trail
       one = chained_one i mark (mark + 1) e change refl refl refl free
-          (chained_grown instance i (drop (length s.trail - mark) s.trail) s.trail t.trail work.extends.kept chained)
+          (chained_grown instance i (oldest mark s.trail) s.trail t.trail work.extends.kept chained)
 
-      go : IsBehind s.trail mark e next → IsChained instance i (drop (length t.trail - next) t.trail) t.trail
+      go : IsBehind s.trail mark e next → IsChained instance i (oldest next t.trail) t.trail
       go (behind_one is) = rw is one
       go (behind_two f more d u v) =
           chained_one i (mark + 1) next f more d u v free
@@ -153,7 +141,7 @@ settled_since instance es k stable full = settled_stable instance (drop k es) es
 -- At the start only PAIR can add anything.
 pub settled_first : (instance : PlainInstance) (es : List Exclusion) → 2 ≤ dims instance
     → ((i u v : ℕ) → IsRuleInstance instance (Pair i u v) → IsCovered instance (excludes []) es (Pair i u v)) → IsUpToDate instance [] es
-settled_first instance es two pairs = record { covered = λ rule local. at rule local; full = λ i u v place. (Overlap, refl) }
+settled_first instance es two pairs = record { covered = λ rule local. at rule local; full = λ i u v edge. (Overlap, refl) }
   where
     nothing : {A : Type 0} → false ≡ true → A
     nothing e = absurd (true≢false (sym e))
@@ -217,30 +205,21 @@ stable_settled instance es settled chains _ _ _ _ (by_rule rule r is p c) = (all
 stable_settled instance es settled chains _ _ _ _ (mirrored rule r is p c) = (all_covered instance es settled chains rule is).holds _ _ _ _ (mirror_added r is p c)
 
 pub settled_after : (instance : PlainInstance) (old new : List Exclusion) (k : ℕ) → Extends instance old new → k ≡ length old → IsUpToDate instance old old
-    → IsUpToDate instance (drop (length new - k) new) new
+    → IsUpToDate instance (oldest k new) new
 settled_after instance old new k extends e h =
     subst (λ (l : List Exclusion). IsUpToDate instance l new) (sym same) (settled_grown instance old old new extends.kept h)
   where
-    same : drop (length new - k) new ≡ old
-    same = drop_grown extends.more old new k extends.grown (omega (arith, e)) ∙ drop_none old k e
+    same : oldest k new ≡ old
+    same = oldest_grown extends.more old new k extends.grown (omega (arith, e)) ∙ oldest_all old k e
 
 pub chained_after : (instance : PlainInstance) (i : ℕ) (old new : List Exclusion) (k : ℕ) → Extends instance old new → k ≡ length old → IsChained instance i old new
-    → IsChained instance i (drop (length new - k) new) new
+    → IsChained instance i (oldest k new) new
 chained_after instance i old new k extends e h = subst (λ (l : List Exclusion). IsChained instance i l new) (sym same) h
   where
-    same : drop (length new - k) new ≡ old
-    same = drop_grown extends.more old new k extends.grown (omega (arith, e)) ∙ drop_none old k e
+    same : oldest k new ≡ old
+    same = oldest_grown extends.more old new k extends.grown (omega (arith, e)) ∙ oldest_all old k e
 
 -- nothing was looked through, and PAIR was applied at all pairs
-drop_whole : (es : List Exclusion) (k : ℕ) → k ≡ 0 → drop (length es - k) es ≡ []
-drop_whole es k e = all es (length es - k) (omega (arith, e))
-  where
-    all : (fs : List Exclusion) (m : ℕ) → m ≡ length fs → drop m fs ≡ []
-    all [] zero f = refl
-    all [] (suc m) f = refl
-    all (x ∷ fs) zero f = absurd (omega (arith, f))
-    all (x ∷ fs) (suc m) f = all fs m (omega (arith, f))
-
 pairs_first : (instance : PlainInstance) (old new : List Exclusion) → ((i u v : ℕ) → IsRuleInstance instance (Pair i u v) → IsCovered instance (excludes old) new (Pair i u v))
     → (i u v : ℕ) → IsRuleInstance instance (Pair i u v) → IsCovered instance (excludes []) new (Pair i u v)
 pairs_first instance old new pairs i u v is = record {
@@ -265,17 +244,17 @@ pairs_both instance X es half i u v is = go (cases_lt u v)
 
 pub settled_pairs : (instance : PlainInstance) (old new : List Exclusion) (k : ℕ) → k ≡ 0 → 2 ≤ dims instance
     → ((i u v : ℕ) → IsRuleInstance instance (Pair i u v) → IsCovered instance (excludes old) new (Pair i u v))
-    → IsUpToDate instance (drop (length new - k) new) new
+    → IsUpToDate instance (oldest k new) new
 settled_pairs instance old new k e two pairs =
-    subst (λ (l : List Exclusion). IsUpToDate instance l new) (sym (drop_whole new k e)) (settled_first instance new two (pairs_first instance old new pairs))
+    subst (λ (l : List Exclusion). IsUpToDate instance l new) (sym (oldest_none new k e)) (settled_first instance new two (pairs_first instance old new pairs))
 
 pub chained_pairs : (instance : PlainInstance) (i : ℕ) (old new : List Exclusion) (k : ℕ) → k ≡ 0
     → ((j u v : ℕ) → IsRuleInstance instance (Pair j u v) → IsCovered instance (excludes old) new (Pair j u v))
-    → IsChained instance i (drop (length new - k) new) new
+    → IsChained instance i (oldest k new) new
 chained_pairs instance i old new k e pairs =
-    subst (λ (l : List Exclusion). IsChained instance i l new) (sym (drop_whole new k e)) (chained_first instance i new (pairs_first instance old new pairs))
+    subst (λ (l : List Exclusion). IsChained instance i l new) (sym (oldest_none new k e)) (chained_first instance i new (pairs_first instance old new pairs))
 
--- the place behind is in the list, and later
+-- the position behind is in the list, and later
 pub behind_within : (es : List Exclusion) (mark next : ℕ) (e : Exclusion) → mark < length es → IsBehind es mark e next → (mark < next) × (next ≤ length es)
 behind_within es mark next e h (behind_one is) = (omega (arith, is), omega (arith, h, is))
 behind_within es mark next e h (behind_two f change d u v) =
@@ -290,11 +269,11 @@ grown_past instance old new mark next e extends h behind =
     let within = behind_within old mark next e h behind in
     omega (arith, grown, within.1)
 
--- the last place is reached: all was looked through
-pub settled_all : (instance : PlainInstance) (es : List Exclusion) (k : ℕ) → k ≡ length es → IsUpToDate instance (drop (length es - k) es) es
+-- the last position is reached: all was looked through
+pub settled_all : (instance : PlainInstance) (es : List Exclusion) (k : ℕ) → k ≡ length es → IsUpToDate instance (oldest k es) es
     → IsUpToDate instance es es
-settled_all instance es k e h = subst (λ (l : List Exclusion). IsUpToDate instance l es) (drop_none es k e) h
+settled_all instance es k e h = subst (λ (l : List Exclusion). IsUpToDate instance l es) (oldest_all es k e) h
 
-pub chained_all : (instance : PlainInstance) (i : ℕ) (es : List Exclusion) (k : ℕ) → k ≡ length es → IsChained instance i (drop (length es - k) es) es
+pub chained_all : (instance : PlainInstance) (i : ℕ) (es : List Exclusion) (k : ℕ) → k ≡ length es → IsChained instance i (oldest k es) es
     → IsChained instance i es es
-chained_all instance i es k e h = subst (λ (l : List Exclusion). IsChained instance i l es) (drop_none es k e) h
+chained_all instance i es k e h = subst (λ (l : List Exclusion). IsChained instance i l es) (oldest_all es k e) h

@@ -1,4 +1,4 @@
--- What one exclusion more lets the rules add: it comes from instances that read the place of that exclusion.
+-- What one exclusion more lets the rules add: it comes from instances that read the edge of that exclusion.
 use Rattle.std.proofs.Common.{◌≡◌, ◌≢◌, ℕ, ◌⊎◌, inl, inr, sym, ◌∙◌, true, false, List, ◌∷◌, IsTrue}
 use Rattle.std.proofs.lemmas.Bool.{true≢false, cases_Bool, cases_eq, or_cases, and_parts, eqb-true}
 use Rattle.packing_terms.specs.declared.Rel.{Rel}
@@ -13,11 +13,11 @@ use Rattle.packing_terms.proofs.Monotone.{premises_more, concludes_more}
 use Rattle.rule_terms.specs.Applied.{Adds, added, mirror_added}
 use Rattle.closure_terms.specs.Work.{IsLocal, ReadsEdge}
 
--- the instance reads the place of the exclusion, in one order or the other
+-- the instance reads the edge of the exclusion, in one order or the other
 abbrev pub IsTouched : Exclusion → Rule → Type 0
 IsTouched e rule = ReadsEdge rule e.dim e.u e.v ⊎ ReadsEdge rule e.dim e.v e.u
 
--- the place is that of the exclusion
+-- the edge is that of the exclusion
 abbrev pub IsAt : Exclusion → ℕ → ℕ → ℕ → Type 0
 IsAt e i a b = (e.dim ≡ i) × (((e.u ≡ a) × (e.v ≡ b)) ⊎ ((e.u ≡ b) × (e.v ≡ a)))
 
@@ -43,7 +43,7 @@ decide_at e i a b = go (cases_eq e.dim i) (decide_pair e.u e.v a b) (decide_pair
     go (inl d) (inr n) (inl h) = inl (d, inr h)
     go (inl d) (inr n) (inr m) = inr (λ h. neither n m h.1)
 
--- an instance that reads the place of the exclusion is touched by it
+-- an instance that reads the edge of the exclusion is touched by it
 touched_at : (e : Exclusion) (rule : Rule) (i a b : ℕ) → ((j p q : ℕ) → i ≡ j → a ≡ p → b ≡ q → ReadsEdge rule j p q) → IsAt e i a b → IsTouched e rule
 touched_at e rule i a b reads at = go at.1
   where
@@ -51,7 +51,7 @@ touched_at e rule i a b reads at = go at.1
     go (inl h) = inl (reads e.dim e.u e.v (sym at.0) (sym h.0) (sym h.1))
     go (inr h) = inr (reads e.dim e.v e.u (sym at.0) (sym h.1) (sym h.0))
 
--- at another place the longer list excludes no more
+-- at another edge the longer list excludes no more
 pub only_old : (e : Exclusion) (es : List Exclusion) (i a b : ℕ) (r : Rel) → (IsAt e i a b → ⊥) → IsTrue (excludes (e ∷ es) i a b r) → IsTrue (excludes es i a b r)
 only_old e es i a b r off h = go (or_cases _ _ h)
   where

@@ -51,7 +51,7 @@ covered_if instance X es rule h = record { holds = λ i u v r add. go i u v r ad
     go i u v r (added s is p c) = (h is).holds _ _ _ _ (added s is p c)
     go i u v r (mirror_added s is p c) = (h is).holds _ _ _ _ (mirror_added s is p c)
 
--- a rule was applied, and no mask of its place is lost
+-- a rule was applied, and no mask of its edge is lost
 pub worked_applied : (instance : PlainInstance) (a b : PlainEdges) (x : Bool) (rule : Rule) → b ≡ record a { trail = b.trail }
     → IsApplied instance rule a.trail b.trail x → IsWorked instance a b false (λ s. s ≡ rule)
 worked_applied instance a b x rule e h = record {

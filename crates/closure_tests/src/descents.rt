@@ -91,7 +91,7 @@ fn are_same(first: &EdgeState, second: &EdgeState) -> bool
     true
 }
 
-// Excludes one relation in both ways, where there is such a place. `None` comes where they differ.
+// Excludes one relation in both ways, where there is such an edge. `None` comes where they differ.
 fn try_both(
     instance: &Instance,
     state: &mut EdgeState,

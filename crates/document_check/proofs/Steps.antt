@@ -7,7 +7,7 @@ use Rattle.std.proofs.lemmas.List.{length-append, take_at}
 use Rattle.std.proofs.lemmas.List.Splits.{length-slice_split}
 use Rattle.pack_streams.specs.Moves.{Gives}
 use Rattle.text_terms.specs.Lines.{is_line_feed, text_lines, drop_empty_end}
-use Rattle.text_terms.specs.Texts.{◌>>=◌}
+use Rattle.packing_terms.specs.Results.{◌>>=◌}
 use Rattle.text_terms.specs.Feeding.{Lexer, new_lexer, end_line as end_line_step, add_byte, held_of, feed, finish, ended_line}
 use Rattle.document_terms.specs.declared.claim.Claim.{Claim}
 use Rattle.verdict_terms.specs.declared.reason.Reason.{Reason}

@@ -129,26 +129,26 @@ pub shows_set : (d n : ℕ) (rows : List (List ℕ)) (X Y : Exclusions) (i u v :
     → ((x : ℕ) → row_has y x ≡ is_other_box n v x && not (Y i v x (mirror rel)))
     → ((j a b : ℕ) (r : Rel) → a < n → row_index n j a r ≢ row_index n i u rel → row_index n j a r ≢ row_index n i v (mirror rel) → Y j a b r ≡ X j a b r)
     → ShowsRows d n (set (set rows (row_index n i u rel) w) (row_index n i v (mirror rel)) y) Y
-shows_set d n rows X Y i u v rel w y shows place here there others = record {
+shows_set d n rows X Y i u v rel w y shows edge here there others = record {
   count = rw (length-set (set rows (row_index n i u rel) w) (row_index n i v (mirror rel)) y, length-set rows (row_index n i u rel) w) shows.count;
   has = λ j a b r hj ha. go j a b r hj ha (cases_eq (row_index n j a r) (row_index n i v (mirror rel))) (cases_eq (row_index n j a r) (row_index n i u rel));
 }
   where
     first : row_index n i u rel < length rows
-    first = omega (arith, shows.count, row_within d n i u rel place.dim place.first)
+    first = omega (arith, shows.count, row_within d n i u rel edge.dim edge.first)
 
     second : row_index n i v (mirror rel) < length (set rows (row_index n i u rel) w)
-    second = rw (length-set rows (row_index n i u rel) w) (omega (arith, shows.count, row_within d n i v (mirror rel) place.dim place.second))
+    second = rw (length-set rows (row_index n i u rel) w) (omega (arith, shows.count, row_within d n i v (mirror rel) edge.dim edge.second))
 
     go : (j a b : ℕ) (r : Rel) → j < d → a < n
         → (row_index n j a r ≡ row_index n i v (mirror rel)) ⊎ (row_index n j a r ≡ row_index n i v (mirror rel) → ⊥)
         → (row_index n j a r ≡ row_index n i u rel) ⊎ (row_index n j a r ≡ row_index n i u rel → ⊥)
         → row_has (row_at n (set (set rows (row_index n i u rel) w) (row_index n i v (mirror rel)) y) j a r) b ≡ is_other_box n a b && not (Y j a b r)
     go j a b r hj ha (inl e) _ =
-        let s = one_row n j a i v r (mirror rel) ha place.second e in
+        let s = one_row n j a i v r (mirror rel) ha edge.second e in
         rw (s.0, s.1, s.2) (rw (get_or-set_same (set rows (row_index n i u rel) w) (row_index n i v (mirror rel)) y [] second) (there b))
     go j a b r hj ha (inr ne) (inl e) =
-        let s = one_row n j a i u r rel ha place.first e in
+        let s = one_row n j a i u r rel ha edge.first e in
         rw (get_or-set_other (set rows (row_index n i u rel) w) (row_index n i v (mirror rel)) (row_index n j a r) y [] ne)
         (rw (s.0, s.1, s.2) (rw (get_or-set_same rows (row_index n i u rel) w [] first) (here b)))
     go j a b r hj ha (inr ne) (inr ne') =

@@ -7,7 +7,8 @@ use Rattle.instance_text.specs.Steps.{step_of}
 use Rattle.packing_terms.specs.Packing.{PlainInstance}
 use Rattle.text_terms.specs.declared.fault.TextFault.{TextFault}
 use Rattle.text_terms.specs.Lines.{is_line_feed}
-use Rattle.text_terms.specs.Texts.{Parts, at_end, text_instance, no_parts, ◌>>=◌}
+use Rattle.packing_terms.specs.Results.{◌>>=◌}
+use Rattle.text_terms.specs.Texts.{Parts, at_end, text_instance, no_parts}
 use Rattle.text_terms.specs.Feeding.{Lexer, new_lexer, end_line, feed, finish, take_line, feed_all}
 use Rattle.std.specs.Prelude.{IfOk}
 use Rattle.packing_terms.specs.Limits.{IsInstance}

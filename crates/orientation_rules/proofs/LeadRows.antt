@@ -6,6 +6,7 @@ use Rattle.packing_terms.specs.declared.Rel.TheVariants.{Overlap, Before, After}
 use Rattle.packing_terms.specs.declared.Exclusion.{Exclusion}
 use Rattle.packing_terms.specs.Exclusions.{Exclusions, excludes}
 use Rattle.packing_terms.proofs.Sets.{excludes_symmetric}
+use Rattle.rule_terms.specs.declared.Direction.TheVariants.{Forwards, Backwards}
 use Rattle.rule_terms.specs.Runs.{Leads, HasNoHeavierRun, IsOneWay}
 use Rattle.edge_state.specs.Edges.{is_other_box}
 use Rattle.edge_state.proofs.Kept.{row_open, row_shut}
@@ -54,29 +55,20 @@ alone_leads n i u v X behind x a o b m e ha ho hb hm he on =
     shut true s h e f = refl
     shut false s h e f = absurd (true≢false (sym (sym f ∙ e ∙ ap (λ z. z && true) h)))
 
-pub led_back : (es : List Exclusion) (i : ℕ) (back : Bool) (v x : ℕ) → back ≡ true
-    → (excludes es i v x Overlap ≡ true → excludes es i v x Before ≡ true → excludes es i v x After ≡ true) → Leads (excludes es) i back v x → Leads (excludes es) i back x v
-led_back es i true v x e third lead =
+-- where the third relation is excluded with the other two, what leads on leads both ways
+pub led_on : (es : List Exclusion) (i v x : ℕ) → (excludes es i v x Overlap ≡ true → excludes es i v x After ≡ true → excludes es i v x Before ≡ true)
+    → Leads (excludes es) i Forwards v x → Leads (excludes es) i Forwards x v
+led_on es i v x third lead = (excludes_symmetric es i v x Overlap lead.0, excludes_symmetric es i v x Before (third lead.0 lead.1))
+
+pub led_back : (es : List Exclusion) (i v x : ℕ) → (excludes es i v x Overlap ≡ true → excludes es i v x Before ≡ true → excludes es i v x After ≡ true)
+    → Leads (excludes es) i Backwards v x → Leads (excludes es) i Backwards x v
+led_back es i v x third lead =
     let near = excludes_symmetric es i x v Overlap lead.0 in
     (near, third near (excludes_symmetric es i x v After lead.1))
-led_back es i false v x e third lead = absurd (true≢false (sym e))
 
-pub led_on : (es : List Exclusion) (i : ℕ) (back : Bool) (v x : ℕ) → back ≡ false
-    → (excludes es i v x Overlap ≡ true → excludes es i v x After ≡ true → excludes es i v x Before ≡ true) → Leads (excludes es) i back v x → Leads (excludes es) i back x v
-led_on es i true v x e third lead = absurd (true≢false e)
-led_on es i false v x e third lead =
-    (excludes_symmetric es i v x Overlap lead.0, excludes_symmetric es i v x Before (third lead.0 lead.1))
-
--- what the two excluded relations say
-pub leads_back : (es : List Exclusion) (i : ℕ) (back : Bool) (v x : ℕ) → back ≡ true → excludes es i v x Overlap ≡ true → excludes es i v x Before ≡ true
-    → Leads (excludes es) i back v x
-leads_back es i true v x e near behind = (excludes_symmetric es i v x Overlap near, excludes_symmetric es i v x Before behind)
-leads_back es i false v x e near behind = absurd (true≢false (sym e))
-
-pub leads_on : (es : List Exclusion) (i : ℕ) (back : Bool) (v x : ℕ) → back ≡ false → excludes es i v x Overlap ≡ true → excludes es i v x After ≡ true
-    → Leads (excludes es) i back v x
-leads_on es i true v x e near behind = absurd (true≢false e)
-leads_on es i false v x e near behind = (near, behind)
+-- what the two excluded relations say, read backwards
+pub leads_back : (es : List Exclusion) (i v x : ℕ) → excludes es i v x Overlap ≡ true → excludes es i v x Before ≡ true → Leads (excludes es) i Backwards v x
+leads_back es i v x near behind = (excludes_symmetric es i v x Overlap near, excludes_symmetric es i v x Before behind)
 
 -- where one number rises and the others stay, it is still settled beside the boxes that it was settled beside
 pub settled_more : (R : ℕ → ℕ → Type 0) (w : ℕ → ℕ) (b c : List ℕ) (v x : ℕ) → OthersStay v b c → slice_index b v ≤ slice_index c v → HasNoHeavierRun R w b v x

@@ -54,7 +54,7 @@ module _ (i u v : ℕ) (keep : Rel → Bool) where
   out es _ _ _ _ (taken r k) = own es r k
   out es _ _ _ _ (mirror_taken r k) = excludes_symmetric (narrowed es i u v keep) i u v r (own es r k)
 
-  -- exactly what was excluded before, and what isn't kept at the place, is excluded
+  -- exactly what was excluded before, and what isn't kept at the edge, is excluded
   pub taken_exactly : (es : List Exclusion) (j a b : ℕ) (r : Rel)
       → (excludes (narrowed es i u v keep) j a b r ≡ true) ↔ ((excludes es j a b r ≡ true) ⊎ IsTakenOut i u v keep j a b r)
   taken_exactly es j a b r = (λ h. third (by_cases (narrowed_by (narrowed_by es i u v keep Overlap) i u v keep Before) After j a b r h), back)

@@ -22,13 +22,13 @@ use Rattle.refutation_check.specs.Refuters.{PlainRefuter, fed as inner_fed}
 use Rattle.outer_check.specs.declared.path.Frame.{Frame}
 use Rattle.outer_check.specs.declared.goal.Goal.{Goal}
 use Rattle.outer_check.specs.declared.goal.Goal.TheVariants.{Bins, Value}
-use Rattle.outer_check.specs.declared.place.Place.{Place}
-use Rattle.outer_check.specs.declared.place.Place.TheVariants.{AtNode, InSet}
+use Rattle.outer_check.specs.declared.point.Point.{Point}
+use Rattle.outer_check.specs.declared.point.Point.TheVariants.{AtNode, InSet}
 use Rattle.outer_check.specs.Frames.{PlainPath, is_put, boxes_put, next_frames}
 use Rattle.outer_check.specs.Nodes.{node_below, path_below, HaveChildren, HaveUsed}
 use Rattle.outer_check.specs.Outers.{inside_view, view_by, tree_seen, tree_refusal, tree_after, judged_at, ForBins, ForValue, AreOf, IsOpenAt, IsGoing}
 use Rattle.outer_check.specs.declared.step.Step.TheVariants.{Close}
-use Rattle.outer_check.specs.Steps.{standing, place_behind, IsTokenStep}
+use Rattle.outer_check.specs.Steps.{standing, point_behind, IsTokenStep}
 use Rattle.outer_check.specs.Taking.{IsTaken}
 use Rattle.outer_check.proofs.Views.{left_is, next_children}
 
@@ -54,7 +54,7 @@ boxes_set instance frames child = record {
 
 -- a tree that stands at an outer node or at its end is seen without the inner one
 pub stands : {Node : Type 0} (below : Node → ℕ → List Node) (root : Node) (inner : PlainRefuter) (frames : List Frame)
-    → view_by below root frames (place_behind frames) inner ≡ standing below root frames (place_behind frames)
+    → view_by below root frames (point_behind frames) inner ≡ standing below root frames (point_behind frames)
 stands below root inner [] = refl
 stands below root inner (f ∷ frames) = refl
 
@@ -87,7 +87,7 @@ module _ {Node : Type 0} (below : Node → ℕ → List Node) (root : Node) (ste
   -- none is
   pub view_leaves : (t : PlainToken) (keep : List ℕ) (es : List Exclusion) (behind nodes : List (List Exclusion)) (inner : PlainRefuter) → nodes ≡ children es t ++ behind → nodes ≡ []
       → HaveChildren below root frames
-      → view_by below root (next_frames frames) (place_behind (next_frames frames)) inner ≡ view_after below step (On (path_below below root frames) (Inside keep es behind)) t
+      → view_by below root (next_frames frames) (point_behind (next_frames frames)) inner ≡ view_after below step (On (path_below below root frames) (Inside keep es behind)) t
   view_leaves t keep es behind nodes inner e none h =
       stands below root inner (next_frames frames) ∙ (sym (left_is below root frames h) ∙ ap (go_on below (path_below below root frames) keep) (sym none ∙ e))
 
@@ -155,7 +155,7 @@ module _ (instance : PlainInstance) (path : PlainPath) (old new : PlainRefuter) 
       ∙ ap (λ ns. view_after choices_with choice_step (inside_view (path_below choices_with no_choice path.frames) (node_below choices_with no_choice path.frames) old.keep ns) t) (sym s.were)))
 
   closed : (goal : Goal) → AreOf goal path.frames → new.checked.nodes ≡ children s.es t ++ s.behind → new.checked.nodes ≡ []
-      → tree_seen goal (next_frames path.frames) (place_behind (next_frames path.frames)) new ≡ tree_after (tree_seen goal path.frames InSet old) t
+      → tree_seen goal (next_frames path.frames) (point_behind (next_frames path.frames)) new ≡ tree_after (tree_seen goal path.frames InSet old) t
   closed (Bins k) are e none =
       ap (λ v. ForBins k v)
       (view_leaves (bins_with k) [] bin_step path.frames t old.keep s.es s.behind new.checked.nodes new e none are.0
@@ -170,7 +170,7 @@ module _ (instance : PlainInstance) (path : PlainPath) (old new : PlainRefuter) 
   same_tree (Value y) e = ap₂ (λ keep ns. ForValue y (inside_view (path_below choices_with no_choice path.frames) (node_below choices_with no_choice path.frames) keep ns)) s.keep e
 
   -- at an outer node or at the end nothing is asked of the inner tree
-  opens_behind : (frames : List Frame) → IsOpenAt (place_behind frames) new
+  opens_behind : (frames : List Frame) → IsOpenAt (point_behind frames) new
   opens_behind [] = tt
   opens_behind (f ∷ frames) = tt
 
@@ -198,9 +198,9 @@ module _ (instance : PlainInstance) (path : PlainPath) (old new : PlainRefuter) 
               by_nodes (n ∷ ns) h = omega arith
 
   pub inner_done : (goal : Goal) → IsGoing instance goal path InSet old → Done ≡ inner_answered new.checked
-      → (path' : PlainPath) (place' : Place) → path' ≡ record path { frames = next_frames path.frames } → place' ≡ place_behind (next_frames path.frames)
-      → IsTaken instance goal path InSet old t path' place' new (Ok tt)
-  inner_done goal going answer path' place' e f = go s.result
+      → (path' : PlainPath) (point' : Point) → path' ≡ record path { frames = next_frames path.frames } → point' ≡ point_behind (next_frames path.frames)
+      → IsTaken instance goal path InSet old t path' point' new (Ok tt)
+  inner_done goal going answer path' point' e f = go s.result
     where
       no_open : (x : Checked (List Exclusion)) → Done ≡ inner_answered x → x.refused ≡ None → x.nodes ≡ []
       no_open x a calm = by_nodes x.nodes (a ∙ ap (λ r. inner_answered_by r x.nodes) calm)
@@ -211,12 +211,12 @@ module _ (instance : PlainInstance) (path : PlainPath) (old new : PlainRefuter) 
 
       go : ((refusal (subset instance old.keep) s.es t ≡ None) × (new.checked ≡ record { nodes = children s.es t ++ s.behind; refused = None }))
           ⊎ ((code : RefuseCode) × (refusal (subset instance old.keep) s.es t ≡ Some code) × (new.checked ≡ record { nodes = old.checked.nodes; refused = Some code }))
-          → IsTaken instance goal path InSet old t path' place' new (Ok tt)
+          → IsTaken instance goal path InSet old t path' point' new (Ok tt)
       go (inr (code, r, h)) = absurd (let k : ◌≡◌ {A = FeedVerdict} Done (Refused code) = answer ∙ ap inner_answered h in cc (k))
       go (inl (r, h)) =
           let nodes = ap (λ (x : Checked (List Exclusion)). x.nodes) h in
           let none = no_open new.checked answer (ap (λ (x : Checked (List Exclusion)). x.refused) h) in
-          subst (λ q. IsTaken instance goal path InSet old t q place' new (Ok tt)) (sym e) (subst (λ q. IsTaken instance goal path InSet old t (record path { frames = next_frames path.frames }) q new (Ok tt)) (sym f) (
+          subst (λ q. IsTaken instance goal path InSet old t q point' new (Ok tt)) (sym e) (subst (λ q. IsTaken instance goal path InSet old t (record path { frames = next_frames path.frames }) q new (Ok tt)) (sym f) (
             judged goal ∙ r,
             closed goal going.are nodes none,
             record { boxes = going.boxes; same = s.same ∙ going.same; are = next_are goal path.frames going.are; opens = opens_behind (next_frames path.frames) },
@@ -242,7 +242,7 @@ module _ (instance : PlainInstance) (path : PlainPath) (old new : PlainRefuter) 
           )
 
 -- the same, by what the feeding of the inner tree answers
-module _ (instance : PlainInstance) (goal : Goal) (path : PlainPath) (place : Place) (old new : PlainRefuter) (t : PlainToken) (there : place ≡ InSet) (going : IsGoing instance goal path place old)
+module _ (instance : PlainInstance) (goal : Goal) (path : PlainPath) (point : Point) (old new : PlainRefuter) (t : PlainToken) (there : point ≡ InSet) (going : IsGoing instance goal path point old)
     (step : new ≡ inner_fed old t) where
   inside : IsGoing instance goal path InSet old
   inside = subst (λ p. IsGoing instance goal path p old) there going
@@ -250,35 +250,35 @@ module _ (instance : PlainInstance) (goal : Goal) (path : PlainPath) (place : Pl
   stepped_inside : InnerStep instance old new t
   stepped_inside = inner_step instance old new t going.same inside.opens.0 inside.opens.1 step
 
-  pub took_more : More ≡ inner_answered new.checked → IsTaken instance goal path place old t path place new (Ok tt)
+  pub took_more : More ≡ inner_answered new.checked → IsTaken instance goal path point old t path point new (Ok tt)
   took_more answer =
       subst (λ p. IsTaken instance goal path p old t path p new (Ok tt)) (sym there) (inner_more instance path old new t stepped_inside goal inside answer)
 
-  pub took_done : Done ≡ inner_answered new.checked → (path' : PlainPath) (place' : Place) → path' ≡ record path { frames = next_frames path.frames } → place' ≡ place_behind (next_frames path.frames)
-      → IsTaken instance goal path place old t path' place' new (Ok tt)
-  took_done answer path' place' e f =
-      subst (λ p. IsTaken instance goal path p old t path' place' new (Ok tt)) (sym there) (inner_done instance path old new t stepped_inside goal inside answer path' place' e f)
+  pub took_done : Done ≡ inner_answered new.checked → (path' : PlainPath) (point' : Point) → path' ≡ record path { frames = next_frames path.frames } → point' ≡ point_behind (next_frames path.frames)
+      → IsTaken instance goal path point old t path' point' new (Ok tt)
+  took_done answer path' point' e f =
+      subst (λ p. IsTaken instance goal path p old t path' point' new (Ok tt)) (sym there) (inner_done instance path old new t stepped_inside goal inside answer path' point' e f)
 
-  pub took_refused : (code : RefuseCode) → Refused code ≡ inner_answered new.checked → IsTaken instance goal path place old t path place new (Err code)
+  pub took_refused : (code : RefuseCode) → Refused code ≡ inner_answered new.checked → IsTaken instance goal path point old t path point new (Err code)
   took_refused code answer =
       subst (λ p. IsTaken instance goal path p old t path p new (Err code)) (sym there) (inner_refused instance path old new t stepped_inside goal inside code answer)
 
 -- ---- a token at an outer node
 
 -- an outer node is closed
-pub closed_node : (instance : PlainInstance) (goal : Goal) (path path' : PlainPath) (place place' : Place) (inner : PlainRefuter) (t : PlainToken) → place ≡ AtNode
-    → IsGoing instance goal path place inner → IsTokenStep instance goal path.frames t Close
-    → path' ≡ record path { frames = next_frames path.frames } → place' ≡ place_behind (next_frames path.frames) → IsTaken instance goal path place inner t path' place' inner (Ok tt)
-closed_node instance goal path path' place place' inner t there going step e f =
-    subst (λ p. IsTaken instance goal path p inner t path' place' inner (Ok tt)) (sym there) (
-    subst (λ q. IsTaken instance goal path AtNode inner t q place' inner (Ok tt)) (sym e) (
+pub closed_node : (instance : PlainInstance) (goal : Goal) (path path' : PlainPath) (point point' : Point) (inner : PlainRefuter) (t : PlainToken) → point ≡ AtNode
+    → IsGoing instance goal path point inner → IsTokenStep instance goal path.frames t Close
+    → path' ≡ record path { frames = next_frames path.frames } → point' ≡ point_behind (next_frames path.frames) → IsTaken instance goal path point inner t path' point' inner (Ok tt)
+closed_node instance goal path path' point point' inner t there going step e f =
+    subst (λ p. IsTaken instance goal path p inner t path' point' inner (Ok tt)) (sym there) (
+    subst (λ q. IsTaken instance goal path AtNode inner t q point' inner (Ok tt)) (sym e) (
     subst (λ q. IsTaken instance goal path AtNode inner t (record path { frames = next_frames path.frames }) q inner (Ok tt)) (sym f) (
       told goal going.are step,
       seen goal going.are step,
       record { boxes = going.boxes; same = going.same; are = next_are goal path.frames going.are; opens = opens_by (next_frames path.frames) },
     )))
   where
-    opens_by : (frames : List Frame) → IsOpenAt (place_behind frames) inner
+    opens_by : (frames : List Frame) → IsOpenAt (point_behind frames) inner
     opens_by [] = tt
     opens_by (f ∷ frames) = tt
 
@@ -287,6 +287,6 @@ closed_node instance goal path path' place place' inner t there going step e f =
     told (Value y) are s = s.0
 
     seen : (g : Goal) → AreOf g path.frames → IsTokenStep instance g path.frames t Close
-        → tree_seen g (next_frames path.frames) (place_behind (next_frames path.frames)) inner ≡ tree_after (tree_seen g path.frames AtNode inner) t
+        → tree_seen g (next_frames path.frames) (point_behind (next_frames path.frames)) inner ≡ tree_after (tree_seen g path.frames AtNode inner) t
     seen (Bins k) are s = ap (λ v. ForBins k v) (stands (bins_with k) [] inner (next_frames path.frames) ∙ sym s.1)
     seen (Value y) are s = ap (λ v. ForValue y v) (stands choices_with no_choice inner (next_frames path.frames) ∙ sym s.1)

@@ -5,20 +5,20 @@ use Rattle.std.proofs.lemmas.List.{drop_more, drop_all}
 use Rattle.packing_terms.specs.OuterPaths.{leave, enter}
 use Rattle.outer_check.specs.declared.path.Frame.{Frame}
 use Rattle.outer_check.specs.Frames.{next_frames, first_split}
-use Rattle.outer_check.specs.declared.place.Place.TheVariants.{AtNode}
-use Rattle.outer_check.specs.Steps.{standing, place_behind}
+use Rattle.outer_check.specs.declared.point.Point.TheVariants.{AtNode}
+use Rattle.outer_check.specs.Steps.{standing, point_behind}
 use Rattle.outer_check.specs.Nodes.{node_below, path_below, HaveChildren}
 
 module _ {Node : Type 0} (below : Node → ℕ → List Node) (root : Node) where
-  pub left_is : (frames : List Frame) → HaveChildren below root frames → leave below (path_below below root frames) ≡ standing below root (next_frames frames) (place_behind (next_frames frames))
+  pub left_is : (frames : List Frame) → HaveChildren below root frames → leave below (path_below below root frames) ≡ standing below root (next_frames frames) (point_behind (next_frames frames))
   left_is [] h = refl
   left_is (f ∷ frames) h = go (cases_lt (suc f.child) f.children) (left_is frames h.1)
     where
       node : Node
       node = node_below below root frames
 
-      go : (suc f.child < f.children) ⊎ (f.children ≤ suc f.child) → leave below (path_below below root frames) ≡ standing below root (next_frames frames) (place_behind (next_frames frames))
-          → leave below (path_below below root (f ∷ frames)) ≡ standing below root (next_frames (f ∷ frames)) (place_behind (next_frames (f ∷ frames)))
+      go : (suc f.child < f.children) ⊎ (f.children ≤ suc f.child) → leave below (path_below below root frames) ≡ standing below root (next_frames frames) (point_behind (next_frames frames))
+          → leave below (path_below below root (f ∷ frames)) ≡ standing below root (next_frames (f ∷ frames)) (point_behind (next_frames (f ∷ frames)))
       go (inl l) rest =
           let m : suc f.child < length (below (node_below below root frames) f.box_no) = (let e = h.0 in omega (arith, l, e)) in
           rw (lt-ltb (suc f.child) f.children l, leave, drop_more (below (node_below below root frames) f.box_no) (suc f.child) (node_below below root frames) m) refl
@@ -46,10 +46,10 @@ module _ {Node : Type 0} (below : Node → ℕ → List Node) (root : Node) wher
       go (n ∷ more) e = rw (enter, e) refl
 
   pub closed_is : (frames : List Frame) (box_no : ℕ) → 0 ≡ length (below (node_below below root frames) box_no) → HaveChildren below root frames
-      → enter below (path_below below root frames) (node_below below root frames) box_no ≡ standing below root (next_frames frames) (place_behind (next_frames frames))
+      → enter below (path_below below root frames) (node_below below root frames) box_no ≡ standing below root (next_frames frames) (point_behind (next_frames frames))
   closed_is frames box_no counted h = go (below (node_below below root frames) box_no) refl
     where
       go : (l : List Node) → below (node_below below root frames) box_no ≡ l
-          → enter below (path_below below root frames) (node_below below root frames) box_no ≡ standing below root (next_frames frames) (place_behind (next_frames frames))
+          → enter below (path_below below root frames) (node_below below root frames) box_no ≡ standing below root (next_frames frames) (point_behind (next_frames frames))
       go [] e = rw (enter, e) (left_is frames h)
       go (n ∷ more) e = absurd (let c = ap length e in omega (arith, c, counted))

@@ -19,8 +19,8 @@ use Rattle.outer_check.specs.declared.path.Frame.{Frame}
 use Rattle.outer_check.specs.declared.goal.Goal.{Goal}
 use Rattle.outer_check.specs.declared.goal.Goal.TheVariants.{Bins, Value}
 use Rattle.refutation_check.specs.Refuters.{PlainRefuter}
-use Rattle.outer_check.specs.declared.place.Place.{Place}
-use Rattle.outer_check.specs.declared.place.Place.TheVariants.{AtNode, InSet, AtEnd}
+use Rattle.outer_check.specs.declared.point.Point.{Point}
+use Rattle.outer_check.specs.declared.point.Point.TheVariants.{AtNode, InSet, AtEnd}
 use Rattle.outer_check.specs.Frames.{PlainPath}
 use Rattle.outer_check.specs.Nodes.{node_below, path_below, HaveChildren, HaveUsed}
 
@@ -102,15 +102,15 @@ inside_view path node keep (es ∷ behind) = On path (Inside keep es behind)
 
 -- the view of a tree by the splits on the path, where it stands, and what the refuter of inner
 -- trees holds
-abbrev pub view_by : {Node : Type 0} → (Node → ℕ → List Node) → Node → List Frame → Place → PlainRefuter → OuterView Node
+abbrev pub view_by : {Node : Type 0} → (Node → ℕ → List Node) → Node → List Frame → Point → PlainRefuter → OuterView Node
 view_by below root frames AtNode inner = On (path_below below root frames) (At (node_below below root frames))
 view_by below root frames InSet inner =
     inside_view (path_below below root frames) (node_below below root frames) inner.keep inner.checked.nodes
 view_by below root frames AtEnd inner = Whole
 
-abbrev pub tree_seen : Goal → List Frame → Place → PlainRefuter → OuterTree
-tree_seen (Bins k) frames place inner = ForBins k (view_by (bins_with k) [] frames place inner)
-tree_seen (Value y) frames place inner = ForValue y (view_by choices_with no_choice frames place inner)
+abbrev pub tree_seen : Goal → List Frame → Point → PlainRefuter → OuterTree
+tree_seen (Bins k) frames point inner = ForBins k (view_by (bins_with k) [] frames point inner)
+tree_seen (Value y) frames point inner = ForValue y (view_by choices_with no_choice frames point inner)
 
 -- the splits on the path are those of the tree
 abbrev pub AreOf : Goal → List Frame → Type 0
@@ -124,24 +124,24 @@ CanBeRefuted instance (Bins k) = SidesFit instance × (k ≤ most_boxes)
 CanBeRefuted instance (Value y) = Unit {0}
 
 -- in the inner tree of a set some node is open
-abbrev pub IsOpenAt : Place → PlainRefuter → Type 0
+abbrev pub IsOpenAt : Point → PlainRefuter → Type 0
 IsOpenAt InSet inner = (inner.checked.refused ≡ None) × (1 ≤ length inner.checked.nodes)
 IsOpenAt AtNode inner = Unit {0}
 IsOpenAt AtEnd inner = Unit {0}
 
 -- what holds of the parts as long as nothing is refused
-pub record IsGoing (instance : PlainInstance) (goal : Goal) (path : PlainPath) (place : Place) (inner : PlainRefuter) : Type 0 where
+pub record IsGoing (instance : PlainInstance) (goal : Goal) (path : PlainPath) (point : Point) (inner : PlainRefuter) : Type 0 where
   pub boxes : path.boxes ≡ box_count instance
   pub same : inner.instance ≡ instance
   pub are : AreOf goal path.frames
-  pub opens : IsOpenAt place inner
+  pub opens : IsOpenAt point inner
 
 -- what the type keeps
-pub record IsHeld (instance : PlainInstance) (goal : Goal) (path : PlainPath) (place : Place) (inner : PlainRefuter) (refused : Option RefuseCode) (capacity : ℕ) : Type 0 where
+pub record IsHeld (instance : PlainInstance) (goal : Goal) (path : PlainPath) (point : Point) (inner : PlainRefuter) (refused : Option RefuseCode) (capacity : ℕ) : Type 0 where
   pub can : CanBeRefuted instance goal
   pub boxes : path.boxes ≡ box_count instance
   pub room : box_count instance ≤ capacity
-  pub going : refused ≡ None → IsGoing instance goal path place inner
+  pub going : refused ≡ None → IsGoing instance goal path point inner
 
 -- how many splits are on the path
 abbrev pub view_length : {Node : Type 0} → OuterView Node → ℕ

@@ -14,14 +14,14 @@ use Rattle.outer_check.specs.declared.step.Step.{Step}
 use Rattle.outer_check.specs.declared.step.Step.TheVariants.{Refuse, Close, Enter, Begin}
 use Rattle.outer_check.specs.Frames.{first_split, next_frames, is_decided, boxes_put}
 use Rattle.outer_check.specs.Nodes.{node_below, path_below}
-use Rattle.outer_check.specs.declared.place.Place.{Place}
-use Rattle.outer_check.specs.declared.place.Place.TheVariants.{AtNode, AtEnd}
+use Rattle.outer_check.specs.declared.point.Point.{Point}
+use Rattle.outer_check.specs.declared.point.Point.TheVariants.{AtNode, AtEnd}
 use Rattle.outer_check.specs.Outers.{AreOf}
 
 -- where the path stands behind a closed node
-abbrev pub place_behind : List Frame → Place
-place_behind [] = AtEnd
-place_behind (f ∷ frames) = AtNode
+abbrev pub point_behind : List Frame → Point
+point_behind [] = AtEnd
+point_behind (f ∷ frames) = AtNode
 
 -- a split by a box of the text that isn't decided, with its children
 pub record IsEntry (goal : Goal) (n : ℕ) (frames : List Frame) (box_no children used : ℕ) : Type 0 where
@@ -32,7 +32,7 @@ pub record IsEntry (goal : Goal) (n : ℕ) (frames : List Frame) (box_no childre
   pub are : AreOf goal (first_split box_no children used ∷ frames)
 
 -- the view of a tree that stands at an outer node, or at its end
-abbrev pub standing : {Node : Type 0} → (Node → ℕ → List Node) → Node → List Frame → Place → OuterView Node
+abbrev pub standing : {Node : Type 0} → (Node → ℕ → List Node) → Node → List Frame → Point → OuterView Node
 standing below root frames AtNode = On (path_below below root frames) (At (node_below below root frames))
 standing below root frames _ = Whole
 
@@ -41,7 +41,7 @@ abbrev pub StepLeadsTo : {Node : Type 0} → Goal → (Node → ℕ → List Nod
 StepLeadsTo goal below root n frames refusal step (Refuse code) = refusal ≡ Some code
 StepLeadsTo goal below root n frames refusal step Close =
     (refusal ≡ None) × (stepped below (path_below below root frames) (node_below below root frames) step
-    ≡ standing below root (next_frames frames) (place_behind (next_frames frames)))
+    ≡ standing below root (next_frames frames) (point_behind (next_frames frames)))
 StepLeadsTo goal below root n frames refusal step (Enter box_no children used) =
     (refusal ≡ None) × (stepped below (path_below below root frames) (node_below below root frames) step
     ≡ standing below root (first_split box_no children used ∷ frames) AtNode) × IsEntry goal n frames box_no children used

@@ -5,7 +5,7 @@
 mod goal;
 mod laws;
 mod path;
-mod place;
+mod point;
 mod refuter;
 mod step;
 mod taking;

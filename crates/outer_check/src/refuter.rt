@@ -6,7 +6,7 @@ ghost use Rattle.outer_check.specs.Outers.{CanBeRefuted, started, fed, answered,
 
 use crate::goal::Goal;
 use crate::path::Path;
-use crate::place::Place;
+use crate::point::Point;
 use crate::taking::take;
 use box_instances::{Instance, NoMemory};
 use check_terms::{FeedVerdict, RefuseCode};
@@ -27,7 +27,7 @@ pub struct OuterRefuter<'a> {
     instance: &'a Instance,
     goal: Goal,
     path: Path,
-    place: Place,
+    point: Point,
     inner: Refuter<'a>,
     keep: Vec<u32>,
     refused: Option<RefuseCode>,
@@ -41,11 +41,11 @@ impl<'a> Model for OuterRefuter<'a> {
 
     ghost view = { λ r. record {
       instance = r.instance.now;
-      tree = tree_seen r.goal r.path.frames r.place r.inner;
+      tree = tree_seen r.goal r.path.frames r.point r.inner;
       refused = r.refused;
     } };
 
-    ghost invariant = { λ r. IsHeld r.instance.now r.goal r.path r.place r.inner r.refused
+    ghost invariant = { λ r. IsHeld r.instance.now r.goal r.path r.point r.inner r.refused
         (vec_capacity r.keep) };
 }
 
@@ -74,7 +74,7 @@ impl<'a> OuterRefuter<'a> {
             instance,
             goal,
             path,
-            place: Place::AtNode,
+            point: Point::AtNode,
             inner,
             keep,
             refused: None,
@@ -97,7 +97,7 @@ impl<'a> OuterRefuter<'a> {
             self.instance,
             self.goal,
             &mut self.path,
-            &mut self.place,
+            &mut self.point,
             &mut self.inner,
             &mut self.keep,
             token,
@@ -106,7 +106,7 @@ impl<'a> OuterRefuter<'a> {
             self.refused = Some(code);
             return FeedVerdict::Refused { code };
         }
-        if self.place == Place::AtEnd {
+        if self.point == Point::AtEnd {
             FeedVerdict::Done
         } else {
             FeedVerdict::More
@@ -121,6 +121,6 @@ impl<'a> OuterRefuter<'a> {
     {
         // For the proof alone: tells the limits of the path.
         let _boxes = self.path.boxes();
-        self.refused.is_none() & (self.place == Place::AtEnd)
+        self.refused.is_none() & (self.point == Point::AtEnd)
     }
 }

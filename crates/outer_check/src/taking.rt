@@ -4,15 +4,15 @@ ghost use Rattle.packing_terms.specs.Packing.{PlainInstance, box_count};
 ghost use Rattle.check_terms.specs.Checking.{starting};
 ghost use Rattle.proof_tree.specs.Plain.{plain_token};
 ghost use Rattle.outer_check.specs.declared.goal.Goal.{Goal as PlainGoal};
-ghost use Rattle.outer_check.specs.declared.place.Place.TheVariants.{AtNode, InSet};
+ghost use Rattle.outer_check.specs.declared.point.Point.TheVariants.{AtNode, InSet};
 ghost use Rattle.outer_check.specs.Frames.{next_frames, boxes_put};
 ghost use Rattle.outer_check.specs.Outers.{CanBeRefuted, IsGoing, AreOf};
-ghost use Rattle.outer_check.specs.Steps.{IsTokenStep, place_behind};
+ghost use Rattle.outer_check.specs.Steps.{IsTokenStep, point_behind};
 ghost use Rattle.outer_check.specs.Taking.{IsTaken};
 
 use crate::goal::Goal;
 use crate::path::Path;
-use crate::place::Place;
+use crate::point::Point;
 use crate::step::{Step, step_for_bins, step_for_value};
 use box_instances::Instance;
 use check_terms::{FeedVerdict, RefuseCode};
@@ -20,14 +20,14 @@ use proof_tree::Token;
 use refutation_check::Refuter;
 
 // The current node is closed.
-fn leave(path: &mut Path, place: &mut Place)
+fn leave(path: &mut Path, point: &mut Point)
     ensures path { path.new ≡ record path.old { frames = next_frames path.old.frames } }
-    ensures place { place.new ≡ place_behind (next_frames path.old.frames) }
+    ensures point { point.new ≡ point_behind (next_frames path.old.frames) }
 {
-    *place = if path.leave() {
-        Place::AtNode
+    *point = if path.leave() {
+        Point::AtNode
     } else {
-        Place::AtEnd
+        Point::AtEnd
     };
 }
 
@@ -47,20 +47,20 @@ fn step_of(instance: &Instance, goal: Goal, path: &Path, token: &Token) -> Step
 // A token in the inner tree of a set.
 fn take_inner(
     path: &mut Path,
-    place: &mut Place,
+    point: &mut Point,
     inner: &mut Refuter<'_>,
     token: &Token,
 ) -> Result<(), RefuseCode>
-    requires { place.old ≡ InSet }
+    requires { point.old ≡ InSet }
     ensures { (instance : PlainInstance) (goal : PlainGoal)
-        → IsGoing instance goal path.old place.old inner.old
-        → IsTaken instance goal path.old place.old inner.old (plain_token token.now) path.new
-        place.new inner.new result }
+        → IsGoing instance goal path.old point.old inner.old
+        → IsTaken instance goal path.old point.old inner.old (plain_token token.now) path.new
+        point.new inner.new result }
 {
     match inner.feed(token) {
         FeedVerdict::More => Ok(()),
         FeedVerdict::Done => {
-            leave(path, place);
+            leave(path, point);
             Ok(())
         }
         FeedVerdict::Refused { code } => Err(code),
@@ -68,11 +68,11 @@ fn take_inner(
 }
 
 // The inner tree of the boxes that the splits put into their child of this number begins.
-fn begin(path: &Path, place: &mut Place, inner: &mut Refuter<'_>, keep: &mut Vec<u32>, child: u32)
+fn begin(path: &Path, point: &mut Point, inner: &mut Refuter<'_>, keep: &mut Vec<u32>, child: u32)
     requires boxes { path.now.boxes ≡ box_count inner.old.instance }
     requires room { path.now.boxes ≤ vec_capacity keep.old }
     requires some { 1 ≤ length (boxes_put path.now.boxes path.now.frames child) }
-    ensures place { place.new ≡ InSet }
+    ensures point { point.new ≡ InSet }
     ensures inner { inner.new ≡ record inner.old {
       keep = boxes_put path.now.boxes path.now.frames child;
       checked = starting [];
@@ -81,7 +81,7 @@ fn begin(path: &Path, place: &mut Place, inner: &mut Refuter<'_>, keep: &mut Vec
 {
     path.gather(child, keep);
     inner.restart(keep.as_slice());
-    *place = Place::InSet;
+    *point = Point::InSet;
 }
 
 // A token at an outer node.
@@ -89,23 +89,23 @@ fn take_outer(
     instance: &Instance,
     goal: Goal,
     path: &mut Path,
-    place: &mut Place,
+    point: &mut Point,
     inner: &mut Refuter<'_>,
     keep: &mut Vec<u32>,
     token: &Token,
 ) -> Result<(), RefuseCode>
     requires can { CanBeRefuted instance.now goal }
-    requires going { IsGoing instance.now goal path.old place.old inner.old }
-    requires there { place.old ≡ AtNode }
+    requires going { IsGoing instance.now goal path.old point.old inner.old }
+    requires there { point.old ≡ AtNode }
     requires room { path.old.boxes ≤ vec_capacity keep.old }
-    ensures taken { IsTaken instance.now goal path.old place.old inner.old (plain_token token.now)
-        path.new place.new inner.new result }
+    ensures taken { IsTaken instance.now goal path.old point.old inner.old (plain_token token.now)
+        path.new point.new inner.new result }
     ensures room { vec_capacity keep.new ≡ vec_capacity keep.old }
 {
     match step_of(instance, goal, path, token) {
         Step::Refuse(code) => Err(code),
         Step::Close => {
-            leave(path, place);
+            leave(path, point);
             Ok(())
         }
         Step::Enter {
@@ -117,7 +117,7 @@ fn take_outer(
             Ok(())
         }
         Step::Begin(child) => {
-            begin(path, place, inner, keep, child);
+            begin(path, point, inner, keep, child);
             Ok(())
         }
     }
@@ -129,21 +129,21 @@ pub fn take(
     instance: &Instance,
     goal: Goal,
     path: &mut Path,
-    place: &mut Place,
+    point: &mut Point,
     inner: &mut Refuter<'_>,
     keep: &mut Vec<u32>,
     token: &Token,
 ) -> Result<(), RefuseCode>
     requires can { CanBeRefuted instance.now goal }
-    requires going { IsGoing instance.now goal path.old place.old inner.old }
+    requires going { IsGoing instance.now goal path.old point.old inner.old }
     requires room { path.old.boxes ≤ vec_capacity keep.old }
-    ensures taken { IsTaken instance.now goal path.old place.old inner.old (plain_token token.now)
-        path.new place.new inner.new result }
+    ensures taken { IsTaken instance.now goal path.old point.old inner.old (plain_token token.now)
+        path.new point.new inner.new result }
     ensures room { vec_capacity keep.new ≡ vec_capacity keep.old }
 {
-    match *place {
-        Place::AtEnd => Err(RefuseCode::After),
-        Place::InSet => take_inner(path, place, inner, token),
-        Place::AtNode => take_outer(instance, goal, path, place, inner, keep, token),
+    match *point {
+        Point::AtEnd => Err(RefuseCode::After),
+        Point::InSet => take_inner(path, point, inner, token),
+        Point::AtNode => take_outer(instance, goal, path, point, inner, keep, token),
     }
 }

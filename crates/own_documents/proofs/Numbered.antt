@@ -1,7 +1,7 @@
 -- The lines of bins and of taken boxes are read as the numbers of an answer.
 use Rattle.std.proofs.Common.{◌≡◌, ℕ, zero, suc, ◌+◌, ◌*◌, ◌/◌, ◌<◌, ◌≤◌, refl, ap, ap₂, sym, subst, ◌∙◌, arith, true, false, List, ◌∷◌, map, length, get_or, codes}
 use Rattle.std.specs.Prelude.{◌==◌, slice_index_or}
-use Rattle.std.specs.List.{range_with_len, flat_map, list_all, list_any}
+use Rattle.std.specs.List.{range_with_len, flat_map, list_all, list_any, position_or_len}
 use Rattle.std.specs.Fmt.{decimal}
 use Rattle.std.proofs.Math.Nat.{mul-div_cancel}
 use Rattle.std.proofs.lemmas.Bool.{eq-eqb, eqb-true}
@@ -13,7 +13,7 @@ use Rattle.packing_terms.proofs.InBins.{joined_at, place_of}
 use Rattle.packing_terms.proofs.Members.{any_at, in_filter, in_range, IsIn}
 use Rattle.packing_terms.proofs.Lengths.{length_parts}
 use Rattle.packing_terms.specs.Sums.{below}
-use Rattle.tree_terms.specs.OuterTrees.{index_where, coordinates_at, choice_numbers}
+use Rattle.tree_terms.specs.OuterTrees.{coordinates_at, choice_numbers}
 use Rattle.tree_terms.specs.OuterSearch.{bins_in, places_in, AreBinNumbers, AreTakenNumbers}
 use Rattle.tree_terms.proofs.BinNumbers.{index_found}
 use Rattle.text_terms.specs.Texts.{is_none}
@@ -82,10 +82,10 @@ kept_place_small : (instance : PlainInstance) (keep places : List ℕ) (v i : �
 kept_place_small instance keep places v i b p here m =
     let found = index_found (λ u. u == v) keep 0 here in
     let l = found.0 in
-    let same : get_or keep (index_where (λ u. u == v) keep) 0 ≡ v = eqb-true _ _ found.1 in
+    let same : get_or keep (position_or_len (λ u. u == v) keep) 0 ≡ v = eqb-true _ _ found.1 in
     let n = length-map keep (λ u. slice_index_or instance.boxes u no_box) in
-    let inside = p.within (index_where (λ u. u == v) keep) i (omega (arith, l, n)) m in
-    let moved = place_of instance places keep (index_where (λ u. u == v) keep) i l m in
+    let inside = p.within (position_or_len (λ u. u == v) keep) i (omega (arith, l, n)) m in
+    let moved = place_of instance places keep (position_or_len (λ u. u == v) keep) i l m in
     let s = b.sides i m in
     subst (λ u. place instance places u i ≤ most_coordinate) same (omega (arith, inside, moved, s))
 

@@ -29,7 +29,7 @@ mirror_twice Overlap = refl
 mirror_twice Before = refl
 mirror_twice After = refl
 
--- a fact at the exclusion's own place holds at each place that it is at
+-- a fact at the exclusion's own edge holds at each edge that it is at
 pub at_own : (P : ℕ → ℕ → ℕ → Rel → Type 0) (e : Exclusion) (i u v : ℕ) (r : Rel) → is_at e i u v r ≡ true
     → P e.dim e.u e.v e.rel → P i u v r
 at_own P e i u v r h p =

@@ -19,3 +19,4 @@ pub mod Meanings
 pub mod Renumbering
 pub mod ExcessLaw
 pub mod Generator
+pub mod Results

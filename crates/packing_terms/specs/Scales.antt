@@ -6,7 +6,7 @@
 -- Source: Fekete and Schepers, "New classes of fast lower bounds for bin packing problems" (2001)
 -- and "A general framework for bounds for higher-dimensional orthogonal packing problems" (2004):
 -- the functions u(k), U(e) and phi(e), scaled here to whole numbers.
-use Rattle.std.specs.Prelude.{ℕ, zero, suc, ◌+◌, ◌-◌, ◌*◌, ◌/◌, ◌%◌, ◌<◌, ◌≤◌, ◌≡◌, ◌==◌, List, length, slice_index_or, nat_lt, nat_le, if◌then◌else◌, map, sum}
+use Rattle.std.specs.Prelude.{ℕ, ◌+◌, ◌-◌, ◌*◌, ◌/◌, ◌%◌, ◌<◌, ◌≤◌, ◌≡◌, ◌==◌, List, length, slice_index_or, nat_lt, nat_le, if◌then◌else◌, map, sum}
 use Rattle.packing_terms.specs.declared.ScaleFn.{ScaleFn}
 use Rattle.packing_terms.specs.declared.ScaleFn.TheVariants.{Id, Step, Cut, Count}
 use Rattle.packing_terms.specs.Packing.{PlainInstance, dims, box_count, container_side, side}

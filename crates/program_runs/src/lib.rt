@@ -84,8 +84,11 @@ pub fn told_at<R: AllocGlobal + Threads + Wait + Sync, G: Gate + Sync>(
     for word in words {
         given.push(String::from_str(alloc, word)?)?;
     }
-    let mut source = MemorySource::new(listed(alloc, input)?, listed(alloc, reads)?);
-    let Ok(mut out) = MemorySink::new(alloc, 65536, listed(alloc, writes)?) else {
+    let mut source = MemorySource::new(
+        Vec::from_slice(alloc, input)?,
+        Vec::from_slice(alloc, reads)?,
+    );
+    let Ok(mut out) = MemorySink::new(alloc, 65536, Vec::from_slice(alloc, writes)?) else {
         return Err(AllocError);
     };
     let Ok(mut err) = MemorySink::new(alloc, 256, Vec::new(alloc)) else {
@@ -94,8 +97,8 @@ pub fn told_at<R: AllocGlobal + Threads + Wait + Sync, G: Gate + Sync>(
     let status = run(rt, alloc, &given, &mut source, &mut out, &mut err, gate);
     Ok(Told {
         status,
-        out: listed(alloc, out.written())?,
-        err: listed(alloc, err.written())?,
+        out: Vec::from_slice(alloc, out.written())?,
+        err: Vec::from_slice(alloc, err.written())?,
         left: rest_of(alloc, &mut source)?,
     })
 }
@@ -131,13 +134,4 @@ fn rest_of(alloc: Global, source: &mut MemorySource) -> Result<Vec<u8>, AllocErr
         }
     }
     Ok(rest)
-}
-
-/// A list of these items.
-pub fn listed<T: Copy>(alloc: Global, items: &[T]) -> Result<Vec<T>, AllocError> {
-    let mut list = Vec::new(alloc);
-    for item in items {
-        list.push(*item)?;
-    }
-    Ok(list)
 }

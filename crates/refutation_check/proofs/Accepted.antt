@@ -14,11 +14,12 @@ use Rattle.packing_terms.specs.Refutation.{exclusion_in_text as exclusion_of, Is
 use Rattle.packing_terms.specs.Feeding.{children}
 use Rattle.rule_terms.specs.Places.{HasNoEmptyMask}
 use Rattle.rule_terms.specs.Steps.{with_exclusion}
+use Rattle.edge_state.specs.Edges.{oldest}
 use Rattle.edge_state.proofs.Kept.{with_new, with_old}
 use Rattle.check_terms.proofs.Judged.{inner_exact}
 use Rattle.closure_terms.specs.Ends.{IsClosureOf}
 use Rattle.refutation_check.specs.declared.node.OpenNode.{OpenNode}
-use Rattle.refutation_check.specs.Nodes.{up_to, entered, node_exclusions, Stands, above, opens, all_relations, AreHeld, splits_with, splits_after, child_nodes, is_split, IsJudged}
+use Rattle.refutation_check.specs.Nodes.{entered, node_exclusions, Stands, above, opens, all_relations, AreHeld, splits_with, splits_after, child_nodes, is_split, IsJudged}
 use Rattle.refutation_check.specs.Refuters.{most_nodes}
 use Rattle.refutation_check.proofs.Bounds.{less_open, no_more_open, still_full, least_open}
 use Rattle.refutation_check.proofs.Stack.{held_less, held_more, IsChild, seen_moved, above_children, splits_kept}
@@ -54,22 +55,22 @@ module _ (instance : PlainInstance) (N new : List Exclusion) (calm : IsClosureOf
 
   one_child : (count i u v : ℕ) (r : Rel) → IsEdge instance (pred i) (pred u) (pred v) → excludes new (pred i) (pred u) (pred v) r ≡ false
       → IsChild instance new (record { mark = length new; splits = count; first = Some (exclusion_of i u v r); second = None })
-  one_child count i u v r place left = record {
+  one_child count i u v r edge left = record {
     mark = refl;
     some = λ e. absurd (cc (e));
-    first_there = place;
+    first_there = edge;
     second_there = tt;
-    less = less_open instance new (exclusion_of i u v r) place left;
+    less = less_open instance new (exclusion_of i u v r) edge left;
   }
 
   two_child : (count i u v : ℕ) → IsEdge instance (pred i) (pred u) (pred v)
       → (excludes new (pred i) (pred u) (pred v) Before ≡ false) ⊎ (excludes new (pred i) (pred u) (pred v) After ≡ false)
       → IsChild instance new (record { mark = length new; splits = count; first = Some (exclusion_of i u v Before); second = Some (exclusion_of i u v After) })
-  two_child count i u v place left = record {
+  two_child count i u v edge left = record {
     mark = refl;
     some = λ e. absurd (cc (e));
-    first_there = place;
-    second_there = place;
+    first_there = edge;
+    second_there = edge;
     less = go left (cases_Bool (excludes new (pred i) (pred u) (pred v) After));
   }
     where
@@ -77,20 +78,20 @@ module _ (instance : PlainInstance) (N new : List Exclusion) (calm : IsClosureOf
           → (excludes new (pred i) (pred u) (pred v) After ≡ true) ⊎ (excludes new (pred i) (pred u) (pred v) After ≡ false)
           → opens instance (with_exclusion (with_exclusion new (exclusion_of i u v After)) (exclusion_of i u v Before)) < opens instance new
       go both (inr f) =
-          let a = less_open instance new (exclusion_of i u v After) place f in
-          let b = no_more_open instance (with_exclusion new (exclusion_of i u v After)) (exclusion_of i u v Before) place in
+          let a = less_open instance new (exclusion_of i u v After) edge f in
+          let b = no_more_open instance (with_exclusion new (exclusion_of i u v After)) (exclusion_of i u v Before) edge in
           omega (arith, a, b)
-      go (inl b) (inl t) = rw (with_old new (exclusion_of i u v After) t) (less_open instance new (exclusion_of i u v Before) place b)
+      go (inl b) (inl t) = rw (with_old new (exclusion_of i u v After) t) (less_open instance new (exclusion_of i u v Before) edge b)
       go (inr f) (inl t) = absurd (true≢false (sym t ∙ f))
 
   room_for : (others i u v : ℕ) (r s : Rel) → IsEdge instance (pred i) (pred u) (pred v) → is_same_rel r s ≡ false
       → excludes new (pred i) (pred u) (pred v) r ≡ false → excludes new (pred i) (pred u) (pred v) s ≡ false
       → others + opens instance new ≤ all_relations instance → others + 2 ≤ most_nodes instance
-  room_for others i u v r s place other left beside few =
+  room_for others i u v r s edge other left beside few =
       bounded instance new others (exclusion_of i u v r)
-      (still_full instance new (exclusion_of i u v r) s place.distinct other beside calm.full)
+      (still_full instance new (exclusion_of i u v r) s edge.distinct other beside calm.full)
       (subst (λ (l : List Exclusion). opens instance l < opens instance new) (with_new new (exclusion_of i u v r) left)
-      (less_open instance new (exclusion_of i u v r) place left)) few
+      (less_open instance new (exclusion_of i u v r) edge left)) few
 
 -- what stands after an accepted token
 pub record IsAccepted (instance : PlainInstance) (start sp new : List Exclusion) (n : OpenNode) (ns : List OpenNode) (token : PlainToken) : Type 0 where
@@ -109,7 +110,7 @@ double mark count e f = record { mark = mark; splits = count; first = Some e; se
 
 module _ (instance : PlainInstance) (start sp old new : List Exclusion) (n : OpenNode) (ns : List OpenNode)
     (held : AreHeld instance start sp old (length old) (length sp) (n ∷ ns)) where
-  stands : Stands instance (above start sp n) n.first (up_to n.mark old)
+  stands : Stands instance (above start sp n) n.first (oldest n.mark old)
   stands = held.2.stands
 
   -- a leaf
@@ -147,17 +148,17 @@ module _ (instance : PlainInstance) (start sp old new : List Exclusion) (n : Ope
       let m = apart_may i u v j in
       let calm : IsClosureOf instance (excludes (node_exclusions n (above start sp n))) new = j.no_conflict refl refl (above start sp n) stands in
       let fewer : opens instance new ≤ opens instance (entered n old) = j.fewer refl refl in
-      let place = named_at instance i u v m.named in
-      let first = one_child instance (node_exclusions n (above start sp n)) new calm (length (splits_with sp n)) i u v Overlap place
+      let edge = named_at instance i u v m.named in
+      let first = one_child instance (node_exclusions n (above start sp n)) new calm (length (splits_with sp n)) i u v Overlap edge
       (open_of instance (node_exclusions n (above start sp n)) new calm (pred i) (pred u) (pred v) Overlap m.overlap) in
-      let second = two_child instance (node_exclusions n (above start sp n)) new calm (length (splits_with sp n)) i u v place (others m.other calm) in
+      let second = two_child instance (node_exclusions n (above start sp n)) new calm (length (splits_with sp n)) i u v edge (others m.other calm) in
       let bound : length ns + opens instance new ≤ all_relations instance = omega (arith, held.2.few, fewer) in
       record {
         held = held_more instance start sp old new n ns (single (length new) (length (splits_with sp n)) (exclusion_of i u v Overlap))
             (double (length new) (length (splits_with sp n)) (exclusion_of i u v Before) (exclusion_of i u v After)) j.within j.kept held calm fewer first second refl refl;
         seen = both_seen (single (length new) (length (splits_with sp n)) (exclusion_of i u v Overlap))
             (double (length new) (length (splits_with sp n)) (exclusion_of i u v Before) (exclusion_of i u v After)) refl refl;
-        few = λ s. beside (others m.other calm) calm place m bound;
+        few = λ s. beside (others m.other calm) calm edge m bound;
         room = λ s. room_above (single (length new) (length (splits_with sp n)) (exclusion_of i u v Overlap)) first fewer;
       }
     where
@@ -172,9 +173,9 @@ module _ (instance : PlainInstance) (start sp old new : List Exclusion) (n : Ope
           → IsClosureOf instance (excludes (node_exclusions n (above start sp n))) new → IsEdge instance (pred i) (pred u) (pred v)
           → MaySplitApart instance (node_exclusions n (above start sp n)) i u v
           → length ns + opens instance new ≤ all_relations instance → length ns + 2 ≤ most_nodes instance
-      beside (inl b) calm place m bound = room_for instance (node_exclusions n (above start sp n)) new calm (length ns) i u v Overlap Before place refl
+      beside (inl b) calm edge m bound = room_for instance (node_exclusions n (above start sp n)) new calm (length ns) i u v Overlap Before edge refl
           (open_of instance (node_exclusions n (above start sp n)) new calm (pred i) (pred u) (pred v) Overlap m.overlap) b bound
-      beside (inr a) calm place m bound = room_for instance (node_exclusions n (above start sp n)) new calm (length ns) i u v Overlap After place refl
+      beside (inr a) calm edge m bound = room_for instance (node_exclusions n (above start sp n)) new calm (length ns) i u v Overlap After edge refl
           (open_of instance (node_exclusions n (above start sp n)) new calm (pred i) (pred u) (pred v) Overlap m.overlap) a bound
 
   by_order : (i u v : ℕ) → IsJudged instance n old new None (Order i u v) → IsAccepted instance start sp new n ns (Order i u v)
@@ -182,18 +183,18 @@ module _ (instance : PlainInstance) (start sp old new : List Exclusion) (n : Ope
       let m = order_may i u v j in
       let calm : IsClosureOf instance (excludes (node_exclusions n (above start sp n))) new = j.no_conflict refl refl (above start sp n) stands in
       let fewer : opens instance new ≤ opens instance (entered n old) = j.fewer refl refl in
-      let place = named_at instance i u v m.named in
+      let edge = named_at instance i u v m.named in
       let before = open_of instance (node_exclusions n (above start sp n)) new calm (pred i) (pred u) (pred v) Before m.before in
       let after = open_of instance (node_exclusions n (above start sp n)) new calm (pred i) (pred u) (pred v) After m.after in
-      let first = one_child instance (node_exclusions n (above start sp n)) new calm (length (splits_with sp n)) i u v After place after in
-      let second = one_child instance (node_exclusions n (above start sp n)) new calm (length (splits_with sp n)) i u v Before place before in
+      let first = one_child instance (node_exclusions n (above start sp n)) new calm (length (splits_with sp n)) i u v After edge after in
+      let second = one_child instance (node_exclusions n (above start sp n)) new calm (length (splits_with sp n)) i u v Before edge before in
       let bound : length ns + opens instance new ≤ all_relations instance = omega (arith, held.2.few, fewer) in
       record {
         held = held_more instance start sp old new n ns (single (length new) (length (splits_with sp n)) (exclusion_of i u v After))
             (single (length new) (length (splits_with sp n)) (exclusion_of i u v Before)) j.within j.kept held calm fewer first second refl refl;
         seen = both_seen (single (length new) (length (splits_with sp n)) (exclusion_of i u v After))
             (single (length new) (length (splits_with sp n)) (exclusion_of i u v Before)) refl refl;
-        few = λ s. room_for instance (node_exclusions n (above start sp n)) new calm (length ns) i u v After Before place refl after before bound;
+        few = λ s. room_for instance (node_exclusions n (above start sp n)) new calm (length ns) i u v After Before edge refl after before bound;
         room = λ s. room_above (single (length new) (length (splits_with sp n)) (exclusion_of i u v After)) first fewer;
       }
 

@@ -10,13 +10,13 @@ use Rattle.packing_terms.specs.Closure.{Derives}
 use Rattle.rule_terms.proofs.Steps.{few_open}
 use Rattle.box_instances.specs.Sets.{PlainBoxSet, all_boxes}
 use Rattle.box_instances.proofs.BoxSets.{set_few}
-use Rattle.edge_state.specs.Edges.{PlainEdges}
+use Rattle.edge_state.specs.Edges.{PlainEdges, oldest}
 use Rattle.refutation_check.specs.declared.node.OpenNode.{OpenNode}
 use Rattle.refutation_check.specs.Rooms.{PlainRoom}
-use Rattle.refutation_check.specs.Nodes.{with_each, up_to, opens, all_relations, IsHeldNode}
+use Rattle.refutation_check.specs.Nodes.{with_each, opens, all_relations, IsHeldNode}
 use Rattle.refutation_check.specs.Refuters.{PlainRefuter, most_nodes, IsHeld}
 use Rattle.refutation_check.proofs.Nodes.{each_same}
-use Rattle.refutation_check.proofs.Stack.{up_to_all}
+use Rattle.edge_state.proofs.Oldest.{oldest_all}
 
 -- as many boxes as numbers
 pub set_count : (whole : PlainInstance) (keep : List ℕ) → box_count (subset whole keep) ≡ length keep
@@ -37,8 +37,8 @@ root_held set start es n is f = rw is (record {
   short = rw whole (omega (arith, few));
 })
   where
-    whole : up_to (length es) es ≡ es
-    whole = up_to_all (length es) es refl
+    whole : oldest (length es) es ≡ es
+    whole = oldest_all es (length es) refl
 
     few : opens set es ≤ all_relations set
     few = few_open (dims set) (box_count set) es

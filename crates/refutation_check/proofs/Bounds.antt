@@ -1,5 +1,6 @@
 -- A table without an empty mask leaves a relation for each pair, so a tree is only so deep.
 use Rattle.std.proofs.Common.{◌≡◌, ◌≢◌, ℕ, zero, suc, ◌+◌, ◌-◌, ◌*◌, ◌≤◌, ◌<◌, ◌⊎◌, inl, inr, refl, sym, ap, subst, ◌∙◌, arith, Bool, true, false, not, List, [], ◌∷◌, ◌++◌, length, map, if◌then◌else◌}
+use Rattle.std.proofs.lemmas.List.{length-append}
 use Rattle.std.specs.List.{filter, flat_map, range_with_len}
 use Rattle.std.proofs.lemmas.Bool.{true≢false, cases_Bool, or_cases, and_parts, eqb-true, or_from}
 use Rattle.std.proofs.lemmas.List.FromFn.{length-range_with_len}
@@ -19,21 +20,20 @@ use Rattle.rule_terms.specs.Steps.{with_exclusion}
 use Rattle.rule_terms.proofs.Steps.{fewer_open, open_mirrored}
 use Rattle.edge_state.proofs.Kept.{with_new, with_old}
 use Rattle.refutation_check.specs.Nodes.{opens}
-use Rattle.refutation_check.proofs.Nodes.{length_joined}
 
 -- ---- one exclusion more
 
 pub less_open : (instance : PlainInstance) (es : List Exclusion) (e : Exclusion) → IsEdge instance e.dim e.u e.v → excludes es e.dim e.u e.v e.rel ≡ false
     → opens instance (with_exclusion es e) < opens instance es
-less_open instance es e place none = rw (with_new es e none) (fewer_open (dims instance) (box_count instance) es e place none)
+less_open instance es e edge none = rw (with_new es e none) (fewer_open (dims instance) (box_count instance) es e edge none)
 
 pub no_more_open : (instance : PlainInstance) (es : List Exclusion) (e : Exclusion) → IsEdge instance e.dim e.u e.v
     → opens instance (with_exclusion es e) ≤ opens instance es
-no_more_open instance es e place = go (cases_Bool (excludes es e.dim e.u e.v e.rel))
+no_more_open instance es e edge = go (cases_Bool (excludes es e.dim e.u e.v e.rel))
   where
     go : (excludes es e.dim e.u e.v e.rel ≡ true) ⊎ (excludes es e.dim e.u e.v e.rel ≡ false) → opens instance (with_exclusion es e) ≤ opens instance es
     go (inl h) = rw (with_old es e h) (omega arith)
-    go (inr h) = let l = less_open instance es e place h in omega (arith, l)
+    go (inr h) = let l = less_open instance es e edge h in omega (arith, l)
 
 not_of : (e : Exclusion) (s : Rel) → e.u ≢ e.v → is_same_rel e.rel s ≡ false → is_of e e.dim e.u e.v s ≡ false
 not_of e s distinct other = go (cases_Bool (is_of e e.dim e.u e.v s))
@@ -49,7 +49,7 @@ not_of e s distinct other = go (cases_Bool (is_of e e.dim e.u e.v s))
 -- where another relation is left at the pair, no mask gets empty
 pub still_full : (instance : PlainInstance) (es : List Exclusion) (e : Exclusion) (s : Rel) → e.u ≢ e.v → is_same_rel e.rel s ≡ false
     → excludes es e.dim e.u e.v s ≡ false → HasNoEmptyMask instance (excludes es) → HasNoEmptyMask instance (excludes (e ∷ es))
-still_full instance es e s distinct other left full i u v place = go (full i u v place) (cases_Bool (is_of e i u v (full i u v place).0))
+still_full instance es e s distinct other left full i u v edge = go (full i u v edge) (cases_Bool (is_of e i u v (full i u v edge).0))
   where
     Left : ℕ → ℕ → ℕ → Rel → Type 0
     Left j a b t = (q : Rel) × (excludes (e ∷ es) j a b q ≡ false)
@@ -77,7 +77,7 @@ filter_joined {X = X} p (x ∷ xs) ys = go (p x) (filter_joined p xs ys)
     go false h = h
 
 filter_count : {X : Type 0} (p : X → Bool) (xs ys : List X) → length (filter p (xs ++ ys)) ≡ length (filter p xs) + length (filter p ys)
-filter_count p xs ys = ap length (filter_joined p xs ys) ∙ length_joined (filter p xs) (filter p ys)
+filter_count p xs ys = ap length (filter_joined p xs ys) ∙ length-append (filter p xs) (filter p ys)
 
 -- so many in each part
 each_part : {X Y : Type 0} (p : Y → Bool) (f : X → List Y) (c k : ℕ) (xs : List X) → ((x : X) → IsIn x xs → k ≤ c * length (filter p (f x)))
@@ -110,10 +110,10 @@ module _ (instance : PlainInstance) (es : List Exclusion) (full : HasNoEmptyMask
   is_left e = not (excludes es e.dim e.u e.v e.rel)
 
   pair_left : (i u v : ℕ) → IsEdge instance i u v → 1 ≤ 1 * length (filter is_left (map (λ r. (let e : Exclusion = record { dim = i; u = u; v = v; rel = r } in e)) rels))
-  pair_left i u v place = omega (arith, one_there (exclusion_at i u v o.0) (filter is_left (map (λ r. exclusion_at i u v r) rels)) (in_filter is_left (exclusion_at i u v o.0) (map (λ r. exclusion_at i u v r) rels) (there o.0) (open_ o.0 o.1)))
+  pair_left i u v edge = omega (arith, one_there (exclusion_at i u v o.0) (filter is_left (map (λ r. exclusion_at i u v r) rels)) (in_filter is_left (exclusion_at i u v o.0) (map (λ r. exclusion_at i u v r) rels) (there o.0) (open_ o.0 o.1)))
     where
       o : (r : Rel) × (excludes es i u v r ≡ false)
-      o = full i u v place
+      o = full i u v edge
 
       there : (r : Rel) → IsIn (let e : Exclusion = record { dim = i; u = u; v = v; rel = r } in e) (map (λ r. (let e : Exclusion = record { dim = i; u = u; v = v; rel = r } in e)) rels)
       there Overlap = inl refl

@@ -5,13 +5,13 @@ use Rattle.packing_terms.specs.declared.Exclusion.{Exclusion}
 use Rattle.packing_terms.specs.Packing.{PlainInstance, dims, box_count}
 use Rattle.packing_terms.specs.Tokens.{PlainToken}
 use Rattle.packing_terms.specs.Feeding.{children}
-use Rattle.edge_state.specs.Edges.{PlainEdges}
+use Rattle.edge_state.specs.Edges.{PlainEdges, oldest}
 use Rattle.check_terms.specs.declared.answers.RefuseCode.{RefuseCode}
 use Rattle.check_terms.specs.declared.answers.FeedVerdict.TheVariants.{More, Done}
 use Rattle.check_terms.specs.Judging.{refusal}
 use Rattle.check_terms.specs.Checking.{Checked, checked_after, checked_by, inner_after, left_by, answered_by}
 use Rattle.refutation_check.specs.declared.node.OpenNode.{OpenNode}
-use Rattle.refutation_check.specs.Nodes.{Stands, IsReady, IsOver, AreHeld, up_to}
+use Rattle.refutation_check.specs.Nodes.{Stands, IsReady, IsOver, AreHeld}
 
 pub split_last : (held : List OpenNode) (last : ℕ) (d : OpenNode) → last + 1 ≡ length held
     → reverse held ≡ slice_index_or held last d ∷ reverse (take last held)
@@ -31,7 +31,7 @@ over_held instance start sp state n ns e f (m, c, node, rest) = record {
   mark = m;
   first = rw (e, f) node.first_there;
   second = rw (e, f) node.second_there;
-  ready = stands_ready instance _ (up_to n.mark state.trail) n.first node.stands;
+  ready = stands_ready instance _ (oldest n.mark state.trail) n.first node.stands;
 }
 
 pub fed_refused : (instance : PlainInstance) (nodes : List (List Exclusion)) (x : List Exclusion) (xs : List (List Exclusion)) (code : RefuseCode) (t : PlainToken)

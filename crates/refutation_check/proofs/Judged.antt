@@ -1,5 +1,6 @@
 -- What the closed state says of the tests of a token.
 use Rattle.std.proofs.Common.{◌≡◌, ℕ, zero, suc, pred, ◌-◌, ◌≤◌, ◌⊎◌, inl, inr, refl, sym, ap, ◌∙◌, arith, Bool, true, false, not, ◌&&◌, ◌||◌, List, length, Option, Some, None, IsTrue}
+use Rattle.std.proofs.lemmas.List.{length-append}
 use Rattle.std.proofs.lemmas.Bool.{true≢false, cases_Bool}
 use Rattle.packing_terms.specs.declared.Rel.{Rel}
 use Rattle.packing_terms.specs.declared.Rel.TheVariants.{Overlap, Before, After}
@@ -9,6 +10,7 @@ use Rattle.packing_terms.specs.Exclusions.{excludes}
 use Rattle.packing_terms.specs.Tokens.{PlainToken}
 use Rattle.packing_terms.proofs.Sets.{same_bool}
 use Rattle.rule_terms.specs.Applied.{Extends}
+use Rattle.edge_state.specs.Edges.{oldest}
 use Rattle.rule_terms.proofs.RoundsLemmas.{closure_is}
 use Rattle.rule_terms.proofs.Conflicts.{calm, stormy}
 use Rattle.relation_table.specs.Masks.{mask_has}
@@ -17,9 +19,10 @@ use Rattle.check_terms.specs.Judging.{unless, closed, is_conflict, may_part, may
 use Rattle.closure_terms.specs.Ends.{IsClosureOf}
 use Rattle.refutation_check.specs.Ended.{IsEnded}
 use Rattle.refutation_check.specs.declared.node.OpenNode.{OpenNode}
-use Rattle.refutation_check.specs.Nodes.{up_to, entered, node_exclusions, Stands, is_split, IsJudged}
+use Rattle.refutation_check.specs.Nodes.{entered, node_exclusions, Stands, is_split, IsJudged}
 use Rattle.refutation_check.proofs.Ends.{closure_ended}
-use Rattle.refutation_check.proofs.Nodes.{up_to_more, entered_up_to, entered_longer, length_joined}
+use Rattle.edge_state.proofs.Oldest.{oldest_more}
+use Rattle.refutation_check.proofs.Nodes.{entered_oldest, entered_longer}
 
 pub pred_is : (n : ℕ) → n - 1 ≡ pred n
 pred_is zero = omega arith
@@ -95,12 +98,12 @@ judged_still instance n old answer token within value no_split = record {
 -- the state was brought to the closure of the node
 pub judged_entered : (instance : PlainInstance) (n : OpenNode) (old new : List Exclusion) (answer : Option RefuseCode) (token : PlainToken) (conflict : Bool)
     → n.mark ≤ length old → Extends instance (entered n old) new
-    → ((above : List Exclusion) → Stands instance above n.first (up_to n.mark old) → IsEnded instance (excludes (node_exclusions n above)) new conflict)
+    → ((above : List Exclusion) → Stands instance above n.first (oldest n.mark old) → IsEnded instance (excludes (node_exclusions n above)) new conflict)
     → ((above : List Exclusion) → IsEnded instance (excludes (node_exclusions n above)) new conflict → answer ≡ refusal instance (node_exclusions n above) token)
     → (answer ≡ None → IsTrue (is_split token) → conflict ≡ false) → IsJudged instance n old new answer token
 judged_entered instance n old new answer token conflict within extends ended value no_conflict = record {
-  within = rw extends.grown (omega (arith, longer, length_joined extends.more (entered n old)));
-  kept = λ k h. rw extends.grown (up_to_more k extends.more (entered n old) (omega (arith, h, longer)) ∙ entered_up_to n old k h within);
+  within = rw extends.grown (omega (arith, longer, length-append extends.more (entered n old)));
+  kept = λ k h. rw extends.grown (oldest_more k extends.more (entered n old) (omega (arith, h, longer)) ∙ entered_oldest n old k h within);
   value = λ A h. value A (ended A h);
   no_conflict = λ e s A h. closure_ended instance (excludes (node_exclusions n A)) new conflict (no_conflict e s) (ended A h);
   fewer = λ e s. extends.fewer;

@@ -12,41 +12,11 @@ use Rattle.packing_terms.proofs.Closures.{derives_from, given_derived}
 use Rattle.rule_terms.specs.Places.{HasNoEmptyMask}
 use Rattle.rule_terms.specs.Steps.{with_exclusion}
 use Rattle.rule_terms.proofs.Applied.{with_keeps, with_own}
-use Rattle.edge_state.specs.Edges.{PlainEdges}
+use Rattle.edge_state.specs.Edges.{PlainEdges, oldest}
+use Rattle.edge_state.proofs.Oldest.{oldest_more, oldest_count, oldest_twice}
 use Rattle.edge_state.proofs.Kept.{with_new, with_old, with_more}
 use Rattle.refutation_check.specs.declared.node.OpenNode.{OpenNode}
-use Rattle.refutation_check.specs.Nodes.{some_of, with_each, with_some, up_to, entered, node_exclusions, Stands, IsReady}
-
--- ---- places of a list that grows
-
-pub length_joined : {X : Type 0} (xs ys : List X) → length (xs ++ ys) ≡ length xs + length ys
-length_joined xs ys = length-append xs ys
-
-pub up_to_more : (m : ℕ) (more es : List Exclusion) → m ≤ length es → up_to m (more ++ es) ≡ up_to m es
-up_to_more m [] es h = refl
-up_to_more m (e ∷ more) es h = step ∙ up_to_more m more es h
-  where
-    step : drop (suc (length (more ++ es)) - m) (e ∷ (more ++ es)) ≡ drop (length (more ++ es) - m) (more ++ es)
-    step =
-        let k : suc (length (more ++ es)) - m ≡ suc (length (more ++ es) - m) = omega (arith, h, length_joined more es) in
-        rw k refl
-
-drop_count : (k : ℕ) (es : List Exclusion) → length (drop k es) ≡ length es - k
-drop_count zero es = omega arith
-drop_count (suc k) [] = omega arith
-drop_count (suc k) (e ∷ es) = let h = drop_count k es in omega (arith, h)
-
-pub up_to_count : (m : ℕ) (es : List Exclusion) → m ≤ length es → length (up_to m es) ≡ m
-up_to_count m es h = let k = drop_count (length es - m) es in omega (arith, h, k)
-
--- a later place first, then an earlier one
-pub up_to_twice : (k m : ℕ) (es : List Exclusion) → k ≤ m → m ≤ length es → up_to k (up_to m es) ≡ up_to k es
-up_to_twice k m es below h = go (length es - m) es (omega (arith, h))
-  where
-    go : (j : ℕ) (fs : List Exclusion) → k ≤ length fs - j → up_to k (drop j fs) ≡ up_to k fs
-    go zero fs l = refl
-    go (suc j) [] l = refl
-    go (suc j) (f ∷ fs) l = go j fs (omega (arith, l)) ∙ sym (up_to_more k (f ∷ []) fs (omega (arith, l)))
+use Rattle.refutation_check.specs.Nodes.{some_of, with_each, with_some, entered, node_exclusions, Stands, IsReady}
 
 -- ---- one exclusion more
 
@@ -54,24 +24,24 @@ pub some_more : (es : List Exclusion) (o : Option Exclusion) → (more : List Ex
 some_more es None = ([], refl)
 some_more es (Some e) = with_more es e
 
-pub up_to_with : (m : ℕ) (es : List Exclusion) (o : Option Exclusion) → m ≤ length es → up_to m (with_some es o) ≡ up_to m es
-up_to_with m es o h = let w = some_more es o in rw w.1 (up_to_more m w.0 es h)
+pub oldest_with : (m : ℕ) (es : List Exclusion) (o : Option Exclusion) → m ≤ length es → oldest m (with_some es o) ≡ oldest m es
+oldest_with m es o h = let w = some_more es o in rw w.1 (oldest_more m w.0 es h)
 
 pub with_longer : (es : List Exclusion) (o : Option Exclusion) → length es ≤ length (with_some es o)
-with_longer es o = let w = some_more es o in rw w.1 (omega (arith, length_joined w.0 es))
+with_longer es o = let w = some_more es o in rw w.1 (omega (arith, length-append w.0 es))
 
-pub entered_up_to : (n : OpenNode) (es : List Exclusion) (k : ℕ) → k ≤ n.mark → n.mark ≤ length es → up_to k (entered n es) ≡ up_to k es
-entered_up_to n es k below h =
-    let P = up_to n.mark es in
-    let count = up_to_count n.mark es h in
+pub entered_oldest : (n : OpenNode) (es : List Exclusion) (k : ℕ) → k ≤ n.mark → n.mark ≤ length es → oldest k (entered n es) ≡ oldest k es
+entered_oldest n es k below h =
+    let P = oldest n.mark es in
+    let count = oldest_count n.mark es h in
     let longer = with_longer P n.second in
-    up_to_with k (with_some P n.second) n.first (omega (arith, below, count, longer))
-    ∙ (up_to_with k P n.second (omega (arith, below, count)) ∙ up_to_twice k n.mark es below h)
+    oldest_with k (with_some P n.second) n.first (omega (arith, below, count, longer))
+    ∙ (oldest_with k P n.second (omega (arith, below, count)) ∙ oldest_twice k n.mark es below h)
 
 pub entered_longer : (n : OpenNode) (es : List Exclusion) → n.mark ≤ length es → n.mark ≤ length (entered n es)
 entered_longer n es h =
-    let P = up_to n.mark es in
-    let count = up_to_count n.mark es h in
+    let P = oldest n.mark es in
+    let count = oldest_count n.mark es h in
     let a = with_longer P n.second in
     let b = with_longer (with_some P n.second) n.first in
     omega (arith, count, a, b)
@@ -125,10 +95,10 @@ module _ (instance : PlainInstance) where
     back = λ i u v r d. given_derived instance P i u v r ((h.exact i u v r).1 d);
   }
 
-  pub entered_same : (n : OpenNode) (A es : List Exclusion) → Stands instance A n.first (up_to n.mark es) → AreSame (entered n es) (node_exclusions n A)
+  pub entered_same : (n : OpenNode) (A es : List Exclusion) → Stands instance A n.first (oldest n.mark es) → AreSame (entered n es) (node_exclusions n A)
   entered_same n A es h =
-      some_same (with_some (up_to n.mark es) n.second) (some_of n.second ++ A) n.first
-      (some_same (up_to n.mark es) A n.second (stands_same A (up_to n.mark es) n.first h))
+      some_same (with_some (oldest n.mark es) n.second) (some_of n.second ++ A) n.first
+      (some_same (oldest n.mark es) A n.second (stands_same A (oldest n.mark es) n.first h))
 
 pub ready_stable : (instance : PlainInstance) (first : Option Exclusion) (es : List Exclusion) → (first ≡ None → ⊥) → IsReady instance first es
     → IsStable instance (excludes es)
@@ -141,7 +111,7 @@ ready_full instance None es some h = absurd (some refl)
 ready_full instance (Some e) es some h = h.1
 
 -- three steps in a row
-pub entered_is : (n : OpenNode) (a b c d : PlainEdges) → b ≡ record a { trail = up_to n.mark a.trail } → c ≡ record b { trail = with_some b.trail n.second }
+pub entered_is : (n : OpenNode) (a b c d : PlainEdges) → b ≡ record a { trail = oldest n.mark a.trail } → c ≡ record b { trail = with_some b.trail n.second }
     → d ≡ record c { trail = with_some c.trail n.first } → d.trail ≡ entered n a.trail
 entered_is n a b c d e f g =
     ap (λ (s : PlainEdges). s.trail) g
@@ -152,12 +122,12 @@ some_is : (first : Option Exclusion) → is_some first ≡ not false → first �
 some_is None e h = true≢false (sym e)
 some_is (Some e) k h = absurd (cc (h))
 
-pub ready_parts : (instance : PlainInstance) (n : OpenNode) (es table : List Exclusion) (none : Bool) → n.mark ≤ length es → IsReady instance n.first (up_to n.mark es)
+pub ready_parts : (instance : PlainInstance) (n : OpenNode) (es table : List Exclusion) (none : Bool) → n.mark ≤ length es → IsReady instance n.first (oldest n.mark es)
     → table ≡ entered n es → none ≡ false → is_some n.first ≡ not none
-    → IsStable instance (excludes (up_to n.mark table)) × HasNoEmptyMask instance (excludes (up_to n.mark table))
+    → IsStable instance (excludes (oldest n.mark table)) × HasNoEmptyMask instance (excludes (oldest n.mark table))
 ready_parts instance n es table none within ready is e some =
-    let same : up_to n.mark table ≡ up_to n.mark es = ap (λ (l : List Exclusion). up_to n.mark l) is ∙ entered_up_to n es n.mark (omega arith) within in
+    let same : oldest n.mark table ≡ oldest n.mark es = ap (λ (l : List Exclusion). oldest n.mark l) is ∙ entered_oldest n es n.mark (omega arith) within in
     let there : n.first ≡ None → ⊥ = some_is n.first (some ∙ ap (λ (b : Bool). not b) e) in (
-      subst (λ (l : List Exclusion). IsStable instance (excludes l)) (sym same) (ready_stable instance n.first (up_to n.mark es) there ready),
-      subst (λ (l : List Exclusion). HasNoEmptyMask instance (excludes l)) (sym same) (ready_full instance n.first (up_to n.mark es) there ready),
+      subst (λ (l : List Exclusion). IsStable instance (excludes l)) (sym same) (ready_stable instance n.first (oldest n.mark es) there ready),
+      subst (λ (l : List Exclusion). HasNoEmptyMask instance (excludes l)) (sym same) (ready_full instance n.first (oldest n.mark es) there ready),
     )

@@ -1,4 +1,4 @@
--- The three groups of rule instances that are applied for a place.
+-- The three groups of rule instances that are applied for an edge.
 use Rattle.std.proofs.Common.{ℕ, ◌⊎◌, inl, inr}
 use Rattle.packing_terms.specs.Packing.{PlainInstance}
 use Rattle.packing_terms.specs.Rules.{Rule}

@@ -6,15 +6,17 @@ use Rattle.std.proofs.Math.Nat.{min-eq_left}
 use Rattle.packing_terms.specs.declared.Exclusion.{Exclusion}
 use Rattle.packing_terms.specs.Packing.{PlainInstance, dims, box_count}
 use Rattle.packing_terms.specs.Exclusions.{excludes}
+use Rattle.edge_state.proofs.Oldest.{oldest_all}
+use Rattle.edge_state.specs.Edges.{oldest}
 use Rattle.closure_terms.specs.Ends.{IsClosureOf}
 use Rattle.refutation_check.specs.declared.node.OpenNode.{OpenNode}
-use Rattle.refutation_check.specs.Nodes.{some_of, with_some, up_to, entered, node_exclusions, Stands, IsAtAmong, above, opens, all_relations, IsHeldNode, AreHeld, splits_with}
+use Rattle.refutation_check.specs.Nodes.{some_of, with_some, entered, node_exclusions, Stands, IsAtAmong, above, opens, all_relations, IsHeldNode, AreHeld, splits_with}
 
 -- a node is held by another state that is the same up to its mark, and other splits that are the same up to its count
 node_moved : (instance : PlainInstance) (start sp sq old new : List Exclusion) (others : ℕ) (n : OpenNode)
-    → up_to n.mark new ≡ up_to n.mark old → take n.splits sq ≡ take n.splits sp → IsHeldNode instance start sp old others n → IsHeldNode instance start sq new others n
+    → oldest n.mark new ≡ oldest n.mark old → take n.splits sq ≡ take n.splits sp → IsHeldNode instance start sp old others n → IsHeldNode instance start sq new others n
 node_moved instance start sp sq old new others n e f h = record {
-  stands = subst (λ (l : List Exclusion). Stands instance (reverse l ++ start) n.first (up_to n.mark new)) (sym f)
+  stands = subst (λ (l : List Exclusion). Stands instance (reverse l ++ start) n.first (oldest n.mark new)) (sym f)
       (subst (λ (l : List Exclusion). Stands instance (above start sp n) n.first l) (sym e) h.stands);
   first_there = h.first_there;
   second_there = h.second_there;
@@ -26,7 +28,7 @@ node_moved instance start sp sq old new others n e f h = record {
     same = ap (λ (l : List Exclusion). opens instance (with_some (with_some l n.second) n.first)) e
 
 pub held_moved : (instance : PlainInstance) (start sp sq old new : List Exclusion) (mark count : ℕ) (ns : List OpenNode)
-    → ((k : ℕ) → k ≤ mark → up_to k new ≡ up_to k old) → ((k : ℕ) → k ≤ count → take k sq ≡ take k sp)
+    → ((k : ℕ) → k ≤ mark → oldest k new ≡ oldest k old) → ((k : ℕ) → k ≤ count → take k sq ≡ take k sp)
     → AreHeld instance start sp old mark count ns → AreHeld instance start sq new mark count ns
 held_moved instance start sp sq old new mark count [] e f h = tt
 held_moved instance start sp sq old new mark count (n ∷ ns) e f (m, c, node, rest) = (
@@ -79,7 +81,7 @@ splits_kept sp n k within below =
 
 -- the token was refused
 pub held_same : (instance : PlainInstance) (start sp old new : List Exclusion) (n : OpenNode) (ns : List OpenNode) → n.mark ≤ length new
-    → ((k : ℕ) → k ≤ n.mark → up_to k new ≡ up_to k old) → AreHeld instance start sp old (length old) (length sp) (n ∷ ns)
+    → ((k : ℕ) → k ≤ n.mark → oldest k new ≡ oldest k old) → AreHeld instance start sp old (length old) (length sp) (n ∷ ns)
     → AreHeld instance start sp new (length new) (length sp) (n ∷ ns)
 held_same instance start sp old new n ns within kept (m, c, node, rest) = (
   within,
@@ -90,7 +92,7 @@ held_same instance start sp old new n ns within kept (m, c, node, rest) = (
 
 -- a leaf was accepted
 pub held_less : (instance : PlainInstance) (start sp old new : List Exclusion) (n : OpenNode) (ns : List OpenNode) → n.mark ≤ length new
-    → ((k : ℕ) → k ≤ n.mark → up_to k new ≡ up_to k old) → AreHeld instance start sp old (length old) (length sp) (n ∷ ns)
+    → ((k : ℕ) → k ≤ n.mark → oldest k new ≡ oldest k old) → AreHeld instance start sp old (length old) (length sp) (n ∷ ns)
     → AreHeld instance start sp new (length new) (length sp) ns
 held_less instance start sp old new n ns within kept (m, c, node, rest) =
     held_wider instance start sp new n.mark n.splits (length new) (length sp) ns within c
@@ -104,9 +106,6 @@ pub record IsChild (instance : PlainInstance) (new : List Exclusion) (c : OpenNo
   pub second_there : IsAtAmong (dims instance) (box_count instance) c.second
   pub less : opens instance (with_some (with_some new c.second) c.first) < opens instance new
 
-pub up_to_all : (m : ℕ) (es : List Exclusion) → m ≡ length es → up_to m es ≡ es
-up_to_all m es e = let z : length es - m ≡ 0 = omega (arith, e) in ap (λ (k : ℕ). drop k es) z
-
 stands_calm : (instance : PlainInstance) (A es : List Exclusion) (first : Option Exclusion) → (first ≡ None → ⊥) → IsClosureOf instance (excludes A) es → Stands instance A first es
 stands_calm instance A es None some h = absurd (some refl)
 stands_calm instance A es (Some e) some h = h
@@ -115,7 +114,7 @@ child_held : (instance : PlainInstance) (start sq new : List Exclusion) (others 
     → IsClosureOf instance (excludes (reverse sq ++ start)) new → others + opens instance new ≤ suc (all_relations instance) → limit + 2 * opens instance new ≤ 2 * all_relations instance
     → length sq ≤ limit + 2 → IsHeldNode instance start sq new others c
 child_held instance start sq new others limit c child count calm few short sized = record {
-  stands = subst (λ (l : List Exclusion). Stands instance (reverse l ++ start) c.first (up_to c.mark new)) (sym (take_all c.splits sq (omega (arith, count))))
+  stands = subst (λ (l : List Exclusion). Stands instance (reverse l ++ start) c.first (oldest c.mark new)) (sym (take_all c.splits sq (omega (arith, count))))
       (subst (λ (l : List Exclusion). Stands instance (reverse sq ++ start) c.first l) (sym all) (stands_calm instance (reverse sq ++ start) new c.first child.some calm));
   first_there = child.first_there;
   second_there = child.second_there;
@@ -123,8 +122,8 @@ child_held instance start sq new others limit c child count calm few short sized
   short = omega (arith, short, less, sized, count);
 }
   where
-    all : up_to c.mark new ≡ new
-    all = up_to_all c.mark new child.mark
+    all : oldest c.mark new ≡ new
+    all = oldest_all new c.mark child.mark
 
     less : opens instance (entered c new) < opens instance new
     less = subst (λ (l : List Exclusion). opens instance (with_some (with_some l c.second) c.first) < opens instance new) (sym all) child.less
@@ -142,7 +141,7 @@ splits_sized sp n within =
 
 -- a split was accepted
 pub held_more : (instance : PlainInstance) (start sp old new : List Exclusion) (n : OpenNode) (ns : List OpenNode) (c d : OpenNode)
-    → n.mark ≤ length new → ((k : ℕ) → k ≤ n.mark → up_to k new ≡ up_to k old) → AreHeld instance start sp old (length old) (length sp) (n ∷ ns)
+    → n.mark ≤ length new → ((k : ℕ) → k ≤ n.mark → oldest k new ≡ oldest k old) → AreHeld instance start sp old (length old) (length sp) (n ∷ ns)
     → IsClosureOf instance (excludes (node_exclusions n (above start sp n))) new → opens instance new ≤ opens instance (entered n old)
     → IsChild instance new c → IsChild instance new d → c.splits ≡ length (splits_with sp n) → d.splits ≡ length (splits_with sp n)
     → AreHeld instance start (splits_with sp n) new (length new) (length (splits_with sp n)) (c ∷ d ∷ ns)

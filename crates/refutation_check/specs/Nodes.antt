@@ -13,7 +13,7 @@ use Rattle.packing_terms.specs.Tokens.PlainToken.{Apart, Order}
 use Rattle.packing_terms.specs.Refutation.{exclusion_in_text as exclusion_of}
 use Rattle.rule_terms.specs.Places.{HasNoEmptyMask}
 use Rattle.rule_terms.specs.Steps.{open_count, with_exclusion}
-use Rattle.edge_state.specs.Edges.{PlainEdges}
+use Rattle.edge_state.specs.Edges.{PlainEdges, oldest}
 use Rattle.check_terms.specs.declared.answers.RefuseCode.{RefuseCode}
 use Rattle.check_terms.specs.Judging.{refusal}
 use Rattle.closure_terms.specs.Ends.{IsClosureOf}
@@ -37,13 +37,9 @@ abbrev pub IsAtAmong : ℕ → ℕ → Option Exclusion → Type 0
 IsAtAmong d n None = Unit {0}
 IsAtAmong d n (Some e) = IsEdgeAmong d n e.dim e.u e.v
 
--- the exclusions up to a position of the list, the newest of which stand first
-abbrev pub up_to : ℕ → List Exclusion → List Exclusion
-up_to mark es = drop (length es - mark) es
-
 -- what a node begins with: the closure of its parent, and on top what its split excludes
 abbrev pub entered : OpenNode → List Exclusion → List Exclusion
-entered n es = with_some (with_some (up_to n.mark es) n.second) n.first
+entered n es = with_some (with_some (oldest n.mark es) n.second) n.first
 
 -- the exclusions of a node, where those of its parent are given
 abbrev pub node_exclusions : OpenNode → List Exclusion → List Exclusion
@@ -67,7 +63,7 @@ pub record IsOver (instance : PlainInstance) (s : PlainEdges) (n : OpenNode) : T
   pub mark : n.mark ≤ length s.trail
   pub first : IsAtAmong s.dims s.boxes n.first
   pub second : IsAtAmong s.dims s.boxes n.second
-  pub ready : IsReady instance n.first (up_to n.mark s.trail)
+  pub ready : IsReady instance n.first (oldest n.mark s.trail)
 
 -- how many relations the list leaves, and how many there are
 abbrev pub opens : PlainInstance → List Exclusion → ℕ
@@ -82,7 +78,7 @@ above start splits n = reverse (take n.splits splits) ++ start
 
 -- an open node, with so many others below it on the stack
 pub record IsHeldNode (instance : PlainInstance) (start splits trail : List Exclusion) (others : ℕ) (n : OpenNode) : Type 0 where
-  pub stands : Stands instance (above start splits n) n.first (up_to n.mark trail)
+  pub stands : Stands instance (above start splits n) n.first (oldest n.mark trail)
   pub first_there : IsAtAmong (dims instance) (box_count instance) n.first
   pub second_there : IsAtAmong (dims instance) (box_count instance) n.second
   pub few : others + opens instance (entered n trail) ≤ all_relations instance
@@ -123,8 +119,8 @@ child_nodes mark count _ = []
 -- accepted, the list is the closure of the node.
 pub record IsJudged (instance : PlainInstance) (n : OpenNode) (old new : List Exclusion) (answer : Option RefuseCode) (token : PlainToken) : Type 0 where
   pub within : n.mark ≤ length new
-  pub kept : (k : ℕ) → k ≤ n.mark → up_to k new ≡ up_to k old
-  pub value : (above : List Exclusion) → Stands instance above n.first (up_to n.mark old) → answer ≡ refusal instance (node_exclusions n above) token
-  pub no_conflict : answer ≡ None → IsTrue (is_split token) → (above : List Exclusion) → Stands instance above n.first (up_to n.mark old)
+  pub kept : (k : ℕ) → k ≤ n.mark → oldest k new ≡ oldest k old
+  pub value : (above : List Exclusion) → Stands instance above n.first (oldest n.mark old) → answer ≡ refusal instance (node_exclusions n above) token
+  pub no_conflict : answer ≡ None → IsTrue (is_split token) → (above : List Exclusion) → Stands instance above n.first (oldest n.mark old)
       → IsClosureOf instance (excludes (node_exclusions n above)) new
   pub fewer : answer ≡ None → IsTrue (is_split token) → opens instance new ≤ opens instance (entered n old)

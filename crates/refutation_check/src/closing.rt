@@ -6,6 +6,7 @@ ghost use Rattle.packing_terms.specs.Closure.{Derives, IsStable};
 ghost use Rattle.rule_terms.specs.Applied.{Extends};
 ghost use Rattle.rule_terms.specs.Places.{HasNoEmptyMask};
 ghost use Rattle.edge_state.specs.BitRows.{HoldsBoxes, row_has};
+ghost use Rattle.edge_state.specs.Edges.{oldest};
 ghost use Rattle.closure_terms.specs.States.{HasEmptyMask};
 ghost use Rattle.closure_terms.specs.Work.{IsUpToDate, IsChained};
 ghost use Rattle.refutation_check.specs.Ended.{IsEnded};
@@ -35,9 +36,9 @@ fn close_with<const K: usize>(
     requires tail_count { length tail.old ≡ box_count instance.now }
     requires mark { closed ≤ length state.old.trail }
     requires settled { IsUpToDate instance.now
-        (drop (length state.old.trail - closed) state.old.trail) state.old.trail }
+        (oldest closed state.old.trail) state.old.trail }
     requires chained { (i : ℕ) → i < dims instance.now → IsChained instance.now i
-        (drop (length state.old.trail - closed) state.old.trail) state.old.trail }
+        (oldest closed state.old.trail) state.old.trail }
     ensures sizes { state.new ≡ record state.old { trail = state.new.trail } }
     ensures heads { length head.new ≡ length head.old }
     ensures tails { length tail.new ≡ length tail.old }
@@ -71,9 +72,9 @@ impl Room {
         requires room { self.old.boxes ≡ box_count instance.now }
         requires mark { closed ≤ length state.old.trail }
         requires settled { IsUpToDate instance.now
-            (drop (length state.old.trail - closed) state.old.trail) state.old.trail }
+            (oldest closed state.old.trail) state.old.trail }
         requires chained { (i : ℕ) → i < dims instance.now → IsChained instance.now i
-            (drop (length state.old.trail - closed) state.old.trail) state.old.trail }
+            (oldest closed state.old.trail) state.old.trail }
         ensures room { self.new ≡ self.old }
         ensures sizes { state.new ≡ record state.old { trail = state.new.trail } }
         ensures extends { Extends instance.now state.old.trail state.new.trail }
@@ -120,9 +121,9 @@ impl Room {
         requires room { self.old.boxes ≡ box_count instance.now }
         requires mark { closed ≤ length state.old.trail }
         requires stable { IsStable instance.now
-            (excludes (drop (length state.old.trail - closed) state.old.trail)) }
+            (excludes (oldest closed state.old.trail)) }
         requires full { HasNoEmptyMask instance.now
-            (excludes (drop (length state.old.trail - closed) state.old.trail)) }
+            (excludes (oldest closed state.old.trail)) }
         ensures room { self.new ≡ self.old }
         ensures sizes { state.new ≡ record state.old { trail = state.new.trail } }
         ensures extends { Extends instance.now state.old.trail state.new.trail }

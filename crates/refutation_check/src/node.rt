@@ -5,8 +5,9 @@ ghost use Rattle.packing_terms.specs.declared.Exclusion.{Exclusion as PlainExclu
 ghost use Rattle.packing_terms.specs.Packing.{box_count};
 ghost use Rattle.packing_terms.specs.Exclusions.{excludes, IsEdgeAmong};
 ghost use Rattle.rule_terms.specs.Applied.{Extends};
+ghost use Rattle.edge_state.specs.Edges.{oldest};
 ghost use Rattle.refutation_check.specs.Ended.{IsEnded};
-ghost use Rattle.refutation_check.specs.Nodes.{with_each, with_some, IsAtAmong, up_to, entered, node_exclusions, Stands, IsOver};
+ghost use Rattle.refutation_check.specs.Nodes.{with_each, with_some, IsAtAmong, entered, node_exclusions, Stands, IsOver};
 
 use crate::room::Room;
 use box_instances::Instance;
@@ -68,7 +69,7 @@ pub fn enter(instance: &Instance, state: &mut EdgeState, room: &mut Room, node: 
     ensures room { room.new ≡ room.old }
     ensures extends { Extends instance.now (entered node state.old.trail) state.new.trail }
     ensures ended { (above : List PlainExclusion)
-        → Stands instance.now above node.first (up_to node.mark state.old.trail)
+        → Stands instance.now above node.first (oldest node.mark state.old.trail)
         → IsEnded instance.now (excludes (node_exclusions node above)) state.new.trail result }
 {
     state.undo(node.mark);

@@ -5,6 +5,7 @@ ghost use Rattle.packing_terms.specs.Exclusions.{excludes, IsEdgeAmong};
 ghost use Rattle.rule_terms.specs.Applied.{Extends};
 ghost use Rattle.edge_state.specs.BitRows.{HoldsBoxes, row_has};
 ghost use Rattle.edge_state.specs.Answers.{IsChangeAfter};
+ghost use Rattle.edge_state.specs.Edges.{oldest};
 ghost use Rattle.closure_terms.specs.States.{IsSized, HasEmptyMask};
 ghost use Rattle.closure_terms.specs.Work.{IsWorked, IsAppliedAt, IsUnordered, IsBehind};
 ghost use Rattle.closure_terms.specs.Work.{IsLookedThrough};
@@ -96,7 +97,7 @@ pub fn settle<const K: usize>(
     requires all { (x : ℕ) → row_has all x ≡ nat_lt x (box_count instance.now) }
     requires mark { closed ≤ length state.old.trail }
     requires looked { IsLookedThrough instance.now
-        (drop (length state.old.trail - closed) state.old.trail) state.old.trail dirty }
+        (oldest closed state.old.trail) state.old.trail dirty }
     ensures sizes { state.new ≡ record state.old { trail = state.new.trail } }
     ensures extends { Extends instance.now state.old.trail state.new.trail }
     ensures looked { MatchOption result (HasEmptyMask instance.now (excludes state.new.trail))

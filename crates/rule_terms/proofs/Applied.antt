@@ -12,7 +12,7 @@ use Rattle.packing_terms.specs.Closure.{IsSubset}
 use Rattle.rule_terms.specs.Steps.{open_count, with_exclusion}
 use Rattle.rule_terms.specs.Applied.{Adds, added, mirror_added, Extends, IsRuleStep, IsApplied, narrowed_by, narrows, narrowed, is_narrowed}
 use Rattle.packing_terms.proofs.Sets.{or_true, of_own, excludes_symmetric, mirror_twice}
-use Rattle.rule_terms.proofs.RoundsLemmas.{rule_place, excludes_own}
+use Rattle.rule_terms.proofs.RoundsLemmas.{rule_edge, excludes_own}
 use Rattle.packing_terms.proofs.Monotone.{premises_more, concludes_more}
 use Rattle.rule_terms.proofs.Steps.{fewer_open}
 
@@ -50,7 +50,7 @@ step_trans instance a b c x y h k = record {
 -- an exclusion that follows is a step
 pub step_follows : (instance : PlainInstance) (es : List Exclusion) (e : Exclusion) → IsEdge instance e.dim e.u e.v
     → Follows instance (excludes es) e.dim e.u e.v e.rel → IsRuleStep instance es (with_exclusion es e) (not (excludes es e.dim e.u e.v e.rel))
-step_follows instance es e place follows = go (excludes es e.dim e.u e.v e.rel) refl
+step_follows instance es e edge follows = go (excludes es e.dim e.u e.v e.rel) refl
   where
     go : (x : Bool) → excludes es e.dim e.u e.v e.rel ≡ x → IsRuleStep instance es (cond x es (e ∷ es)) (not x)
     go true k = step_none instance es
@@ -60,9 +60,9 @@ step_follows instance es e place follows = go (excludes es e.dim e.u e.v e.rel) 
         grown = refl;
         derived = λ E d. (inr follows, d);
         kept = λ i u v r h. or_true _ _ (inr h);
-        fewer = let l = fewer_open _ _ es e place k in omega arith;
+        fewer = let l = fewer_open _ _ es e edge k in omega arith;
       };
-      shrinks = λ t. fewer_open _ _ es e place k;
+      shrinks = λ t. fewer_open _ _ es e edge k;
       same = λ f. absurd (true≢false f);
     }
 
@@ -111,7 +111,7 @@ module _ (instance : PlainInstance) (rule : Rule) (es : List Exclusion) (keep : 
           → IsRuleStep instance fs (cond x fs (with_exclusion fs (record { dim = dim_of rule; u = first_of rule; v = second_of rule; rel = r })))
           (not x && not (excludes fs (dim_of rule) (first_of rule) (second_of rule) r))
       go true k = step_none instance fs
-      go false k = step_follows instance fs (record { dim = dim_of rule; u = first_of rule; v = second_of rule; rel = r }) (rule_place instance rule is)
+      go false k = step_follows instance fs (record { dim = dim_of rule; u = first_of rule; v = second_of rule; rel = r }) (rule_edge instance rule is)
           (by_rule rule r is (premises_more instance (excludes es) (excludes fs) more rule premises)
           (concludes_more instance (excludes es) (excludes fs) more rule r (drops r k)))
 

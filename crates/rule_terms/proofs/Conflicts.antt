@@ -39,7 +39,7 @@ module _ (X : Exclusions) (d n : ℕ) where
       (any_at (λ x. X i x v Overlap && X i x v Before && X i x v After) u (below v) (in_range 0 v u (omega arith) (omega arith))
       (and_from _ _ (and_from _ _ o b) a)))
 
-  -- the place of a conflict
+  -- the edge of a conflict
   pub record ConflictAt : Type 0 where
     pub dim : ℕ
     pub u : ℕ

@@ -65,7 +65,7 @@ module _ (instance : PlainInstance) where
   may_add es e = not (excludes es e.dim e.u e.v e.rel)
       && (follows instance (excludes es) e.dim e.u e.v e.rel || follows instance (excludes es) e.dim e.v e.u (mirror e.rel))
 
-  -- the candidates: at each place
+  -- the candidates: at each edge
   pub all_in : (e : Exclusion) → IsIn e (all_exclusions (dims instance) (box_count instance)) → IsEdge instance e.dim e.u e.v
   all_in e i =
       let a = flat_map_in (λ j. flat_map (λ v. flat_map (λ u. map (λ r. record { dim = j; u = u; v = v; rel = r }) rels) (below v)) (below (box_count instance))) e (below (dims instance)) i in
@@ -156,28 +156,28 @@ module _ (instance : PlainInstance) where
       go [] f rest = f
       go (e ∷ more) f rest = rest ((e ∷ more) ++ es) (let l = fewer_open es e more f in omega arith)
 
-  -- the place of a rule is a place
-  pub rule_place : (rule : Rule) → IsRuleInstance instance rule → IsEdge instance (dim_of rule) (first_of rule) (second_of rule)
-  rule_place (Pair i u v) (h, b) = record { dim = h; first = b.0; second = b.2.0; distinct = b.1.0 }
-  rule_place (Apart i u v) (h, b) = record { dim = h; first = b.0; second = b.2.0; distinct = b.1.0 }
-  rule_place (Triple i u v x) (h, b) = record { dim = h; first = b.0; second = b.2.0; distinct = b.1.0 }
-  rule_place (Chain i before u v after) (h, bu, bv, ne) =
+  -- the edge of a rule is an edge
+  pub rule_edge : (rule : Rule) → IsRuleInstance instance rule → IsEdge instance (dim_of rule) (first_of rule) (second_of rule)
+  rule_edge (Pair i u v) (h, b) = record { dim = h; first = b.0; second = b.2.0; distinct = b.1.0 }
+  rule_edge (Apart i u v) (h, b) = record { dim = h; first = b.0; second = b.2.0; distinct = b.1.0 }
+  rule_edge (Triple i u v x) (h, b) = record { dim = h; first = b.0; second = b.2.0; distinct = b.1.0 }
+  rule_edge (Chain i before u v after) (h, bu, bv, ne) =
       record { dim = h; first = (ends_in instance before u bu).last; second = bv.0; distinct = ne }
-  rule_place (Compose i u v x) (h, b) = record { dim = h; first = b.0; second = b.2.2.0; distinct = b.1.1.0 }
-  rule_place (Cycle i a b c d) (h, bs) = record { dim = h; first = bs.2.0; second = bs.2.2.2.0; distinct = bs.2.1.1.0 }
-  rule_place (Order i a b c d) (h, bs) = record { dim = h; first = bs.2.2.0; second = bs.2.0; distinct = λ e. bs.2.1.0 (sym e) }
+  rule_edge (Compose i u v x) (h, b) = record { dim = h; first = b.0; second = b.2.2.0; distinct = b.1.1.0 }
+  rule_edge (Cycle i a b c d) (h, bs) = record { dim = h; first = bs.2.0; second = bs.2.2.2.0; distinct = bs.2.1.1.0 }
+  rule_edge (Order i a b c d) (h, bs) = record { dim = h; first = bs.2.2.0; second = bs.2.0; distinct = λ e. bs.2.1.0 (sym e) }
 
-  pub follows_place : (X : Exclusions) (i u v : ℕ) (r : Rel) → Follows instance X i u v r → IsEdge instance i u v
-  follows_place X i u v r (by_rule rule _ h p c) = rule_place rule h
-  follows_place X i u v r (mirrored rule s h p c) =
-      let k = rule_place rule h in record { dim = k.dim; first = k.second; second = k.first; distinct = λ e. k.distinct (sym e) }
+  pub follows_edge : (X : Exclusions) (i u v : ℕ) (r : Rel) → Follows instance X i u v r → IsEdge instance i u v
+  follows_edge X i u v r (by_rule rule _ h p c) = rule_edge rule h
+  follows_edge X i u v r (mirrored rule s h p c) =
+      let k = rule_edge rule h in record { dim = k.dim; first = k.second; second = k.first; distinct = λ e. k.distinct (sym e) }
 
   -- where a round adds nothing, no rule adds an exclusion
   stable_at_end : (es : List Exclusion) → additions instance es ≡ [] → IsStable instance (excludes es)
   stable_at_end es none i u v r f = go (cases_Bool (excludes es i u v r))
     where
-      place : IsEdge instance i u v
-      place = follows_place (excludes es) i u v r f
+      edge : IsEdge instance i u v
+      edge = follows_edge (excludes es) i u v r f
 
       added : (e : Exclusion) → IsIn e (all_exclusions (dims instance) (box_count instance)) → excludes es e.dim e.u e.v e.rel ≡ false
           → (follows instance (excludes es) e.dim e.u e.v e.rel || follows instance (excludes es) e.dim e.v e.u (mirror e.rel)) ≡ true → ⊥
@@ -202,10 +202,10 @@ module _ (instance : PlainInstance) where
           sw (inr k) = or_true b a (inl k)
 
       side_by : (u < v) ⊎ (v ≤ u) → excludes es i u v r ≡ false → IsTrue (excludes es i u v r)
-      side_by (inl l) left = absurd (added (record { dim = i; u = u; v = v; rel = r }) (in_all i u v r place.dim l place.second) left
+      side_by (inl l) left = absurd (added (record { dim = i; u = u; v = v; rel = r }) (in_all i u v r edge.dim l edge.second) left
           (follows_test instance (excludes es) i u v r f))
       side_by (inr l) left = absurd (added (record { dim = i; u = v; v = u; rel = mirror r })
-          (in_all i v u (mirror r) place.dim (let ne = place.distinct in omega arith) place.first) (open_mirrored left)
+          (in_all i v u (mirror r) edge.dim (let ne = edge.distinct in omega arith) edge.first) (open_mirrored left)
           (swap (follows instance (excludes es) i u v (mirror (mirror r))) (follows instance (excludes es) i v u (mirror r))
           (subst (λ x. (follows instance (excludes es) i u v x || follows instance (excludes es) i v u (mirror r)) ≡ true) (sym (mirror_twice r))
           (follows_test instance (excludes es) i u v r f))))

@@ -151,19 +151,19 @@ module _ (instance : PlainInstance) (X : Exclusions) where
   follows_test i u v r (mirrored rule s h p c) =
       or_true _ _ (inr (subst (λ x. follows instance X (dim_of rule) (first_of rule) (second_of rule) x ≡ true) (sym (mirror_twice s)) (rule_test rule s h p c)))
 
-  module _ (i u v : ℕ) (place : IsEdge instance i u v) (r : Rel) where
+  module _ (i u v : ℕ) (edge : IsEdge instance i u v) (r : Rel) where
     two : AreBoxes instance (u ∷ v ∷ [])
-    two = (place.first, (place.distinct, tt), (place.second, tt, tt))
+    two = (edge.first, (edge.distinct, tt), (edge.second, tt, tt))
 
     from_pair : by_pair instance X i u v r ≡ true → Follows instance X i u v r
     from_pair h =
         let k = and_parts _ _ h in
-        by_rule (Pair i u v) r (place.dim, two) (ltb-true _ _ k.1) (rel_differ r Overlap k.0)
+        by_rule (Pair i u v) r (edge.dim, two) (ltb-true _ _ k.1) (rel_differ r Overlap k.0)
 
     from_apart : by_apart instance X i u v r ≡ true → Follows instance X i u v r
     from_apart h =
         let k = and_parts (is_same_rel r Overlap) (list_all (λ j. (j == i) || is_joined X j u v) (below (dims instance))) h in
-        by_rule (Apart i u v) r (place.dim, two)
+        by_rule (Apart i u v) r (edge.dim, two)
         (λ j l ne. go j ne (or_cases _ _ (all_at (λ j'. (j' == i) || is_joined X j' u v) j (below (dims instance)) k.1
         (in_range 0 (dims instance) j (omega arith) (omega arith)))))
         (same_rel r Overlap k.0)
@@ -181,7 +181,7 @@ module _ (instance : PlainInstance) (X : Exclusions) where
         let p = and_parts _ _ a.passes in
         let q = and_parts _ _ p.0 in
         by_rule (Triple i u v a.item) r
-        (place.dim, boxes3 instance u v a.item place.first place.second o.there place.distinct (λ e. o.first (sym e)) (λ e. o.second (sym e)))
+        (edge.dim, boxes3 instance u v a.item edge.first edge.second o.there edge.distinct (λ e. o.first (sym e)) (λ e. o.second (sym e)))
         (q.0, q.1, ltb-true _ _ p.1) (rel_differ r Overlap k.0)
 
     from_chain : by_chain instance X i u v r ≡ true → Follows instance X i u v r
@@ -199,10 +199,10 @@ module _ (instance : PlainInstance) (X : Exclusions) where
         let front = goes_through a.item u a.is_in in
         let back = goes_through b.item v b.is_in in
         by_rule (Chain i a.item u v b.item) r (
-          place.dim,
-          ended instance a.item u front.boxes place.first front.away,
-          (place.second, all_away instance v b.item back.away, back.boxes),
-          place.distinct,
+          edge.dim,
+          ended instance a.item u front.boxes edge.first front.away,
+          (edge.second, all_away instance v b.item back.away, back.boxes),
+          edge.distinct,
         )
         (chain_from i (a.item ++ u ∷ []) p.0, chain_from i (v ∷ b.item) q.0, ltb-true _ _ q.1) (same_rel r Before k.0)
 
@@ -211,7 +211,7 @@ module _ (instance : PlainInstance) (X : Exclusions) where
         let a = any_from (λ x. list_all (λ q. list_all (λ s. X i u x q || X i x v s || not (allows q s r)) rels) rels) (others (box_count instance) u v) h in
         let o = others_in (box_count instance) u v a.item a.is_in in
         by_rule (Compose i u a.item v) r
-        (place.dim, boxes3 instance u a.item v place.first o.there place.second (λ e. o.first (sym e)) place.distinct o.second)
+        (edge.dim, boxes3 instance u a.item v edge.first o.there edge.second (λ e. o.first (sym e)) edge.distinct o.second)
         tt
         (λ q s e f. go a.item q s e f (or_cases _ _ (all_at (λ s'. X i u a.item q || X i a.item v s' || not (allows q s' r)) s rels
         (all_at (λ q'. list_all (λ s'. X i u a.item q' || X i a.item v s' || not (allows q' s' r)) rels) q rels a.passes (rel_in q)) (rel_in s))))
@@ -240,9 +240,9 @@ module _ (instance : PlainInstance) (X : Exclusions) where
         let p2 = and_parts _ _ p3.0 in
         let p1 = and_parts _ _ p2.0 in
         by_rule (Cycle i a.item u c.item v) r (
-          place.dim,
-          boxes4 instance a.item u c.item v oa.there place.first oc.there place.second oa.first (differ a.item c.item p1.0) oa.second
-              (λ e. oc.first (sym e)) place.distinct oc.second,
+          edge.dim,
+          boxes4 instance a.item u c.item v oa.there edge.first oc.there edge.second oa.first (differ a.item c.item p1.0) oa.second
+              (λ e. oc.first (sym e)) edge.distinct oc.second,
         )
         (joined_from i a.item u p1.1, joined_from i u c.item p2.1, joined_from i c.item v p3.1, joined_from i v a.item p4.1, p5.1)
         (rel_differ r Overlap k.0)
@@ -260,9 +260,9 @@ module _ (instance : PlainInstance) (X : Exclusions) where
         let p2 = and_parts _ _ p3.0 in
         let p1 = and_parts _ _ p2.0 in
         by_rule (Order i a.item v u d.item) r (
-          place.dim,
-          boxes4 instance a.item v u d.item oa.there place.second place.first od.there oa.second oa.first (differ a.item d.item p1.0)
-              (λ e. place.distinct (sym e)) (λ e. od.second (sym e)) (λ e. od.first (sym e)),
+          edge.dim,
+          boxes4 instance a.item v u d.item oa.there edge.second edge.first od.there oa.second oa.first (differ a.item d.item p1.0)
+              (λ e. edge.distinct (sym e)) (λ e. od.second (sym e)) (λ e. od.first (sym e)),
         )
         (before_from i a.item v p1.1, before_from i u d.item p2.1, p3.1)
         (rel_differ r Before k.0)
@@ -305,11 +305,11 @@ module _ (instance : PlainInstance) (X : Exclusions) where
 
   pub test_either : (i u v : ℕ) → IsEdge instance i u v → (r : Rel) → (follows instance X i u v r || follows instance X i v u (mirror r)) ≡ true
       → Follows instance X i u v r
-  test_either i u v place r h = go (or_cases _ _ h)
+  test_either i u v edge r h = go (or_cases _ _ h)
     where
       back : IsEdge instance i v u
-      back = record { dim = place.dim; first = place.second; second = place.first; distinct = λ e. place.distinct (sym e) }
+      back = record { dim = edge.dim; first = edge.second; second = edge.first; distinct = λ e. edge.distinct (sym e) }
 
       go : (follows instance X i u v r ≡ true) ⊎ (follows instance X i v u (mirror r) ≡ true) → Follows instance X i u v r
-      go (inl k) = test_follows i u v place r k
+      go (inl k) = test_follows i u v edge r k
       go (inr k) = subst (λ x. Follows instance X i u v x) (mirror_twice r) (flipped i v u (mirror r) (test_follows i v u back (mirror r) k))

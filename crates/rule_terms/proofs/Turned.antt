@@ -1,5 +1,5 @@
 -- Runs read backwards are chains.
-use Rattle.std.proofs.Common.{◌≡◌, ◌≢◌, ℕ, ◌<◌, ◌≤◌, ◌⊎◌, inl, inr, refl, sym, subst, ◌∙◌, arith, Bool, true, false, List, [], ◌∷◌, ◌++◌}
+use Rattle.std.proofs.Common.{◌≡◌, ◌≢◌, ℕ, ◌<◌, ◌≤◌, ◌⊎◌, inl, inr, refl, sym, subst, ◌∙◌, arith, false, List, [], ◌∷◌, ◌++◌}
 use Rattle.std.specs.List.{sum_by}
 use Rattle.std.proofs.lemmas.Bool.{true≢false}
 use Rattle.std.proofs.lemmas.List.Sums.{sum_by-cons, sum_by_push}
@@ -10,6 +10,8 @@ use Rattle.packing_terms.specs.Exclusions.{Exclusions, IsSurelyBefore, IsEdgeAmo
 use Rattle.rule_terms.specs.Places.{HasNoEmptyMask}
 use Rattle.packing_terms.specs.Closure.{IsSymmetric}
 use Rattle.packing_terms.specs.Rules.{AreBoxesAmong, IsChain}
+use Rattle.rule_terms.specs.declared.Direction.{Direction}
+use Rattle.rule_terms.specs.declared.Direction.TheVariants.{Forwards, Backwards}
 use Rattle.rule_terms.specs.Runs.{IsRun, HasRun, IsHeaviestRun, Leads, IsTransitive, IsOneWay, HasHead, HasTail, IsHeaviestHead, IsHeaviestTail}
 use Rattle.packing_terms.proofs.Members.{IsIn, append_in, in_append}
 use Rattle.packing_terms.proofs.Boxes.{each_in, each_from}
@@ -99,17 +101,17 @@ module _ (X : Exclusions) (i : ℕ) where
   run_chain (u ∷ []) h = tt
   run_chain (u ∷ v ∷ l) h = (h.0, run_chain (v ∷ l) h.1)
 
-  back_chain : (v : ℕ) (l : List ℕ) → IsRun (Leads X i true) (v ∷ l) → IsRun (IsSurelyBefore X i) (turned l ++ v ∷ [])
+  back_chain : (v : ℕ) (l : List ℕ) → IsRun (Leads X i Backwards) (v ∷ l) → IsRun (IsSurelyBefore X i) (turned l ++ v ∷ [])
   back_chain v [] h = tt
   back_chain v (x ∷ l) h = run_push (IsSurelyBefore X i) (turned l) x v (back_chain x l h.1) h.0
 
-  chain_back : (v : ℕ) (before : List ℕ) → IsRun (IsSurelyBefore X i) (before ++ v ∷ []) → IsRun (Leads X i true) (v ∷ turned before)
+  chain_back : (v : ℕ) (before : List ℕ) → IsRun (IsSurelyBefore X i) (before ++ v ∷ []) → IsRun (Leads X i Backwards) (v ∷ turned before)
   chain_back v [] h = tt
   chain_back v (x ∷ []) h = (h.0, tt)
-  chain_back v (x ∷ y ∷ before) h = run_push (Leads X i true) (v ∷ turned before) y x (chain_back v (y ∷ before) h.1) h.0
+  chain_back v (x ∷ y ∷ before) h = run_push (Leads X i Backwards) (v ∷ turned before) y x (chain_back v (y ∷ before) h.1) h.0
 
   module _ (instance : PlainInstance) where
-    pub head_of : (v k : ℕ) → IsHeaviestRun (box_count instance) (Leads X i true) (λ u. side instance u i) v k → IsHeaviestHead instance X i v k
+    pub head_of : (v k : ℕ) → IsHeaviestRun (box_count instance) (Leads X i Backwards) (λ u. side instance u i) v k → IsHeaviestHead instance X i v k
     head_of v k run = record {
       some = record {
         before = turned run.some.rest;
@@ -121,14 +123,14 @@ module _ (X : Exclusions) (i : ℕ) where
           (run.most (turned before) (boxes_run (box_count instance) v before b) (chain_back v before (chain_run (before ++ v ∷ []) c)));
     }
 
-    pub tail_of : (v k : ℕ) → IsHeaviestRun (box_count instance) (Leads X i false) (λ u. side instance u i) v k → IsHeaviestTail instance X i v k
+    pub tail_of : (v k : ℕ) → IsHeaviestRun (box_count instance) (Leads X i Forwards) (λ u. side instance u i) v k → IsHeaviestTail instance X i v k
     tail_of v k run = record {
       some = record { after = run.some.rest; boxes = run.some.boxes; chain = run_chain (v ∷ run.some.rest) run.some.run; heavy = run.some.heavy };
       most = λ after b c. run.most after b (chain_run (v ∷ after) c);
     }
 
     -- a head is a run, so it is small
-    pub run_of_head : (v k : ℕ) → HasHead instance X i v k → HasRun (box_count instance) (Leads X i true) (λ u. side instance u i) v k
+    pub run_of_head : (v k : ℕ) → HasHead instance X i v k → HasRun (box_count instance) (Leads X i Backwards) (λ u. side instance u i) v k
     run_of_head v k h = record {
       rest = turned h.before;
       boxes = boxes_run (box_count instance) v h.before h.boxes;
@@ -136,34 +138,34 @@ module _ (X : Exclusions) (i : ℕ) where
       heavy = sum_run (box_count instance) (λ u. side instance u i) v h.before ∙ h.heavy;
     }
 
-    pub run_of_tail : (v k : ℕ) → HasTail instance X i v k → HasRun (box_count instance) (Leads X i false) (λ u. side instance u i) v k
+    pub run_of_tail : (v k : ℕ) → HasTail instance X i v k → HasRun (box_count instance) (Leads X i Forwards) (λ u. side instance u i) v k
     run_of_tail v k h = record { rest = h.after; boxes = h.boxes; run = chain_run (v ∷ h.after) h.chain; heavy = h.heavy }
 
     -- surely before goes one way where no mask is empty, and backwards it is transitive too
-    pub one_way : i < dims instance → IsSymmetric X → HasNoEmptyMask instance X → (back : Bool) → IsOneWay (box_count instance) (Leads X i back)
-    one_way hi symmetric full back u v b = go back
+    pub one_way : i < dims instance → IsSymmetric X → HasNoEmptyMask instance X → (d : Direction) → IsOneWay (box_count instance) (Leads X i d)
+    one_way hi symmetric full d u v b = go d
       where
         clash : (a c : ℕ) → IsEdgeAmong (dims instance) (box_count instance) i a c → IsSurelyBefore X i a c → IsSurelyBefore X i c a → ⊥
-        clash a c place ac ca = pick (full i a c place)
+        clash a c edge ac ca = pick (full i a c edge)
           where
             pick : (r : Rel) × (X i a c r ≡ false) → ⊥
             pick (Overlap, e) = true≢false (sym ac.0 ∙ e)
             pick (After, e) = true≢false (sym ac.1 ∙ e)
             pick (Before, e) = true≢false (sym (symmetric i c a After ca.1) ∙ e)
 
-        place : IsEdgeAmong (dims instance) (box_count instance) i u v
-        place = record { dim = hi; first = b.0; second = b.2.0; distinct = b.1.0 }
+        edge : IsEdgeAmong (dims instance) (box_count instance) i u v
+        edge = record { dim = hi; first = b.0; second = b.2.0; distinct = b.1.0 }
 
-        go : (back : Bool) → Leads X i back u v → Leads X i back v u → ⊥
-        go true h k = clash u v place k h
-        go false h k = clash u v place h k
+        go : (d : Direction) → Leads X i d u v → Leads X i d v u → ⊥
+        go Forwards h k = clash u v edge h k
+        go Backwards h k = clash u v edge k h
 
-    pub transitive_back : IsTransitive (box_count instance) (IsSurelyBefore X i) → (back : Bool) → IsTransitive (box_count instance) (Leads X i back)
-    transitive_back trans true u v x b h k =
+    pub transitive_back : IsTransitive (box_count instance) (IsSurelyBefore X i) → (d : Direction) → IsTransitive (box_count instance) (Leads X i d)
+    transitive_back trans Backwards u v x b h k =
         trans x v u (b.2.2.0, ((λ e. b.2.1.0 (sym e)), ((λ e. b.1.1.0 (sym e)), tt)), (b.2.0, ((λ e. b.1.0 (sym e)), tt), (b.0, tt, tt))) k h
-    transitive_back trans false u v x b h k = trans u v x b h k
+    transitive_back trans Forwards u v x b h k = trans u v x b h k
 
-    pub run_of_heaviest : (v k : ℕ) → IsHeaviestHead instance X i v k → IsHeaviestRun (box_count instance) (Leads X i true) (λ u. side instance u i) v k
+    pub run_of_heaviest : (v k : ℕ) → IsHeaviestHead instance X i v k → IsHeaviestRun (box_count instance) (Leads X i Backwards) (λ u. side instance u i) v k
     run_of_heaviest v k h = record {
       some = run_of_head v k h.some;
       most = λ rest b r. subst (λ (z : ℕ). z ≤ k) (sum_turned (box_count instance) (λ u. side instance u i) v rest)

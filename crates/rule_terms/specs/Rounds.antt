@@ -2,8 +2,8 @@
 -- premises hold; no program runs it.
 -- Source: the closure is that of the rules of Fekete, Schepers and van der Veen (2007), and no
 -- order of work is part of it.
-use Rattle.std.specs.Prelude.{ℕ, zero, suc, ◌+◌, ◌-◌, ◌*◌, ◌/◌, ◌==◌, ◌&&◌, ◌||◌, not, List, [], ◌∷◌, ◌++◌, Bool, true, nat_lt, map}
-use Rattle.std.specs.List.{list_any, list_all, filter, flat_map, range_with_len}
+use Rattle.std.specs.Prelude.{ℕ, zero, suc, ◌+◌, ◌==◌, ◌&&◌, ◌||◌, not, List, [], ◌∷◌, ◌++◌, Bool, true, nat_lt, map}
+use Rattle.std.specs.List.{list_any, list_all, filter, flat_map}
 use Rattle.packing_terms.specs.declared.Rel.{Rel}
 use Rattle.packing_terms.specs.declared.Rel.TheVariants.{Overlap, Before, After}
 use Rattle.packing_terms.specs.declared.Exclusion.{Exclusion}

@@ -1,7 +1,6 @@
 -- Lists of exclusions that grow, the newest first.
 use Rattle.std.specs.Prelude.{ℕ, ◌≡◌, List, [], ◌∷◌, length, not, false, if◌then◌else◌}
 use Rattle.std.specs.List.{filter}
-use Rattle.packing_terms.specs.declared.Rel.{Rel}
 use Rattle.packing_terms.specs.declared.Exclusion.{Exclusion}
 use Rattle.packing_terms.specs.Exclusions.{excludes, IsEdgeAmong}
 use Rattle.rule_terms.specs.Rounds.{all_exclusions}

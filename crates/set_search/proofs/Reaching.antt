@@ -1,4 +1,4 @@
--- Paths into the children of outer trees, and lists by their places.
+-- Paths into the children of outer trees, and lists by their positions.
 use Rattle.std.proofs.Common.{◌≡◌, ℕ, zero, suc, ◌+◌, ◌<◌, ◌≤◌, refl, sym, ap, subst, ◌∙◌, arith, Bool, true, false, List, [], ◌∷◌, ◌++◌, length, take, drop, get_or, ltb, if◌then◌else◌, Some, None, IsSome}
 use Rattle.std.proofs.lemmas.Bool.{true≢false, ltb-true}
 use Rattle.packing_terms.specs.Tokens.{PlainToken}
@@ -6,7 +6,7 @@ use Rattle.tree_terms.specs.Trees.{SearchTree, Refuted, Split, node_at}
 use Rattle.tree_terms.specs.Paths.{most_budget, own_of, IsReachable}
 use Rattle.tree_terms.proofs.PathNodes.{none_there}
 
--- what is left of a list begins with the entry at its place
+-- what is left of a list begins with the entry at its position
 pub next_box : (us : List ℕ) (k : ℕ) → k < length us → drop k us ≡ get_or us k 0 ∷ drop (k + 1) us
 next_box [] k l = absurd (omega (arith, l))
 next_box (u ∷ us) zero l = refl

@@ -6,7 +6,8 @@ use Rattle.std.proofs.lemmas.Bool.{eqb-true, and_parts, or_parts, true≢false}
 use Rattle.packing_terms.specs.Packing.{PlainInstance}
 use Rattle.text_terms.specs.declared.fault.TextFault.{TextFault}
 use Rattle.text_terms.specs.Lines.{line_of, content, is_bad, words_of, same_bytes}
-use Rattle.text_terms.specs.Texts.{Parts, add_line, by_words, format_line, container_line, kerf_line, box_line, first_word, numbers_of, container_limits, kerf_limits, ranged_number, refuse, is_none, at_line, read_lines, ◌>>=◌}
+use Rattle.packing_terms.specs.Results.{◌>>=◌}
+use Rattle.text_terms.specs.Texts.{Parts, add_line, by_words, format_line, container_line, kerf_line, box_line, first_word, numbers_of, container_limits, kerf_limits, ranged_number, refuse, is_none, at_line, read_lines}
 use Rattle.text_terms.specs.Form.{AreClean}
 use Rattle.text_terms.proofs.Good.{refuse_ok}
 use Rattle.text_terms.proofs.FormNumbers.{word_is}

@@ -4,7 +4,8 @@ use Rattle.std.specs.Prelude.{nat_le, ◌==◌}
 use Rattle.std.proofs.lemmas.Bool.{leb-true, le-leb, eq-eqb, eqb-true, and_parts, and_from, and_right}
 use Rattle.packing_terms.specs.Limits.{most_boxes}
 use Rattle.text_terms.specs.Lines.{number_of, same_bytes}
-use Rattle.text_terms.specs.Texts.{Ending, first_word, numbers_of, value_of, times_of, has_times_alone, ending_of, ranged_number, in_range, refuse, ◌>>=◌}
+use Rattle.packing_terms.specs.Results.{◌>>=◌}
+use Rattle.text_terms.specs.Texts.{Ending, first_word, numbers_of, value_of, times_of, has_times_alone, ending_of, ranged_number, in_range, refuse}
 use Rattle.text_terms.specs.Form.{AreNumbers, IsNumber, IsValueEnding, IsTimes, IsEnding}
 use Rattle.text_terms.proofs.Keys.{same_bytes_Decides}
 use Rattle.text_terms.proofs.Good.{bind_ok, refuse_ok}

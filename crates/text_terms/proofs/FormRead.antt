@@ -7,7 +7,8 @@ use Rattle.std.proofs.lemmas.List.{take_at, drop_at, length-append, length-map, 
 use Rattle.packing_terms.specs.Packing.{PlainBox, PlainInstance}
 use Rattle.packing_terms.specs.Limits.{most_boxes, most_side, IsBoxCount}
 use Rattle.text_terms.specs.Lines.{text_lines, content, is_bad, words_of, same_bytes}
-use Rattle.text_terms.specs.Texts.{Parts, no_parts, by_words, container_line, kerf_line, box_line, is_box_length, numbers_of, container_limits, kerf_limits, side_limits, ending_of, refuse, is_none, at_line, read_lines, text_instance, ◌>>=◌}
+use Rattle.packing_terms.specs.Results.{◌>>=◌}
+use Rattle.text_terms.specs.Texts.{Parts, no_parts, by_words, container_line, kerf_line, box_line, is_box_length, numbers_of, container_limits, kerf_limits, side_limits, ending_of, refuse, is_none, at_line, read_lines, text_instance}
 use Rattle.text_terms.specs.Form.{AreClean, filled_lines, IsFormatLine, IsContainerLine, IsKerfLine, IsKerfPart, IsBoxLine, AreBoxLines, IsInstanceText}
 use Rattle.text_terms.proofs.FormNumbers.{is_range, are_numbers, numbers_count, is_ending, ending_length, times_some}
 

@@ -6,7 +6,8 @@ use Rattle.std.proofs.lemmas.List.{length-take-le, length-drop, length-map, leng
 use Rattle.packing_terms.specs.Packing.{PlainBox, PlainInstance}
 use Rattle.packing_terms.specs.Limits.{most_boxes, most_side, IsBoxCount}
 use Rattle.text_terms.specs.Lines.{text_lines, content, words_of}
-use Rattle.text_terms.specs.Texts.{Parts, no_parts, by_words, format_line, container_line, kerf_line, box_line, is_box_length, first_word, numbers_of, container_limits, kerf_limits, side_limits, ending_of, boxes_of_words, ranged_number, refuse, is_none, read_lines, text_instance, ◌>>=◌}
+use Rattle.packing_terms.specs.Results.{◌>>=◌}
+use Rattle.text_terms.specs.Texts.{Parts, no_parts, by_words, format_line, container_line, kerf_line, box_line, is_box_length, first_word, numbers_of, container_limits, kerf_limits, side_limits, ending_of, boxes_of_words, ranged_number, refuse, is_none, read_lines, text_instance}
 use Rattle.text_terms.specs.Form.{LinesHaveForm, AreClean, filled_lines, AreNumbers, IsFormatLine, IsContainerLine, IsKerfLine, IsKerfPart, IsBoxLine, AreBoxLines, HasForm, IsInstanceText, TextsHaveForm}
 use Rattle.text_terms.proofs.Cut.{at_most_four, box_length}
 use Rattle.text_terms.proofs.Good.{refuse_ok, bind_ok, good_start, lines_limits, texts_are_instances}

@@ -28,7 +28,7 @@ use Rattle.tree_terms.specs.ClassTree.{box_sides, first_too_large_box, exceeding
 use Rattle.tree_terms.specs.Search.{IsSearch, AreAtEdges}
 use Rattle.tree_terms.proofs.RankLemmas.{ranked_rise, pair_ranked}
 use Rattle.tree_terms.proofs.SettledPlaces.{settled_pack}
-use Rattle.tree_terms.proofs.Nodes.{excluded_place, closure_places, opens, below_child, settled_pair}
+use Rattle.tree_terms.proofs.Nodes.{excluded_edge, closure_edges, opens, below_child, settled_pair}
 use Rattle.rule_terms.proofs.Conflicts.{closed_back, closed_there, stays_open, calm, stormy, full_masks}
 use Rattle.tree_terms.proofs.Splits.{order_there, apart_there}
 use Rattle.tree_terms.proofs.Searches.{search_same}
@@ -52,8 +52,8 @@ module _ (instance : PlainInstance) (sides : HasPositiveSides instance) (some_di
       → IsSubset (excludes (closure instance es)) (excludes (add ++ closure instance es))
       → e.dim < dims instance → e.u < e.v → e.v < box_count instance → excludes (closure instance es) e.dim e.u e.v e.rel ≡ false
       → IsSearch instance (add ++ closure instance es) (tree (add ++ closure instance es))) where
-    at_place : (i : ℕ) → i < dims instance → IsEdge instance i p.0 p.1
-    at_place i h = record { dim = h; first = omega (arith, huv, hv); second = hv; distinct = (λ e. omega (arith, huv, e)) }
+    at_edge : (i : ℕ) → i < dims instance → IsEdge instance i p.0 p.1
+    at_edge i h = record { dim = h; first = omega (arith, huv, hv); second = hv; distinct = (λ e. omega (arith, huv, e)) }
 
     more_by : (e : Exclusion) → IsSubset (excludes (closure instance es)) (excludes (e ∷ closure instance es))
     more_by e j a b s k = or_true _ _ (inr k)
@@ -70,14 +70,14 @@ module _ (instance : PlainInstance) (sides : HasPositiveSides instance) (some_di
     one_child i r hi shut =
         let e : Exclusion = exclusion_at_pair i p r in
         search_same instance (tree (exclusion_at_pair i p r ∷ closure instance es)) (exclusion_at_pair i p r ∷ closure instance es) (exclusion_at_pair i p r ∷ es) (one_there e) (one_back e)
-        (searches (exclusion_at_pair i p r ∷ []) (exclusion_at_pair i p r) (inl refl) (at_place i hi, tt) (more_by (exclusion_at_pair i p r)) hi huv hv shut)
+        (searches (exclusion_at_pair i p r ∷ []) (exclusion_at_pair i p r) (inl refl) (at_edge i hi, tt) (more_by (exclusion_at_pair i p r)) hi huv hv shut)
 
     joined_child : (j : ℕ) → j < dims instance
         → (excludes (closure instance es) j p.0 p.1 Before ≡ false) ⊎ (excludes (closure instance es) j p.0 p.1 After ≡ false)
         → IsSearch instance (exclusion_at_pair j p Before ∷ exclusion_at_pair j p After ∷ closure instance es) (tree (exclusion_at_pair j p Before ∷ exclusion_at_pair j p After ∷ closure instance es))
-    joined_child j hj (inl k) = searches (exclusion_at_pair j p Before ∷ exclusion_at_pair j p After ∷ []) (exclusion_at_pair j p Before) (inl refl) (at_place j hj, (at_place j hj, tt))
+    joined_child j hj (inl k) = searches (exclusion_at_pair j p Before ∷ exclusion_at_pair j p After ∷ []) (exclusion_at_pair j p Before) (inl refl) (at_edge j hj, (at_edge j hj, tt))
         (λ m a b s l. or_true _ _ (inr (or_true _ _ (inr l)))) hj huv hv k
-    joined_child j hj (inr k) = searches (exclusion_at_pair j p Before ∷ exclusion_at_pair j p After ∷ []) (exclusion_at_pair j p After) (inr (inl refl)) (at_place j hj, (at_place j hj, tt))
+    joined_child j hj (inr k) = searches (exclusion_at_pair j p Before ∷ exclusion_at_pair j p After ∷ []) (exclusion_at_pair j p After) (inr (inl refl)) (at_edge j hj, (at_edge j hj, tt))
         (λ m a b s l. or_true _ _ (inr (or_true _ _ (inr l)))) hj huv hv k
 
     two_added : (j : ℕ) → j < dims instance
@@ -149,7 +149,7 @@ module _ (instance : PlainInstance) (sides : HasPositiveSides instance) (some_di
       → IsSearch instance es (Settled (settled_places instance (excludes (closure instance es))) 0)
   all_settled es placed f none =
       settled_pack instance (excludes (closure instance es)) (closure_stable instance es) (excludes_symmetric (closure instance es)) (full_masks instance es f) sides fit
-      (λ i u v h. excluded_place instance (closure instance es) (closure_places instance es placed) i u v Overlap h)
+      (λ i u v h. excluded_edge instance (closure instance es) (closure_edges instance es placed) i u v Overlap h)
       (λ u v l m. settled_pair (excludes (closure instance es)) (dims instance) (box_count instance) (excludes_symmetric (closure instance es)) (u, v)
       (is_true (is_settled (excludes (closure instance es)) (dims instance) (u, v))
       (find_none (is_unsettled instance (excludes (closure instance es))) (ranked_pairs instance) none (u, v) (pair_ranked instance u v l m))))
@@ -179,7 +179,7 @@ module _ (instance : PlainInstance) (sides : HasPositiveSides instance) (some_di
           let h = find_some (is_unsettled instance (excludes (closure instance es))) (ranked_pairs instance) p f in
           let k = ranked_rise instance p h.0 in
           split_search es p (λ fs. node_tree instance depth fs) k.0 k.1 e (not-true _ h.1)
-          (λ add x i q more hi huv hv shut. rest (add ++ closure instance es) (places_join add (closure instance es) q (closure_places instance es placed))
+          (λ add x i q more hi huv hv shut. rest (add ++ closure instance es) (places_join add (closure instance es) q (closure_edges instance es placed))
           (below_child instance es depth add x i more hi huv hv shut small))
           _ _ _ refl refl refl
 
@@ -198,8 +198,8 @@ module _ (instance : PlainInstance) where
       let r = range_in 0 (box_count instance) a.0 a.1 in
       let s = range_in 0 (dims instance) b.0 b.1 in
       let there : (a.0 < box_count instance) × (b.0 < dims instance) = (omega (arith, r), omega (arith, s)) in
-      let place = subst (λ (q : ℕ × ℕ). (q.0 < box_count instance) × (q.1 < dims instance)) (sym b.2) there in
-      (place.0, place.1, ltb-true _ _ h.1)
+      let found = subst (λ (q : ℕ × ℕ). (q.0 < box_count instance) × (q.1 < dims instance)) (sym b.2) there in
+      (found.0, found.1, ltb-true _ _ h.1)
 
   pub none_large : first_too_large_box instance ≡ None → SidesFit instance
   none_large e v i l m = go (cases_lt (container_side instance i) (side instance v i))

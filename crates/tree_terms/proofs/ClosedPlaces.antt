@@ -13,7 +13,7 @@ use Rattle.rule_terms.specs.Places.{IsOrdered, IsGreatestEnd}
 use Rattle.rule_terms.proofs.RoundsLemmas.{closure_stable}
 use Rattle.tree_terms.specs.InnerTree.{settled_places}
 use Rattle.tree_terms.specs.Search.{AreAtEdges}
-use Rattle.tree_terms.proofs.Nodes.{excluded_place, closure_places}
+use Rattle.tree_terms.proofs.Nodes.{excluded_edge, closure_edges}
 use Rattle.rule_terms.proofs.Conflicts.{stormy, full_masks}
 use Rattle.tree_terms.proofs.SettledPlaces.{settled_ends, settled_pack}
 
@@ -31,9 +31,9 @@ module _ (instance : PlainInstance) (es : List Exclusion) (sides : HasPositiveSi
   pub closed_ends : (v i : ℕ) → v < box_count instance → i < dims instance
       → IsGreatestEnd instance (excludes (closure instance es)) (settled_places instance (excludes (closure instance es))) i v
   closed_ends = settled_ends instance (excludes (closure instance es)) (closure_stable instance es) (excludes_symmetric (closure instance es))
-      (full_masks instance es no_conflict) sides fit (λ i u v h. excluded_place instance (closure instance es) (closure_places instance es placed) i u v Overlap h)
+      (full_masks instance es no_conflict) sides fit (λ i u v h. excluded_edge instance (closure instance es) (closure_edges instance es placed) i u v Overlap h)
 
   pub closed_pack : ((u v : ℕ) → u < v → v < box_count instance → IsOrdered instance (excludes (closure instance es)) u v)
       → IsPacking instance (settled_places instance (excludes (closure instance es)))
   closed_pack = settled_pack instance (excludes (closure instance es)) (closure_stable instance es) (excludes_symmetric (closure instance es))
-      (full_masks instance es no_conflict) sides fit (λ i u v h. excluded_place instance (closure instance es) (closure_places instance es placed) i u v Overlap h)
+      (full_masks instance es no_conflict) sides fit (λ i u v h. excluded_edge instance (closure instance es) (closure_edges instance es placed) i u v Overlap h)

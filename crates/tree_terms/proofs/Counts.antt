@@ -80,26 +80,26 @@ module _ {X : Type 0} where
           let c : w * (r + s) ≤ w * t = mul-le-mul_left w m in
           omega (arith, a, b, c, d)
 
--- a place: a dimension and a pair
-abbrev Place : Type 0
-Place = ℕ × ℕ × ℕ
+-- an edge: a dimension and a pair
+abbrev Edge : Type 0
+Edge = ℕ × ℕ × ℕ
 
-abbrev pair_places : ℕ → ℕ → List Place
-pair_places i v = map (λ u. (i, u, v)) (below v)
+abbrev pair_edges : ℕ → ℕ → List Edge
+pair_edges i v = map (λ u. (i, u, v)) (below v)
 
-abbrev all_places : ℕ → ℕ → List Place
-all_places d n = flat_map (λ i. flat_map (λ v. pair_places i v) (below n)) (below d)
+abbrev all_edges : ℕ → ℕ → List Edge
+all_edges d n = flat_map (λ i. flat_map (λ v. pair_edges i v) (below n)) (below d)
 
 -- 1 where the relation is open
 one_if_open : Bool → ℕ
 one_if_open true = 0
 one_if_open false = 1
 
--- how many relations are open at a place, and at least 1
-mask_size : Exclusions → Place → ℕ
+-- how many relations are open at an edge, and at least 1
+mask_size : Exclusions → Edge → ℕ
 mask_size X p = one_if_open (X p.0 p.1 p.2 Overlap) + (one_if_open (X p.0 p.1 p.2 Before) + one_if_open (X p.0 p.1 p.2 After))
 
-size_at : Exclusions → Place → ℕ
+size_at : Exclusions → Edge → ℕ
 size_at X p = max 1 (mask_size X p)
 
 open_less : (a b : Bool) → (a ≡ true → b ≡ true) → one_if_open b ≤ one_if_open a
@@ -114,7 +114,7 @@ unfolding one_if_open
 open_most true = omega arith
 open_most false = omega arith
 
-mask_less : (X Y : Exclusions) → IsSubset X Y → (p : Place) → mask_size Y p ≤ mask_size X p
+mask_less : (X Y : Exclusions) → IsSubset X Y → (p : Edge) → mask_size Y p ≤ mask_size X p
 unfolding mask_size
 mask_less X Y more p =
     let a = open_less (X p.0 p.1 p.2 Overlap) (Y p.0 p.1 p.2 Overlap) (more p.0 p.1 p.2 Overlap) in
@@ -122,11 +122,11 @@ mask_less X Y more p =
     let c = open_less (X p.0 p.1 p.2 After) (Y p.0 p.1 p.2 After) (more p.0 p.1 p.2 After) in
     omega (arith, a, b, c)
 
-size_less : (X Y : Exclusions) → IsSubset X Y → (p : Place) → size_at Y p ≤ size_at X p
+size_less : (X Y : Exclusions) → IsSubset X Y → (p : Edge) → size_at Y p ≤ size_at X p
 unfolding size_at
 size_less X Y more p = let a = mask_less X Y more p in omega (arith, a)
 
-size_most : (X : Exclusions) (p : Place) → size_at X p ≤ 3
+size_most : (X : Exclusions) (p : Edge) → size_at X p ≤ 3
 unfolding size_at mask_size
 size_most X p =
     let a = open_most (X p.0 p.1 p.2 Overlap) in
@@ -134,19 +134,19 @@ size_most X p =
     let c = open_most (X p.0 p.1 p.2 After) in
     omega (arith, a, b, c)
 
-size_some : (X : Exclusions) (p : Place) → 1 ≤ size_at X p
+size_some : (X : Exclusions) (p : Edge) → 1 ≤ size_at X p
 unfolding size_at
 size_some X p = omega arith
 
--- the sizes of two children at the place of their split
-order_sizes : (X Y Z : Exclusions) (p : Place) → IsSubset X Y → IsSubset X Z → X p.0 p.1 p.2 Overlap ≡ true → X p.0 p.1 p.2 Before ≡ false
+-- the sizes of two children at the edge of their split
+order_sizes : (X Y Z : Exclusions) (p : Edge) → IsSubset X Y → IsSubset X Z → X p.0 p.1 p.2 Overlap ≡ true → X p.0 p.1 p.2 Before ≡ false
     → X p.0 p.1 p.2 After ≡ false → Y p.0 p.1 p.2 After ≡ true → Z p.0 p.1 p.2 Before ≡ true → size_at Y p + size_at Z p ≤ size_at X p
 unfolding size_at mask_size one_if_open
 order_sizes X Y Z p xy xz o b a ya zb =
     rw (o, b, a, ya, zb, xy p.0 p.1 p.2 Overlap o, xz p.0 p.1 p.2 Overlap o)
     (let c = open_most (Y p.0 p.1 p.2 Before) in let d = open_most (Z p.0 p.1 p.2 After) in omega (arith, c, d))
 
-apart_sizes : (X Y Z : Exclusions) (p : Place) → IsSubset X Y → X p.0 p.1 p.2 Overlap ≡ false
+apart_sizes : (X Y Z : Exclusions) (p : Edge) → IsSubset X Y → X p.0 p.1 p.2 Overlap ≡ false
     → (X p.0 p.1 p.2 Before ≡ false) ⊎ (X p.0 p.1 p.2 After ≡ false) → Y p.0 p.1 p.2 Overlap ≡ true
     → Z p.0 p.1 p.2 Before ≡ true → Z p.0 p.1 p.2 After ≡ true → size_at Y p + size_at Z p ≤ size_at X p
 unfolding size_at mask_size one_if_open
@@ -170,17 +170,17 @@ module _ (instance : PlainInstance) where
   closed es = excludes (closure instance es)
 
   measure : List Exclusion → ℕ
-  measure es = product (size_at (closed es)) (all_places (dims instance) (box_count instance))
+  measure es = product (size_at (closed es)) (all_edges (dims instance) (box_count instance))
 
   measure_some : (es : List Exclusion) → 1 ≤ measure es
   unfolding measure
-  measure_some es = product_some (size_at (closed es)) (all_places (dims instance) (box_count instance)) (size_some (closed es))
+  measure_some es = product_some (size_at (closed es)) (all_edges (dims instance) (box_count instance)) (size_some (closed es))
 
-  in_places : (i u v : ℕ) → i < dims instance → u < v → v < box_count instance → IsIn (i, u, v) (all_places (dims instance) (box_count instance))
-  in_places i u v hi huv hv =
-      in_flat_map (λ j. flat_map (λ y. pair_places j y) (below (box_count instance))) i (i, u, v) (below (dims instance))
+  in_edges : (i u v : ℕ) → i < dims instance → u < v → v < box_count instance → IsIn (i, u, v) (all_edges (dims instance) (box_count instance))
+  in_edges i u v hi huv hv =
+      in_flat_map (λ j. flat_map (λ y. pair_edges j y) (below (box_count instance))) i (i, u, v) (below (dims instance))
       (in_range 0 (dims instance) i (omega arith) (omega arith))
-      (in_flat_map (λ y. pair_places i y) v (i, u, v) (below (box_count instance)) (in_range 0 (box_count instance) v (omega arith) (omega arith))
+      (in_flat_map (λ y. pair_edges i y) v (i, u, v) (below (box_count instance)) (in_range 0 (box_count instance) v (omega arith) (omega arith))
       (in_map (λ x. (i, x, v)) u (below v) (in_range 0 v u (omega arith) (omega arith))))
 
   -- a child excludes what its parent's closure does, and what it adds
@@ -223,13 +223,13 @@ module _ (instance : PlainInstance) where
         let k : List Exclusion = exclusion_at_pair i p After ∷ closure instance es in
         let l : List Exclusion = exclusion_at_pair i p Before ∷ closure instance es in
         split_count _ (outcome (tree (exclusion_at_pair i p After ∷ closure instance es))) (outcome (tree (exclusion_at_pair i p Before ∷ closure instance es)))
-        (product (size_at (closed es)) (all_places (dims instance) (box_count instance)))
-        (product (size_at (closed (exclusion_at_pair i p After ∷ closure instance es))) (all_places (dims instance) (box_count instance)))
-        (product (size_at (closed (exclusion_at_pair i p Before ∷ closure instance es))) (all_places (dims instance) (box_count instance)))
+        (product (size_at (closed es)) (all_edges (dims instance) (box_count instance)))
+        (product (size_at (closed (exclusion_at_pair i p After ∷ closure instance es))) (all_edges (dims instance) (box_count instance)))
+        (product (size_at (closed (exclusion_at_pair i p Before ∷ closure instance es))) (all_edges (dims instance) (box_count instance)))
         (counts (exclusion_at_pair i p After ∷ closure instance es)) (counts (exclusion_at_pair i p Before ∷ closure instance es))
         (product_split (size_at (closed es)) (size_at (closed (exclusion_at_pair i p After ∷ closure instance es)))
-        (size_at (closed (exclusion_at_pair i p Before ∷ closure instance es))) (i, p.0, p.1) (all_places (dims instance) (box_count instance))
-        (in_places i p.0 p.1 hi huv hv)
+        (size_at (closed (exclusion_at_pair i p Before ∷ closure instance es))) (i, p.0, p.1) (all_edges (dims instance) (box_count instance))
+        (in_edges i p.0 p.1 hi huv hv)
         (size_less (closed es) (closed (exclusion_at_pair i p After ∷ closure instance es)) (one_more (exclusion_at_pair i p After) es))
         (size_less (closed es) (closed (exclusion_at_pair i p Before ∷ closure instance es)) (one_more (exclusion_at_pair i p Before) es))
         (order_sizes (closed es) (closed (exclusion_at_pair i p After ∷ closure instance es)) (closed (exclusion_at_pair i p Before ∷ closure instance es)) (i, p.0, p.1)
@@ -244,13 +244,13 @@ module _ (instance : PlainInstance) where
         let q = and_parts _ _ h.1 in
         split_count _ (outcome (tree (exclusion_at_pair j p Overlap ∷ closure instance es)))
         (outcome (tree (exclusion_at_pair j p Before ∷ exclusion_at_pair j p After ∷ closure instance es)))
-        (product (size_at (closed es)) (all_places (dims instance) (box_count instance)))
-        (product (size_at (closed (exclusion_at_pair j p Overlap ∷ closure instance es))) (all_places (dims instance) (box_count instance)))
-        (product (size_at (closed (exclusion_at_pair j p Before ∷ exclusion_at_pair j p After ∷ closure instance es))) (all_places (dims instance) (box_count instance)))
+        (product (size_at (closed es)) (all_edges (dims instance) (box_count instance)))
+        (product (size_at (closed (exclusion_at_pair j p Overlap ∷ closure instance es))) (all_edges (dims instance) (box_count instance)))
+        (product (size_at (closed (exclusion_at_pair j p Before ∷ exclusion_at_pair j p After ∷ closure instance es))) (all_edges (dims instance) (box_count instance)))
         (counts (exclusion_at_pair j p Overlap ∷ closure instance es)) (counts (exclusion_at_pair j p Before ∷ exclusion_at_pair j p After ∷ closure instance es))
         (product_split (size_at (closed es)) (size_at (closed (exclusion_at_pair j p Overlap ∷ closure instance es)))
-        (size_at (closed (exclusion_at_pair j p Before ∷ exclusion_at_pair j p After ∷ closure instance es))) (j, p.0, p.1) (all_places (dims instance) (box_count instance))
-        (in_places j p.0 p.1 hj huv hv)
+        (size_at (closed (exclusion_at_pair j p Before ∷ exclusion_at_pair j p After ∷ closure instance es))) (j, p.0, p.1) (all_edges (dims instance) (box_count instance))
+        (in_edges j p.0 p.1 hj huv hv)
         (size_less (closed es) (closed (exclusion_at_pair j p Overlap ∷ closure instance es)) (one_more (exclusion_at_pair j p Overlap) es))
         (size_less (closed es) (closed (exclusion_at_pair j p Before ∷ exclusion_at_pair j p After ∷ closure instance es)) (two_more (exclusion_at_pair j p Before) (exclusion_at_pair j p After) es))
         (apart_sizes (closed es) (closed (exclusion_at_pair j p Overlap ∷ closure instance es))
@@ -283,7 +283,7 @@ module _ (instance : PlainInstance) where
             let k = ranked_rise instance p h.0 in
             chosen_count es p (λ fs. node_tree instance depth fs) k.0 k.1 e (not-true _ h.1) rest _ _ _ refl refl refl
 
-  -- the measure is at most 3 to the number of places
+  -- the measure is at most 3 to the number of edges
   product_power : {X : Type 0} (f : X → ℕ) (xs : List X) → ((x : X) → f x ≤ 3) → product f xs ≤ 3 ^ length xs
   unfolding product
   product_power f [] h = omega arith
@@ -291,19 +291,19 @@ module _ (instance : PlainInstance) where
       let m : f x * product f xs ≤ 3 * 3 ^ length xs = times_le (f x) (product f xs) 3 (3 ^ length xs) (h x) (product_power f xs h) in
       subst (λ (y : ℕ). f x * product f xs ≤ y) (sym (pow-succ' 3 (length xs))) m
 
-  triangle : (i a m : ℕ) → 2 * length (flat_map (λ v. pair_places i v) (range_with_len a m)) + m ≡ m * m + 2 * a * m
+  triangle : (i a m : ℕ) → 2 * length (flat_map (λ v. pair_edges i v) (range_with_len a m)) + m ≡ m * m + 2 * a * m
   triangle i a zero = omega arith
   triangle i a (suc m) =
       let rest = triangle i (a + 1) m in
-      let row : length (pair_places i a) ≡ a = length-map (below a) (λ u. (i, u, a)) ∙ length-range_with_len 0 a in
-      let both = length-append (pair_places i a) (flat_map (λ v. pair_places i v) (range_with_len (a + 1) m)) in
+      let row : length (pair_edges i a) ≡ a = length-map (below a) (λ u. (i, u, a)) ∙ length-range_with_len 0 a in
+      let both = length-append (pair_edges i a) (flat_map (λ v. pair_edges i v) (range_with_len (a + 1) m)) in
       omega (arith, rest, row, both)
 
-  few_places : (d n : ℕ) → length (all_places d n) ≤ d * n * (n - 1) / 2
-  few_places d n =
-      let row = λ (i : ℕ). flat_map (λ v. pair_places i v) (below n) in
+  few_edges : (d n : ℕ) → length (all_edges d n) ≤ d * n * (n - 1) / 2
+  few_edges d n =
+      let row = λ (i : ℕ). flat_map (λ v. pair_edges i v) (below n) in
       let same : (i : ℕ) → length (row i) ≡ length (row 0) = λ i. omega (arith, triangle i 0 n, triangle 0 0 n) in
-      let whole : length (all_places d n) ≡ length (below d) * length (row 0) = length_parts row (length (row 0)) same (below d) in
+      let whole : length (all_edges d n) ≡ length (below d) * length (row 0) = length_parts row (length (row 0)) same (below d) in
       let count : length (below d) * length (row 0) ≡ d * length (row 0) = ap (λ x. x * length (row 0)) (length-range_with_len 0 d) in
       let few : d * length (row 0) ≤ d * n * (n - 1) / 2 = half d n (length (row 0)) (triangle 0 0 n) in
       omega (arith, whole, count, few)
@@ -323,8 +323,8 @@ module _ (instance : PlainInstance) where
   measure_most : (es : List Exclusion) → measure es ≤ 3 ^ (dims instance * box_count instance * (box_count instance - 1) / 2)
   unfolding measure
   measure_most es =
-      le_trans (product_power (size_at (closed es)) (all_places (dims instance) (box_count instance)) (size_most (closed es)))
-      (pow-le-pow_right (omega arith) (few_places (dims instance) (box_count instance)))
+      le_trans (product_power (size_at (closed es)) (all_edges (dims instance) (box_count instance)) (size_most (closed es)))
+      (pow-le-pow_right (omega arith) (few_edges (dims instance) (box_count instance)))
 
   pub class_count : 1 ≤ dims instance → (es : List Exclusion) (scales : Bool)
       → count_of (outcome (class_tree instance es scales)) < 3 ^ (dims instance * box_count instance * (box_count instance - 1) / 2)

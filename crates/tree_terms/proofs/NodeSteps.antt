@@ -22,7 +22,7 @@ use Rattle.tree_terms.specs.Rank.{ranked_pairs}
 use Rattle.tree_terms.specs.InnerTree.{SplitNode, is_settled, is_unsettled, is_apart_somewhere, settled_places, exclusion_at_pair, node_tree, node_of, closed_node, has_order_mask, has_apart_mask, chosen_split, split_at, split_tree, full_depth, tree_below}
 use Rattle.tree_terms.proofs.RankLemmas.{ranked_rise}
 use Rattle.tree_terms.proofs.Nodes.{opens, below_child}
-use Rattle.rule_terms.proofs.Conflicts.{closed_there, closed_back, calm, stormy}
+use Rattle.rule_terms.proofs.Conflicts.{calm, stormy}
 use Rattle.tree_terms.proofs.Splits.{order_there, apart_there}
 use Rattle.tree_terms.proofs.Closed.{same_tree}
 use Rattle.tree_terms.proofs.ClassSearch.{one_open}
@@ -160,11 +160,6 @@ module _ (instance : PlainInstance) (some_dim : 1 ≤ dims instance) where
   module _ (es fs : List Exclusion) (closed_set : excludes (closure instance es) ≡ excludes fs) (none : ¬ HasConflict instance (excludes es)) where
     no_conflict : has_empty_mask (excludes (closure instance es)) (dims instance) (box_count instance) ≡ false
     no_conflict = calm_test instance es none
-
-    pub closed_tree : tree_below instance es ≡ tree_below instance fs
-    closed_tree = closure_tree instance es fs
-        (subst (λ (X : Exclusions). Derives instance (excludes es) X) closed_set (closed_there instance es))
-        (subst (λ (X : Exclusions). Derives instance X (excludes es)) closed_set (closed_back instance es))
 
     pub settled_node : find (is_unsettled instance (excludes fs)) (ranked_pairs instance) ≡ None → tree_below instance es ≡ Settled (settled_places instance (excludes fs)) 0
     settled_node f =

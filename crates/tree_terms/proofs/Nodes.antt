@@ -13,34 +13,34 @@ use Rattle.packing_terms.proofs.Members.{IsIn, any_from, range_in}
 use Rattle.rule_terms.specs.Rounds.{closure, all_exclusions}
 use Rattle.packing_terms.specs.Sums.{below}
 use Rattle.rule_terms.specs.Steps.{open_count}
-use Rattle.rule_terms.proofs.RoundsLemmas.{closure_keeps, rounds_derived, given, follows_place, length_filter_fewer, in_all, excludes_own}
+use Rattle.rule_terms.proofs.RoundsLemmas.{closure_keeps, rounds_derived, given, follows_edge, length_filter_fewer, in_all, excludes_own}
 use Rattle.rule_terms.proofs.Drawn.{is_not, not_so}
 use Rattle.tree_terms.specs.InnerTree.{is_settled}
 use Rattle.tree_terms.specs.Search.{AreAtEdges}
 
 module _ (instance : PlainInstance) where
-  -- exclusions at places derive exclusions at places
-  turned_place : (i u v : ℕ) → IsEdge instance i u v → IsEdge instance i v u
-  turned_place i u v p = record { dim = p.dim; first = p.second; second = p.first; distinct = λ e. p.distinct (sym e) }
+  -- exclusions at edges derive exclusions at edges
+  turned_edge : (i u v : ℕ) → IsEdge instance i u v → IsEdge instance i v u
+  turned_edge i u v p = record { dim = p.dim; first = p.second; second = p.first; distinct = λ e. p.distinct (sym e) }
 
-  pub excluded_place : (es : List Exclusion) → AreAtEdges instance es → (i u v : ℕ) (r : Rel) → IsTrue (excludes es i u v r) → IsEdge instance i u v
-  excluded_place [] p i u v r h = absurd (true≢false (sym h))
-  excluded_place (e ∷ es) p i u v r h = go (or_cases _ _ h) (excluded_place es p.1 i u v r)
+  pub excluded_edge : (es : List Exclusion) → AreAtEdges instance es → (i u v : ℕ) (r : Rel) → IsTrue (excludes es i u v r) → IsEdge instance i u v
+  excluded_edge [] p i u v r h = absurd (true≢false (sym h))
+  excluded_edge (e ∷ es) p i u v r h = go (or_cases _ _ h) (excluded_edge es p.1 i u v r)
     where
       go : (is_of e i u v r ≡ true) ⊎ (excludes es i u v r ≡ true) → (IsTrue (excludes es i u v r) → IsEdge instance i u v) → IsEdge instance i u v
-      go (inl k) rest = of_own (λ j a b s. IsEdge instance j a b) (λ j a b s q. turned_place j a b q) e i u v r k p.0
+      go (inl k) rest = of_own (λ j a b s. IsEdge instance j a b) (λ j a b s q. turned_edge j a b q) e i u v r k p.0
       go (inr k) rest = rest k
 
-  derivation_places : (es steps : List Exclusion) → AreAtEdges instance es → IsDerivation instance (excludes es) steps → AreAtEdges instance steps
-  derivation_places es [] p d = tt
-  derivation_places es (e ∷ steps) p d = (go d.0, derivation_places es steps p d.1)
+  derivation_edges : (es steps : List Exclusion) → AreAtEdges instance es → IsDerivation instance (excludes es) steps → AreAtEdges instance steps
+  derivation_edges es [] p d = tt
+  derivation_edges es (e ∷ steps) p d = (go d.0, derivation_edges es steps p d.1)
     where
       go : IsTrue (excludes es e.dim e.u e.v e.rel) ⊎ Follows instance (excludes steps) e.dim e.u e.v e.rel → IsEdge instance e.dim e.u e.v
-      go (inl k) = excluded_place es p e.dim e.u e.v e.rel k
-      go (inr k) = follows_place instance (excludes steps) e.dim e.u e.v e.rel k
+      go (inl k) = excluded_edge es p e.dim e.u e.v e.rel k
+      go (inr k) = follows_edge instance (excludes steps) e.dim e.u e.v e.rel k
 
-  pub closure_places : (es : List Exclusion) → AreAtEdges instance es → AreAtEdges instance (closure instance es)
-  closure_places es p = derivation_places es (closure instance es) p
+  pub closure_edges : (es : List Exclusion) → AreAtEdges instance es → AreAtEdges instance (closure instance es)
+  closure_edges es p = derivation_edges es (closure instance es) p
       (rounds_derived instance (excludes es) _ es (given instance (excludes es) es (λ j a b s k. k)))
 
   -- a larger set with one more exclusion leaves fewer open

@@ -17,13 +17,13 @@ use Rattle.rule_terms.specs.Steps.{IsTrail}
 use Rattle.rule_terms.proofs.UniqueEnds.{same_ends}
 use Rattle.tree_terms.specs.InnerTree.{place_by, settled_places}
 use Rattle.tree_terms.specs.Search.{AreAtEdges}
-use Rattle.tree_terms.proofs.Nodes.{excluded_place}
+use Rattle.tree_terms.proofs.Nodes.{excluded_edge}
 use Rattle.tree_terms.proofs.SettledPlaces.{settled_ends}
 
 -- a trail is of dimensions and boxes that are there
-pub trail_places : (instance : PlainInstance) (d n : ℕ) (es : List Exclusion) → d ≡ dims instance → n ≡ box_count instance → IsTrail d n es → AreAtEdges instance es
-trail_places instance d n [] e f t = tt
-trail_places instance d n (x ∷ es) e f t = (rw (e, f) at t.0, trail_places instance d n es e f t.2)
+pub trail_edges : (instance : PlainInstance) (d n : ℕ) (es : List Exclusion) → d ≡ dims instance → n ≡ box_count instance → IsTrail d n es → AreAtEdges instance es
+trail_edges instance d n [] e f t = tt
+trail_edges instance d n (x ∷ es) e f t = (rw (e, f) at t.0, trail_edges instance d n es e f t.2)
 
 pub length_settled : (instance : PlainInstance) (X : Exclusions) → length (settled_places instance X) ≡ box_count instance * dims instance
 length_settled instance X =
@@ -40,7 +40,7 @@ module _ (instance : PlainInstance) (es : List Exclusion) (limits : IsInternalIn
       same_ends instance (internal_sides instance limits) (excludes es) (some_dimension instance limits) places (settled_places instance (excludes es))
       count (length_settled instance (excludes es)) ends
       (settled_ends instance (excludes es) stable (excludes_symmetric es) full (internal_sides instance limits) fit
-      (λ i u v h. excluded_place instance es placed i u v Overlap h))
+      (λ i u v h. excluded_edge instance es placed i u v Overlap h))
 
 -- the same of a state whose trail this is
 pub places_are : (instance : PlainInstance) (d n : ℕ) (es : List Exclusion) (places : List ℕ) → IsInternalInstance instance → d ≡ dims instance → n ≡ box_count instance
@@ -49,4 +49,4 @@ pub places_are : (instance : PlainInstance) (d n : ℕ) (es : List Exclusion) (p
     → ((v i : ℕ) → v < box_count instance → i < dims instance → IsGreatestEnd instance (excludes es) places i v)
     → places ≡ settled_places instance (excludes es)
 places_are instance d n es places limits e f trail stable full fit count ends =
-    settled_only instance es limits (trail_places instance d n es e f trail) stable full fit places count ends
+    settled_only instance es limits (trail_edges instance d n es e f trail) stable full fit places count ends

@@ -7,7 +7,7 @@
 --
 -- Source: the search over packing classes of Fekete, Schepers and van der Veen (2007), with the
 -- orders of the pairs as further choices.
-use Rattle.std.specs.Prelude.{ℕ, zero, suc, ◌+◌, ◌-◌, ◌*◌, ◌/◌, ◌&&◌, ◌||◌, not, List, [], ◌∷◌, ◌++◌, Bool, true, false, map, Option, Some, None, max}
+use Rattle.std.specs.Prelude.{ℕ, zero, suc, ◌+◌, ◌&&◌, ◌||◌, not, List, [], ◌∷◌, ◌++◌, Bool, true, false, map, Option, Some, None, max}
 use Rattle.std.specs.List.{list_any, filter, flat_map, find, fold}
 use Rattle.packing_terms.specs.declared.Rel.{Rel}
 use Rattle.packing_terms.specs.declared.Rel.TheVariants.{Overlap, Before, After}

@@ -9,7 +9,7 @@
 --           |-- {1, 2}
 --           `-- {1} {2}
 use Rattle.std.specs.Prelude.{ℕ, zero, suc, ◌+◌, ◌*◌, ◌==◌, List, [], ◌∷◌, length, map, Option, Some, None, Bool, true, false, nat_lt, nat_le, slice_index, slice_index_or}
-use Rattle.std.specs.List.{flat_map}
+use Rattle.std.specs.List.{flat_map, position_or_len}
 use Rattle.packing_terms.specs.declared.ScaleFn.{ScaleFn}
 use Rattle.packing_terms.specs.Packing.{PlainInstance, dims, box_count}
 use Rattle.packing_terms.specs.Goals.{subset, worth}
@@ -23,11 +23,6 @@ use Rattle.tree_terms.specs.ClassTree.{class_tree, first_exceeding}
 -- the verdict on a set of boxes
 abbrev pub set_verdict : PlainInstance → Bool → List ℕ → Verdict
 set_verdict instance scales keep = outcome (class_tree (subset instance keep) [] scales)
-
--- the index of the first of the list that passes, and its length where none does
-abbrev pub index_where : {X : Type 0} → (X → Bool) → List X → ℕ
-index_where p [] = 0
-index_where p (x ∷ xs) = elim (p x) [ true ↦ 0 | false ↦ suc (index_where p xs) ]
 
 -- a bin's new answer in the place of its old one, or behind the others where the bin is new
 abbrev pub with_answer : List (List ℕ) → ℕ → List ℕ → List (List ℕ)
@@ -43,8 +38,8 @@ coordinates_at d numbers k = map (λ i. slice_index numbers (k * d + i)) (below 
 -- coordinates in the answer of that bin.
 abbrev pub bin_numbers : PlainInstance → Bins → List (List ℕ) → List ℕ
 bin_numbers instance bins answers =
-    flat_map (λ v. let b = index_where (has_box v) bins in
-    b ∷ coordinates_at (dims instance) (slice_index_or answers b []) (index_where (λ u. u == v) (slice_index_or bins b [])))
+    flat_map (λ v. let b = position_or_len (has_box v) bins in
+    b ∷ coordinates_at (dims instance) (slice_index_or answers b []) (position_or_len (λ u. u == v) (slice_index_or bins b [])))
     (below (box_count instance))
 
 -- a child by the verdict on its changed bin: `rest` is the child with that bin's answer and its own

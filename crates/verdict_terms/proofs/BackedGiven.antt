@@ -7,7 +7,7 @@ use Rattle.packing_terms.specs.Packing.{PlainInstance, dims, box_count, containe
 use Rattle.packing_terms.specs.Goals.{with_last_side}
 use Rattle.packing_terms.specs.Tokens.PlainToken.{TooLarge}
 use Rattle.text_terms.specs.Lines.{number_of, same_bytes}
-use Rattle.text_terms.specs.Texts.{◌>>=◌}
+use Rattle.packing_terms.specs.Results.{◌>>=◌}
 use Rattle.text_terms.specs.Form.{IsNumber}
 use Rattle.check_terms.specs.Judging.{names_box}
 use Rattle.document_terms.specs.declared.claim.Claim.{Claim}

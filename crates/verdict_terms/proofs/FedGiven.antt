@@ -9,7 +9,8 @@ use Rattle.packing_terms.specs.Goals.{with_last_side}
 use Rattle.packing_terms.specs.Tokens.{PlainToken}
 use Rattle.packing_terms.specs.Tokens.PlainToken.{Apart, Order, Rules, TooLarge, Scales, Assign, Choose, SetRefuted, ValueShort, GlobalScales}
 use Rattle.text_terms.specs.Lines.{Line, line_of, text_lines, cut_line, cut_words, is_line_feed, same_bytes}
-use Rattle.text_terms.specs.Texts.{Parts, no_parts, add_line, at_end as end_of, refuse, IsWithinLimits, ◌>>=◌}
+use Rattle.packing_terms.specs.Results.{◌>>=◌}
+use Rattle.text_terms.specs.Texts.{Parts, no_parts, add_line, at_end as end_of, refuse, IsWithinLimits}
 use Rattle.text_terms.specs.Feeding.{Lexer, new_lexer, end_line, add_byte, held_of, feed, finish, NumberedLine, told_now, lines_fed, numbered_lines}
 use Rattle.text_terms.proofs.Cut.{same_front, words_cut}
 use Rattle.text_terms.proofs.Good.{good_start, line_good, parts_limits, bind_ok}

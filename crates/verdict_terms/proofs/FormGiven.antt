@@ -8,7 +8,8 @@ use Rattle.packing_terms.specs.Packing.{PlainInstance}
 use Rattle.packing_terms.specs.Limits.{IsInstance}
 use Rattle.text_terms.specs.Lines.{text_lines, line_of, content, is_bad, words_of, same_bytes}
 use Rattle.text_terms.specs.Codes.{unknown_word}
-use Rattle.text_terms.specs.Texts.{kerf_line, Parts, no_parts, add_line, by_words, at_end as end_of, at_line as on_line, refuse, read_lines as read_instance_lines, ◌>>=◌}
+use Rattle.packing_terms.specs.Results.{◌>>=◌}
+use Rattle.text_terms.specs.Texts.{kerf_line, Parts, no_parts, add_line, by_words, at_end as end_of, at_line as on_line, refuse, read_lines as read_instance_lines}
 use Rattle.text_terms.specs.Form.{AreClean, filled_lines, HasForm}
 use Rattle.text_terms.proofs.FormRead.{filled_with, heads}
 use Rattle.text_terms.proofs.FormTold.{lines_have_form}

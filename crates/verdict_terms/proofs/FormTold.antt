@@ -10,7 +10,8 @@ use Rattle.packing_terms.specs.Packing.{PlainInstance}
 use Rattle.text_terms.specs.declared.fault.TextFault.{TextFault}
 use Rattle.text_terms.specs.Lines.{text_lines, line_of, content, is_bad, words_of, same_bytes}
 use Rattle.text_terms.specs.Codes.{missing_line, no_box_line}
-use Rattle.text_terms.specs.Texts.{Parts, no_parts, add_line, at_end as end_of, at_line as on_line, refuse, is_none, read_lines as read_instance_lines, ◌>>=◌}
+use Rattle.packing_terms.specs.Results.{◌>>=◌}
+use Rattle.text_terms.specs.Texts.{Parts, no_parts, add_line, at_end as end_of, at_line as on_line, refuse, is_none, read_lines as read_instance_lines}
 use Rattle.text_terms.specs.Form.{AreClean, filled_lines}
 use Rattle.text_terms.proofs.FormRead.{filled_with}
 use Rattle.text_terms.proofs.FormTold.{lines_have_form}

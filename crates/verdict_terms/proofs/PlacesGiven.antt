@@ -9,7 +9,7 @@ use Rattle.packing_terms.specs.Packing.{PlainInstance, dims, box_count, IsPackin
 use Rattle.packing_terms.specs.Goals.{subset, in_bin, places_of, worth, IsBinPacking}
 use Rattle.packing_terms.proofs.Members.{IsIn, map_in, range_in}
 use Rattle.packing_terms.proofs.ValueRefuted.{rising_later}
-use Rattle.text_terms.specs.Texts.{◌>>=◌}
+use Rattle.packing_terms.specs.Results.{◌>>=◌}
 use Rattle.check_terms.specs.declared.answers.PlaceVerdict.{PlaceVerdict}
 use Rattle.check_terms.specs.declared.answers.PlaceVerdict.TheVariants.{Good, Outside, Overlap}
 use Rattle.check_terms.specs.Placing.{place_verdict}

@@ -9,7 +9,7 @@ use Rattle.std.proofs.lemmas.List.Elements.{All-append}
 use Rattle.packing_terms.specs.Packing.{PlainInstance, dims, box_count, IsPacking}
 use Rattle.packing_terms.specs.Goals.{IsBoxSet}
 use Rattle.packing_terms.proofs.Members.{IsIn, all_at, index_in}
-use Rattle.text_terms.specs.Texts.{◌>>=◌}
+use Rattle.packing_terms.specs.Results.{◌>>=◌}
 use Rattle.text_terms.proofs.Good.{bind_ok}
 use Rattle.check_terms.specs.declared.answers.PlaceVerdict.{PlaceVerdict}
 use Rattle.check_terms.specs.declared.answers.PlaceVerdict.TheVariants.{Good, Outside, Overlap}

@@ -4,7 +4,7 @@ use Rattle.std.specs.Prelude.{nat_le, nat_lt}
 use Rattle.std.proofs.lemmas.Bool.{and_parts, leb-true, ltb-true}
 use Rattle.packing_terms.specs.Packing.{PlainInstance, box_count}
 use Rattle.text_terms.specs.Lines.{same_bytes}
-use Rattle.text_terms.specs.Texts.{◌>>=◌}
+use Rattle.packing_terms.specs.Results.{◌>>=◌}
 use Rattle.text_terms.proofs.Good.{bind_ok}
 use Rattle.text_terms.proofs.FormNumbers.{word_is}
 use Rattle.document_terms.specs.declared.claim.SolvingJob.{SolvingJob}

@@ -3,7 +3,7 @@ use Rattle.std.proofs.Common.{◌≡◌, ℕ, ◌+◌, refl, ap, ap₂, ◌∙�
 use Rattle.std.specs.List.{list_any}
 use Rattle.std.proofs.lemmas.Bool.{and_from, le-leb, eq-eqb}
 use Rattle.text_terms.specs.Lines.{line_of, content, is_bad, words_of, number_of, same_bytes}
-use Rattle.text_terms.specs.Texts.{◌>>=◌}
+use Rattle.packing_terms.specs.Results.{◌>>=◌}
 use Rattle.text_terms.specs.Form.{AreClean, filled_lines}
 use Rattle.text_terms.proofs.Keys.{same_bytes_Decides}
 use Rattle.text_terms.proofs.FormRead.{filled_with, clean_parts}

@@ -5,7 +5,7 @@ use Rattle.packing_terms.specs.Tokens.{PlainToken}
 use Rattle.packing_terms.specs.OuterRefutation.{no_choice}
 use Rattle.packing_terms.specs.OuterFeeding.{Outer}
 use Rattle.text_terms.specs.Lines.{same_bytes}
-use Rattle.text_terms.specs.Texts.{◌>>=◌}
+use Rattle.packing_terms.specs.Results.{◌>>=◌}
 use Rattle.text_terms.proofs.Good.{bind_ok}
 use Rattle.check_terms.specs.Checking.{inner_after, bins_after, value_after}
 use Rattle.check_terms.proofs.Refuting.{inner_refutes, bins_refute, value_refutes}

@@ -5,10 +5,10 @@ use Rattle.packing_terms.specs.Packing.{PlainInstance}
 use Rattle.packing_terms.specs.Tokens.{PlainToken}
 use Rattle.packing_terms.specs.OuterRefutation.{no_choice}
 use Rattle.packing_terms.specs.OuterFeeding.{Outer}
-use Rattle.text_terms.specs.Texts.{◌>>=◌}
+use Rattle.packing_terms.specs.Results.{◌>>=◌}
 use Rattle.text_terms.proofs.Good.{bind_ok}
 use Rattle.check_terms.specs.declared.answers.RefuseCode.{RefuseCode}
-use Rattle.check_terms.specs.Checking.{inner_after, bins_after, value_after, nodes_after_all, if_ok}
+use Rattle.check_terms.specs.Checking.{inner_after, bins_after, value_after, nodes_after_all}
 use Rattle.check_terms.proofs.Refuting.{inner_refutes, bins_refute, value_refutes}
 use Rattle.document_terms.specs.declared.claim.Claim.{Claim}
 use Rattle.document_terms.specs.TokenLines.{token_of}
@@ -51,7 +51,7 @@ module _ {Node : Type 0} (make : List Node → Tree) (after : List Node → Plai
   all_after nodes (t ∷ ts) = ap (λ r. r >>= λ next. tree_after_all next ts) (same nodes t) ∙ go (after nodes t) (λ left. all_after left ts)
     where
       go : (r : Result (List Node) RefuseCode) → ((left : List Node) → tree_after_all (make left) ts ≡ map_ok make (nodes_after_all after left ts))
-          → (map_ok make r >>= λ next. tree_after_all next ts) ≡ map_ok make (if_ok r (λ left. nodes_after_all after left ts))
+          → (map_ok make r >>= λ next. tree_after_all next ts) ≡ map_ok make (r >>= λ left. nodes_after_all after left ts)
       go (Ok left) later = later left
       go (Err code) later = refl
 

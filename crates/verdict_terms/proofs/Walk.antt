@@ -4,7 +4,7 @@ use Rattle.std.specs.Prelude.{nat_le, nat_lt}
 use Rattle.std.specs.List.{list_any, list_all}
 use Rattle.std.proofs.lemmas.Bool.{true≢false}
 use Rattle.text_terms.specs.Lines.{line_of, content, is_bad, words_of}
-use Rattle.text_terms.specs.Texts.{◌>>=◌}
+use Rattle.packing_terms.specs.Results.{◌>>=◌}
 use Rattle.text_terms.specs.Form.{AreClean, filled_lines}
 use Rattle.text_terms.proofs.FormRead.{filled_with}
 use Rattle.text_terms.proofs.Good.{bind_ok}

@@ -3,7 +3,7 @@
 use Rattle.std.specs.Prelude.{ℕ, ◌+◌, List, [], ◌∷◌, ◌++◌, Result, Ok, Err, codes}
 use Rattle.std.specs.Fmt.{decimal}
 use Rattle.text_terms.specs.Lines.{text_lines, line_of}
-use Rattle.text_terms.specs.Texts.{◌>>=◌}
+use Rattle.packing_terms.specs.Results.{◌>>=◌}
 use Rattle.text_terms.specs.Spelling.{spaced}
 use Rattle.document_terms.specs.declared.claim.Claim.{Claim}
 use Rattle.document_terms.specs.Claims.{job_of, job_word, result_words}

@@ -2,7 +2,7 @@
 -- Nothing of a line is kept.
 use Rattle.std.specs.Prelude.{ℕ, ◌≡◌, cond, List, [], ◌∷◌, ◌++◌, length, Result, Err}
 use Rattle.text_terms.specs.Lines.{text_lines, is_line_feed}
-use Rattle.text_terms.specs.Texts.{◌>>=◌}
+use Rattle.packing_terms.specs.Results.{◌>>=◌}
 use Rattle.text_terms.specs.Feeding.{Lexer, new_lexer, ended_line, feed, finish}
 use Rattle.document_terms.specs.declared.claim.Claim.{Claim}
 use Rattle.verdict_terms.specs.Stages.{Stage, stage_after}

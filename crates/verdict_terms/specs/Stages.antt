@@ -17,7 +17,8 @@ use Rattle.packing_terms.specs.Tokens.{PlainToken}
 use Rattle.packing_terms.specs.Tokens.PlainToken.{TooLarge}
 use Rattle.text_terms.specs.declared.fault.TextFault.{TextFault}
 use Rattle.text_terms.specs.Lines.{Line, same_bytes}
-use Rattle.text_terms.specs.Texts.{◌>>=◌, Parts, no_parts, add_line, at_end, is_none, first_word}
+use Rattle.packing_terms.specs.Results.{◌>>=◌}
+use Rattle.text_terms.specs.Texts.{Parts, no_parts, add_line, at_end, is_none, first_word}
 use Rattle.check_terms.specs.declared.answers.RefuseCode.{RefuseCode}
 use Rattle.check_terms.specs.declared.answers.RefuseCode.TheVariants.{Side}
 use Rattle.check_terms.specs.declared.answers.PlaceVerdict.{PlaceVerdict}

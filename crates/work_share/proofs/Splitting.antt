@@ -164,106 +164,106 @@ module _ (tree : SearchTree) (budget : ℕ) (slots : List Slot) (order : List �
   pub split_below : AreBelow (length slots) order
   split_below = below_order tree budget slots order (keeps_stored tree budget slots order short history kept.replays) kept.size
 
-  -- the place of the task
-  module _ (place : ℕ) (passed : IsNotIn n (take place order)) (here : place < length order → get_or order place 0 ≡ n) where
-    pub place_inside : place < length order
-    place_inside = go (cases_lt place (length order))
+  -- the position of the task
+  module _ (position : ℕ) (passed : IsNotIn n (take position order)) (here : position < length order → get_or order position 0 ≡ n) where
+    pub position_inside : position < length order
+    position_inside = go (cases_lt position (length order))
       where
-        go : (place < length order) ⊎ (length order ≤ place) → place < length order
+        go : (position < length order) ⊎ (length order ≤ position) → position < length order
         go (inl l) = l
-        go (inr l) = absurd (not_in_no n order there.0 (subst (λ ns. IsNotIn n ns) (take_all place order l) passed))
+        go (inr l) = absurd (not_in_no n order there.0 (subst (λ ns. IsNotIn n ns) (take_all position order l) passed))
 
-    parts : order ≡ take place order ++ n ∷ drop (place + 1) order
+    parts : order ≡ take position order ++ n ∷ drop (position + 1) order
     parts =
-        sym (take-append-drop place order)
-        ∙ (ap (λ ns. take place order ++ ns) (drop_more order place 0 place_inside)
-        ∙ ap (λ k. take place order ++ k ∷ drop (place + 1) order) (here place_inside))
+        sym (take-append-drop position order)
+        ∙ (ap (λ ns. take position order ++ ns) (drop_more order position 0 position_inside)
+        ∙ ap (λ k. take position order ++ k ∷ drop (position + 1) order) (here position_inside))
 
-    front_parts : take (place + 1) order ≡ take place order ++ n ∷ []
-    front_parts = take_more order place 0 place_inside ∙ ap (λ k. take place order ++ k ∷ []) (here place_inside)
+    front_parts : take (position + 1) order ≡ take position order ++ n ∷ []
+    front_parts = take_more order position 0 position_inside ∙ ap (λ k. take position order ++ k ∷ []) (here position_inside)
 
-    pub waiting_enough : length (waiting_tasks (entries_of slots (take place order))) ≤ length stack
+    pub waiting_enough : length (waiting_tasks (entries_of slots (take position order))) ≤ length stack
     waiting_enough =
-        let all : waiting_tasks (entries_of slots order) ≡ waiting_tasks (entries_of slots (take place order)) ++ waiting_tasks (entries_of slots (drop place order)) =
-        ap (λ ns. waiting_tasks (entries_of slots ns)) (sym (take-append-drop place order))
-        ∙ (ap waiting_tasks (map-append (entry_at slots) (take place order) (drop place order)) ∙ waiting_append (entries_of slots (take place order)) (entries_of slots (drop place order))) in
-        let a = ap length all ∙ length-append (waiting_tasks (entries_of slots (take place order))) (waiting_tasks (entries_of slots (drop place order))) in
+        let all : waiting_tasks (entries_of slots order) ≡ waiting_tasks (entries_of slots (take position order)) ++ waiting_tasks (entries_of slots (drop position order)) =
+        ap (λ ns. waiting_tasks (entries_of slots ns)) (sym (take-append-drop position order))
+        ∙ (ap waiting_tasks (map-append (entry_at slots) (take position order) (drop position order)) ∙ waiting_append (entries_of slots (take position order)) (entries_of slots (drop position order))) in
+        let a = ap length all ∙ length-append (waiting_tasks (entries_of slots (take position order))) (waiting_tasks (entries_of slots (drop position order))) in
         let b = ap length kept.stacked ∙ length-reverse (waiting_tasks (entries_of slots order)) in
         omega (arith, a, b)
 
     module _ (token : Token) (own c : ℕ) (made : List Slot) (children : entries_from (length slots) made ≡ children_from p 0 c (length slots)) where
-      distinct_parts : AreDistinct (take place order ++ n ∷ drop (place + 1) order)
+      distinct_parts : AreDistinct (take position order ++ n ∷ drop (position + 1) order)
       distinct_parts = subst AreDistinct parts (distinct_order tree budget slots order (keeps_stored tree budget slots order short history kept.replays))
 
-      below_parts : AreBelow (length slots) (take place order ++ n ∷ drop (place + 1) order)
+      below_parts : AreBelow (length slots) (take position order ++ n ∷ drop (position + 1) order)
       below_parts = subst (λ ns. AreBelow (length slots) ns) parts split_below
 
       entries_size : length (entries_of slots order) ≡ length slots
       entries_size = length-map order (entry_at slots) ∙ sym kept.size
 
-      new_order : take (place + 1) order ++ (range_with_len (length slots) c ++ drop (place + 1) order)
-          ≡ (take place order ++ n ∷ []) ++ (range_with_len (length slots) c ++ drop (place + 1) order)
-      new_order = ap (λ ns. ns ++ (range_with_len (length slots) c ++ drop (place + 1) order)) front_parts
+      new_order : take (position + 1) order ++ (range_with_len (length slots) c ++ drop (position + 1) order)
+          ≡ (take position order ++ n ∷ []) ++ (range_with_len (length slots) c ++ drop (position + 1) order)
+      new_order = ap (λ ns. ns ++ (range_with_len (length slots) c ++ drop (position + 1) order)) front_parts
 
-      new_entries : entries_of (with_slot slots n (stored.Split token own c) ++ made) (take (place + 1) order ++ (range_with_len (length slots) c ++ drop (place + 1) order))
-          ≡ with_middle slots (take place order) (SplitEntry n p (plain_token token) own c ∷ children_from p 0 c (length slots)) (drop (place + 1) order)
+      new_entries : entries_of (with_slot slots n (stored.Split token own c) ++ made) (take (position + 1) order ++ (range_with_len (length slots) c ++ drop (position + 1) order))
+          ≡ with_middle slots (take position order) (SplitEntry n p (plain_token token) own c ∷ children_from p 0 c (length slots)) (drop (position + 1) order)
       new_entries =
           ap (entries_of (with_slot slots n (stored.Split token own c) ++ made)) new_order
-          ∙ new_is slots made (take place order) (drop (place + 1) order) n p token own c there.1 below_parts distinct_parts passed children
+          ∙ new_is slots made (take position order) (drop (position + 1) order) n p token own c there.1 below_parts distinct_parts passed children
 
-      pub split_entries : entries_of (with_slot slots n (stored.Split token own c) ++ made) (take (place + 1) order ++ (range_with_len (length slots) c ++ drop (place + 1) order))
+      pub split_entries : entries_of (with_slot slots n (stored.Split token own c) ++ made) (take (position + 1) order ++ (range_with_len (length slots) c ++ drop (position + 1) order))
           ≡ divided (plain_token token) own c n (entries_of slots order)
       split_entries =
           new_entries
-          ∙ (sym (divided_parts slots made (take place order) (drop (place + 1) order) n p token own c there.1 below_parts distinct_parts passed children
+          ∙ (sym (divided_parts slots made (take position order) (drop (position + 1) order) n p token own c there.1 below_parts distinct_parts passed children
           (sym (ap (λ ns. length (entries_of slots ns)) parts) ∙ entries_size))
           ∙ ap (λ ns. divided (plain_token token) own c n (entries_of slots ns)) (sym parts))
 
       pub split_known : HasFrontTo budget
-          (entries_of (with_slot slots n (stored.Split token own c) ++ made) (take (place + 1) order ++ (range_with_len (length slots) c ++ drop (place + 1) order))) len count ended
+          (entries_of (with_slot slots n (stored.Split token own c) ++ made) (take (position + 1) order ++ (range_with_len (length slots) c ++ drop (position + 1) order))) len count ended
       split_known =
           subst (λ es. HasFrontTo budget es len count ended) (sym split_entries)
           (front_known (is_out n) (split_into (plain_token token) own c (length (entries_of slots order))) (out_open n) budget (entries_of slots order) len count ended kept.front)
 
-      pub split_size : length (with_slot slots n (stored.Split token own c) ++ made) ≡ length (take (place + 1) order ++ (range_with_len (length slots) c ++ drop (place + 1) order))
+      pub split_size : length (with_slot slots n (stored.Split token own c) ++ made) ≡ length (take (position + 1) order ++ (range_with_len (length slots) c ++ drop (position + 1) order))
       split_size =
           let xs = with_slot slots n (stored.Split token own c) in
           let a = length-append xs made in
           let b = length_with_slot slots n (stored.Split token own c) in
           let m = sym (length_from (length slots) made) ∙ (ap length children ∙ length_children p 0 c (length slots)) in
-          let d = length-append (take (place + 1) order) (range_with_len (length slots) c ++ drop (place + 1) order) in
-          let e = length-append (range_with_len (length slots) c) (drop (place + 1) order) in
+          let d = length-append (take (position + 1) order) (range_with_len (length slots) c ++ drop (position + 1) order) in
+          let e = length-append (range_with_len (length slots) c) (drop (position + 1) order) in
           let f = length-range_with_len (length slots) c in
-          let h = sym (length-append (take (place + 1) order) (drop (place + 1) order)) ∙ ap length (take-append-drop (place + 1) order) in
+          let h = sym (length-append (take (position + 1) order) (drop (position + 1) order)) ∙ ap length (take-append-drop (position + 1) order) in
           let k = kept.size in
           omega (arith, a, b, m, d, e, f, h, k)
 
-      pub split_new_below : AreBelow (length (with_slot slots n (stored.Split token own c) ++ made)) (take (place + 1) order ++ (range_with_len (length slots) c ++ drop (place + 1) order))
+      pub split_new_below : AreBelow (length (with_slot slots n (stored.Split token own c) ++ made)) (take (position + 1) order ++ (range_with_len (length slots) c ++ drop (position + 1) order))
       split_new_below =
-          let old = subst (λ ns. AreBelow (length slots) ns) (sym (take-append-drop (place + 1) order)) split_below in
+          let old = subst (λ ns. AreBelow (length slots) ns) (sym (take-append-drop (position + 1) order)) split_below in
           let a = length-append (with_slot slots n (stored.Split token own c)) made in
           let b = length_with_slot slots n (stored.Split token own c) in
           let m = split_made slots p c made children in
           let size : length (with_slot slots n (stored.Split token own c) ++ made) ≡ length slots + c = omega (arith, a, b, m) in
-          subst (λ k. AreBelow k (take (place + 1) order ++ (range_with_len (length slots) c ++ drop (place + 1) order))) (sym size)
-          (below_inserted (length slots) c (take (place + 1) order) (drop (place + 1) order) old)
+          subst (λ k. AreBelow k (take (position + 1) order ++ (range_with_len (length slots) c ++ drop (position + 1) order))) (sym size)
+          (below_inserted (length slots) c (take (position + 1) order) (drop (position + 1) order) old)
 
-      pub split_count : length (take (place + 1) order ++ (range_with_len (length slots) c ++ drop (place + 1) order)) ≡ length order + c
+      pub split_count : length (take (position + 1) order ++ (range_with_len (length slots) c ++ drop (position + 1) order)) ≡ length order + c
       split_count =
-          let d = length-append (take (place + 1) order) (range_with_len (length slots) c ++ drop (place + 1) order) in
-          let e = length-append (range_with_len (length slots) c) (drop (place + 1) order) in
+          let d = length-append (take (position + 1) order) (range_with_len (length slots) c ++ drop (position + 1) order) in
+          let e = length-append (range_with_len (length slots) c) (drop (position + 1) order) in
           let f = length-range_with_len (length slots) c in
-          let h = sym (length-append (take (place + 1) order) (drop (place + 1) order)) ∙ ap length (take-append-drop (place + 1) order) in
+          let h = sym (length-append (take (position + 1) order) (drop (position + 1) order)) ∙ ap length (take-append-drop (position + 1) order) in
           omega (arith, d, e, f, h)
 
       module _ (right : IfSome (node_at (Some tree) p) (λ node. node_told node ≡ Splits (plain_token token) own c)) where
         pub split_step : Divides tree (stored_state slots order short) n
-            (stored_state (with_slot slots n (stored.Split token own c) ++ made) (take (place + 1) order ++ (range_with_len (length slots) c ++ drop (place + 1) order)) short)
+            (stored_state (with_slot slots n (stored.Split token own c) ++ made) (take (position + 1) order ++ (range_with_len (length slots) c ++ drop (position + 1) order)) short)
         split_step = go (node_at (Some tree) p) refl (out_reached tree budget (entries_of slots order) n p out kept.right).there right
           where
             go : (o : Option SearchTree) → node_at (Some tree) p ≡ o → IsSome o → IfSome o (λ node. node_told node ≡ Splits (plain_token token) own c)
                 → Divides tree (stored_state slots order short) n
-                (stored_state (with_slot slots n (stored.Split token own c) ++ made) (take (place + 1) order ++ (range_with_len (length slots) c ++ drop (place + 1) order)) short)
+                (stored_state (with_slot slots n (stored.Split token own c) ++ made) (take (position + 1) order ++ (range_with_len (length slots) c ++ drop (position + 1) order)) short)
             go None e f h = absurd (true≢false (sym f))
             go (Some node) e f h = record {
               path = p;
@@ -278,26 +278,26 @@ module _ (tree : SearchTree) (budget : ℕ) (slots : List Slot) (order : List �
             }
 
         module _ (new_stack : List PlainTask) (new_capacity : ℕ)
-            (stacked : new_stack ≡ take (length stack - length (waiting_tasks (entries_of slots (take place order)))) stack
-            ++ (reverse (waiting_tasks (children_from p 0 c (length slots))) ++ drop (length stack - length (waiting_tasks (entries_of slots (take place order)))) stack))
+            (stacked : new_stack ≡ take (length stack - length (waiting_tasks (entries_of slots (take position order)))) stack
+            ++ (reverse (waiting_tasks (children_from p 0 c (length slots))) ++ drop (length stack - length (waiting_tasks (entries_of slots (take position order)))) stack))
             (roomy : 2 * (length order + c) + 1 ≤ new_capacity) where
           pub split_kept : (new_len new_count : ℕ) (new_ended : Bool)
-              → IsFront budget (entries_of (with_slot slots n (stored.Split token own c) ++ made) (take (place + 1) order ++ (range_with_len (length slots) c ++ drop (place + 1) order)))
+              → IsFront budget (entries_of (with_slot slots n (stored.Split token own c) ++ made) (take (position + 1) order ++ (range_with_len (length slots) c ++ drop (position + 1) order)))
               new_len new_count new_ended
-              → IsKept tree budget (with_slot slots n (stored.Split token own c) ++ made) (take (place + 1) order ++ (range_with_len (length slots) c ++ drop (place + 1) order)) new_stack
+              → IsKept tree budget (with_slot slots n (stored.Split token own c) ++ made) (take (position + 1) order ++ (range_with_len (length slots) c ++ drop (position + 1) order)) new_stack
               new_len new_count new_ended short (history ++ event.Split n ∷ []) new_capacity
           split_kept new_len new_count new_ended front =
               let s = split_step in
               let replays = replay_more tree budget history (event.Split n) (stored_state slots order short)
-              (stored_state (with_slot slots n (stored.Split token own c) ++ made) (take (place + 1) order ++ (range_with_len (length slots) c ++ drop (place + 1) order)) short) kept.replays
+              (stored_state (with_slot slots n (stored.Split token own c) ++ made) (take (position + 1) order ++ (range_with_len (length slots) c ++ drop (position + 1) order)) short) kept.replays
               (ap (λ es. record { entries = es; is_short = short })
               (sym (divided_is tree n s.path s.node s.token s.own s.children (entries_of slots order) s.handed s.there s.told)) ∙ sym s.after) in
               record {
                 replays = replays;
                 apart = apart_stored tree budget (with_slot slots n (stored.Split token own c) ++ made)
-                    (take (place + 1) order ++ (range_with_len (length slots) c ++ drop (place + 1) order)) short (history ++ event.Split n ∷ []) replays;
+                    (take (position + 1) order ++ (range_with_len (length slots) c ++ drop (position + 1) order)) short (history ++ event.Split n ∷ []) replays;
                 right = (keeps_stored tree budget (with_slot slots n (stored.Split token own c) ++ made)
-                    (take (place + 1) order ++ (range_with_len (length slots) c ++ drop (place + 1) order)) short (history ++ event.Split n ∷ []) replays).right;
+                    (take (position + 1) order ++ (range_with_len (length slots) c ++ drop (position + 1) order)) short (history ++ event.Split n ∷ []) replays).right;
                 size = split_size;
                 all = every;
                 stacked = stacked ∙ new_waiting;
@@ -306,24 +306,24 @@ module _ (tree : SearchTree) (budget : ℕ) (slots : List Slot) (order : List �
                 room = subst (λ k. 2 * k + 1 ≤ new_capacity) (sym split_count) roomy;
               }
             where
-              new_waiting : take (length stack - length (waiting_tasks (entries_of slots (take place order)))) stack
-                  ++ (reverse (waiting_tasks (children_from p 0 c (length slots))) ++ drop (length stack - length (waiting_tasks (entries_of slots (take place order)))) stack)
+              new_waiting : take (length stack - length (waiting_tasks (entries_of slots (take position order)))) stack
+                  ++ (reverse (waiting_tasks (children_from p 0 c (length slots))) ++ drop (length stack - length (waiting_tasks (entries_of slots (take position order)))) stack)
                   ≡ reverse (waiting_tasks (entries_of (with_slot slots n (stored.Split token own c) ++ made)
-                  (take (place + 1) order ++ (range_with_len (length slots) c ++ drop (place + 1) order))))
+                  (take (position + 1) order ++ (range_with_len (length slots) c ++ drop (position + 1) order))))
               new_waiting =
-                  let low = waiting_tasks (entries_of slots (take place order)) in
-                  let high = waiting_tasks (entries_of slots (drop (place + 1) order)) in
-                  let old = waiting_old slots made (take place order) (drop (place + 1) order) n p token own c there.1 below_parts distinct_parts passed children in
-                  let new = waiting_new slots made (take place order) (drop (place + 1) order) n p token own c there.1 below_parts distinct_parts passed children in
+                  let low = waiting_tasks (entries_of slots (take position order)) in
+                  let high = waiting_tasks (entries_of slots (drop (position + 1) order)) in
+                  let old = waiting_old slots made (take position order) (drop (position + 1) order) n p token own c there.1 below_parts distinct_parts passed children in
+                  let new = waiting_new slots made (take position order) (drop (position + 1) order) n p token own c there.1 below_parts distinct_parts passed children in
                   stack_inserted low (waiting_tasks (children_from p 0 c (length slots))) high stack (length stack - length low)
                   (kept.stacked ∙ (ap (λ ns. reverse (waiting_tasks (entries_of slots ns))) parts ∙ ap reverse old)) refl
                   ∙ ap reverse (sym (ap waiting_tasks new_entries ∙ new))
 
               balance : length (history ++ event.Split n ∷ []) + (owed (entries_of (with_slot slots n (stored.Split token own c) ++ made)
-                  (take (place + 1) order ++ (range_with_len (length slots) c ++ drop (place + 1) order))) + owed_short short)
-                  ≡ 2 * length (take (place + 1) order ++ (range_with_len (length slots) c ++ drop (place + 1) order)) + 1
+                  (take (position + 1) order ++ (range_with_len (length slots) c ++ drop (position + 1) order))) + owed_short short)
+                  ≡ 2 * length (take (position + 1) order ++ (range_with_len (length slots) c ++ drop (position + 1) order)) + 1
               balance =
-                  let a = owed_split slots made (take place order) (drop (place + 1) order) n p token own c there.1 below_parts distinct_parts passed children in
+                  let a = owed_split slots made (take position order) (drop (position + 1) order) n p token own c there.1 below_parts distinct_parts passed children in
                   let b = ap owed new_entries in
                   let d = ap (λ ns. owed (entries_of slots ns)) parts in
                   let e = kept.owes in
@@ -331,12 +331,12 @@ module _ (tree : SearchTree) (budget : ℕ) (slots : List Slot) (order : List �
                   let h = split_count in
                   omega (arith, a, b, d, e, f, h)
 
-              every : (k : ℕ) → k < length (take (place + 1) order ++ (range_with_len (length slots) c ++ drop (place + 1) order))
-                  → IsIn k (take (place + 1) order ++ (range_with_len (length slots) c ++ drop (place + 1) order))
+              every : (k : ℕ) → k < length (take (position + 1) order ++ (range_with_len (length slots) c ++ drop (position + 1) order))
+                  → IsIn k (take (position + 1) order ++ (range_with_len (length slots) c ++ drop (position + 1) order))
               every k l = go (cases_lt k (length order))
                 where
-                  go : (k < length order) ⊎ (length order ≤ k) → IsIn k (take (place + 1) order ++ (range_with_len (length slots) c ++ drop (place + 1) order))
-                  go (inl m) = in_insert k (take (place + 1) order) (range_with_len (length slots) c) (drop (place + 1) order)
-                      (subst (λ ns. IsIn k ns) (sym (take-append-drop (place + 1) order)) (kept.all k m))
-                  go (inr m) = in_middle k (take (place + 1) order) (range_with_len (length slots) c) (drop (place + 1) order)
+                  go : (k < length order) ⊎ (length order ≤ k) → IsIn k (take (position + 1) order ++ (range_with_len (length slots) c ++ drop (position + 1) order))
+                  go (inl m) = in_insert k (take (position + 1) order) (range_with_len (length slots) c) (drop (position + 1) order)
+                      (subst (λ ns. IsIn k ns) (sym (take-append-drop (position + 1) order)) (kept.all k m))
+                  go (inr m) = in_middle k (take (position + 1) order) (range_with_len (length slots) c) (drop (position + 1) order)
                       (let e = kept.size in let f = split_count in in_range k (length slots) c (omega (arith, m, e)) (omega (arith, l, e, f)))

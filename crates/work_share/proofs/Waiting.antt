@@ -21,7 +21,7 @@ pub owed_append : (xs ys : List PlainEntry) → owed (xs ++ ys) ≡ owed xs + ow
 owed_append [] ys = omega arith
 owed_append (e ∷ xs) ys = let r = owed_append xs ys in omega (arith, r)
 
--- how many wait up to a place of the order, one place on
+-- how many wait up to a position of the order, one position on
 pub waiting_more : (slots : List Slot) (order : List ℕ) (k : ℕ) → k < length order
     → length (waiting_tasks (entries_of slots (take (k + 1) order)))
     ≡ length (waiting_tasks (entries_of slots (take k order))) + length (waiting_in (entry_at slots (get_or order k 0)))

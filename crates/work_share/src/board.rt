@@ -13,7 +13,7 @@ ghost use Rattle.work_share.specs.Tasks.{reply_of, IfJob, is_past};
 use crate::children::{children_of, put_children};
 use crate::front::{Front, advance};
 use crate::joining::join_run;
-use crate::order::place_of;
+use crate::order::position_of;
 use crate::slot::{Slot, SlotState, put_state};
 use crate::task::{Take, Task};
 use crate::tree::Tree;
@@ -230,7 +230,7 @@ impl<'a, T: Tree> Board<'a, T> {
         ) else {
             return Err(task);
         };
-        let place = place_of(&self.slots, &self.order, self.front.len, number);
+        let position = position_of(&self.slots, &self.order, self.front.len, number);
         let state = SlotState::Split {
             token,
             own,
@@ -240,7 +240,7 @@ impl<'a, T: Tree> Board<'a, T> {
             &mut self.slots,
             &mut self.order,
             &mut self.waiting,
-            place,
+            position,
             state,
             made,
         );

@@ -5,7 +5,7 @@ ghost use Rattle.board_terms.specs.Board.{children_from};
 ghost use Rattle.work_share.specs.Slots.{entries_from, with_slot};
 ghost use Rattle.work_share.specs.Boards.{waiting_tasks};
 
-use crate::order::{Place, insert_all};
+use crate::order::{Position, insert_all};
 use crate::slot::{Slot, SlotState, put_state};
 use crate::task::Task;
 use std::alloc::{AllocError, Global};
@@ -70,29 +70,29 @@ pub fn put_children(
     slots: &mut Vec<Slot>,
     order: &mut Vec<usize>,
     waiting: &mut Vec<Task>,
-    place: Place,
+    position: Position,
     state: SlotState,
     made: Children,
 )
-    requires here { place.index < vec_len order.old }
-    requires inside { slice_index order.old.items place.index < vec_len slots.old }
-    requires enough { place.waiting ≤ vec_len waiting.old }
+    requires here { position.index < vec_len order.old }
+    requires inside { slice_index order.old.items position.index < vec_len slots.old }
+    requires enough { position.waiting ≤ vec_len waiting.old }
     requires slots_room { vec_len slots.old + vec_len made.slots ≤ vec_capacity slots.old }
     requires order_room { vec_len order.old + vec_len made.numbers ≤ vec_capacity order.old }
     requires waiting_room { vec_len waiting.old + vec_len made.tasks ≤ vec_capacity waiting.old }
     ensures slots { slots.new.items
-        ≡ with_slot slots.old.items (slice_index order.old.items place.index) state
+        ≡ with_slot slots.old.items (slice_index order.old.items position.index) state
         ++ made.slots.items }
-    ensures order { order.new.items ≡ take (place.index + 1) order.old.items
-        ++ (made.numbers.items ++ drop (place.index + 1) order.old.items) }
+    ensures order { order.new.items ≡ take (position.index + 1) order.old.items
+        ++ (made.numbers.items ++ drop (position.index + 1) order.old.items) }
     ensures waiting { waiting.new.items
-        ≡ take (vec_len waiting.old - place.waiting) waiting.old.items
-        ++ (made.tasks.items ++ drop (vec_len waiting.old - place.waiting) waiting.old.items) }
+        ≡ take (vec_len waiting.old - position.waiting) waiting.old.items
+        ++ (made.tasks.items ++ drop (vec_len waiting.old - position.waiting) waiting.old.items) }
 {
-    put_state(slots, order[place.index], state);
+    put_state(slots, order[position.index], state);
     let count = slots.len();
     insert_all(slots, count, made.slots);
-    insert_all(order, place.index + 1, made.numbers);
-    let behind = waiting.len() - place.waiting;
+    insert_all(order, position.index + 1, made.numbers);
+    let behind = waiting.len() - position.waiting;
     insert_all(waiting, behind, made.tasks);
 }

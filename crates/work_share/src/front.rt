@@ -28,14 +28,14 @@ impl Front {
     }
 }
 
-// What the entry at a place of the order is for the run.
-fn piece_at(slots: &[Slot], order: &[usize], place: usize) -> Piece
+// What the entry at a position of the order is for the run.
+fn piece_at(slots: &[Slot], order: &[usize], position: usize) -> Piece
     requires below { AreBelow (length slots.now) order.now }
-    requires inside { place < length order.now }
+    requires inside { position < length order.now }
     ensures { (d : PlainEntry)
-        → result ≡ piece_of (slice_index_or (entries_of slots.now order.now) place d) }
+        → result ≡ piece_of (slice_index_or (entries_of slots.now order.now) position d) }
 {
-    slots[order[place]].piece()
+    slots[order[position]].piece()
 }
 
 // The front, taken on as far as it goes.

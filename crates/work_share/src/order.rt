@@ -9,23 +9,23 @@ use crate::slot::Slot;
 
 // Where an entry stands in the order, and how many tasks that wait stand before it.
 #[derive(Clone, Copy)]
-pub struct Place {
+pub struct Position {
     pub index: usize,
     pub waiting: usize,
 }
 
-// Whether the entry at a place of the order is a task that waits.
-fn waits_at(slots: &[Slot], order: &[usize], place: usize) -> bool
+// Whether the entry at a position of the order is a task that waits.
+fn waits_at(slots: &[Slot], order: &[usize], position: usize) -> bool
     requires below { AreBelow (length slots.now) order.now }
-    requires inside { place < length order.now }
-    ensures { result ≡ waits (entry_at slots.now (slice_index order.now place)) }
+    requires inside { position < length order.now }
+    ensures { result ≡ waits (entry_at slots.now (slice_index order.now position)) }
 {
-    slots[order[place]].waits()
+    slots[order[position]].waits()
 }
 
-// The place of a number in the order. Before the index `from` no task waits, and the number doesn't
-// stand there.
-pub fn place_of(slots: &[Slot], order: &[usize], from: usize, number: usize) -> Place
+// The position of a number in the order. Before the index `from` no task waits, and the number
+// doesn't stand there.
+pub fn position_of(slots: &[Slot], order: &[usize], from: usize, number: usize) -> Position
     requires below { AreBelow (length slots.now) order.now }
     requires before { waiting_tasks (entries_of slots.now (take from order.now)) ≡ [] }
     requires apart { IsNotIn number (take from order.now) }
@@ -39,28 +39,29 @@ pub fn place_of(slots: &[Slot], order: &[usize], from: usize, number: usize) -> 
     let mut waiting = 0;
     for index in from..order.len() {
         if order[index] == number {
-            return Place { index, waiting };
+            return Position { index, waiting };
         }
         if waits_at(slots, order, index) {
             waiting += 1;
         }
     }
-    Place {
+    Position {
         index: order.len(),
         waiting,
     }
 }
 
-// Puts the items of one list into another, which has room for them, before the one at this place.
-pub fn insert_all<T: Drop>(list: &mut Vec<T>, place: usize, mut items: Vec<T>)
-    requires inside { place ≤ vec_len list.old }
+// Puts the items of one list into another, which has room for them, before the one at this
+// position.
+pub fn insert_all<T: Drop>(list: &mut Vec<T>, position: usize, mut items: Vec<T>)
+    requires inside { position ≤ vec_len list.old }
     requires room { vec_len list.old + vec_len items ≤ vec_capacity list.old }
-    ensures { list.new.items ≡ take place list.old.items
-        ++ (items.items ++ drop place list.old.items) }
+    ensures { list.new.items ≡ take position list.old.items
+        ++ (items.items ++ drop position list.old.items) }
 {
-    let behind = list.len() - place;
+    let behind = list.len() - position;
     let Ok(()) = list.append(&mut items) else {
         unreachable!()
     };
-    list[place..].rotate_left(behind);
+    list[position..].rotate_left(behind);
 }

@@ -8,11 +8,11 @@ use Rattle.class_search.proofs.visit.visit_child.Goals as goal
 pub close_since-requires-clause-full : goal.close_since-requires-clause-full
 close_since-requires-clause-full c =
     let old = c.args.state.now.trail in
-    rw (c.enter.ensures, c.mark-closed.ensures, cut_back old (with_all (added c.args.split c.args.second) old) (with_grows (added c.args.split c.args.second) old)) c.requires.divided.no_conflict.full
+    rw (c.enter.ensures, c.mark-closed.ensures, cut_back old (with_all (added c.args.split c.args.child) old) (with_grows (added c.args.split c.args.child) old)) c.requires.divided.no_conflict.full
 
 pub next_kind-requires-clause-settled : goal.next_kind-requires-clause-settled
 next_kind-requires-clause-settled c =
-    child_settled c.args.instance.now c.args.place c.args.state.now.trail (added c.args.split c.args.second) c.requires.divided.split.before _
+    child_settled c.args.instance.now c.args.rank c.args.state.now.trail (added c.args.split c.args.child) c.requires.divided.split.before _
     (rw c.enter.ensures at c.close_since.ensures.extends).kept c.in-Stable.ensures.closed.full
 
 pub next_kind-requires-clause-divided : goal.next_kind-requires-clause-divided

@@ -33,7 +33,7 @@ places_of-requires-clause-settled c = pairs_settled c.args.instance.now c.loop-n
 pub loop-node-preserved : goal.loop-node-preserved
 loop-node-preserved c =
     let left = rw c.in-Divided.is at c.loop-node.invariant.left in
-    let waiting : Waiting = record { split = c.in-Divided.split; mark = c.mark-mark.result; place = c.in-Divided.place } in
+    let waiting : Waiting = record { split = c.in-Divided.split; mark = c.mark-mark.result; rank = c.in-Divided.rank } in
     rw (
       c.in-Ok-push.ensures.items,
       c.in-Ok-push-2.ensures.items,
@@ -43,7 +43,7 @@ loop-node-preserved c =
       c.mark-mark.ensures,
     ) (record {
       left = split_next c.args.instance.now (outcome (kind_tree c.args.instance.now c.args.state.now.trail c.args.node)) (map plain_token c.loop-node.tokens.items) c.loop-node.count
-          c.in-Divided.split c.in-Divided.place (reverse c.loop-node.stack.items) c.loop-node.state.trail left
+          c.in-Divided.split c.in-Divided.rank (reverse c.loop-node.stack.items) c.loop-node.state.trail left
           c.visit_child-node-in-Divided.new.state.trail c.visit_child-node-in-Divided.result c.visit_child-node-in-Divided.ensures.met;
       within = omega (arith, c.loop-node.invariant.within, c.if-count-cap.false);
       same_dims = ap (λ (s : PlainEdges). s.dims) c.visit_child-node-in-Divided.ensures.sizes ∙ c.loop-node.invariant.same_dims;

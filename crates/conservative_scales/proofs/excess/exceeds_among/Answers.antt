@@ -1,5 +1,5 @@
 use Rattle.std.proofs.Common.{arith, ◌∙◌, length}
-use Rattle.conservative_scales.proofs.Named.{named_fits, image_of_named, in_place, at_place}
+use Rattle.conservative_scales.proofs.Named.{named_fits, image_of_named, in_position, at_position}
 use Rattle.conservative_scales.proofs.Products.{total_next, excess_at_end, excess_is_told}
 use Rattle.packing_terms.specs.Packing.{box_count}
 use Rattle.packing_terms.specs.Goals.{subset}
@@ -14,8 +14,8 @@ image_product-total-requires-clause-fits c = named_fits c.args.instance.now c.ar
 
 pub overflow_add-total : goal.overflow_add-total
 overflow_add-total c =
-    let p = at_place c.args.instance.now c.args.keep.now c.requires.named c.loop-k.k c.loop-k-test.true in
-    let q = in_place c.args.instance.now c.args.keep.now c.requires.named c.loop-k.k c.loop-k-test.true in
+    let p = at_position c.args.instance.now c.args.keep.now c.requires.named c.loop-k.k c.loop-k-test.true in
+    let q = in_position c.args.instance.now c.args.keep.now c.requires.named c.loop-k.k c.loop-k-test.true in
     let r = c.image_product-total.ensures.limits.boxes.count.1 in
     let t = c.loop-k.invariant.limit in
     omega (arith, p, q, r, t)

@@ -2,7 +2,7 @@ use Rattle.std.proofs.Common.{◌≤◌, ◌<◌, ◌-◌, ◌*◌, ◌/◌, ◌
 use Rattle.packing_terms.specs.Exclusions.{IsEdge}
 use Rattle.rule_terms.proofs.Applied.{extends_refl, extends_trans}
 use Rattle.closure_terms.proofs.Worked.{worked_kept}
-use Rattle.closure_terms.proofs.Settled.{change_place, trail_short, behind_within, grown_past, settled_all, chained_all}
+use Rattle.closure_terms.proofs.Settled.{change_edge, trail_short, behind_within, grown_past, settled_all, chained_all}
 use Rattle.closure_terms.proofs.Looked.{looked_step}
 use Rattle.rule_closure.proofs.settle.settle.Goals as goal
 
@@ -21,32 +21,32 @@ loop-change-init g c = record {
 pub is_empty_at-requires : goal.is_empty_at-requires
 is_empty_at-requires g c =
     let s = c.loop-change.state in
-    let place = change_place s.dims s.boxes s.trail c.loop-change.next _ c.in-Some.change c.dims-sizes.ensures.limits.trail c.in-Some.ensures in
+    let edge = change_edge s.dims s.boxes s.trail c.loop-change.next _ c.in-Some.change c.dims-sizes.ensures.limits.trail c.in-Some.ensures in
     record {
       sizes = record {
         same_dims = c.loop-change.invariant.same_dims ∙ c.requires.dims;
         same_boxes = c.loop-change.invariant.same_boxes ∙ c.requires.boxes;
-        there = omega (arith, place.dim, c.loop-change.invariant.same_dims, c.requires.dims);
+        there = omega (arith, edge.dim, c.loop-change.invariant.same_dims, c.requires.dims);
       };
-      u = omega (arith, place.first, c.loop-change.invariant.same_boxes, c.requires.boxes);
-      v = omega (arith, place.second, c.loop-change.invariant.same_boxes, c.requires.boxes);
+      u = omega (arith, edge.first, c.loop-change.invariant.same_boxes, c.requires.boxes);
+      v = omega (arith, edge.second, c.loop-change.invariant.same_boxes, c.requires.boxes);
     }
 
 pub dirtied-more-requires-clause-edge : goal.dirtied-more-requires-clause-edge
 dirtied-more-requires-clause-edge g c =
     let s = c.loop-change.state in
-    change_place s.dims s.boxes s.trail c.loop-change.next _ c.in-Some.change c.dims-sizes.ensures.limits.trail c.in-Some.ensures
+    change_edge s.dims s.boxes s.trail c.loop-change.next _ c.in-Some.change c.dims-sizes.ensures.limits.trail c.in-Some.ensures
 
 pub dirtied-more-requires-clause-dim : goal.dirtied-more-requires-clause-dim
 dirtied-more-requires-clause-dim g c =
     let s = c.loop-change.state in
-    let place = change_place s.dims s.boxes s.trail c.loop-change.next _ c.in-Some.change c.dims-sizes.ensures.limits.trail c.in-Some.ensures in
-    omega (arith, place.dim, c.dims-sizes.ensures.limits.dimensions.1)
+    let edge = change_edge s.dims s.boxes s.trail c.loop-change.next _ c.in-Some.change c.dims-sizes.ensures.limits.trail c.in-Some.ensures in
+    omega (arith, edge.dim, c.dims-sizes.ensures.limits.dimensions.1)
 
 pub spread-requires : goal.spread-requires
 spread-requires g c =
     let s = c.loop-change.state in
-    let place = change_place s.dims s.boxes s.trail c.loop-change.next _ c.in-Some.change c.dims-sizes.ensures.limits.trail c.in-Some.ensures in (
+    let edge = change_edge s.dims s.boxes s.trail c.loop-change.next _ c.in-Some.change c.dims-sizes.ensures.limits.trail c.in-Some.ensures in (
       omega (arith, c.requires.words.0.1),
       (
         c.requires.words,
@@ -54,14 +54,14 @@ spread-requires g c =
           record {
             same_dims = c.loop-change.invariant.same_dims ∙ c.requires.dims;
             same_boxes = c.loop-change.invariant.same_boxes ∙ c.requires.boxes;
-            there = omega (arith, place.dim, c.loop-change.invariant.same_dims, c.requires.dims);
+            there = omega (arith, edge.dim, c.loop-change.invariant.same_dims, c.requires.dims);
           },
           (
-            omega (arith, place.first, c.loop-change.invariant.same_boxes, c.requires.boxes),
+            omega (arith, edge.first, c.loop-change.invariant.same_boxes, c.requires.boxes),
             (
-              omega (arith, place.second, c.loop-change.invariant.same_boxes, c.requires.boxes),
+              omega (arith, edge.second, c.loop-change.invariant.same_boxes, c.requires.boxes),
               (
-                place.distinct,
+                edge.distinct,
                 c.requires.all,
               ),
             ),
@@ -84,11 +84,11 @@ pub loop-change-preserved : goal.loop-change-preserved
 loop-change-preserved g c =
     let s = c.loop-change.state in
     let change = c.in-Some.ensures in
-    let place = change_place s.dims s.boxes s.trail c.loop-change.next _ c.in-Some.change c.dims-sizes.ensures.limits.trail change in
+    let edge = change_edge s.dims s.boxes s.trail c.loop-change.next _ c.in-Some.change c.dims-sizes.ensures.limits.trail change in
     let work = worked_kept _ _ _ _ _ c.if-spread.false c.spread.ensures in
     let past = behind_within s.trail c.loop-change.next c.behind-after.result c.in-Some.change change.before_last c.behind-after.ensures in
     let here : IsEdge c.args.instance.now c.in-Some.change.dim c.in-Some.change.u c.in-Some.change.v
-    = record { dim = omega (arith, place.dim, c.loop-change.invariant.same_dims, c.requires.dims); first = omega (arith, place.first, c.loop-change.invariant.same_boxes, c.requires.boxes); second = omega (arith, place.second, c.loop-change.invariant.same_boxes, c.requires.boxes); distinct = place.distinct } in
+    = record { dim = omega (arith, edge.dim, c.loop-change.invariant.same_dims, c.requires.dims); first = omega (arith, edge.first, c.loop-change.invariant.same_boxes, c.requires.boxes); second = omega (arith, edge.second, c.loop-change.invariant.same_boxes, c.requires.boxes); distinct = edge.distinct } in
     record {
       same_dims = work.same_dims ∙ c.loop-change.invariant.same_dims;
       same_boxes = work.same_boxes ∙ c.loop-change.invariant.same_boxes;

@@ -1,5 +1,6 @@
-use Rattle.std.proofs.Common.{◌≡◌, ◌≤◌, ◌-◌, ◌*◌, ◌/◌, length, drop}
+use Rattle.std.proofs.Common.{◌≡◌, ◌≤◌, ◌-◌, ◌*◌, ◌/◌, length}
 use Rattle.rule_terms.specs.Applied.{Extends}
+use Rattle.edge_state.specs.Edges.{oldest}
 use Rattle.closure_terms.specs.Work.{IsLookedThrough}
 use Rattle.rule_closure.proofs.settle.settle.Given as goal
 
@@ -11,7 +12,7 @@ invariant-loop-change g l = record {
   extends : Extends l.instance l.fn.state.trail l.state.trail;
   later : l.fn.closed ≤ l.next;
   within : l.next ≤ length l.state.trail;
-  looked : IsLookedThrough l.instance (drop (length l.state.trail - l.next) l.state.trail) l.state.trail l.chains;
+  looked : IsLookedThrough l.instance (oldest l.next l.state.trail) l.state.trail l.chains;
   still : l.next ≡ l.fn.closed → l.chains ≡ l.fn.dirty;
 }
 

@@ -21,4 +21,4 @@ returns c =
     let h = end_is t c.len-limits.ensures.limits c.args.path.now (length c.args.path.now - 1) (omega (arith, c.requires.path)) (rw (← e) at c.requires.reached) in
     let m = length-take-le (length c.args.path.now - 1) c.args.path.now (omega arith) in
     let k = c.as_slice.ensures.value ∙ c.self.invariant.in_order in
-    rw (← e) (IfOk-weaker c.last_step.result _ _ (λ step g. rw (g.place, g.before, g.last, k) (rw m at h)) c.last_step.ensures)
+    rw (← e) (IfOk-weaker c.last_step.result _ _ (λ step g. rw (g.position, g.before, g.last, k) (rw m at h)) c.last_step.ensures)

@@ -1,0 +1,15 @@
+use Rattle.std.proofs.Common.{ap, ◌∙◌, length, rules, tests}
+use Rattle.std.specs.Option.{unwrap_or}
+use Rattle.std.proofs.lemmas.Iterator.{YieldsList-from_slice}
+use Rattle.std.proofs.lemmas.Iterator.Search.{position_from_yields_List}
+use Rattle.packing_terms.specs.OuterRefutation.{has_box}
+use Rattle.bin_search.proofs.Positions.{position_or_length, position_or_len-map}
+use Rattle.bin_search.proofs.numbers.bin_of.Goals as goal
+
+pub returns : goal.returns
+returns c =
+    let found = position_from_yields_List (λ bin. has_box c.args.v bin.items) _ _ c.position.result c.position.ensures.ran
+    (YieldsList-from_slice _ c.iter.ensures.rest) (λ x b q k. search (rules, tests)) in
+    c.unwrap_or.ensures ∙ (ap (λ r. unwrap_or r (length c.args.bins.now)) found
+    ∙ (position_or_length (λ bin. has_box c.args.v bin.items) c.args.bins.now
+    ∙ position_or_len-map (has_box c.args.v) (λ bin. bin.items) c.args.bins.now))

@@ -1,9 +1,0 @@
-//! Where an outer tree stands.
-
-/// Where an outer tree stands: at an outer node, in the inner tree of a set, or at its end.
-#[derive(Clone, Copy, PartialEq, Eq)]
-pub enum Place {
-    AtNode,
-    InSet,
-    AtEnd,
-}
