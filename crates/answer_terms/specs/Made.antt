@@ -8,7 +8,7 @@ use Rattle.std.specs.Prelude.{ℕ, Bool, List, [], ◌∷◌, codes}
 use Rattle.std.specs.Fmt.{decimal}
 use Rattle.packing_terms.specs.Packing.{PlainInstance, box_count}
 use Rattle.packing_terms.specs.Generator.{made_instance}
-use Rattle.tree_terms.specs.Rank.{total_volume}
+use Rattle.packing_terms.specs.Rank.{total_volume}
 use Rattle.tree_terms.specs.Trees.{PlainOutcome, Decided, Past, Yes, No, outcome, count_of, told}
 use Rattle.tree_terms.specs.ClassTree.{class_tree}
 use Rattle.text_terms.specs.Spelling.{lines_text}

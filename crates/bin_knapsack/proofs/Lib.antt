@@ -3,4 +3,3 @@ pub mod FirstCounts
 pub mod Summing
 pub mod BinsAnswered
 pub mod ChoicesAnswered
-pub mod Reached

@@ -16,12 +16,3 @@ pub use choice::Choice;
 pub use choice_search::ChoiceTree;
 pub use greatest::greatest_value;
 pub use least::least_bins;
-
-#[cfg(test)]
-mod bin_tests;
-#[cfg(test)]
-mod cases;
-#[cfg(test)]
-mod choice_tests;
-#[cfg(test)]
-mod path_tests;

@@ -8,7 +8,7 @@ use Rattle.packing_terms.specs.Tokens.{PlainToken}
 use Rattle.packing_terms.specs.Tokens.PlainToken.{Assign, SetRefuted}
 use Rattle.packing_terms.specs.OuterRefutation.{Bins, with_box, placements}
 use Rattle.packing_terms.proofs.WithBoxes.{child_is}
-use Rattle.tree_terms.specs.Rank.{ranked}
+use Rattle.packing_terms.specs.Rank.{ranked}
 use Rattle.tree_terms.specs.Trees.{SearchTree, Verdict, Yes, No, Decided, Past, outcome, told, count_of}
 use Rattle.tree_terms.specs.OuterTrees.{set_verdict, with_answer, bin_child, bin_node}
 use Rattle.tree_terms.specs.Paths.{most_budget, Leaf, Splits, node_told}

@@ -7,7 +7,7 @@ use Rattle.packing_terms.specs.Tokens.PlainToken.{Assign, SetRefuted, GlobalScal
 use Rattle.packing_terms.specs.OuterRefutation.{Bins, placements}
 use Rattle.packing_terms.proofs.Internal.{internal_sides, some_dimension}
 use Rattle.packing_terms.proofs.WithBoxes.{inserted_some}
-use Rattle.tree_terms.specs.Rank.{ranked}
+use Rattle.packing_terms.specs.Rank.{ranked}
 use Rattle.tree_terms.specs.Search.{IsRightUnder}
 use Rattle.tree_terms.specs.Trees.{SearchTree, Verdict, Yes, No, node_at}
 use Rattle.tree_terms.specs.ClassTree.{first_exceeding}

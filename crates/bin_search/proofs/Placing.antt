@@ -14,9 +14,9 @@ use Rattle.packing_terms.proofs.Members.{IsIn}
 use Rattle.packing_terms.proofs.Boxes.{not_found, each_from, insert_boxes, found}
 use Rattle.packing_terms.proofs.OuterViews.{has_at}
 use Rattle.packing_terms.proofs.WithBoxes.{in_none}
-use Rattle.tree_terms.specs.Rank.{ranked}
+use Rattle.packing_terms.specs.Rank.{ranked}
 use Rattle.tree_terms.specs.OuterTrees.{with_answer}
-use Rattle.tree_terms.proofs.RankLemmas.{ranked_are_boxes, in_ranked}
+use Rattle.packing_terms.proofs.RankLemmas.{ranked_are_boxes, in_ranked}
 use Rattle.tree_terms.proofs.BinNumbers.{index_found}
 use Rattle.tree_terms.proofs.BinSearch.{Holds, IsNext, next_is, next_holds}
 use Rattle.tree_terms.specs.Rising.{AreRising}

@@ -5,7 +5,7 @@ use Rattle.packing_terms.specs.Limits.{IsInternalInstance}
 use Rattle.packing_terms.specs.Tokens.{PlainToken}
 use Rattle.packing_terms.specs.Tokens.PlainToken.{Assign, SetRefuted}
 use Rattle.packing_terms.specs.OuterRefutation.{Bins, placements}
-use Rattle.tree_terms.specs.Rank.{ranked}
+use Rattle.packing_terms.specs.Rank.{ranked}
 use Rattle.tree_terms.specs.Trees.{SearchTree, Verdict, Yes, No, no_tokens, join, join_from, outcome, count_of}
 use Rattle.tree_terms.specs.OuterTrees.{set_verdict, with_answer, bin_numbers, bin_child, bin_node}
 use Rattle.tree_terms.proofs.Joins.{join_assoc, join_nothing, nothing_join, join_next, count_join_no, count_left}

@@ -5,7 +5,7 @@ use Rattle.packing_terms.specs.Packing.{PlainInstance, IsPacking, box_count}
 use Rattle.packing_terms.specs.Rules.{AreBoxes}
 use Rattle.packing_terms.specs.Goals.{subset}
 use Rattle.packing_terms.specs.OuterRefutation.{Bins, insert_box, has_box}
-use Rattle.tree_terms.specs.Rank.{ranked}
+use Rattle.packing_terms.specs.Rank.{ranked}
 use Rattle.tree_terms.specs.Trees.{Yes, count_of}
 use Rattle.tree_terms.specs.OuterTrees.{set_verdict, with_answer}
 use Rattle.proof_tree.specs.Plain.{plain_token}

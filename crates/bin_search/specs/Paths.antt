@@ -3,7 +3,7 @@ use Rattle.std.specs.Prelude.{ℕ, ◌+◌, ◌-◌, ◌*◌, ◌<◌, ◌≤◌
 use Rattle.std.specs.List.{position_or_len}
 use Rattle.packing_terms.specs.Packing.{PlainInstance, dims, box_count}
 use Rattle.packing_terms.specs.OuterRefutation.{Bins, insert_box, has_box, placements}
-use Rattle.tree_terms.specs.Rank.{ranked}
+use Rattle.packing_terms.specs.Rank.{ranked}
 use Rattle.tree_terms.specs.Trees.{SearchTree}
 use Rattle.tree_terms.specs.OuterTrees.{set_verdict, yes_numbers, with_answer, bin_child, bin_node}
 use Rattle.set_search.specs.Children.{IsFoundSet}

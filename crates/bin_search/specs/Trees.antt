@@ -4,7 +4,7 @@ use Rattle.packing_terms.specs.declared.ScaleFn.{ScaleFn}
 use Rattle.packing_terms.specs.Packing.{PlainInstance, box_count}
 use Rattle.packing_terms.specs.Scales.{SidesFit}
 use Rattle.packing_terms.specs.Tokens.PlainToken.{GlobalScales}
-use Rattle.tree_terms.specs.Rank.{ranked}
+use Rattle.packing_terms.specs.Rank.{ranked}
 use Rattle.tree_terms.specs.Trees.{SearchTree}
 use Rattle.tree_terms.specs.OuterTrees.{bin_tree}
 use Rattle.proof_tree.specs.declared.token.Token.{Token}

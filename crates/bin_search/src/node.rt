@@ -2,7 +2,7 @@
 ghost use Rattle.std.specs.Prelude.{◌≡◌, ◌≤◌, ◌<◌, [], length, slice_index_or, IfOk};
 ghost use Rattle.packing_terms.specs.Goals.{IsBoxSet};
 ghost use Rattle.packing_terms.specs.OuterRefutation.{insert_box};
-ghost use Rattle.tree_terms.specs.Rank.{ranked};
+ghost use Rattle.packing_terms.specs.Rank.{ranked};
 ghost use Rattle.set_search.specs.Children.{IsChild};
 ghost use Rattle.bin_search.specs.Lists.{lists_of};
 ghost use Rattle.bin_search.specs.Nodes.{child_count, grown_bin, IsOpened};

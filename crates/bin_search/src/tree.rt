@@ -5,7 +5,7 @@ ghost use Rattle.packing_terms.specs.Scales.{SidesFit};
 ghost use Rattle.packing_terms.specs.Sums.{sum_below};
 ghost use Rattle.tree_terms.specs.Trees.{outcome, told, node_at};
 ghost use Rattle.tree_terms.specs.Paths.{bins_at, node_told, outcome_at, IsReachable};
-ghost use Rattle.proof_tree.specs.Plain.{plain_outcome};
+ghost use Rattle.work_share.specs.Outcomes.{plain_outcome};
 ghost use Rattle.work_share.specs.Nodes.{plain_node};
 ghost use Rattle.class_search.specs.Right.{IsYesOrNo};
 ghost use Rattle.bin_search.specs.Lists.{lists_of};

@@ -3,10 +3,11 @@ ghost use Rattle.std.specs.Prelude.{◌≡◌, ◌≤◌, ◌<◌, ◌∷◌, �
 ghost use Rattle.packing_terms.specs.Packing.{box_count};
 ghost use Rattle.packing_terms.specs.Limits.{IsInternalInstance};
 ghost use Rattle.packing_terms.specs.Tokens.PlainToken.{Assign};
-ghost use Rattle.tree_terms.specs.Rank.{ranked};
+ghost use Rattle.packing_terms.specs.Rank.{ranked};
 ghost use Rattle.tree_terms.specs.Trees.{outcome, told};
 ghost use Rattle.tree_terms.specs.OuterTrees.{bin_node};
-ghost use Rattle.proof_tree.specs.Plain.{plain_outcome, plain_token};
+ghost use Rattle.work_share.specs.Outcomes.{plain_outcome};
+ghost use Rattle.proof_tree.specs.Plain.{plain_token};
 ghost use Rattle.bin_search.specs.Lists.{lists_of};
 ghost use Rattle.bin_search.specs.Nodes.{AreInBins};
 

@@ -13,6 +13,3 @@ pub use fault::{InstanceFault, NoMemory};
 pub use instance::{BoxItem, Instance, MOST_BOXES, MOST_KERF, MOST_SIDE, MOST_VALUE, Sides};
 pub use making::make;
 pub use sets::BoxSet;
-
-#[cfg(test)]
-mod tests;

@@ -8,8 +8,8 @@ use Rattle.packing_terms.specs.Goals.{IsBoxSet}
 use Rattle.packing_terms.specs.OuterRefutation.{insert_box, has_box}
 use Rattle.packing_terms.proofs.Boxes.{each_in, each_from, insert_boxes, not_found}
 use Rattle.packing_terms.proofs.WithBoxes.{has_inserted}
-use Rattle.tree_terms.specs.Rank.{ranked}
-use Rattle.tree_terms.proofs.RankLemmas.{ranked_are_boxes}
+use Rattle.packing_terms.specs.Rank.{ranked}
+use Rattle.packing_terms.proofs.RankLemmas.{ranked_are_boxes}
 use Rattle.tree_terms.specs.Rising.{AreRising}
 use Rattle.tree_terms.proofs.ChoiceSearch.{insert_rising}
 use Rattle.set_search.proofs.Sets.{box_set}

@@ -5,7 +5,7 @@ use Rattle.packing_terms.specs.Limits.{IsInternalInstance}
 use Rattle.packing_terms.specs.Tokens.PlainToken.{Choose, SetRefuted, ValueShort}
 use Rattle.packing_terms.specs.OuterRefutation.{insert_box}
 use Rattle.packing_terms.proofs.Internal.{internal_sides, some_dimension}
-use Rattle.tree_terms.specs.Rank.{ranked}
+use Rattle.packing_terms.specs.Rank.{ranked}
 use Rattle.tree_terms.specs.Search.{IsRightUnder}
 use Rattle.packing_terms.specs.Goals.{subset}
 use Rattle.packing_terms.proofs.WithBoxes.{inserted_some}

@@ -4,7 +4,7 @@ use Rattle.packing_terms.specs.Packing.{dims}
 use Rattle.packing_terms.specs.Tokens.{PlainToken}
 use Rattle.packing_terms.specs.Tokens.PlainToken.{Choose, SetRefuted, ValueShort}
 use Rattle.packing_terms.specs.OuterRefutation.{insert_box}
-use Rattle.tree_terms.specs.Rank.{ranked}
+use Rattle.packing_terms.specs.Rank.{ranked}
 use Rattle.tree_terms.specs.Trees.{Verdict, Yes, No, join, outcome, count_of}
 use Rattle.tree_terms.specs.OuterTrees.{set_verdict, is_reached, is_short, choice_numbers, choice_node}
 use Rattle.tree_terms.proofs.Joins.{join_assoc, join_nothing, count_join_no, count_left}

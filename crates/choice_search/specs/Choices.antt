@@ -5,7 +5,7 @@ use Rattle.packing_terms.specs.Packing.{PlainInstance, dims}
 use Rattle.packing_terms.specs.Rules.{AreBoxes}
 use Rattle.packing_terms.specs.OuterRefutation.{has_box, insert_box}
 use Rattle.packing_terms.specs.Tokens.{PlainToken}
-use Rattle.tree_terms.specs.Rank.{ranked}
+use Rattle.packing_terms.specs.Rank.{ranked}
 use Rattle.tree_terms.specs.Trees.{SearchTree, Verdict, Yes, No}
 use Rattle.tree_terms.specs.OuterTrees.{is_reached, is_short, set_verdict, choice_tree}
 use Rattle.proof_tree.specs.Plain.{plain_token}

@@ -2,7 +2,7 @@
 use Rattle.std.specs.Prelude.{ℕ, zero, suc, ◌+◌, ◌<◌, List, [], ◌∷◌, length, drop, slice_index_or, Bool}
 use Rattle.packing_terms.specs.Packing.{PlainInstance}
 use Rattle.packing_terms.specs.OuterRefutation.{insert_box}
-use Rattle.tree_terms.specs.Rank.{ranked}
+use Rattle.packing_terms.specs.Rank.{ranked}
 use Rattle.tree_terms.specs.Trees.{SearchTree}
 use Rattle.tree_terms.specs.OuterTrees.{set_verdict, yes_numbers, taken_child, choice_node}
 use Rattle.set_search.specs.Children.{IsFound}

@@ -3,7 +3,7 @@ ghost use Rattle.std.specs.Prelude.{◌≡◌, ◌≤◌, ◌+◌, ℕ, Bool, Li
 ghost use Rattle.packing_terms.specs.Rules.{AreBoxes};
 ghost use Rattle.packing_terms.specs.Goals.{worth, IsBoxSet};
 ghost use Rattle.packing_terms.specs.OuterRefutation.{insert_box};
-ghost use Rattle.tree_terms.specs.Rank.{ranked};
+ghost use Rattle.packing_terms.specs.Rank.{ranked};
 ghost use Rattle.tree_terms.specs.OuterTrees.{choice_node};
 ghost use Rattle.tree_terms.specs.Paths.{node_told, most_budget};
 ghost use Rattle.work_share.specs.Nodes.{plain_node};

@@ -3,10 +3,10 @@ ghost use Rattle.std.specs.Prelude.{◌≡◌, ◌≤◌, ◌<◌, ◌+◌, [], 
 ghost use Rattle.packing_terms.specs.Limits.{IsInternalInstance};
 ghost use Rattle.packing_terms.specs.Rules.{AreBoxes};
 ghost use Rattle.packing_terms.specs.Goals.{IsBoxSet};
-ghost use Rattle.tree_terms.specs.Rank.{ranked};
+ghost use Rattle.packing_terms.specs.Rank.{ranked};
 ghost use Rattle.tree_terms.specs.Trees.{outcome, told};
 ghost use Rattle.tree_terms.specs.Paths.{node_told};
-ghost use Rattle.proof_tree.specs.Plain.{plain_outcome};
+ghost use Rattle.work_share.specs.Outcomes.{plain_outcome};
 ghost use Rattle.work_share.specs.Nodes.{plain_node};
 ghost use Rattle.choice_search.specs.Paths.{taken_along, class_answer, AreFitting, IsAbove, child_tree};
 

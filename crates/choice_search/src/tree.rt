@@ -4,7 +4,7 @@ ghost use Rattle.packing_terms.specs.Packing.{dims, box_count};
 ghost use Rattle.packing_terms.specs.OuterRefutation.{no_choice};
 ghost use Rattle.tree_terms.specs.Trees.{outcome, told, node_at};
 ghost use Rattle.tree_terms.specs.Paths.{choice_at, node_told, outcome_at, IsReachable};
-ghost use Rattle.proof_tree.specs.Plain.{plain_outcome};
+ghost use Rattle.work_share.specs.Outcomes.{plain_outcome};
 ghost use Rattle.work_share.specs.Nodes.{plain_node};
 ghost use Rattle.class_search.specs.Right.{IsYesOrNo};
 ghost use Rattle.choice_search.specs.Choices.{shape, same_trees};
@@ -34,7 +34,7 @@ pub struct ChoiceTree<'a> {
 
 impl<'a> Model for ChoiceTree<'a> {
     ghost use Rattle.std.specs.Prelude.{◌≡◌};
-    ghost use Rattle.tree_terms.specs.Rank.{ranked};
+    ghost use Rattle.packing_terms.specs.Rank.{ranked};
     ghost use Rattle.choice_search.specs.Choices.{PlainChoiceTree};
 
     ghost Value = { PlainChoiceTree };

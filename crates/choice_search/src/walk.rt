@@ -2,10 +2,10 @@
 //! that wait.
 ghost use Rattle.std.specs.Prelude.{◌≡◌, ◌≤◌, IfOk, drop};
 ghost use Rattle.packing_terms.specs.Limits.{IsInternalInstance};
-ghost use Rattle.tree_terms.specs.Rank.{ranked};
+ghost use Rattle.packing_terms.specs.Rank.{ranked};
 ghost use Rattle.tree_terms.specs.Trees.{outcome, told};
 ghost use Rattle.tree_terms.specs.OuterTrees.{choice_node};
-ghost use Rattle.proof_tree.specs.Plain.{plain_outcome};
+ghost use Rattle.work_share.specs.Outcomes.{plain_outcome};
 ghost use Rattle.choice_search.specs.Choices.{IsChosen};
 
 use crate::node::{Chosen, NodeKind, Opened, meet, open_first};

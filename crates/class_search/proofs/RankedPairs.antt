@@ -2,7 +2,7 @@
 use Rattle.std.proofs.Common.{◌≡◌, ℕ, ◌+◌, ◌<◌, sym, ap, ◌∙◌, List, [], ◌∷◌, ◌++◌, length, get_or, map, take, drop, append_assoc}
 use Rattle.std.proofs.lemmas.List.{drop_more, take_more}
 use Rattle.packing_terms.specs.Packing.{PlainInstance}
-use Rattle.tree_terms.specs.Rank.{in_order, pairs_after, ranked_pairs}
+use Rattle.packing_terms.specs.Rank.{in_order, pairs_after, ranked_pairs}
 
 pub pairs_next : (instance : PlainInstance) (pairs more : List (ℕ × ℕ)) (order : List ℕ) (k : ℕ) → k < length order
     → pairs ++ pairs_after (take k order) (drop k order) ≡ ranked_pairs instance

@@ -7,7 +7,8 @@ use Rattle.packing_terms.specs.Limits.{IsInternalInstance}
 use Rattle.packing_terms.proofs.Internal.{some_dimension}
 use Rattle.scale_terms.proofs.Excess.{excess_law}
 use Rattle.tree_terms.specs.Trees.{SearchTree, node_at, PlainOutcome, Decided, Past, Verdict, Yes, No, outcome, count_of, told}
-use Rattle.tree_terms.specs.Search.{AreAtEdges, IsRightUnder, IsYesVerdict}
+use Rattle.packing_terms.specs.Exclusions.{AreAtEdges}
+use Rattle.tree_terms.specs.Search.{IsRightUnder, IsYesVerdict}
 use Rattle.tree_terms.specs.ClassTree.{class_tree}
 use Rattle.tree_terms.specs.Paths.{exclusions_at}
 use Rattle.tree_terms.proofs.Decisions.{class_tree_search, class_tree_right, decides}

@@ -5,7 +5,7 @@ use Rattle.packing_terms.specs.Packing.{PlainInstance, dims, box_count}
 use Rattle.packing_terms.specs.Exclusions.{excludes}
 use Rattle.rule_terms.specs.Applied.{Extends}
 use Rattle.rule_closure.specs.Closes.{IsClosure}
-use Rattle.tree_terms.specs.Rank.{ranked_pairs}
+use Rattle.packing_terms.specs.Rank.{ranked_pairs}
 use Rattle.tree_terms.specs.InnerTree.{SplitNode, is_settled, split_tree, tree_below}
 use Rattle.tree_terms.proofs.NodeSteps.{settled_node, split_node, order_found, apart_found}
 use Rattle.class_search.specs.declared.visit.NodeKind.{NodeKind}

@@ -15,9 +15,9 @@ use Rattle.rule_terms.specs.Places.{IsOrdered}
 use Rattle.edge_state.specs.Edges.{oldest}
 use Rattle.edge_state.proofs.Oldest.{oldest_more, oldest_all}
 use Rattle.tree_terms.specs.Trees.{SearchTree, Verdict, No, no_tokens, join, outcome, count_of}
-use Rattle.tree_terms.specs.Rank.{ranked_pairs}
+use Rattle.packing_terms.specs.Rank.{ranked_pairs}
 use Rattle.tree_terms.specs.InnerTree.{SplitNode, is_settled, is_unsettled, tree_below}
-use Rattle.tree_terms.proofs.RankLemmas.{ranked_rise, pair_ranked}
+use Rattle.packing_terms.proofs.RankLemmas.{ranked_rise, pair_ranked}
 use Rattle.tree_terms.proofs.Nodes.{settled_pair}
 use Rattle.tree_terms.proofs.Joins.{join_assoc, join_nothing, split_joins, count_join_no}
 use Rattle.class_search.specs.declared.splits.Child.TheVariants.{First, Second}

@@ -1,7 +1,7 @@
 -- What a decider keeps: the sizes of its state, and the pairs of boxes by rank.
 use Rattle.std.specs.Prelude.{ℕ, List}
 use Rattle.packing_terms.specs.Packing.{PlainInstance, dims, box_count}
-use Rattle.tree_terms.specs.Rank.{ranked_pairs}
+use Rattle.packing_terms.specs.Rank.{ranked_pairs}
 
 pub record PlainDecider : Type 0 where
   pub dims : ℕ

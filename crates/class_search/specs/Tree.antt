@@ -2,8 +2,8 @@
 use Rattle.std.specs.Prelude.{ℕ, ◌≡◌, refl, List, Bool}
 use Rattle.packing_terms.specs.declared.Exclusion.{Exclusion}
 use Rattle.packing_terms.specs.Packing.{PlainInstance}
-use Rattle.tree_terms.specs.Rank.{ranked_pairs}
-use Rattle.tree_terms.specs.Search.{AreAtEdges}
+use Rattle.packing_terms.specs.Rank.{ranked_pairs}
+use Rattle.packing_terms.specs.Exclusions.{AreAtEdges}
 use Rattle.tree_terms.specs.ClassTree.{class_tree}
 use Rattle.tree_terms.specs.Trees.{SearchTree}
 

@@ -7,7 +7,7 @@ use Rattle.packing_terms.specs.Closure.{IsStable}
 use Rattle.packing_terms.specs.Tokens.PlainToken.{Rules}
 use Rattle.rule_terms.specs.Places.{HasNoEmptyMask}
 use Rattle.tree_terms.specs.Trees.{SearchTree, Settled as SettledTree, Refuted}
-use Rattle.tree_terms.specs.Rank.{ranked_pairs}
+use Rattle.packing_terms.specs.Rank.{ranked_pairs}
 use Rattle.tree_terms.specs.InnerTree.{is_settled, settled_places, split_at, split_tree, tree_below}
 use Rattle.class_search.specs.declared.splits.Split.{Split}
 use Rattle.class_search.specs.declared.visit.NodeKind.{NodeKind}

@@ -6,7 +6,7 @@ use Rattle.packing_terms.specs.Exclusions.{excludes}
 use Rattle.packing_terms.specs.Closure.{IsSubset}
 use Rattle.rule_terms.specs.Places.{HasNoEmptyMask}
 use Rattle.edge_state.specs.Edges.{oldest}
-use Rattle.tree_terms.specs.Rank.{ranked_pairs}
+use Rattle.packing_terms.specs.Rank.{ranked_pairs}
 use Rattle.packing_terms.specs.Tokens.{PlainToken}
 use Rattle.tree_terms.specs.Trees.{Verdict, No, no_tokens, join, outcome}
 use Rattle.tree_terms.specs.InnerTree.{tree_below}

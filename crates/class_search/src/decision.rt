@@ -3,7 +3,7 @@ ghost use Rattle.std.specs.Prelude.{◌≡◌, ◌≤◌, ◌+◌, ◌-◌, ◌*
 ghost use Rattle.packing_terms.specs.Packing.{dims, box_count};
 ghost use Rattle.tree_terms.specs.Trees.{outcome, told};
 ghost use Rattle.tree_terms.specs.ClassTree.{class_tree};
-ghost use Rattle.proof_tree.specs.Plain.{plain_outcome};
+ghost use Rattle.work_share.specs.Outcomes.{plain_outcome};
 ghost use Rattle.class_search.specs.Right.{IsRight, Decides, IsYesOrNo};
 
 use crate::exploring::searched;

@@ -2,10 +2,10 @@
 ghost use Rattle.std.specs.Prelude.{◌≡◌, IfOk, []};
 ghost use Rattle.packing_terms.specs.Packing.{dims, box_count};
 ghost use Rattle.packing_terms.specs.Limits.{IsInternalInstance};
-ghost use Rattle.tree_terms.specs.Rank.{ranked_pairs};
+ghost use Rattle.packing_terms.specs.Rank.{ranked_pairs};
 ghost use Rattle.tree_terms.specs.Trees.{outcome, told};
 ghost use Rattle.tree_terms.specs.ClassTree.{class_tree};
-ghost use Rattle.proof_tree.specs.Plain.{plain_outcome};
+ghost use Rattle.work_share.specs.Outcomes.{plain_outcome};
 ghost use Rattle.class_search.specs.Rooted.{arrival_tree, IsKnownArrival};
 
 use crate::root::{Arrival, visit_class_root};

@@ -24,6 +24,3 @@ pub use level_search::{Level, Reached};
 pub use root::first_too_large;
 pub use same::are_same_instances;
 pub use tree::ClassTree;
-
-#[cfg(test)]
-mod tests;

@@ -1,6 +1,6 @@
 //! The order in which the tree looks at pairs.
 ghost use Rattle.std.specs.Prelude.{◌≡◌, IfOk};
-ghost use Rattle.tree_terms.specs.Rank.{in_order, ranked_pairs};
+ghost use Rattle.packing_terms.specs.Rank.{in_order, ranked_pairs};
 
 use box_instances::{Instance, NoMemory};
 use std::alloc::Global;

@@ -5,7 +5,7 @@ ghost use Rattle.packing_terms.specs.Packing.{dims, box_count, container_side, s
 ghost use Rattle.packing_terms.specs.Limits.{IsInternalInstance};
 ghost use Rattle.packing_terms.specs.Scales.{SidesFit};
 ghost use Rattle.packing_terms.specs.Sums.{below};
-ghost use Rattle.tree_terms.specs.Rank.{ranked_pairs};
+ghost use Rattle.packing_terms.specs.Rank.{ranked_pairs};
 ghost use Rattle.tree_terms.specs.ClassTree.{first_too_large_box, exceeding_where, class_tree};
 ghost use Rattle.class_search.specs.Rooted.{is_larger, IsExcessToken, IsArrival};
 

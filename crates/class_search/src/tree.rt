@@ -1,10 +1,10 @@
 //! The class tree.
 ghost use Rattle.std.specs.Prelude.{◌≡◌, ◌+◌, ◌-◌, ◌*◌, ◌/◌, ◌^◌, ◌≤◌, IfOk, IfSome, IsSome, MatchBool, Some, []};
 ghost use Rattle.packing_terms.specs.Packing.{dims, box_count};
-ghost use Rattle.tree_terms.specs.Search.{AreAtEdges};
+ghost use Rattle.packing_terms.specs.Exclusions.{AreAtEdges};
 ghost use Rattle.tree_terms.specs.Trees.{outcome, told, node_at};
 ghost use Rattle.tree_terms.specs.Paths.{exclusions_at, node_told, outcome_at, IsReachable};
-ghost use Rattle.proof_tree.specs.Plain.{plain_outcome};
+ghost use Rattle.work_share.specs.Outcomes.{plain_outcome};
 ghost use Rattle.work_share.specs.Nodes.{plain_node};
 ghost use Rattle.class_search.specs.Splits.{with_all};
 ghost use Rattle.class_search.specs.Right.{IsRight, Decides, IsYesOrNo};

@@ -3,7 +3,7 @@ ghost use Rattle.std.specs.Prelude.{◌≡◌, ◌<◌, ℕ, false};
 ghost use Rattle.packing_terms.specs.Packing.{dims, box_count};
 ghost use Rattle.packing_terms.specs.Limits.{IsInternalInstance};
 ghost use Rattle.packing_terms.specs.Exclusions.{excludes};
-ghost use Rattle.tree_terms.specs.Rank.{ranked_pairs};
+ghost use Rattle.packing_terms.specs.Rank.{ranked_pairs};
 ghost use Rattle.tree_terms.specs.InnerTree.{is_settled};
 ghost use Rattle.class_search.specs.Settling.{AreSettledBefore};
 ghost use Rattle.class_search.specs.Splits.{MaySplit, added, with_all};

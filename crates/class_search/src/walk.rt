@@ -5,10 +5,10 @@ ghost use Rattle.packing_terms.specs.declared.Exclusion.{Exclusion as PlainExclu
 ghost use Rattle.packing_terms.specs.Packing.{PlainInstance, dims, box_count};
 ghost use Rattle.packing_terms.specs.Limits.{IsInternalInstance};
 ghost use Rattle.packing_terms.specs.Scales.{SidesFit};
-ghost use Rattle.tree_terms.specs.Rank.{ranked_pairs};
+ghost use Rattle.packing_terms.specs.Rank.{ranked_pairs};
 ghost use Rattle.tree_terms.specs.Trees.{outcome, told, node_at};
 ghost use Rattle.tree_terms.specs.Paths.{node_told};
-ghost use Rattle.proof_tree.specs.Plain.{plain_outcome};
+ghost use Rattle.work_share.specs.Outcomes.{plain_outcome};
 ghost use Rattle.work_share.specs.Nodes.{plain_node};
 ghost use Rattle.class_search.specs.Visits.{kind_tree, IsKind, IsAmong};
 

@@ -4,6 +4,3 @@
 mod rules;
 
 pub use rules::{apply_cycle, apply_order};
-
-#[cfg(test)]
-mod tests;

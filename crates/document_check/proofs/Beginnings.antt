@@ -8,8 +8,8 @@ use Rattle.check_terms.specs.Checking.{starting}
 use Rattle.refutation_check.specs.Refuters.{PlainRefuter}
 use Rattle.verdict_terms.specs.Stages.{Stage}
 use Rattle.verdict_terms.specs.Trees.{ToFit, begun}
-use Rattle.document_check.specs.Reading.{IsAt}
-use Rattle.document_check.specs.Checkers.{shown_inner_tree}
+use Rattle.document_lines.specs.Reading.{IsAt}
+use Rattle.document_lines.specs.Checkers.{shown_inner_tree}
 
 -- the set of all boxes has the instance itself
 whole_set : (instance : PlainInstance) → subset instance (all_boxes instance) ≡ instance

@@ -9,14 +9,14 @@ use Rattle.verdict_terms.specs.Stages.Stage.{Beginning, Reading, Placing, Sharin
 use Rattle.verdict_terms.specs.Documents.{Refusal, document_at_end}
 use Rattle.document_check.specs.declared.check.CheckEnd.{CheckEnd}
 use Rattle.document_check.specs.declared.check.CheckEnd.TheVariants.{Refused, TooLong, ReadFault, NoMemory}
-use Rattle.document_check.specs.declared.judge.ReadEnd.{ReadEnd}
-use Rattle.document_check.specs.declared.judge.ReadEnd.TheVariants.{End, Paused, Refused as ReadRefused, TooLong as ReadTooLong, ReadFault as ReadFailed, NoMemory as ReadNoMemory}
+use Rattle.document_lines.specs.declared.judge.ReadEnd.{ReadEnd}
+use Rattle.document_lines.specs.declared.judge.ReadEnd.TheVariants.{End, Paused, Refused as ReadRefused, TooLong as ReadTooLong, ReadFault as ReadFailed, NoMemory as ReadNoMemory}
 use Rattle.document_check.specs.declared.position.Position.{Position}
 use Rattle.document_check.specs.Checked.{most_bytes, IsChecked, Comes}
-use Rattle.document_check.specs.Reading.{PlainJudge, IsAt, IsReadBehind, EndsAs, ended_claim}
+use Rattle.document_lines.specs.Reading.{PlainJudge, IsAt, IsReadBehind, EndsAs, ended_claim}
 use Rattle.document_check.specs.Passes.{end_of, IsCheckedFrom, IsReadOn, Goes}
 use Rattle.document_check.proofs.Beginnings.{at_behind}
-use Rattle.document_check.proofs.Steps.{gives_none, so_far_start}
+use Rattle.document_lines.proofs.Steps.{gives_none, so_far_start}
 
 -- the verdict at the end of the text
 abbrev verdict_of : Option Claim → ℕ → Result Claim Refusal

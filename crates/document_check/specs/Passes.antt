@@ -5,12 +5,12 @@ use Rattle.document_terms.specs.declared.claim.Claim.{Claim}
 use Rattle.verdict_terms.specs.declared.reason.Reason.TheVariants.{TooShort}
 use Rattle.verdict_terms.specs.Stages.{Stage, claimed}
 use Rattle.verdict_terms.specs.Stages.Stage.{Beginning}
-use Rattle.document_check.specs.declared.head.Claimed.{Claimed}
+use Rattle.document_lines.specs.declared.head.Claimed.{Claimed}
 use Rattle.document_check.specs.declared.check.CheckEnd.{CheckEnd}
 use Rattle.document_check.specs.declared.check.CheckEnd.TheVariants.{Verified, Refused}
 use Rattle.document_check.specs.declared.position.Position.{Position}
 use Rattle.document_check.specs.Checked.{most_bytes, IsChecked}
-use Rattle.document_check.specs.Reading.{IsTaking}
+use Rattle.document_lines.specs.Reading.{IsTaking}
 
 -- no more lines ended than bytes were taken, and not too many of them
 abbrev pub IsPosition : Position → Type 0

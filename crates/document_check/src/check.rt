@@ -3,14 +3,14 @@ ghost use Rattle.std.specs.Prelude.{◌≡◌};
 ghost use Rattle.verdict_terms.specs.Stages.{claimed};
 ghost use Rattle.document_check.specs.Checked.{IsChecked};
 ghost use Rattle.document_check.specs.Passes.{IsPosition, IsCheckedFrom};
-ghost use Rattle.document_check.specs.Ranges.{IsRanged};
+ghost use Rattle.document_lines.specs.Ranges.{IsRanged};
 
-use crate::head::Claimed;
 use crate::phases::{
     check_bins, check_exceeding, check_fitting, check_heights, check_not_fitting, check_values,
 };
 use crate::position::Position;
 use crate::showing::read_head;
+use document_lines::Claimed;
 use document_terms::Claim;
 use pack_streams::Source;
 use std::alloc::Global;

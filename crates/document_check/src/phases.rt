@@ -7,16 +7,14 @@ ghost use Rattle.packing_terms.specs.Scales.{SidesFit};
 ghost use Rattle.verdict_terms.specs.Stages.{placed, to_refute};
 ghost use Rattle.verdict_terms.specs.Stages.Stage.{Placing, Sharing, Taking, Proving, Refuting, Exceeding, Ending};
 ghost use Rattle.verdict_terms.specs.Trees.{begun, refuted_by, tree_dims, ToFit, ToFitIn, ToReach};
-ghost use Rattle.document_check.specs.Endings.{AreDims};
+ghost use Rattle.document_lines.specs.Endings.{AreDims};
 ghost use Rattle.document_check.specs.Passes.{IsPosition, IsCheckedFrom};
 
 use crate::check::CheckEnd;
-use crate::ending::EndReader;
-use crate::judge::LineJudge;
 use crate::position::{Position, give_lines};
 use crate::showing::{read_exceeding, read_places, read_shares, read_taken};
-use crate::tree::{TreeChecker, TreeReader};
 use box_instances::Instance;
+use document_lines::{EndReader, LineJudge, TreeChecker, TreeReader};
 use document_terms::Claim;
 use outer_check::{Goal, OuterRefuter};
 use pack_streams::Source;

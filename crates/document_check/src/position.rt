@@ -1,11 +1,11 @@
 //! Where the reading of a document stands, and the reading of the lines of one judge.
 ghost use Rattle.std.specs.Prelude.{◌≡◌, ◌+◌, ◌<◌, ◌^◌, true, false, None};
 ghost use Rattle.text_terms.specs.Feeding.{new_lexer};
-ghost use Rattle.document_check.specs.Reading.{IsAt};
+ghost use Rattle.document_lines.specs.Reading.{IsAt};
 ghost use Rattle.document_check.specs.Passes.{IsPosition, Goes, end_of};
 
 use crate::check::CheckEnd;
-use crate::judge::{LineJudge, ReadEnd, take_lines};
+use document_lines::{LineJudge, ReadEnd, take_lines};
 use document_terms::Claim;
 use instance_text::LineLexer;
 use pack_streams::Source;

@@ -13,6 +13,3 @@ pub use lexer::{LexStep, LineLexer};
 pub use reader::{InstanceReader, ReadTextError, read_instance};
 pub use text_terms::TextFault;
 pub use writing::write_instance;
-
-#[cfg(test)]
-mod tests;

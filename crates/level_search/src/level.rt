@@ -1,7 +1,7 @@
 //! What is answered at a level, and how far a run of levels comes.
 ghost use Rattle.std.specs.Prelude.{◌≡◌};
 ghost use Rattle.tree_terms.specs.Levels.{level_by};
-ghost use Rattle.proof_tree.specs.Plain.{plain_outcome};
+ghost use Rattle.work_share.specs.Outcomes.{plain_outcome};
 ghost use Rattle.level_search.specs.Runs.{plain_level};
 
 use proof_tree::{Outcome, Token};

@@ -6,9 +6,9 @@ use Rattle.packing_terms.specs.Limits.{IsInstance}
 use Rattle.document_terms.specs.declared.claim.SolvingJob.{SolvingJob}
 use Rattle.answer_terms.specs.Answers.{Answer, answer_text, status_of}
 use Rattle.pack_streams.specs.Writing.{GainsPart}
-use Rattle.text_terms.specs.declared.job.Settings.{Settings}
-use Rattle.pack_command.specs.declared.solution.Solution.{Solution}
-use Rattle.pack_command.specs.Solutions.{answer_found, IsSolution}
+use Rattle.text_terms.specs.declared.settings.Settings.{Settings}
+use Rattle.answer_streams.specs.declared.solution.Solution.{Solution}
+use Rattle.answer_streams.specs.Solutions.{answer_found, IsSolution}
 use Rattle.pack_command.specs.Asked.{AsksToSolve}
 use Rattle.pack_command.specs.Inputs.{IsInputRead}
 use Rattle.pack_command.specs.Run.{IsAnswered, IsCutShort}

@@ -6,7 +6,7 @@ use Rattle.pack_streams.specs.Moves.{Gives, Gains}
 use Rattle.document_terms.specs.declared.claim.SolvingJob.{SolvingJob}
 use Rattle.pack_words.specs.declared.job.JobWords.{JobWords}
 use Rattle.pack_words.proofs.Walking.{some_inj}
-use Rattle.text_terms.specs.declared.job.Settings.{Settings}
+use Rattle.text_terms.specs.declared.settings.Settings.{Settings}
 use Rattle.verdict_terms.specs.Documents.{Refusal, document_verdict, verdict_line}
 use Rattle.verdict_terms.specs.Form.{IsDocument}
 use Rattle.verdict_terms.proofs.Stays.{refusals_stay}
@@ -16,7 +16,8 @@ use Rattle.verdict_terms.specs.Fed.{NoneRefused}
 use Rattle.document_check.specs.Checked.{most_bytes, AreBytesEnough}
 use Rattle.pack_command.specs.declared.stop.Stop.{Stop}
 use Rattle.pack_command.specs.Asked.{solving_job, AsksToSolve, AsksCheck}
-use Rattle.pack_command.specs.Checks.{verdict_status, HasVerdict, IsVerdictFound, IsVerdictWritten, IsExactly, IsClaimed}
+use Rattle.answer_streams.specs.Verdicts.{verdict_status}
+use Rattle.pack_command.specs.Checks.{HasVerdict, IsVerdictFound, IsVerdictWritten, IsExactly, IsClaimed}
 use Rattle.pack_command.specs.Ends.{IsDone, IsUndone}
 use Rattle.pack_command.specs.Run.{IsWritten, IsStopped}
 use Rattle.pack_command.proofs.Written.{taken_all}

@@ -15,7 +15,7 @@ use Rattle.document_terms.specs.declared.claim.SolvingJob.TheVariants.{Fit}
 use Rattle.answer_terms.specs.Answers.{answer_text, status_of}
 use Rattle.answer_terms.specs.Solved.{solved, fit_answer}
 use Rattle.pack_streams.specs.Moves.{Gains}
-use Rattle.text_terms.specs.declared.job.Settings.{Settings}
+use Rattle.text_terms.specs.declared.settings.Settings.{Settings}
 use Rattle.pack_command.specs.Answered.{answer_for, branchings, IsDecided}
 
 -- the answer of `fit` is yes with a packing, no with a refutation, or undecided

@@ -10,10 +10,10 @@ use Rattle.document_terms.specs.declared.claim.SolvingJob.{SolvingJob}
 use Rattle.document_terms.specs.declared.claim.SolvingJob.TheVariants.{Fit}
 use Rattle.answer_terms.specs.Solved.{JobAnswer, solved}
 use Rattle.pack_streams.specs.Moves.{Gains}
-use Rattle.text_terms.specs.declared.job.Job.TheVariants.{Check, Make}
+use Rattle.pack_words.specs.declared.job.Job.TheVariants.{Check, Make}
 use Rattle.pack_words.specs.declared.job.JobWords.{JobWords}
 use Rattle.pack_words.proofs.Walking.{some_inj}
-use Rattle.text_terms.specs.declared.job.Settings.{Settings}
+use Rattle.text_terms.specs.declared.settings.Settings.{Settings}
 use Rattle.pack_command.specs.Answered.{answer_for, branchings, class_bound, IsAnswerStatus, IsDecided}
 use Rattle.pack_command.specs.Asked.{solving_job, AsksToSolve, AsksCheck, AsksToMake}
 use Rattle.pack_command.specs.Ends.{IsDone, IsUndone}

@@ -8,7 +8,7 @@ use Rattle.answer_terms.specs.Answers.Answer.{Undecided, Claimed}
 use Rattle.answer_terms.specs.Solved.{solved}
 use Rattle.own_documents.proofs.Accepted.{own_verified}
 use Rattle.own_documents.proofs.Undecided.{undecided_refused}
-use Rattle.text_terms.specs.declared.job.Settings.{Settings}
+use Rattle.text_terms.specs.declared.settings.Settings.{Settings}
 use Rattle.pack_command.specs.Run.{IsWritten}
 use Rattle.pack_command.specs.Own.{IsVerified, IsUnverified, IsOwnDocument}
 

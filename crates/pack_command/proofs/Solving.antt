@@ -10,7 +10,7 @@ use Rattle.tree_terms.proofs.FirstFound.{first_large_is, none_large_is, first_to
 use Rattle.document_terms.specs.declared.claim.SolvingJob.TheVariants.{Fit as SolvesFit, Strip as SolvesStrip, Bins as SolvesBins, Knapsack as SolvesKnapsack}
 use Rattle.answer_terms.specs.Solved.{solved, fit_answer, strip_answer, bins_answer, knapsack_answer}
 use Rattle.proof_tree.specs.declared.outcome.Outcome.{Outcome}
-use Rattle.proof_tree.specs.Plain.{plain_outcome}
+use Rattle.work_share.specs.Outcomes.{plain_outcome}
 use Rattle.class_search.specs.Right.{IsRight}
 use Rattle.strip_solver.specs.declared.strip.Strip.{Strip as FoundStrip}
 use Rattle.strip_solver.specs.declared.strip.Strip.TheVariants.{Least, Between, NoneFits}
@@ -21,10 +21,10 @@ use Rattle.bin_knapsack.specs.declared.choice.Choice.{Choice as FoundChoice}
 use Rattle.bin_knapsack.specs.declared.choice.Choice.TheVariants.{Greatest, Between as WorthBetween}
 use Rattle.bin_knapsack.specs.BinAnswers.{IsAnswer as IsBinsAnswer, AreTrueBins}
 use Rattle.bin_knapsack.specs.Choices.{IsAnswer as IsChoiceAnswer}
-use Rattle.text_terms.specs.declared.job.Settings.{Settings}
-use Rattle.pack_command.specs.Placed.{IsPlaced}
-use Rattle.pack_command.specs.declared.solution.Solution.TheVariants.{Fit, Strip, Bins, Knapsack}
-use Rattle.pack_command.specs.Solutions.{strip_found, bins_found, choice_found, IsPlacedStrip, ArePlacedBins, IsSolution}
+use Rattle.text_terms.specs.declared.settings.Settings.{Settings}
+use Rattle.answer_streams.specs.Placed.{IsPlaced}
+use Rattle.answer_streams.specs.declared.solution.Solution.TheVariants.{Fit, Strip, Bins, Knapsack}
+use Rattle.answer_streams.specs.Solutions.{strip_found, bins_found, choice_found, IsPlacedStrip, ArePlacedBins, IsSolution}
 
 right_placed : (instance : PlainInstance) (o : PlainOutcome) → IsRight instance [] o → IsPlaced instance o
 right_placed instance (Decided (Yes numbers count)) h = h.count

@@ -15,7 +15,7 @@ use Rattle.answer_terms.specs.Solved.{solved, strip_answer, reached_claim}
 use Rattle.answer_terms.proofs.Shown.{answers_shown}
 use Rattle.answer_terms.proofs.True.{answers_true}
 use Rattle.pack_streams.specs.Moves.{Gains}
-use Rattle.text_terms.specs.declared.job.Settings.{Settings}
+use Rattle.text_terms.specs.declared.settings.Settings.{Settings}
 use Rattle.pack_command.specs.Answered.{answer_for}
 use Rattle.pack_command.specs.Strips.{IsStripDecided}
 

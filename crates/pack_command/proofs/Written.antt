@@ -14,7 +14,7 @@ use Rattle.answer_terms.specs.Solved.{JobAnswer}
 use Rattle.pack_streams.specs.Moves.{Gives, Gains}
 use Rattle.pack_words.specs.declared.job.JobWords.{JobWords}
 use Rattle.pack_words.proofs.Walking.{some_inj}
-use Rattle.text_terms.specs.declared.job.Settings.{Settings}
+use Rattle.text_terms.specs.declared.settings.Settings.{Settings}
 use Rattle.pack_command.specs.Asked.{solving_job, AsksToSolve}
 use Rattle.pack_command.specs.Answered.{answer_for, IsDecided, IsEnough}
 use Rattle.pack_command.specs.Strips.{IsStripDecided}

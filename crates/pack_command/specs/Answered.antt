@@ -15,7 +15,7 @@ use Rattle.answer_terms.specs.Answers.{answer_text}
 use Rattle.answer_terms.specs.Answers.Answer.{Undecided, Claimed}
 use Rattle.answer_terms.specs.Solved.{JobAnswer, answer_of}
 use Rattle.pack_streams.specs.Moves.{Gains}
-use Rattle.text_terms.specs.declared.job.Settings.{Settings}
+use Rattle.text_terms.specs.declared.settings.Settings.{Settings}
 
 -- the answer that the job has for the instance, its status and its document; the number of workers
 -- has no part

@@ -4,10 +4,10 @@ use Rattle.std.specs.declared.alloc.Global.{Global}
 use Rattle.document_terms.specs.declared.claim.SolvingJob.{SolvingJob}
 use Rattle.document_terms.specs.declared.claim.SolvingJob.TheVariants.{Fit as SolvesFit, Strip as SolvesStrip, Bins as SolvesBins, Knapsack as SolvesKnapsack}
 use Rattle.pack_words.specs.Job.{job_of_words}
-use Rattle.text_terms.specs.declared.job.Job.{Job}
-use Rattle.text_terms.specs.declared.job.Job.TheVariants.{Fit, Strip, Bins, Knapsack, Check, Make}
+use Rattle.pack_words.specs.declared.job.Job.{Job}
+use Rattle.pack_words.specs.declared.job.Job.TheVariants.{Fit, Strip, Bins, Knapsack, Check, Make}
 use Rattle.pack_words.specs.declared.job.JobWords.{JobWords}
-use Rattle.text_terms.specs.declared.job.Settings.{Settings}
+use Rattle.text_terms.specs.declared.settings.Settings.{Settings}
 use Rattle.pack_command.specs.declared.words.Asked.{Asked}
 use Rattle.pack_command.specs.declared.words.Asked.TheVariants.{Solving, Checking, Making}
 use Rattle.pack_command.specs.declared.stop.Stop.{Stop}

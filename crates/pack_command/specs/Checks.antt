@@ -12,18 +12,8 @@ use Rattle.verdict_terms.specs.Form.{IsDocument}
 use Rattle.document_check.specs.Checked.{most_bytes, AreBytesEnough}
 use Rattle.pack_command.specs.declared.stop.Stop.{Stop}
 use Rattle.pack_command.specs.declared.stop.Stop.TheVariants.{Words, TooLong, Text, ReadFault, WriteFault, NoMemory}
-use Rattle.pack_command.specs.declared.verdict.Verdict.{Verdict}
-use Rattle.pack_command.specs.declared.verdict.Verdict.TheVariants.{Verified, Refused}
-
--- the verdict on a document, as its definition has it
-abbrev pub plain_verdict : Verdict → Result Claim Refusal
-plain_verdict (Verified claim) = Ok claim
-plain_verdict (Refused line reason) = Err (record { line = line; reason = reason })
-
--- verified has status 0, refused has status 1
-abbrev pub verdict_status : Result Claim Refusal → ℕ
-verdict_status (Ok claim) = 0
-verdict_status (Err refusal) = 1
+use Rattle.answer_streams.specs.declared.verdict.Verdict.{Verdict}
+use Rattle.answer_streams.specs.Verdicts.{plain_verdict, verdict_status}
 
 -- the bytes taken have the verdict: they are the whole input, or end in the line feed of the
 -- refused line

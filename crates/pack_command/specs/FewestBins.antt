@@ -14,7 +14,7 @@ use Rattle.answer_terms.specs.Answers.Answer.{Claimed}
 use Rattle.answer_terms.specs.Solved.{none_answer}
 use Rattle.pack_streams.specs.Moves.{Gains}
 use Rattle.bin_knapsack.specs.BinAnswers.{HasLargeCount}
-use Rattle.text_terms.specs.declared.job.Settings.{Settings}
+use Rattle.text_terms.specs.declared.settings.Settings.{Settings}
 
 -- The least number of bins over all packings, with each box's bin and place and tokens that refute
 -- one bin less. No number of bins that was decided has more branchings than the budget.

@@ -10,11 +10,11 @@ use Rattle.answer_terms.specs.Made.{made_answer}
 use Rattle.answer_terms.specs.Solved.{JobAnswer}
 use Rattle.pack_streams.specs.Moves.{Gains}
 use Rattle.pack_streams.specs.Writing.{GainsPart}
-use Rattle.proof_tree.specs.Plain.{plain_outcome}
-use Rattle.text_terms.specs.declared.job.Settings.{Settings}
+use Rattle.work_share.specs.Outcomes.{plain_outcome}
+use Rattle.text_terms.specs.declared.settings.Settings.{Settings}
 use Rattle.pack_command.specs.Answered.{branchings, class_bound}
 use Rattle.pack_command.specs.Asked.{AsksToMake}
-use Rattle.pack_command.specs.declared.summary.Made.{Made}
+use Rattle.answer_streams.specs.declared.summary.Made.{Made}
 use Rattle.pack_command.specs.declared.stop.Stop.{Stop}
 use Rattle.pack_command.specs.declared.stop.Stop.TheVariants.{Words, TooLong, Text, ReadFault, WriteFault, NoMemory}
 

@@ -12,7 +12,7 @@ use Rattle.answer_terms.specs.Answers.{answer_text}
 use Rattle.answer_terms.specs.Answers.Answer.{Claimed}
 use Rattle.pack_streams.specs.Moves.{Gains}
 use Rattle.bin_knapsack.specs.Choices.{HasLargeWorth}
-use Rattle.text_terms.specs.declared.job.Settings.{Settings}
+use Rattle.text_terms.specs.declared.settings.Settings.{Settings}
 
 -- The greatest value over all sets of boxes that fit, with the taken boxes and their places and
 -- tokens that refute one more. No value that was decided has more branchings than the budget.

@@ -1,15 +1,11 @@
-pub mod Fronts
-pub mod Placed
 pub mod Stops
 pub mod Answered
 pub mod Asked
-pub mod Solutions
 pub mod Strips
 pub mod FewestBins
 pub mod GreatestValues
 pub mod Inputs
 pub mod Run
-pub mod Lines
 pub mod Checks
 pub mod Generated
 pub mod Ends

@@ -8,7 +8,7 @@ use Rattle.text_terms.specs.Texts.{text_instance}
 use Rattle.pack_streams.specs.Faults.{Rose}
 use Rattle.pack_streams.specs.Moves.{Gives, Gains}
 use Rattle.pack_streams.specs.Writing.{GainsPart}
-use Rattle.text_terms.specs.declared.job.Settings.{Settings}
+use Rattle.text_terms.specs.declared.settings.Settings.{Settings}
 use Rattle.document_terms.specs.declared.claim.SolvingJob.{SolvingJob}
 use Rattle.pack_command.specs.Answered.{answer_for}
 use Rattle.pack_command.specs.Asked.{AsksToSolve, AsksNothing}

@@ -7,8 +7,7 @@ ghost use Rattle.pack_command.specs.Checks.{IsVerdict, IsVerdictStatus, IsVerdic
 ghost use Rattle.pack_command.specs.declared.stop.Stop.{Stop as PlainStop};
 
 use crate::stop::Stop;
-use crate::stream::stream;
-use crate::verdict::Verdict;
+use answer_streams::{Verdict, stream};
 use document_check::{CheckEnd, check_document};
 use pack_streams::{Sink, Source};
 use std::alloc::Global;

@@ -4,10 +4,8 @@ ghost use Rattle.pack_streams.specs.Faults.{Rose};
 ghost use Rattle.pack_streams.specs.Moves.{Gains};
 ghost use Rattle.pack_command.specs.Generated.{made_for, IsMadeCut, IsMadeOf};
 
-use crate::solution::fit_status;
 use crate::stop::Stop;
-use crate::stream::stream;
-use crate::summary::Made;
+use answer_streams::{Made, fit_status, stream};
 use box_instances::{NoMemory, make};
 use class_search::decide;
 use pack_streams::Sink;

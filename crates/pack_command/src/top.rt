@@ -20,15 +20,15 @@ ghost use Rattle.pack_command.specs.GreatestValues.{IsValueDecided};
 ghost use Rattle.pack_command.specs.Stops.{stop_status, message_of};
 ghost use Rattle.pack_command.specs.Run.{IsWritten, IsStopped, IsTold};
 ghost use Rattle.pack_command.specs.declared.stop.Stop.{Stop as PlainStop};
-ghost use Rattle.text_terms.specs.declared.job.Settings.{Settings as PlainSettings};
+ghost use Rattle.text_terms.specs.declared.settings.Settings.{Settings as PlainSettings};
 
 use crate::checking::check;
 use crate::input::read_input;
 use crate::making::make_and_tell;
-use crate::solution::solve;
+use crate::solving::solve;
 use crate::stop::Stop;
-use crate::stream::{AnswerDocument, stream};
 use crate::words::{Asked, read_job};
+use answer_streams::{AnswerDocument, stream};
 use document_terms::SolvingJob;
 use pack_streams::{Sink, Source};
 use std::alloc::Global;

@@ -1,7 +1,7 @@
 -- Command lines with their jobs.
 use Rattle.std.proofs.Common.{◌≡◌, [], ◌∷◌, Some, None, refl, codes, true, false}
 use Rattle.text_terms.specs.Lines.{number_of}
-use Rattle.text_terms.specs.declared.job.Job.TheVariants.{Fit, Make}
+use Rattle.pack_words.specs.declared.job.Job.TheVariants.{Fit, Make}
 use Rattle.pack_words.specs.Job.{job_of_words}
 
 eight_workers : job_of_words (codes "fit" ∷ codes "--workers=08" ∷ [])

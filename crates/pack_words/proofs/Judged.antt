@@ -6,7 +6,7 @@ use Rattle.std.specs.List.{list_any, list_all}
 use Rattle.std.proofs.lemmas.Slice.Eq.{bytes_eq-Decides}
 use Rattle.clap.specs.Walk.{Row, first_of}
 use Rattle.text_terms.proofs.Numbers.{no_number_at}
-use Rattle.text_terms.specs.declared.job.Job.{Job}
+use Rattle.pack_words.specs.declared.job.Job.{Job}
 use Rattle.pack_words.specs.declared.job.JobWords.{JobWords}
 use Rattle.pack_words.specs.Items.{Text, Item, option, word, is_option_name, begins_with_hyphen, items_from}
 use Rattle.pack_words.specs.Job.{Texts, ◌>>=◌, values_of, job_words, at_most_once, texts_of, job_of_name, are_taken, kept_in_range, number_or, scales_in, settings_of, job_of_texts, job_of_words}

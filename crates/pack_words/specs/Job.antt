@@ -3,8 +3,8 @@ use Rattle.std.specs.Prelude.{ℕ, ◌≡◌, ◌&&◌, ◌||◌, Bool, true, fa
 use Rattle.std.specs.Str.{bytes_eq}
 use Rattle.text_terms.specs.Lines.{number_of}
 use Rattle.pack_words.specs.Items.{Text, Item, option, word, items_from}
-use Rattle.text_terms.specs.declared.job.Job.{Job}
-use Rattle.text_terms.specs.declared.job.Job.TheVariants.{Fit, Strip, Bins, Knapsack, Check, Make}
+use Rattle.pack_words.specs.declared.job.Job.{Job}
+use Rattle.pack_words.specs.declared.job.Job.TheVariants.{Fit, Strip, Bins, Knapsack, Check, Make}
 use Rattle.pack_words.specs.declared.job.JobWords.{JobWords}
 use Rattle.pack_words.specs.declared.job.WordsError.{WordsError}
 use Rattle.pack_words.specs.declared.job.WordsError.TheVariants.{Refused, NoMemory}

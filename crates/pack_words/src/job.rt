@@ -1,7 +1,24 @@
 //! The job of a command line.
 
-use text_terms::{Job, Settings};
+use text_terms::Settings;
 use thiserror::Error;
+
+/// What is to be done.
+#[derive(Clone, Copy, Debug, PartialEq, Eq)]
+pub enum Job {
+    /// Whether the boxes fit the container.
+    Fit,
+    /// The least height of a strip that holds the boxes.
+    Strip,
+    /// The least number of bins that hold the boxes.
+    Bins,
+    /// The greatest value of boxes that fit the container.
+    Knapsack,
+    /// Whether a document is right.
+    Check,
+    /// Whether a generated instance fits.
+    Make,
+}
 
 /// A job with its settings, and the number that `make` generates from. Where the words don't give
 /// one, the workers are 1, the budget is 1,000,000, scales are used and the number is 0.

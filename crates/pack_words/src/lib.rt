@@ -6,9 +6,6 @@ mod job;
 mod texts;
 mod words;
 
-pub use job::{JobWords, WordsError};
-pub use text_terms::{Job, Settings};
+pub use job::{Job, JobWords, WordsError};
+pub use text_terms::Settings;
 pub use words::read_words;
-
-#[cfg(test)]
-mod tests;

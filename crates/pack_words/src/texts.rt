@@ -3,9 +3,9 @@ ghost use Rattle.std.specs.Prelude.{◌≡◌, option_map};
 ghost use Rattle.pack_words.specs.Job.{job_of_name, takes_settings, takes_number, are_taken, number_or, scales_in, settings_of, job_of_texts};
 ghost use Rattle.pack_words.specs.Said.{plain_found};
 
-use crate::job::JobWords;
+use crate::job::{Job, JobWords};
 use crate::words::Found;
-use text_terms::{Job, Settings, read_number};
+use text_terms::{Settings, read_number};
 
 fn job_of_name(word: &str) -> Option<Job>
     ensures { result ≡ job_of_name word.now }

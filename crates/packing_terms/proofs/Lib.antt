@@ -21,6 +21,8 @@ pub mod OuterViews
 pub mod OpenFew
 pub mod TooLarge
 pub mod FirstLarge
+pub mod RankLemmas
+pub mod RankSorted
 pub mod Found
 pub mod Listed
 pub mod Internal

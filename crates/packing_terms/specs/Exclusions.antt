@@ -3,7 +3,7 @@
 -- as its mirror: `v`, `u` with before and after swapped.
 -- Source: the states of the component graphs in Fekete, Schepers and van der Veen (2007), where
 -- edges are fixed, excluded or open.
-use Rattle.std.specs.Prelude.{ℕ, ◌-◌, ◌*◌, ◌/◌, ◌<◌, ◌≢◌, ◌==◌, ◌&&◌, ◌||◌, List, Bool, true, false, IsTrue}
+use Rattle.std.specs.Prelude.{ℕ, ◌-◌, ◌*◌, ◌/◌, ◌<◌, ◌≢◌, ◌==◌, ◌&&◌, ◌||◌, List, [], ◌∷◌, Bool, true, false, IsTrue}
 use Rattle.std.specs.List.{list_any}
 use Rattle.packing_terms.specs.declared.Rel.{Rel}
 use Rattle.packing_terms.specs.declared.Rel.TheVariants.{Overlap, Before, After}
@@ -49,6 +49,11 @@ pub record IsEdgeAmong (d n i u v : ℕ) : Type 0 where
 -- a dimension and two boxes of the instance
 abbrev pub IsEdge : PlainInstance → ℕ → ℕ → ℕ → Type 0
 IsEdge instance i u v = IsEdgeAmong (dims instance) (box_count instance) i u v
+
+-- each exclusion of the list is in a dimension that is there, of two boxes that are there
+abbrev pub AreAtEdges : PlainInstance → List Exclusion → Type 0
+AreAtEdges instance [] = Unit {0}
+AreAtEdges instance (e ∷ es) = IsEdge instance e.dim e.u e.v × AreAtEdges instance es
 
 -- how many relations there are, of all pairs of so many boxes in so many dimensions
 abbrev pub relation_count : ℕ → ℕ → ℕ

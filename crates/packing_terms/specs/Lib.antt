@@ -18,5 +18,6 @@ pub mod OuterPaths
 pub mod Meanings
 pub mod Renumbering
 pub mod ExcessLaw
+pub mod Rank
 pub mod Generator
 pub mod Results

@@ -6,6 +6,3 @@ mod verdict;
 
 pub use check_terms::PlaceVerdict;
 pub use verdict::check_places;
-
-#[cfg(test)]
-mod tests;

@@ -11,6 +11,3 @@ pub use outcome::Outcome;
 pub use reading::read_token;
 pub use token::Token;
 pub use writing::{write_token, write_token_on, write_tokens_on};
-
-#[cfg(test)]
-mod tests;

@@ -1,11 +1,13 @@
 -- A tree of which nothing was checked yet.
 use Rattle.std.proofs.Common.{◌≡◌, ℕ, ◌+◌, ◌-◌, ◌*◌, ◌/◌, ◌≤◌, refl, sym, ap, subst, ◌∙◌, arith, List, [], ◌∷◌, length, get_or, None}
+use Rattle.std.specs.List.{All}
 use Rattle.std.proofs.lemmas.List.{length-map}
+use Rattle.std.proofs.lemmas.List.Elements.{All-nil, All-cons}
 use Rattle.std.proofs.lemmas.List.FromFn.{length-range_with_len}
 use Rattle.packing_terms.specs.declared.Exclusion.{Exclusion}
 use Rattle.packing_terms.specs.Packing.{PlainInstance, no_box, dims, box_count}
 use Rattle.packing_terms.specs.Goals.{subset, IsBoxSet}
-use Rattle.packing_terms.specs.Exclusions.{excludes}
+use Rattle.packing_terms.specs.Exclusions.{excludes, IsEdge, IsEdgeAmong, AreAtEdges}
 use Rattle.packing_terms.specs.Closure.{Derives}
 use Rattle.rule_terms.proofs.Steps.{few_open}
 use Rattle.box_instances.specs.Sets.{PlainBoxSet, all_boxes}
@@ -24,6 +26,16 @@ set_count whole keep = length-map keep (λ v. get_or whole.boxes v no_box)
 
 pub all_count : (whole : PlainInstance) → box_count (subset whole (all_boxes whole)) ≡ box_count whole
 all_count whole = set_count whole (all_boxes whole) ∙ length-range_with_len 0 (box_count whole)
+
+-- exclusions at edges, each by its position
+each_at_edge : (instance : PlainInstance) (es : List Exclusion) → AreAtEdges instance es → All (λ (e : Exclusion). IsEdge instance e.dim e.u e.v) es
+each_at_edge instance [] h = All-nil (λ (e : Exclusion). IsEdge instance e.dim e.u e.v)
+each_at_edge instance (e ∷ es) h = All-cons (λ (x : Exclusion). IsEdge instance x.dim x.u x.v) e es h.0 (each_at_edge instance es h.1)
+
+pub each_at_edge_of : (instance : PlainInstance) (es : List Exclusion) (state : PlainEdges) (begun : List Exclusion) → begun ≡ es
+    → state.dims ≡ dims instance → state.boxes ≡ box_count instance → AreAtEdges instance es
+    → All (λ (e : Exclusion). IsEdgeAmong state.dims state.boxes e.dim e.u e.v) begun
+each_at_edge_of instance es state begun same d n h = rw same (rw d (rw n (each_at_edge instance es h)))
 
 -- the root, with these exclusions
 root_held : (set : PlainInstance) (start es : List Exclusion) (n : OpenNode) → n ≡ record { mark = length es; splits = 0; first = None; second = None }

@@ -1,7 +1,6 @@
 //! A tree that is checked token by token.
 ghost use Rattle.std.specs.Prelude.{◌≡◌, ◌≤◌, ◌+◌, ◌-◌, ◌*◌, ◌/◌, [], length, vec_capacity, IfOk};
-ghost use Rattle.std.specs.List.{All};
-ghost use Rattle.packing_terms.specs.Exclusions.{IsEdge};
+ghost use Rattle.packing_terms.specs.Exclusions.{AreAtEdges};
 ghost use Rattle.packing_terms.specs.Goals.{subset, IsBoxSet};
 ghost use Rattle.packing_terms.specs.Limits.{IsDimCount, IsBoxCount};
 ghost use Rattle.box_instances.specs.Sets.{all_boxes};
@@ -106,7 +105,7 @@ impl<'a> Refuter<'a> {
         instance: &'a Instance,
         start: &[Exclusion],
     ) -> Result<Refuter<'a>, NoMemory>
-        requires { All (λ e. IsEdge instance.now e.dim e.u e.v) start.now }
+        requires { AreAtEdges instance.now start.now }
         ensures { IfOk result (λ r. r ≡ record {
           instance = instance.now;
           keep = all_boxes instance.now;

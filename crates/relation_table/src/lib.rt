@@ -7,6 +7,3 @@ mod mask;
 pub use laws::{composition_is_sound, table_is_exact};
 pub use mask::{COMPOSE, Mask, compose, flip};
 pub use packing_terms::Rel;
-
-#[cfg(test)]
-mod tests;

@@ -5,7 +5,7 @@ ghost use Rattle.packing_terms.specs.Limits.{IsDimCount, most_boxes};
 ghost use Rattle.set_search.specs.Searches.{AreClosers};
 ghost use Rattle.tree_terms.specs.Trees.{told};
 ghost use Rattle.tree_terms.specs.OuterTrees.{set_verdict};
-ghost use Rattle.proof_tree.specs.Plain.{plain_outcome};
+ghost use Rattle.work_share.specs.Outcomes.{plain_outcome};
 ghost use Rattle.class_search.specs.Right.{IsRight};
 
 use box_instances::{BoxSet, Instance, NoMemory};

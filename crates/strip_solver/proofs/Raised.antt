@@ -5,7 +5,7 @@ use Rattle.std.proofs.Math.ListN.{length-set}
 use Rattle.packing_terms.specs.Packing.{PlainInstance, dims, box_count, side}
 use Rattle.packing_terms.specs.Goals.{with_last_side}
 use Rattle.packing_terms.specs.Sums.{product_below, below}
-use Rattle.tree_terms.specs.Rank.{volume, insert_by_volume, pairs_after, ranked_pairs}
+use Rattle.packing_terms.specs.Rank.{volume, insert_by_volume, pairs_after, ranked_pairs}
 use Rattle.class_search.specs.Deciders.{decider_of}
 
 same_dims : (instance : PlainInstance) (h : ℕ) → dims (with_last_side instance h) ≡ dims instance

@@ -4,7 +4,7 @@ ghost use Rattle.tree_terms.specs.Trees.{outcome, told};
 ghost use Rattle.tree_terms.specs.ClassTree.{class_tree};
 ghost use Rattle.tree_terms.specs.Levels.{first_heights};
 ghost use Rattle.tree_terms.specs.RunEnds.{height_answer};
-ghost use Rattle.proof_tree.specs.Plain.{plain_outcome};
+ghost use Rattle.work_share.specs.Outcomes.{plain_outcome};
 ghost use Rattle.level_search.specs.Runs.{plain_level};
 ghost use Rattle.class_search.specs.Deciders.{decider_of};
 

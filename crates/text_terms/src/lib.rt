@@ -3,17 +3,14 @@
 #![tactic(auto)]
 
 mod fault;
-mod job;
 mod laws;
 mod number;
+mod settings;
 
 pub use fault::TextFault;
-pub use job::{Job, Settings};
 pub use laws::{
     lines_are_told, lines_have_form, texts_are_fed, texts_are_instances, texts_are_lines,
     texts_are_read_back, texts_have_form,
 };
 pub use number::read_number;
-
-#[cfg(test)]
-mod tests;
+pub use settings::Settings;

@@ -15,12 +15,12 @@ use Rattle.packing_terms.proofs.Boxes.{each_in, each_from, insert_boxes, not_fou
 use Rattle.packing_terms.proofs.BinsRefuted.{set_sides}
 use Rattle.packing_terms.proofs.WithBoxes.{any_with, any_new, with_length, with_own, with_other, inserted_some, child_is, in_none}
 use Rattle.tree_terms.specs.Trees.{SearchTree, Verdict, Yes, No}
-use Rattle.tree_terms.specs.Rank.{ranked}
+use Rattle.packing_terms.specs.Rank.{ranked}
 use Rattle.tree_terms.specs.ClassTree.{class_tree, first_too_large_box, exceeding_where}
 use Rattle.tree_terms.specs.Search.{IsRightUnder}
 use Rattle.tree_terms.specs.OuterTrees.{set_verdict, with_answer, bin_child, bin_node, bin_root, bin_tree}
 use Rattle.tree_terms.specs.OuterSearch.{IsBinSearch}
-use Rattle.tree_terms.proofs.RankLemmas.{ranked_are_boxes, in_ranked}
+use Rattle.packing_terms.proofs.RankLemmas.{ranked_are_boxes, in_ranked}
 use Rattle.tree_terms.proofs.Searches.{outcome_right}
 use Rattle.tree_terms.proofs.ClassSearch.{class_search, found_exceeds, none_large}
 use Rattle.tree_terms.proofs.BinNumbers.{bin_numbers_pack}

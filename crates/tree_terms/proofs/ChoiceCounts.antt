@@ -10,10 +10,10 @@ use Rattle.packing_terms.specs.Tokens.PlainToken.{Choose, ValueShort}
 use Rattle.packing_terms.proofs.Boxes.{boxes_few, insert_boxes, not_found}
 use Rattle.packing_terms.proofs.WithBoxes.{inserted_some}
 use Rattle.tree_terms.specs.Trees.{SearchTree, Refuted, Split, Verdict, Yes, No, join_from, outcome, count_of}
-use Rattle.tree_terms.specs.Rank.{ranked}
+use Rattle.packing_terms.specs.Rank.{ranked}
 use Rattle.tree_terms.specs.Search.{IsRightUnder}
 use Rattle.tree_terms.specs.OuterTrees.{set_verdict, taken_child, choice_of, is_reached, is_short, choice_numbers, choice_node, choice_tree}
-use Rattle.tree_terms.proofs.RankLemmas.{ranked_are_boxes}
+use Rattle.packing_terms.proofs.RankLemmas.{ranked_are_boxes}
 use Rattle.tree_terms.proofs.BinSearch.{set_right}
 use Rattle.tree_terms.proofs.ChoiceSearch.{Holds, taken_holds, left_holds, root_holds}
 use Rattle.tree_terms.proofs.OuterCounts.{powers, powers_next, powers_more, most, set_count, most_some, most_is, powers_are, count_join}

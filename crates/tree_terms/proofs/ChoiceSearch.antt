@@ -15,11 +15,11 @@ use Rattle.packing_terms.proofs.Boxes.{each_in, each_from, insert_each, insert_b
 use Rattle.packing_terms.proofs.Neighbours.{none_packed}
 use Rattle.packing_terms.proofs.WithBoxes.{has_inserted, inserted_some}
 use Rattle.tree_terms.specs.Trees.{SearchTree, Refuted, Split, Verdict, Yes, No}
-use Rattle.tree_terms.specs.Rank.{ranked}
+use Rattle.packing_terms.specs.Rank.{ranked}
 use Rattle.tree_terms.specs.Search.{IsRightUnder}
 use Rattle.tree_terms.specs.OuterTrees.{set_verdict, taken_child, choice_of, is_reached, is_short, choice_numbers, choice_node, choice_tree}
 use Rattle.tree_terms.specs.OuterSearch.{AreTakenNumbers, IsChoiceSearch}
-use Rattle.tree_terms.proofs.RankLemmas.{ranked_are_boxes, in_ranked}
+use Rattle.packing_terms.proofs.RankLemmas.{ranked_are_boxes, in_ranked}
 use Rattle.tree_terms.proofs.BinNumbers.{filter_boxes, range_boxes}
 use Rattle.tree_terms.proofs.BinSearch.{set_right}
 use Rattle.tree_terms.specs.Rising.{AreRising}

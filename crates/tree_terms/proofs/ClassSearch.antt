@@ -8,7 +8,7 @@ use Rattle.packing_terms.specs.declared.Exclusion.{Exclusion}
 use Rattle.packing_terms.specs.declared.ScaleFn.{ScaleFn}
 use Rattle.packing_terms.specs.Packing.{PlainInstance, HasPositiveSides, dims, box_count, container_side, side}
 use Rattle.packing_terms.specs.Scales.{SidesFit, Exceeds}
-use Rattle.packing_terms.specs.Exclusions.{excludes, IsEdge}
+use Rattle.packing_terms.specs.Exclusions.{excludes, IsEdge, AreAtEdges}
 use Rattle.packing_terms.specs.Closure.{IsSubset, Derives}
 use Rattle.packing_terms.specs.Tokens.PlainToken.{Apart as ApartToken, Order as OrderToken}
 use Rattle.packing_terms.specs.Refutation.{by_rules, by_side, by_scales, LeavesOpen}
@@ -22,11 +22,11 @@ use Rattle.rule_terms.specs.Rounds.{closure, has_empty_mask}
 use Rattle.packing_terms.specs.Sums.{below}
 use Rattle.rule_terms.proofs.RoundsLemmas.{closure_is, closure_stable, few_passing}
 use Rattle.tree_terms.specs.Trees.{SearchTree, Settled}
-use Rattle.tree_terms.specs.Rank.{ranked_pairs}
+use Rattle.packing_terms.specs.Rank.{ranked_pairs}
 use Rattle.tree_terms.specs.InnerTree.{is_settled, is_unsettled, is_apart_somewhere, settled_places, exclusion_at_pair, node_tree, node_of, has_order_mask, has_apart_mask, chosen_split, split_tree, tree_below}
 use Rattle.tree_terms.specs.ClassTree.{box_sides, first_too_large_box, exceeding_where, scales_after, root_of, closes_in_conflict, class_tree}
-use Rattle.tree_terms.specs.Search.{IsSearch, AreAtEdges}
-use Rattle.tree_terms.proofs.RankLemmas.{ranked_rise, pair_ranked}
+use Rattle.tree_terms.specs.Search.{IsSearch}
+use Rattle.packing_terms.proofs.RankLemmas.{ranked_rise, pair_ranked}
 use Rattle.tree_terms.proofs.SettledPlaces.{settled_pack}
 use Rattle.tree_terms.proofs.Nodes.{excluded_edge, closure_edges, opens, below_child, settled_pair}
 use Rattle.rule_terms.proofs.Conflicts.{closed_back, closed_there, stays_open, calm, stormy, full_masks}

@@ -24,10 +24,10 @@ use Rattle.rule_terms.specs.Rounds.{closure, has_empty_mask}
 use Rattle.packing_terms.specs.Sums.{below}
 use Rattle.rule_terms.proofs.RoundsLemmas.{closure_keeps, excludes_own}
 use Rattle.tree_terms.specs.Trees.{SearchTree, Verdict, Yes, No, no_tokens, join, outcome, count_of}
-use Rattle.tree_terms.specs.Rank.{ranked_pairs}
+use Rattle.packing_terms.specs.Rank.{ranked_pairs}
 use Rattle.tree_terms.specs.InnerTree.{is_settled, is_unsettled, is_apart_somewhere, exclusion_at_pair, has_order_mask, has_apart_mask, chosen_split, split_tree, node_of, node_tree, tree_below}
 use Rattle.tree_terms.specs.ClassTree.{first_too_large_box, closes_in_conflict, scales_after, root_of, class_tree}
-use Rattle.tree_terms.proofs.RankLemmas.{ranked_rise}
+use Rattle.packing_terms.proofs.RankLemmas.{ranked_rise}
 use Rattle.tree_terms.proofs.Splits.{order_there, apart_there}
 use Rattle.tree_terms.proofs.Joins.{count_join_no}
 

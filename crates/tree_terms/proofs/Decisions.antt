@@ -8,7 +8,8 @@ use Rattle.packing_terms.proofs.Internal.{internal_sides, some_dimension, some_b
 use Rattle.packing_terms.proofs.Refuted.{none_fits}
 use Rattle.tree_terms.specs.Trees.{Verdict, Yes, No, outcome}
 use Rattle.tree_terms.specs.ClassTree.{class_tree}
-use Rattle.tree_terms.specs.Search.{IsSearch, AreAtEdges, IsRightUnder, IsYesVerdict}
+use Rattle.packing_terms.specs.Exclusions.{AreAtEdges}
+use Rattle.tree_terms.specs.Search.{IsSearch, IsRightUnder, IsYesVerdict}
 use Rattle.tree_terms.proofs.ClassSearch.{class_search}
 use Rattle.tree_terms.proofs.Searches.{outcome_right}
 

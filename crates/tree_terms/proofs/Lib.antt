@@ -1,6 +1,4 @@
 pub mod Joins
-pub mod RankLemmas
-pub mod RankSorted
 pub mod SettledPlaces
 pub mod Nodes
 pub mod Splits

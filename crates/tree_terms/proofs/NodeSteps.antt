@@ -18,9 +18,9 @@ use Rattle.rule_terms.specs.Rounds.{closure, has_empty_mask}
 use Rattle.packing_terms.specs.Sums.{below}
 use Rattle.rule_terms.proofs.RoundsLemmas.{few_passing}
 use Rattle.tree_terms.specs.Trees.{SearchTree, Settled, Refuted, Split}
-use Rattle.tree_terms.specs.Rank.{ranked_pairs}
+use Rattle.packing_terms.specs.Rank.{ranked_pairs}
 use Rattle.tree_terms.specs.InnerTree.{SplitNode, is_settled, is_unsettled, is_apart_somewhere, settled_places, exclusion_at_pair, node_tree, node_of, closed_node, has_order_mask, has_apart_mask, chosen_split, split_at, split_tree, full_depth, tree_below}
-use Rattle.tree_terms.proofs.RankLemmas.{ranked_rise}
+use Rattle.packing_terms.proofs.RankLemmas.{ranked_rise}
 use Rattle.tree_terms.proofs.Nodes.{opens, below_child}
 use Rattle.rule_terms.proofs.Conflicts.{calm, stormy}
 use Rattle.tree_terms.proofs.Splits.{order_there, apart_there}

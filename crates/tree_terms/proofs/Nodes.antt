@@ -5,7 +5,7 @@ use Rattle.packing_terms.specs.declared.Rel.{Rel}
 use Rattle.packing_terms.specs.declared.Rel.TheVariants.{Overlap, Before, After}
 use Rattle.packing_terms.specs.declared.Exclusion.{Exclusion}
 use Rattle.packing_terms.specs.Packing.{PlainInstance, dims, box_count}
-use Rattle.packing_terms.specs.Exclusions.{Exclusions, IsEdge, is_of, excludes, IsSurelyBefore}
+use Rattle.packing_terms.specs.Exclusions.{Exclusions, IsEdge, is_of, excludes, IsSurelyBefore, AreAtEdges}
 use Rattle.packing_terms.specs.Rules.{Follows}
 use Rattle.packing_terms.specs.Closure.{IsDerivation, IsSubset, IsSymmetric}
 use Rattle.packing_terms.proofs.Sets.{of_own}
@@ -16,7 +16,6 @@ use Rattle.rule_terms.specs.Steps.{open_count}
 use Rattle.rule_terms.proofs.RoundsLemmas.{closure_keeps, rounds_derived, given, follows_edge, length_filter_fewer, in_all, excludes_own}
 use Rattle.rule_terms.proofs.Drawn.{is_not, not_so}
 use Rattle.tree_terms.specs.InnerTree.{is_settled}
-use Rattle.tree_terms.specs.Search.{AreAtEdges}
 
 module _ (instance : PlainInstance) where
   -- exclusions at edges derive exclusions at edges

@@ -8,7 +8,7 @@ use Rattle.packing_terms.specs.Tokens.PlainToken.{Choose, ValueShort}
 use Rattle.packing_terms.specs.OuterRefutation.{Bins, insert_box, with_box, placements, Choice, no_choice, with_taken, with_left}
 use Rattle.packing_terms.proofs.WithBoxes.{child_is}
 use Rattle.tree_terms.specs.Trees.{SearchTree, Settled, Refuted, Split, Verdict, Yes, No, join, join_from, outcome, node_at}
-use Rattle.tree_terms.specs.Rank.{ranked}
+use Rattle.packing_terms.specs.Rank.{ranked}
 use Rattle.tree_terms.specs.ClassTree.{first_exceeding}
 use Rattle.tree_terms.specs.OuterTrees.{set_verdict, with_answer, bin_numbers, bin_child, bin_node, bin_root, bin_tree, choice_numbers, taken_child, choice_of, is_reached, is_short, choice_node, choice_tree, yes_numbers, bin_answer_of, choice_answer_of}
 use Rattle.tree_terms.specs.Paths.{bins_at, choice_at}

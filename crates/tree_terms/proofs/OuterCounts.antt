@@ -14,12 +14,12 @@ use Rattle.packing_terms.specs.OuterRefutation.{Bins, with_box, placements}
 use Rattle.packing_terms.proofs.Boxes.{each_from, boxes_few}
 use Rattle.packing_terms.specs.Tokens.PlainToken.{Assign}
 use Rattle.tree_terms.specs.Trees.{SearchTree, Verdict, Yes, No, join, join_from, outcome, count_of}
-use Rattle.tree_terms.specs.Rank.{ranked}
+use Rattle.packing_terms.specs.Rank.{ranked}
 use Rattle.tree_terms.specs.Search.{IsRightUnder}
 use Rattle.tree_terms.specs.OuterTrees.{set_verdict, with_answer, bin_child, bin_node, bin_root, bin_tree}
 use Rattle.tree_terms.specs.ClassTree.{first_exceeding}
 use Rattle.tree_terms.proofs.Joins.{join_next}
-use Rattle.tree_terms.proofs.RankLemmas.{ranked_are_boxes, in_ranked}
+use Rattle.packing_terms.proofs.RankLemmas.{ranked_are_boxes, in_ranked}
 use Rattle.tree_terms.proofs.Counts.{class_count, times_le}
 use Rattle.tree_terms.proofs.BinSearch.{Holds, next_holds, next_is, set_right}
 

@@ -6,7 +6,7 @@ use Rattle.packing_terms.specs.Packing.{PlainInstance, PlainBox}
 use Rattle.packing_terms.specs.Goals.{with_last_side}
 use Rattle.packing_terms.specs.Tokens.PlainToken.{Rules, TooLarge, SetRefuted, Choose, ValueShort, GlobalScales}
 use Rattle.tree_terms.specs.Trees.{Yes, No, outcome}
-use Rattle.tree_terms.specs.Rank.{ranked}
+use Rattle.packing_terms.specs.Rank.{ranked}
 use Rattle.tree_terms.specs.ClassTree.{class_tree}
 use Rattle.tree_terms.specs.Levels.{height_run, bin_run, value_run}
 

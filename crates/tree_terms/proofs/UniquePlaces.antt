@@ -6,7 +6,7 @@ use Rattle.packing_terms.specs.declared.Exclusion.{Exclusion}
 use Rattle.packing_terms.specs.Packing.{PlainInstance, dims, box_count}
 use Rattle.packing_terms.specs.Limits.{IsInternalInstance}
 use Rattle.packing_terms.specs.Scales.{SidesFit}
-use Rattle.packing_terms.specs.Exclusions.{Exclusions, excludes}
+use Rattle.packing_terms.specs.Exclusions.{Exclusions, excludes, AreAtEdges}
 use Rattle.packing_terms.specs.Closure.{IsStable}
 use Rattle.packing_terms.proofs.Sets.{excludes_symmetric}
 use Rattle.packing_terms.proofs.Internal.{internal_sides, some_dimension}
@@ -16,7 +16,6 @@ use Rattle.rule_terms.specs.Places.{HasNoEmptyMask, IsGreatestEnd}
 use Rattle.rule_terms.specs.Steps.{IsTrail}
 use Rattle.rule_terms.proofs.UniqueEnds.{same_ends}
 use Rattle.tree_terms.specs.InnerTree.{place_by, settled_places}
-use Rattle.tree_terms.specs.Search.{AreAtEdges}
 use Rattle.tree_terms.proofs.Nodes.{excluded_edge}
 use Rattle.tree_terms.proofs.SettledPlaces.{settled_ends}
 

@@ -1,6 +1,5 @@
 pub mod Trees
 pub mod Joined
-pub mod Rank
 pub mod InnerTree
 pub mod ClassTree
 pub mod OuterTrees

@@ -17,7 +17,7 @@ use Rattle.packing_terms.specs.Tokens.PlainToken.{Assign, Choose, SetRefuted, Va
 use Rattle.packing_terms.specs.OuterRefutation.{Bins, insert_box, has_box, placements}
 use Rattle.packing_terms.specs.Sums.{below}
 use Rattle.tree_terms.specs.Trees.{SearchTree, Settled, Refuted, Split, Verdict, Yes, No, outcome}
-use Rattle.tree_terms.specs.Rank.{ranked}
+use Rattle.packing_terms.specs.Rank.{ranked}
 use Rattle.tree_terms.specs.ClassTree.{class_tree, first_exceeding}
 
 -- the verdict on a set of boxes

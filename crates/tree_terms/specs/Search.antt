@@ -1,17 +1,11 @@
 -- What the class tree is for: a tree that searches for a packing of an instance that respects a set
 -- of exclusions.
-use Rattle.std.specs.Prelude.{ℕ, ◌<◌, ◌≡◌, List, [], ◌∷◌, length, slice_index_or}
+use Rattle.std.specs.Prelude.{ℕ, ◌<◌, ◌≡◌, List, [], length, slice_index_or}
 use Rattle.packing_terms.specs.declared.Exclusion.{Exclusion}
 use Rattle.packing_terms.specs.Packing.{PlainInstance, IsPacking}
-use Rattle.packing_terms.specs.Exclusions.{IsEdge}
 use Rattle.packing_terms.specs.Refutation.{Refutes}
 use Rattle.packing_terms.specs.Feeding.{Accepts, children}
 use Rattle.tree_terms.specs.Trees.{SearchTree, Settled, Refuted, Split, Verdict, Yes, No}
-
--- each exclusion of the list is in a dimension that is there, of two boxes that are there
-abbrev pub AreAtEdges : PlainInstance → List Exclusion → Type 0
-AreAtEdges instance [] = Unit {0}
-AreAtEdges instance (e ∷ es) = IsEdge instance e.dim e.u e.v × AreAtEdges instance es
 
 -- Settled nodes have packings, refuted nodes have refutations, and each split is one that a
 -- refutation accepts, with the children that it has there.

@@ -13,7 +13,7 @@ use Rattle.board_terms.proofs.Changes.{right_tail}
 use Rattle.board_terms.proofs.Outs.{out_is, same_path}
 use Rattle.board_terms.proofs.Calls.{finished_is}
 use Rattle.proof_tree.specs.declared.outcome.Outcome.{Outcome}
-use Rattle.proof_tree.specs.Plain.{plain_outcome}
+use Rattle.work_share.specs.Outcomes.{plain_outcome}
 use Rattle.work_share.specs.declared.slot.Slot.{Slot}
 use Rattle.work_share.specs.declared.slot.SlotState.TheVariants as stored
 use Rattle.work_share.specs.Tasks.{is_past}

@@ -5,7 +5,8 @@ use Rattle.tree_terms.specs.Paths.{node_told, Leaf, Splits}
 use Rattle.board_terms.specs.Board.{BoardState, PlainTask, out_path}
 use Rattle.board_terms.specs.Steps.{BoardStep, AskSplit, AskFinish, NoteShort, IsDone}
 use Rattle.box_instances.specs.declared.NoMemory.{NoMemory}
-use Rattle.proof_tree.specs.Plain.{plain_token, plain_outcome}
+use Rattle.work_share.specs.Outcomes.{plain_outcome}
+use Rattle.proof_tree.specs.Plain.{plain_token}
 use Rattle.work_share.specs.Tasks.{is_past}
 use Rattle.work_share.specs.declared.exploring.Found.{Found}
 use Rattle.work_share.specs.declared.exploring.Found.TheVariants.{Whole, Pieces}

@@ -2,7 +2,8 @@
 use Rattle.std.specs.Prelude.{ℕ, zero, suc, List, [], ◌∷◌, map, Option, Some, None, slice_get}
 use Rattle.packing_terms.specs.Tokens.PlainToken.{Rules}
 use Rattle.board_terms.specs.Board.{PlainEntry, SplitEntry, TaskEntry, Waits as PlainWaits, Out as PlainOut, Done as PlainDone}
-use Rattle.proof_tree.specs.Plain.{plain_token, plain_outcome}
+use Rattle.work_share.specs.Outcomes.{plain_outcome}
+use Rattle.proof_tree.specs.Plain.{plain_token}
 use Rattle.work_share.specs.declared.slot.Slot.{Slot}
 use Rattle.work_share.specs.declared.slot.SlotState.{SlotState}
 use Rattle.work_share.specs.declared.slot.SlotState.TheVariants.{Waits, Out, Done, Split}

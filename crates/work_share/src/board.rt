@@ -7,7 +7,8 @@ ghost use Rattle.board_terms.specs.Runs.{is_board_over, board_joined};
 ghost use Rattle.board_terms.specs.Steps.{AskTask, AskSplit, AskFinish, NoteShort, IsDone, BoardStep};
 ghost use Rattle.board_terms.specs.Replay.{replay};
 ghost use Rattle.board_terms.specs.Kept.{IsOutcomeOf};
-ghost use Rattle.proof_tree.specs.Plain.{plain_outcome, plain_token};
+ghost use Rattle.work_share.specs.Outcomes.{plain_outcome};
+ghost use Rattle.proof_tree.specs.Plain.{plain_token};
 ghost use Rattle.work_share.specs.Tasks.{reply_of, IfJob, is_past};
 
 use crate::children::{children_of, put_children};

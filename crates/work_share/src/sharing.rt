@@ -4,7 +4,7 @@ ghost use Rattle.tree_terms.specs.Trees.{outcome, told};
 ghost use Rattle.tree_terms.specs.Paths.{IsReachable};
 ghost use Rattle.board_terms.specs.Board.{out_path};
 ghost use Rattle.board_terms.specs.Steps.{BoardStep, AskTask};
-ghost use Rattle.proof_tree.specs.Plain.{plain_outcome};
+ghost use Rattle.work_share.specs.Outcomes.{plain_outcome};
 ghost use Rattle.work_share.specs.Tasks.{IfJob, reply_of};
 ghost use Rattle.work_share.specs.Exploring.{IsFoundAt, PutsFound, HandsIn};
 

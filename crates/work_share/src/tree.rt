@@ -2,7 +2,7 @@
 ghost use Rattle.std.specs.Prelude.{◌≡◌, IfOk, IfSome, MatchBool, Some};
 ghost use Rattle.tree_terms.specs.Trees.{SearchTree, told, node_at};
 ghost use Rattle.tree_terms.specs.Paths.{node_told, outcome_at, IsReachable};
-ghost use Rattle.proof_tree.specs.Plain.{plain_outcome};
+ghost use Rattle.work_share.specs.Outcomes.{plain_outcome};
 ghost use Rattle.work_share.specs.Nodes.{plain_node};
 
 use box_instances::NoMemory;

@@ -3,7 +3,8 @@ use Rattle.std.proofs.lemmas.List.{length-map}
 use Rattle.packing_terms.specs.Tokens.{PlainToken}
 use Rattle.packing_terms.specs.Tokens.PlainToken.{SetRefuted}
 use Rattle.tree_terms.specs.Trees.{SearchTree, Decided, No, outcome, told}
-use Rattle.proof_tree.specs.Plain.{plain_outcome, plain_token}
+use Rattle.work_share.specs.Outcomes.{plain_outcome}
+use Rattle.proof_tree.specs.Plain.{plain_token}
 use Rattle.bin_search.specs.Lists.{lists_of}
 use Rattle.bin_search.specs.Trees.{PlainBinTree}
 use Rattle.bin_search.proofs.Children.{step_set, step_used, step_few, step_past, step_refuted, step_fits, step_placed}

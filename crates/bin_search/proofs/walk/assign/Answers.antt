@@ -1,7 +1,7 @@
 use Rattle.std.proofs.Common.{ap, arith, length}
 use Rattle.packing_terms.specs.Packing.{box_count}
-use Rattle.tree_terms.specs.Rank.{ranked}
-use Rattle.tree_terms.proofs.RankLemmas.{ranked_are_boxes}
+use Rattle.packing_terms.specs.Rank.{ranked}
+use Rattle.packing_terms.proofs.RankLemmas.{ranked_are_boxes}
 use Rattle.tree_terms.proofs.ChoiceSearch.{below_at}
 use Rattle.bin_search.proofs.walk.assign.Goals as goal
 

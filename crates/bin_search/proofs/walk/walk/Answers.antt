@@ -2,7 +2,7 @@ use Rattle.std.proofs.Common.{◌≡◌, ℕ, suc, ◌+◌, ◌++◌, ◌<◌, r
 use Rattle.std.proofs.lemmas.List.{drop_all}
 use Rattle.packing_terms.specs.Tokens.{PlainToken}
 use Rattle.packing_terms.specs.Tokens.PlainToken.{Assign, SetRefuted}
-use Rattle.tree_terms.specs.Rank.{ranked}
+use Rattle.packing_terms.specs.Rank.{ranked}
 use Rattle.tree_terms.specs.Trees.{Verdict, Yes, Decided, outcome}
 use Rattle.tree_terms.specs.OuterTrees.{bin_node}
 use Rattle.tree_terms.proofs.Told.{told_past}

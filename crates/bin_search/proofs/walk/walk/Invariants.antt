@@ -1,5 +1,5 @@
 use Rattle.std.proofs.Common.{◌≡◌, ◌≤◌, ◌-◌, ◌+◌, ◌*◌, drop, map, reverse, length}
-use Rattle.tree_terms.specs.Rank.{ranked}
+use Rattle.packing_terms.specs.Rank.{ranked}
 use Rattle.tree_terms.specs.Trees.{outcome}
 use Rattle.tree_terms.specs.OuterTrees.{bin_node}
 use Rattle.proof_tree.specs.Plain.{plain_token}

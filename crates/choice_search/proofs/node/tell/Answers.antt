@@ -1,5 +1,5 @@
 use Rattle.std.proofs.Common.{sym, drop}
-use Rattle.tree_terms.specs.Rank.{ranked}
+use Rattle.packing_terms.specs.Rank.{ranked}
 use Rattle.choice_search.proofs.Children.{reached_told, short_told}
 use Rattle.choice_search.proofs.node.tell.Goals as goal
 

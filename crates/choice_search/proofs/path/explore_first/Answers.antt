@@ -2,7 +2,8 @@ use Rattle.std.proofs.Common.{◌≡◌, ◌+◌, ◌∷◌, ◌++◌, ℕ, List
 use Rattle.tree_terms.specs.Trees.{SearchTree, Decided, No, outcome, told}
 use Rattle.packing_terms.specs.Tokens.{PlainToken}
 use Rattle.packing_terms.specs.Tokens.PlainToken.{SetRefuted}
-use Rattle.proof_tree.specs.Plain.{plain_outcome, plain_token}
+use Rattle.work_share.specs.Outcomes.{plain_outcome}
+use Rattle.proof_tree.specs.Plain.{plain_token}
 use Rattle.set_search.proofs.Sets.{places_count}
 use Rattle.choice_search.specs.Choices.{PlainChoiceTree, IsChosen}
 use Rattle.choice_search.proofs.Children.{first_set, first_chosen, first_past, first_refuted, first_fits}

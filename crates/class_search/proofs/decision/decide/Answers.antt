@@ -1,7 +1,7 @@
 use Rattle.std.proofs.Common.{◌≡◌, [], subst, IfOk}
 use Rattle.std.proofs.lemmas.Result.{IfOk-weaker}
 use Rattle.tree_terms.specs.Trees.{outcome, told}
-use Rattle.proof_tree.specs.Plain.{plain_outcome}
+use Rattle.work_share.specs.Outcomes.{plain_outcome}
 use Rattle.class_search.specs.Tree.{PlainClassTree, shape}
 use Rattle.class_search.proofs.Rights.{class_right, class_decides, class_told}
 use Rattle.class_search.proofs.decision.decide.Goals as goal

@@ -1,5 +1,5 @@
 use Rattle.std.proofs.lemmas.Result.{IfOk-weaker}
-use Rattle.proof_tree.specs.Plain.{plain_outcome}
+use Rattle.work_share.specs.Outcomes.{plain_outcome}
 use Rattle.class_search.proofs.Rights.{class_right}
 use Rattle.class_search.proofs.decision.decide_in.Goals as goal
 

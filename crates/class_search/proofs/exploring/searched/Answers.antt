@@ -1,7 +1,7 @@
 use Rattle.std.proofs.Common.{[], Some}
 use Rattle.std.proofs.lemmas.Result.{IfOk-weaker}
 use Rattle.tree_terms.specs.ClassTree.{class_tree}
-use Rattle.proof_tree.specs.Plain.{plain_outcome}
+use Rattle.work_share.specs.Outcomes.{plain_outcome}
 use Rattle.class_search.proofs.Arrivals.{arrival_told}
 use Rattle.class_search.proofs.exploring.searched.Goals as goal
 

@@ -1,5 +1,5 @@
 use Rattle.std.proofs.Common.{ap}
-use Rattle.document_check.specs.Reading.{PlainJudge}
+use Rattle.document_lines.specs.Reading.{PlainJudge}
 use Rattle.document_check.proofs.Passes.{goes_on}
 use Rattle.document_check.proofs.showing.read_head.Goals as goal
 

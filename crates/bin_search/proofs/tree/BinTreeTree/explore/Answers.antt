@@ -1,5 +1,5 @@
 use Rattle.std.proofs.lemmas.Result.{IfOk-weaker}
-use Rattle.proof_tree.specs.Plain.{plain_outcome}
+use Rattle.work_share.specs.Outcomes.{plain_outcome}
 use Rattle.bin_search.specs.Trees.{PlainBinTree}
 use Rattle.bin_search.proofs.Rights.{right_at, decides_at, told_at}
 use Rattle.bin_search.proofs.tree.BinTreeTree.explore.Goals as goal

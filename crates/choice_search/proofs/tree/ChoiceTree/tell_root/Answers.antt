@@ -1,4 +1,4 @@
-use Rattle.tree_terms.proofs.RankLemmas.{ranked_are_boxes}
+use Rattle.packing_terms.proofs.RankLemmas.{ranked_are_boxes}
 use Rattle.choice_search.proofs.tree.ChoiceTree.tell_root.Goals as goal
 
 pub meet-kind-requires-clause-rest : goal.meet-kind-requires-clause-rest

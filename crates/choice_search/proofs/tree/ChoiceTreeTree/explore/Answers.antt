@@ -1,5 +1,5 @@
 use Rattle.std.proofs.lemmas.Result.{IfOk-weaker}
-use Rattle.proof_tree.specs.Plain.{plain_outcome}
+use Rattle.work_share.specs.Outcomes.{plain_outcome}
 use Rattle.choice_search.specs.Choices.{PlainChoiceTree}
 use Rattle.choice_search.proofs.Rights.{right_at, decides_at, told_at}
 use Rattle.choice_search.proofs.tree.ChoiceTreeTree.explore.Goals as goal

@@ -1,5 +1,5 @@
 use Rattle.std.proofs.lemmas.Result.{IfOk-weaker}
-use Rattle.proof_tree.specs.Plain.{plain_outcome}
+use Rattle.work_share.specs.Outcomes.{plain_outcome}
 use Rattle.class_search.specs.Tree.{PlainClassTree}
 use Rattle.class_search.proofs.Rights.{right_at, decides_at, told_at}
 use Rattle.class_search.proofs.tree.ClassTreeTree.explore.Goals as goal

@@ -1,7 +1,6 @@
 use Rattle.std.proofs.Common.{arith, reverse}
 use Rattle.std.proofs.lemmas.List.{length-reverse}
-use Rattle.packing_terms.specs.Exclusions.{exclusion_at}
-use Rattle.packing_terms.specs.Exclusions.{excludes, IsEdgeAmong}
+use Rattle.packing_terms.specs.Exclusions.{exclusion_at, excludes, IsEdgeAmong}
 use Rattle.edge_state.proofs.Kept.{open_is, kept_room, table_more, reverse_push, told_new}
 use Rattle.edge_state.proofs.state.EdgeState.exclude.Goals as goal
 

@@ -4,7 +4,7 @@ use Rattle.packing_terms.specs.Packing.{PlainInstance, dims}
 use Rattle.packing_terms.specs.Goals.{subset}
 use Rattle.tree_terms.specs.Trees.{outcome, told}
 use Rattle.tree_terms.specs.ClassTree.{class_tree}
-use Rattle.proof_tree.specs.Plain.{plain_outcome}
+use Rattle.work_share.specs.Outcomes.{plain_outcome}
 use Rattle.box_instances.proofs.BoxSets.{set_few}
 use Rattle.set_search.specs.Searches.{no_closer}
 use Rattle.set_search.proofs.search.SetSearch.decide.Goals as goal

@@ -5,7 +5,8 @@ use Rattle.packing_terms.specs.OuterRefutation.{insert_box}
 use Rattle.packing_terms.proofs.WithBoxes.{inserted_some}
 use Rattle.tree_terms.specs.Trees.{Yes, No, told}
 use Rattle.tree_terms.specs.OuterTrees.{set_verdict}
-use Rattle.proof_tree.specs.Plain.{plain_outcome, plain_token}
+use Rattle.work_share.specs.Outcomes.{plain_outcome}
+use Rattle.proof_tree.specs.Plain.{plain_token}
 use Rattle.class_search.specs.Right.{IsRight}
 use Rattle.set_search.proofs.Verdicts.{told_same}
 use Rattle.set_search.proofs.search.SetSearch.grow.Goals as goal

@@ -3,7 +3,7 @@ use Rattle.tree_terms.specs.Paths.{outcome_at}
 use Rattle.board_terms.specs.declared.Event.TheVariants as event
 use Rattle.board_terms.specs.Board.{out_path}
 use Rattle.board_terms.specs.Kept.{IsOutcomeOf}
-use Rattle.proof_tree.specs.Plain.{plain_outcome}
+use Rattle.work_share.specs.Outcomes.{plain_outcome}
 use Rattle.work_share.specs.declared.slot.SlotState.TheVariants as stored
 use Rattle.work_share.specs.Slots.{with_slot}
 use Rattle.work_share.specs.Boards.{PlainBoard}

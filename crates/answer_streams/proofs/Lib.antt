@@ -1,0 +1,9 @@
+pub mod Joined
+pub mod ResultTexts
+pub mod NumberedTexts
+pub mod StripTexts
+pub mod BinsTexts
+pub mod KnapsackTexts
+pub mod Lined
+mod Blocks
+pub mod SummaryTexts

@@ -1,0 +1,42 @@
+-- The line of a verdict, written piece by piece.
+use Rattle.std.proofs.Common.{◌≡◌, ℕ, List, [], ◌∷◌, ◌++◌, refl, sym, ap, ◌∙◌, append-nil, append_assoc, Ok, Err, codes}
+use Rattle.std.specs.List.{flat_map}
+use Rattle.std.specs.Fmt.{decimal}
+use Rattle.document_terms.specs.declared.claim.Claim.{Claim}
+use Rattle.document_terms.specs.declared.claim.Claim.TheVariants.{Fitting, NotFitting, LeastHeight, HeightBetween, NoHeight, LeastBins, BinsBetween, NoBins, GreatestValue, ValueBetween}
+use Rattle.verdict_terms.specs.declared.reason.Reason.{Reason}
+use Rattle.verdict_terms.specs.Reasons.{reason_words}
+use Rattle.verdict_terms.specs.Documents.{verdict_line}
+use Rattle.answer_streams.specs.Lines.{claim_text, reason_end}
+
+-- a text of one number more, as a line of words has it
+one_number : (front number : List ℕ) → front ++ (number ++ 10 ∷ []) ≡ (front ++ (number ++ [])) ++ 10 ∷ []
+one_number front number =
+    ap (λ z. front ++ (z ++ 10 ∷ [])) (sym (append-nil number)) ∙ sym (append_assoc front (number ++ []) (10 ∷ []))
+
+two_numbers : (front first second : List ℕ)
+    → front ++ (first ++ (32 ∷ (second ++ 10 ∷ []))) ≡ (front ++ (first ++ ((32 ∷ second) ++ []))) ++ 10 ∷ []
+two_numbers front first second =
+    ap (λ z. front ++ (first ++ (32 ∷ (z ++ 10 ∷ [])))) (sym (append-nil second))
+    ∙ ap (λ z. front ++ z) (sym (append_assoc first (32 ∷ (second ++ [])) (10 ∷ [])))
+    ∙ sym (append_assoc front (first ++ (32 ∷ (second ++ []))) (10 ∷ []))
+
+-- the line of a claim
+pub claim_line : (claim : Claim) → claim_text claim ≡ verdict_line (Ok claim)
+claim_line Fitting = refl
+claim_line NotFitting = refl
+claim_line (LeastHeight h) = one_number (codes "verified strip least ") (decimal h)
+claim_line (HeightBetween a b) = two_numbers (codes "verified strip between ") (decimal a) (decimal b)
+claim_line NoHeight = refl
+claim_line (LeastBins k) = one_number (codes "verified bins least ") (decimal k)
+claim_line (BinsBetween a b) = two_numbers (codes "verified bins between ") (decimal a) (decimal b)
+claim_line NoBins = refl
+claim_line (GreatestValue v) = one_number (codes "verified knapsack greatest ") (decimal v)
+claim_line (ValueBetween a b) = two_numbers (codes "verified knapsack between ") (decimal a) (decimal b)
+
+-- the line of a refusal
+pub refusal_line : (line : ℕ) (reason : Reason)
+    → (codes "refused " ++ decimal line) ++ reason_end reason ≡ verdict_line (Err (record { line = line; reason = reason }))
+refusal_line line reason =
+    sym (append_assoc (codes "refused " ++ decimal line) (flat_map (λ word. 32 ∷ word) (reason_words reason)) (10 ∷ []))
+    ∙ ap (λ z. z ++ 10 ∷ []) (append_assoc (codes "refused ") (decimal line) (flat_map (λ word. 32 ∷ word) (reason_words reason)))

@@ -1,0 +1,5 @@
+pub mod Fronts
+pub mod Placed
+pub mod Solutions
+pub mod Verdicts
+pub mod Lines

@@ -1,0 +1,21 @@
+//! What the program writes: the documents of answers, the line of a check and the summary of
+//! `make`, each streamed to a sink through one block.
+#![tactic(auto)]
+
+mod bins_documents;
+mod documents;
+mod front;
+mod knapsack_documents;
+mod numbered;
+mod results;
+mod solution;
+mod streaming;
+mod strip_documents;
+mod summary;
+mod verdict;
+
+pub use documents::Written;
+pub use solution::{Solution, fit_status};
+pub use streaming::{AnswerDocument, Streamed, stream};
+pub use summary::Made;
+pub use verdict::Verdict;

@@ -1,0 +1,82 @@
+//! Texts that are streamed to a sink.
+ghost use Rattle.std.specs.Prelude.{◌≡◌, ℕ, List};
+ghost use Rattle.packing_terms.specs.Limits.{IsInstance};
+ghost use Rattle.pack_streams.specs.Writing.{Writes};
+ghost use Rattle.answer_terms.specs.Answers.{answer_text};
+ghost use Rattle.answer_streams.specs.Solutions.{answer_found, IsPlacedSolution};
+
+use crate::bins_documents::write_bins;
+use crate::documents::{Written, write_fit};
+use crate::front::{Behind, Done, Front, front_before, hand_back};
+use crate::knapsack_documents::write_choice;
+use crate::solution::Solution;
+use crate::strip_documents::write_strip;
+use box_instances::Instance;
+use pack_streams::Sink;
+use std::marker::Brand;
+
+/// What is written as one text.
+pub trait Streamed {
+    /// The text.
+    ghost text: { Self → List ℕ };
+
+    /// What its writing needs.
+    ghost IsReady: { Self → Type 0 };
+
+    /// Writes the text.
+    fn write_to<K: Sink>(&self, sink: &mut K) -> Written
+        requires { IsReady self.now }
+        ensures { Writes (K.written sink.old) (K.written sink.new) (K.faults sink.old)
+            (K.faults sink.new) (text self.now) result };
+}
+
+/// The document of an answer.
+#[derive(Clone, Copy)]
+pub struct AnswerDocument<'a> {
+    pub instance: &'a Instance,
+    pub solution: &'a Solution,
+}
+
+impl<'a> Streamed for AnswerDocument<'a> {
+    ghost text = { λ d. answer_text d.instance.now (answer_found d.solution.now) };
+
+    ghost IsReady = { λ d. IsInstance d.instance.now
+        × IsPlacedSolution d.instance.now d.solution.now };
+
+    fn write_to<K: Sink>(&self, sink: &mut K) -> Written {
+        match self.solution {
+            Solution::Fit(outcome) => write_fit(sink, self.instance, outcome),
+            Solution::Strip(strip) => write_strip(sink, self.instance, strip),
+            Solution::Bins(bins) => write_bins(sink, self.instance, bins),
+            Solution::Knapsack(choice) => write_choice(sink, self.instance, choice),
+        }
+    }
+}
+
+// Writes the text through a front before the sink, which is named by the ghost name of the
+// reference to it.
+fn write_through<'a, K: Sink, T: Streamed, B: Behind>(out: &'a mut K, text: &T) -> Done<'a, K>
+    requires ready { T.IsReady text.now }
+    requires name { out.ghost_name ≡ B.name }
+    requires begun { K.written out.now ≡ B.begun }
+    ensures same { result.out.ghost_name ≡ out.entry.ghost_name }
+    ensures written { Writes (K.written out.entry.now) (K.written result.out.now)
+        (K.faults out.entry.now) (K.faults result.out.now)
+        (T.text text.now) result.result }
+{
+    let mut front: Front<'a, K, B> = front_before(out);
+    let written = text.write_to(&mut front);
+    hand_back(front, written)
+}
+
+/// Writes a text in pieces of 4,096 bytes, of which the last may be shorter. Where the sink takes
+/// only a part of a piece, the rest of it is offered next; the first failure ends the writing. No
+/// more than one piece is held.
+pub fn stream<K: Sink, T: Streamed>(out: &mut K, text: &T) -> Written
+    requires { T.IsReady text.now }
+    ensures { Writes (K.written out.old) (K.written out.new) (K.faults out.old) (K.faults out.new)
+        (T.text text.now) result }
+{
+    let done = write_through::<K, T, Brand>(out, text);
+    done.result
+}

@@ -1,8 +1,0 @@
-use Rattle.std.proofs.Common.{◌≡◌, None}
-use Rattle.verdict_terms.specs.Stages.{first_outside, first_overlap}
-use Rattle.document_check.specs.Sharings.{bin_groups}
-use Rattle.document_check.proofs.bins.bins_reason.Given as goal
-
-abbrev pub invariant-loop-bin : goal.invariant-loop-bin
-invariant-loop-bin l =
-    (first_outside (bin_groups l.instance l.bins l.places l.bin) ≡ None) × (l.overlap ≡ first_overlap (bin_groups l.instance l.bins l.places l.bin))

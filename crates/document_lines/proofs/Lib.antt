@@ -1,0 +1,13 @@
+pub mod Steps
+pub mod Claims
+pub mod Exceeds
+pub mod Lengths
+pub mod BoxesIn
+pub mod Outers
+pub mod PlaceReasons
+pub mod PlacesIn
+pub mod Ranged
+pub mod Takes
+pub mod Wanted
+pub mod BinGroups
+pub mod Shares

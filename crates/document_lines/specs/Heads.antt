@@ -1,0 +1,52 @@
+-- The lines of a document up to its result line.
+use Rattle.std.specs.Prelude.{◌≡◌, Bool, true, false, Option, Some, None, Result, Ok, Err}
+use Rattle.text_terms.specs.Lines.{Line}
+use Rattle.text_terms.specs.Texts.{Parts, no_parts, add_line}
+use Rattle.instance_text.specs.declared.reader.ReadTextError.{ReadTextError}
+use Rattle.document_terms.specs.declared.claim.SolvingJob.{SolvingJob}
+use Rattle.verdict_terms.specs.Stages.{Stage, claimed, text_fault}
+use Rattle.verdict_terms.specs.Stages.Stage.{Beginning, Reading}
+use Rattle.document_lines.specs.Ranges.{IsRanged}
+use Rattle.document_lines.specs.declared.head.Claimed.{Claimed}
+use Rattle.document_lines.specs.declared.judge.LineStop.{LineStop}
+use Rattle.document_lines.specs.declared.judge.LineStop.TheVariants.{Refused, NoMemory}
+
+-- the parts that are held
+abbrev pub held_parts : Result Parts ReadTextError → Parts
+held_parts (Ok parts) = parts
+held_parts (Err error) = no_parts
+
+abbrev pub IsHeldHead : Result Parts ReadTextError → Type 0
+IsHeldHead parts = parts ≡ Ok (held_parts parts)
+
+-- a reader of no line before the first one
+abbrev pub IsHeldBehind : Option SolvingJob → Result Parts ReadTextError → Type 0
+IsHeldBehind (Some job) parts = IsHeldHead parts
+IsHeldBehind None parts = parts ≡ Ok no_parts
+
+-- behind the result line, behind the first line, or at the beginning
+abbrev pub head_stage : Option SolvingJob → Result Parts ReadTextError → Option Claimed → Stage
+head_stage job parts (Some c) = claimed c.instance c.claim
+head_stage (Some job) parts None = Reading job (held_parts parts)
+head_stage None parts None = Beginning
+
+-- the result line wasn't read yet
+abbrev pub is_open : Option Claimed → Bool
+is_open (Some c) = false
+is_open None = true
+
+-- what a reader holds behind its lines
+abbrev pub IsClaimedAs : Stage → Bool → Option Claimed → Type 0
+IsClaimedAs stage takes (Some c) = stage ≡ claimed c.instance c.claim
+IsClaimedAs stage takes None = takes ≡ true
+
+-- the numbers of what is claimed are within their ends
+abbrev pub IsRangedClaim : Option Claimed → Type 0
+IsRangedClaim (Some c) = IsRanged c.instance c.claim
+IsRangedClaim None = Unit {0}
+
+-- a line of the instance text that was taken: the parts with it, or the reason of the refusal
+abbrev pub TakesText : Parts → Line → Parts → Result (Unit {0}) LineStop → Type 0
+TakesText parts line new (Ok u) = text_fault (add_line parts line) ≡ Ok new
+TakesText parts line new (Err (Refused reason)) = text_fault (add_line parts line) ≡ Err reason
+TakesText parts line new (Err NoMemory) = Unit {0}

@@ -1,0 +1,11 @@
+pub mod Reading
+pub mod Ranges
+pub mod Checkers
+pub mod Endings
+pub mod Exceedings
+pub mod Heads
+pub mod Placings
+pub mod Proofs
+pub mod Takings
+pub mod Words
+pub mod Sharings

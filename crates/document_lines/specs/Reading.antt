@@ -1,0 +1,94 @@
+-- Reading a document from a source, a byte at a time.
+use Rattle.std.specs.Prelude.{ℕ, ◌+◌, ◌<◌, ◌≤◌, ◌≡◌, ◌⊎◌, List, [], ◌∷◌, ◌++◌, length, take, Bool, true, Option, Some, None, Result, Ok, Err}
+use Rattle.std.specs.List.{slice_split}
+use Rattle.std.specs.Io.KnownBytes.{IsAtEnd}
+use Rattle.pack_streams.specs.Faults.{Rose}
+use Rattle.pack_streams.specs.Moves.{Gives}
+use Rattle.text_terms.specs.Lines.{is_line_feed}
+use Rattle.text_terms.specs.Feeding.{Lexer, ended_line, feed}
+use Rattle.document_terms.specs.declared.claim.Claim.{Claim}
+use Rattle.verdict_terms.specs.Stages.{Stage, stage_after}
+use Rattle.verdict_terms.specs.Stages.Stage.{Ended}
+use Rattle.verdict_terms.specs.Documents.{document_at_end, document_verdict}
+use Rattle.verdict_terms.specs.Fed.{fed_verdict, NoneRefused, EndsRefused}
+use Rattle.document_lines.specs.declared.judge.LineStop.{LineStop}
+use Rattle.document_lines.specs.declared.judge.LineStop.TheVariants.{Refused as LineRefused, NoMemory as LineNoMemory}
+use Rattle.document_lines.specs.declared.judge.ReadEnd.{ReadEnd}
+use Rattle.document_lines.specs.declared.judge.ReadEnd.TheVariants.{End, Paused, Refused, TooLong, ReadFault, NoMemory}
+
+-- what takes lines is seen as: where the document stands, whether the next line is for it, and
+-- where the document stands behind its lines, where that is known before
+pub record PlainJudge : Type 0 where
+  pub stage : Stage
+  pub takes : Bool
+  pub behind : Option Stage
+
+abbrev pub IsAt : Option Stage → Stage → Type 0
+IsAt None stage = Unit {0}
+IsAt (Some behind) stage = stage ≡ behind
+
+-- a line that was taken at a stage: the next stage, or the reason of the refusal
+abbrev pub Judges : Stage → Lexer → Stage → Result (Unit {0}) LineStop → Type 0
+Judges old line new (Ok u) = stage_after old (ended_line line.held) ≡ Ok new
+Judges old line new (Err (LineRefused reason)) = stage_after old (ended_line line.held) ≡ Err reason
+Judges old line new (Err LineNoMemory) = Unit {0}
+
+-- what these bytes leave: whatever follows gives the verdict of the whole, and as many lines have
+-- ended as there are line feeds
+pub record IsSoFar (s : Lexer) (stage : Stage) (taken : List ℕ) : Type 0 where
+  pub goes : (rest : List ℕ) → fed_verdict s stage rest ≡ document_verdict (taken ++ rest)
+  pub number : s.number + 1 ≡ length (slice_split is_line_feed taken)
+
+-- so many bytes were taken
+pub record IsTaking (old now : Option (List ℕ)) (s : Lexer) (stage : Stage) (count : ℕ) : Type 0 where
+  pub taken : List ℕ
+  pub gives : Gives old now taken
+  pub counted : length taken ≡ count
+  pub so_far : IsSoFar s stage taken
+
+-- what the reading came to, by the bytes taken
+abbrev pub EndsAs : ℕ → Option (List ℕ) → ℕ → ℕ → List ℕ → Lexer → Stage → ℕ → ReadEnd → Type 0
+EndsAs limit left before now taken s stage count End =
+    IsAtEnd left × (length taken ≤ limit) × (document_verdict taken ≡ document_at_end stage s.number)
+EndsAs limit left before now taken s stage count Paused = (length taken ≡ count) × IsSoFar s stage taken
+EndsAs limit left before now taken s stage count (Refused reason) =
+    (document_verdict taken ≡ Err (record { line = s.number; reason = reason })) × (length taken ≤ limit)
+    × (EndsRefused taken (record { line = s.number; reason = reason }) ⊎ IsAtEnd left)
+EndsAs limit left before now taken s stage count TooLong = (limit < length taken) × NoneRefused (take limit taken)
+EndsAs limit left before now taken s stage count ReadFault = Rose before now × NoneRefused taken
+EndsAs limit left before now taken s stage count NoMemory = Unit {0}
+
+pub record IsRead (limit : ℕ) (old left : Option (List ℕ)) (before now : ℕ) (s : Lexer) (stage : Stage) (count : ℕ) (result : ReadEnd) : Type 0 where
+  pub taken : List ℕ
+  pub gives : Gives old left taken
+  pub rising : before ≤ now
+  pub ends : EndsAs limit left before now taken s stage count result
+
+-- What a reading does, behind any bytes that were taken before: `first` is what the source told,
+-- and `start` its count of faults, before the first of them.
+abbrev pub IsReadBehind : ℕ → Option (List ℕ) → Option (List ℕ) → ℕ → ℕ → Lexer → Stage → ℕ → Lexer → Stage → ℕ → ReadEnd → Type 0
+IsReadBehind limit old left before now s stage n new next count result =
+    (first : Option (List ℕ)) (start : ℕ) → start ≤ before → IsTaking first old s stage n
+    → IsRead limit first left start now new next count result
+
+-- a byte that was taken: whatever follows, the verdict goes on from what is held now; or the byte
+-- ends a line that is refused
+abbrev pub TakesByte : Lexer → Stage → ℕ → Lexer → Stage → Result (Unit {0}) LineStop → Type 0
+TakesByte s stage b new next (Ok u) = (new ≡ feed b s) × ((rest : List ℕ) → fed_verdict s stage (b ∷ rest) ≡ fed_verdict new next rest)
+TakesByte s stage b new next (Err (LineRefused reason)) =
+    (new ≡ feed b s) × (is_line_feed b ≡ true) × ((rest : List ℕ) → fed_verdict s stage (b ∷ rest) ≡ Err (record { line = new.number; reason = reason }))
+TakesByte s stage b new next (Err LineNoMemory) = Unit {0}
+
+-- the end of the bytes: the verdict is that of the stage at the end, or the line begun is refused
+abbrev pub TakesEnd : Lexer → Stage → Lexer → Stage → ReadEnd → Type 0
+TakesEnd s stage new next End = fed_verdict s stage [] ≡ document_at_end next new.number
+TakesEnd s stage new next (Refused reason) = fed_verdict s stage [] ≡ Err (record { line = new.number; reason = reason })
+TakesEnd s stage new next Paused = ⊥
+TakesEnd s stage new next TooLong = ⊥
+TakesEnd s stage new next ReadFault = ⊥
+TakesEnd s stage new next NoMemory = Unit {0}
+
+-- the claim of a document whose `end` was read
+abbrev pub ended_claim : Stage → Option Claim
+ended_claim (Ended claim) = Some claim
+ended_claim _ = None

@@ -1,0 +1,27 @@
+//! The lines of a document, judged one by one where the document stands: up to its result line, in
+//! its places, bins or taken boxes, in a tree, and behind it.
+#![tactic(auto)]
+
+mod bins;
+mod checkers;
+mod claim;
+mod ending;
+mod exceeding;
+mod groups;
+mod head;
+mod judge;
+mod numbers;
+mod places;
+mod sharing;
+mod taking;
+mod tree;
+mod words;
+
+pub use ending::EndReader;
+pub use exceeding::ExceedingReader;
+pub use head::{Claimed, HeadReader};
+pub use judge::{LineJudge, LineStop, ReadEnd, take_lines};
+pub use places::PlaceReader;
+pub use sharing::ShareReader;
+pub use taking::TakeReader;
+pub use tree::{TreeChecker, TreeReader};

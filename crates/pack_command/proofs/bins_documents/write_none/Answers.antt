@@ -1,7 +1,0 @@
-use Rattle.pack_streams.proofs.Writers.{wrote_same, later, more}
-use Rattle.pack_command.proofs.BinsTexts.{none_text}
-use Rattle.pack_command.proofs.bins_documents.write_none.Goals as goal
-
-pub returns : goal.returns
-returns g c = wrote_same _ _ _ _ _ _ _ (none_text c.args.instance.now c.args.box_no c.args.dim)
-    (later _ _ _ _ _ _ _ _ _ _ c.write_opening-begun.ensures (more _ _ _ _ _ _ _ _ _ _ _ c.write_none_line-said.ensures c.write_on.ensures.goes_on))

@@ -1,8 +1,0 @@
-use Rattle.pack_streams.proofs.Writers.{more, same}
-use Rattle.pack_command.proofs.Joined.{yes_text}
-use Rattle.pack_command.proofs.documents.write_yes.Goals as goal
-
-pub returns : goal.returns
-returns g c =
-    (same _ _ _ _ _ _ _ _ (yes_text c.args.instance.now c.args.places.now)
-    (more _ _ _ _ _ _ _ _ _ _ _ c.write_on-named.ensures.goes_on (more _ _ _ _ _ _ _ _ _ _ _ c.write_instance_on-shown.ensures (more _ _ _ _ _ _ _ _ _ _ _ c.write_on-said.ensures.goes_on (more _ _ _ _ _ _ _ _ _ _ _ c.write_places-placed.ensures c.write_on.ensures.goes_on))))).goes

@@ -1,7 +1,0 @@
-use Rattle.std.proofs.Common.{arith}
-use Rattle.pack_command.proofs.Blocks.{shown_given}
-use Rattle.pack_command.proofs.front.Front.empty.Goals as goal
-
-pub returns-then-self-clause-shown : goal.returns-then-self-clause-shown
-returns-then-self-clause-shown g c =
-    shown_given _ _ c.args.self.now.block c.args.self.now.start c.args.self.now.end c.give_part-taken.result (omega (arith, c.give_part-taken.ensures.within, c.args.self.now.ordered)) c.give_part-taken.ensures.moves

@@ -1,5 +1,0 @@
-use Rattle.pack_streams.proofs.Writers.{more}
-use Rattle.pack_command.proofs.results.write_none_line.Goals as goal
-
-pub returns : goal.returns
-returns g c = more _ _ _ _ _ _ _ _ _ _ _ c.write_on-said.ensures.goes_on c.write_token_on.ensures

@@ -1,4 +1,0 @@
-use Rattle.pack_command.proofs.stream.stream.Given as goal
-
-abbrev pub ghosts-write_through : goal.ghosts-write_through
-ghosts-write_through g a = record { name = a.out.ghost_name; begun = g.K.Sink.written a.out.now }

@@ -1,6 +1,0 @@
-use Rattle.pack_streams.proofs.Writers.{more}
-use Rattle.pack_command.proofs.verdict.write_numbered.Goals as goal
-
-pub returns : goal.returns
-returns g c = more _ _ _ _ _ _ _ _ _ _ _ c.write_on-named.ensures.goes_on
-    (more _ _ _ _ _ _ _ _ _ _ _ c.write_number-told.ensures.goes_on c.write_on.ensures.goes_on)

@@ -1,0 +1,47 @@
+//! Solving: what a job finds for an instance.
+ghost use Rattle.std.specs.Prelude.{IfOk};
+ghost use Rattle.packing_terms.specs.Limits.{IsInstance};
+ghost use Rattle.answer_streams.specs.Solutions.{IsSolution};
+
+use answer_streams::Solution;
+use bin_knapsack::{greatest_value, least_bins};
+use box_instances::{Instance, NoMemory};
+use class_search::decide;
+use document_terms::SolvingJob;
+use std::alloc::Global;
+use std::sync::Wait;
+use std::thread::Threads;
+use strip_solver::least_height;
+use work_share::{Gate, Settings};
+
+/// What a job finds for an instance under these settings.
+pub fn solve<R: Threads + Wait + Sync, G: Gate + Sync>(
+    rt: &R,
+    alloc: Global,
+    instance: &Instance,
+    job: SolvingJob,
+    settings: Settings,
+    gate: &G,
+) -> Result<Solution, NoMemory>
+    requires limits { IsInstance instance.now }
+    ensures { IfOk result (λ s. IsSolution job settings instance.now s) }
+{
+    match job {
+        SolvingJob::Fit => {
+            let outcome = decide(rt, alloc, instance, &settings, gate)?;
+            Ok(Solution::Fit(outcome))
+        }
+        SolvingJob::Strip => {
+            let strip = least_height(rt, alloc, instance, &settings, gate)?;
+            Ok(Solution::Strip(strip))
+        }
+        SolvingJob::Bins => {
+            let bins = least_bins(rt, alloc, instance, &settings, gate)?;
+            Ok(Solution::Bins(bins))
+        }
+        SolvingJob::Knapsack => {
+            let choice = greatest_value(rt, alloc, instance, &settings, gate)?;
+            Ok(Solution::Knapsack(choice))
+        }
+    }
+}
