@@ -1,5 +1,5 @@
 //! A set of numbers below 64 * K, in K words.
-ghost use Rattle.std.specs.Prelude.{◌≡◌, ◌==◌, ◌<◌, ◌≤◌, ◌*◌, ◌&&◌, ◌||◌, not, true, false, ℕ, [], ◌∷◌, slice_index, MatchOption};
+ghost use Rattle.std.specs.Prelude.{◌≡◌, ◌==◌, ◌<◌, ◌≤◌, ◌*◌, ◌/◌, ◌&&◌, ◌||◌, not, true, false, ℕ, [], ◌∷◌, slice_index, MatchOption};
 ghost use Rattle.edge_state.specs.BitRows.{IsRowWidth, row_has, members_below, IsLeastMember};
 
 use std::marker::Model;
@@ -21,6 +21,19 @@ impl<const K: usize> Model for BitRow<K> {
     ghost view = { λ r. r.words };
 
     ghost inverse = { λ ws. record { words = ws } };
+}
+
+// The word in which a number stands. Of one word it is told without looking at the number.
+#[inline]
+fn word_of<const K: usize>(number: u32) -> usize
+    requires width { IsRowWidth K }
+    requires number { number < 64 * K }
+    ensures { result ≡ number / 64 }
+{
+    if K == 1 {
+        return 0;
+    }
+    (number / 64) as usize
 }
 
 impl<const K: usize> BitRow<K> {
@@ -64,7 +77,7 @@ impl<const K: usize> BitRow<K> {
         requires number { number < 64 * K }
         ensures { result ≡ row_has self.now number }
     {
-        self.words[(number / 64) as usize] >> (number % 64) & 1 == 1
+        self.words[word_of::<K>(number)] >> (number % 64) & 1 == 1
     }
 
     /// The set with the number in it.
@@ -74,7 +87,7 @@ impl<const K: usize> BitRow<K> {
         requires number { number < 64 * K }
         ensures { (x : ℕ) → row_has result x ≡ row_has self.entry x || x == number }
     {
-        let at = (number / 64) as usize;
+        let at = word_of::<K>(number);
         let mut words = self.words;
         for i in 0..K {
             if i == at {
@@ -91,7 +104,7 @@ impl<const K: usize> BitRow<K> {
         requires number { number < 64 * K }
         ensures { (x : ℕ) → row_has result x ≡ row_has self.entry x && not (x == number) }
     {
-        let at = (number / 64) as usize;
+        let at = word_of::<K>(number);
         let mut words = self.words;
         for i in 0..K {
             if i == at {

@@ -1,1 +1,3 @@
 pub mod Closings
+mod Compositions
+mod Guards

@@ -2,8 +2,10 @@
 //!
 //! Each call applies some instances one after another and answers whether a mask is empty;
 //! empty; it stops there.
-ghost use Rattle.std.specs.Prelude.{◌≡◌, ◌<◌, ℕ, nat_lt};
+ghost use Rattle.std.specs.Prelude.{◌≡◌, ◌<◌, ℕ, false, nat_lt};
+ghost use Rattle.packing_terms.specs.declared.Rel.TheVariants.{Overlap, Before, After};
 ghost use Rattle.packing_terms.specs.Packing.{box_count};
+ghost use Rattle.relation_table.specs.Masks.{mask_has};
 ghost use Rattle.edge_state.specs.BitRows.{HoldsBoxes, row_has};
 ghost use Rattle.closure_terms.specs.States.{IsSized};
 ghost use Rattle.closure_terms.specs.Work.{IsWorked, IsAppliedAt};
@@ -12,9 +14,9 @@ ghost use Rattle.rule_closure.specs.Reached.{IsReachedApart, IsReachedJoined, Is
 use crate::orders::{orders_crossed, orders_first, orders_second};
 use crate::work::{aparts, chords, composes, cycles, triples};
 use box_instances::Instance;
-use edge_state::{BitRow, EdgeState, Rel};
+use edge_state::{BitRow, EdgeState, Mask, Rel};
 
-// The instances that ask for two boxes that are apart.
+// The instances that ask for two boxes that are apart: none where the mask has overlap.
 #[inline]
 fn spread_apart<const K: usize>(
     instance: &Instance,
@@ -23,6 +25,7 @@ fn spread_apart<const K: usize>(
     dim: u32,
     p: u32,
     q: u32,
+    left: Mask,
 ) -> bool
     requires words { HoldsBoxes K (box_count instance.now) }
     requires sizes { IsSized instance.now state.old dim }
@@ -31,9 +34,9 @@ fn spread_apart<const K: usize>(
     requires distinct { p ≡ q → ⊥ }
     requires all { (x : ℕ) → row_has all x ≡ nat_lt x (box_count instance.now) }
     ensures { IsWorked instance.now state.old state.new result
-        (IsReachedApart instance.now dim p q) }
+        (λ rule. (mask_has left Overlap ≡ false) × IsReachedApart instance.now dim p q rule) }
 {
-    if state.mask(dim, p, q).has(Rel::Overlap) {
+    if left.has(Rel::Overlap) {
         return false;
     }
     if triples::<K>(instance, state, dim, p, q) {
@@ -42,7 +45,7 @@ fn spread_apart<const K: usize>(
     chords(instance, state, all, dim, p, q)
 }
 
-// The instances that ask for two boxes that are joined.
+// The instances that ask for two boxes that are joined: none where the mask has before or after.
 #[inline]
 fn spread_joined<const K: usize>(
     instance: &Instance,
@@ -51,6 +54,7 @@ fn spread_joined<const K: usize>(
     dim: u32,
     p: u32,
     q: u32,
+    left: Mask,
 ) -> bool
     requires words { HoldsBoxes K (box_count instance.now) }
     requires sizes { IsSized instance.now state.old dim }
@@ -59,9 +63,10 @@ fn spread_joined<const K: usize>(
     requires distinct { p ≡ q → ⊥ }
     requires all { (x : ℕ) → row_has all x ≡ nat_lt x (box_count instance.now) }
     ensures { IsWorked instance.now state.old state.new result
-        (IsReachedJoined instance.now dim p q) }
+        (λ rule. ((mask_has left Before ≡ false) × (mask_has left After ≡ false))
+        × IsReachedJoined instance.now dim p q rule) }
 {
-    if !state.joined(dim, p, q) {
+    if left.has(Rel::Before) || left.has(Rel::After) {
         return false;
     }
     if aparts(instance, state, dim, p, q) {
@@ -70,7 +75,8 @@ fn spread_joined<const K: usize>(
     cycles(instance, state, all, dim, p, q)
 }
 
-// The instances that ask for a box that is surely before another.
+// The instances that ask for a box that is surely before another: none where the mask has overlap
+// or after.
 #[inline]
 fn spread_ordered<const K: usize>(
     instance: &Instance,
@@ -79,6 +85,7 @@ fn spread_ordered<const K: usize>(
     dim: u32,
     p: u32,
     q: u32,
+    left: Mask,
 ) -> bool
     requires words { HoldsBoxes K (box_count instance.now) }
     requires sizes { IsSized instance.now state.old dim }
@@ -87,9 +94,10 @@ fn spread_ordered<const K: usize>(
     requires distinct { p ≡ q → ⊥ }
     requires all { (x : ℕ) → row_has all x ≡ nat_lt x (box_count instance.now) }
     ensures { IsWorked instance.now state.old state.new result
-        (IsReachedOrdered instance.now dim p q) }
+        (λ rule. ((mask_has left Overlap ≡ false) × (mask_has left After ≡ false))
+        × IsReachedOrdered instance.now dim p q rule) }
 {
-    if !state.sure_before(dim, p, q) {
+    if left.has(Rel::Overlap) || left.has(Rel::After) {
         return false;
     }
     if orders_first(instance, state, all, dim, p, q) {
@@ -98,7 +106,9 @@ fn spread_ordered<const K: usize>(
     orders_second(instance, state, all, dim, p, q)
 }
 
-/// The instances that read the mask of two boxes in this order, up to those that add the same.
+/// The instances that read the mask of two boxes in this order, up to those that add the same. The
+/// mask is read once: where a relation was in it, an instance that asks for its exclusion has
+/// nothing to add, and where that went since, the change is looked through in its turn.
 pub fn spread_from<const K: usize>(
     instance: &Instance,
     state: &mut EdgeState,
@@ -115,17 +125,21 @@ pub fn spread_from<const K: usize>(
     requires all { (x : ℕ) → row_has all x ≡ nat_lt x (box_count instance.now) }
     ensures { IsWorked instance.now state.old state.new result (IsAppliedAt dim p q) }
 {
-    if composes::<K>(instance, state, dim, p, q) {
+    let left = state.mask_in::<K>(dim, p, q);
+    if composes(instance, state, all, dim, p, q, left) {
         return true;
     }
-    if spread_apart(instance, state, all, dim, p, q) {
+    if spread_apart(instance, state, all, dim, p, q, left) {
         return true;
     }
-    if spread_joined(instance, state, all, dim, p, q) {
+    if spread_joined(instance, state, all, dim, p, q, left) {
         return true;
     }
-    if spread_ordered(instance, state, all, dim, p, q) {
+    if spread_ordered(instance, state, all, dim, p, q, left) {
         return true;
+    }
+    if left.has(Rel::Before) {
+        return false;
     }
     orders_crossed(instance, state, all, dim, p, q)
 }

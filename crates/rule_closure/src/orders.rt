@@ -166,9 +166,11 @@ fn may_order_firsts<const K: usize>(
 }
 
 // Whether ORDER may exclude something with its first and its last box, for one of the second ones.
+// Nothing where no box is surely before the last.
 fn may_order_seconds<const K: usize>(
     instance: &Instance,
     state: &EdgeState,
+    all: BitRow<K>,
     dim: u32,
     a: u32,
     d: u32,
@@ -178,11 +180,16 @@ fn may_order_seconds<const K: usize>(
     requires sizes { IsSized instance.now state.now dim }
     requires a { a < box_count instance.now }
     requires d { d < box_count instance.now }
+    requires all { (x : ℕ) → row_has all x ≡ nat_lt x (box_count instance.now) }
     requires within { (b : ℕ) → row_has seconds b ≡ true → b < box_count instance.now }
     ensures { result ≡ false → (b : ℕ) → row_has seconds.entry b ≡ true → (c : ℕ)
         → c < box_count instance.now
         → IsCovered instance.now (excludes state.now.trail) state.now.trail (Order dim a b c d) }
 {
+    let thirds = gone(instance, state, all, dim, d, Rel::Overlap, Rel::Before);
+    if is_empty(thirds) {
+        return false;
+    }
     let mut rest = seconds;
     while let Some(b) = rest.first() {
         rest = rest.without(b);
@@ -259,7 +266,7 @@ pub fn orders_second<const K: usize>(
     false
 }
 
-/// ORDER with the first box not before the last.
+/// ORDER with the first and the last box given: it asks that the first isn't before the last.
 pub fn orders_crossed<const K: usize>(
     instance: &Instance,
     state: &mut EdgeState,
@@ -278,11 +285,8 @@ pub fn orders_crossed<const K: usize>(
         (λ rule. (b : ℕ) × (b < box_count instance.now)
         × ((c : ℕ) × (c < box_count instance.now) × (rule ≡ Order dim a b c d))) }
 {
-    if state.mask(dim, a, d).has(Rel::Before) {
-        return false;
-    }
     let seconds = gone(instance, state, all, dim, a, Rel::Overlap, Rel::After);
-    if !may_order_seconds(instance, state, dim, a, d, seconds) {
+    if !may_order_seconds(instance, state, all, dim, a, d, seconds) {
         return false;
     }
     let mut rest = seconds;

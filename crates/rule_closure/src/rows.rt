@@ -1,16 +1,18 @@
 //! Whole rows: the boxes at which a rule may have something to exclude.
-ghost use Rattle.std.specs.Prelude.{◌≡◌, ◌<◌, ◌&&◌, ◌||◌, ℕ, true, false, nat_lt, IsTrue};
-ghost use Rattle.packing_terms.specs.declared.Rel.TheVariants.{Overlap, Before, After};
+ghost use Rattle.std.specs.Prelude.{◌≡◌, ◌<◌, ◌&&◌, ◌||◌, ℕ, true, false, not, nat_lt, IsTrue};
+ghost use Rattle.packing_terms.specs.declared.Rel.{Rel as PlainRel};
+ghost use Rattle.packing_terms.specs.declared.Rel.TheVariants.{Overlap};
 ghost use Rattle.packing_terms.specs.Packing.{box_count};
 ghost use Rattle.packing_terms.specs.Exclusions.{excludes, IsApart, IsJoined};
 ghost use Rattle.packing_terms.specs.Limits.{IsBoxCount};
 ghost use Rattle.packing_terms.specs.Rules.{Triple, Compose, Cycle, Order};
+ghost use Rattle.relation_table.specs.Masks.{mask_has};
 ghost use Rattle.edge_state.specs.BitRows.{IsRowWidth, HoldsBoxes, row_has};
 ghost use Rattle.closure_terms.specs.States.{IsSized};
 ghost use Rattle.closure_terms.specs.Work.{IsCovered};
 
 use box_instances::Instance;
-use edge_state::{BitRow, EdgeState, Rel};
+use edge_state::{BitRow, EdgeState, Mask, Rel};
 
 // The row where it is wanted, and else the empty one.
 #[inline]
@@ -43,60 +45,69 @@ fn one_of<const K: usize>(first: BitRow<K>, second: BitRow<K>, third: BitRow<K>)
     first.or(second).or(third)
 }
 
-/// The boxes x at which COMPOSE at `u`, `v`, x may exclude something: at all others it adds
-/// nothing.
+// What is in the row and not in the other, where that is wanted, and else nothing.
+#[inline]
+fn outside<const K: usize>(row: BitRow<K>, other: BitRow<K>, wanted: bool) -> BitRow<K>
+    requires { IsRowWidth K }
+    ensures { (x : ℕ) → row_has result x
+        ≡ (row_has row.entry x && not (row_has other.entry x)) && wanted }
+{
+    if wanted {
+        row.minus(other)
+    } else {
+        BitRow::empty()
+    }
+}
+
+/// The boxes x at which COMPOSE at `u`, `v`, x may exclude something, where the mask of `u`, `v` is
+/// given: at all others it adds nothing.
+///
+/// A relation that is left of `u`, `v` allows itself of `u`, x, whatever is left of `v`, x, if
+/// anything is. So a relation is looked at only where it is gone from the mask, and beside that the
+/// empty masks of `v`, x. A full mask asks for no row.
 pub fn beyond_compositions<const K: usize>(
     instance: &Instance,
     state: &EdgeState,
+    all: BitRow<K>,
     dim: u32,
     u: u32,
     v: u32,
+    left: Mask,
 ) -> BitRow<K>
     requires words { HoldsBoxes K (box_count instance.now) }
     requires sizes { IsSized instance.now state.now dim }
+    requires all { (x : ℕ) → row_has all x ≡ nat_lt x (box_count instance.now) }
     requires u { u < box_count instance.now }
     requires v { v < box_count instance.now }
     requires distinct { u ≡ v → ⊥ }
+    requires left { (r : PlainRel) → mask_has left r ≡ not (excludes state.now.trail dim u v r) }
     ensures within { (x : ℕ) → row_has result x ≡ true → x < box_count instance.now }
     ensures others { (x : ℕ) → x < box_count instance.now → row_has result x ≡ false
         → IsCovered instance.now (excludes state.now.trail) state.now.trail (Compose dim u v x) }
 {
     // For the proof alone: tells the limits of the state.
     let _boxes = state.boxes();
-    let mask = state.mask(dim, u, v);
-    let is_overlap = mask.has(Rel::Overlap);
-    let is_before = mask.has(Rel::Before);
-    let is_after = mask.has(Rel::After);
+    let is_overlap = left.has(Rel::Overlap);
+    let is_before = left.has(Rel::Before);
+    let is_after = left.has(Rel::After);
     let overlap = state.row_in::<K>(dim, v, Rel::Overlap);
     let before = state.row_in::<K>(dim, v, Rel::Before);
     let after = state.row_in::<K>(dim, v, Rel::After);
-    let not_after = overlap.or(before);
-    let not_before = overlap.or(after);
-    let any = not_after.or(after);
-    let may_overlap = one_of(
-        pick(any, is_overlap),
-        pick(not_before, is_before),
-        pick(not_after, is_after),
-    );
-    let may_precede = one_of(
-        pick(not_after, is_overlap),
-        pick(any, is_before),
-        pick(before, is_after),
-    );
-    let may_follow = one_of(
-        pick(not_before, is_overlap),
-        pick(after, is_before),
-        pick(any, is_after),
-    );
+    let any = one_of(overlap, before, after);
+    let lost = all.minus(pick(any, is_overlap | is_before | is_after));
+    let may_overlap = one_of(overlap, pick(after, is_before), pick(before, is_after));
+    let near = pick(overlap, is_overlap);
+    let may_precede = near.or(before);
+    let may_follow = near.or(after);
     let here_overlap = state.row_in::<K>(dim, u, Rel::Overlap);
     let here_before = state.row_in::<K>(dim, u, Rel::Before);
     let here_after = state.row_in::<K>(dim, u, Rel::After);
     let beyond = one_of(
-        here_overlap.minus(may_overlap),
-        here_before.minus(may_precede),
-        here_after.minus(may_follow),
+        outside(here_overlap, may_overlap, !is_overlap),
+        outside(here_before, may_precede, !is_before),
+        outside(here_after, may_follow, !is_after),
     );
-    beyond.without(v)
+    beyond.or(lost).without(v)
 }
 
 /// The row of all boxes.

@@ -2,9 +2,12 @@
 //!
 //! Each call applies some instances one after another and answers whether a mask is empty;
 //! empty; it stops there.
-ghost use Rattle.std.specs.Prelude.{◌≡◌, ◌≢◌, ◌<◌, ◌≤◌, ◌+◌, ℕ, nat_lt, [], ◌∷◌};
+ghost use Rattle.std.specs.Prelude.{◌≡◌, ◌≢◌, ◌<◌, ◌≤◌, ◌+◌, ℕ, not, nat_lt, [], ◌∷◌};
+ghost use Rattle.packing_terms.specs.declared.Rel.{Rel as PlainRel};
+ghost use Rattle.packing_terms.specs.Exclusions.{excludes};
 ghost use Rattle.packing_terms.specs.Packing.{dims, box_count, side, container_side};
 ghost use Rattle.packing_terms.specs.Rules.{Apart, Triple, Compose, Cycle, Order, AreBoxes};
+ghost use Rattle.relation_table.specs.Masks.{mask_has};
 ghost use Rattle.edge_state.specs.BitRows.{HoldsBoxes, row_has};
 ghost use Rattle.closure_terms.specs.States.{IsSized};
 ghost use Rattle.closure_terms.specs.Work.{IsWorked};
@@ -15,7 +18,7 @@ use crate::rows::{
 };
 use box_instances::Instance;
 use cycle_rules::apply_cycle;
-use edge_state::{BitRow, EdgeState, Rel};
+use edge_state::{BitRow, EdgeState, Mask, Rel};
 use orientation_rules::{apply_apart, apply_compose, apply_triple};
 
 // APART in a dimension other than the one that changed.
@@ -158,23 +161,27 @@ fn compose_at(instance: &Instance, state: &mut EdgeState, dim: u32, u: u32, v: u
     is_empty_at(instance, state, dim, u, x)
 }
 
-/// COMPOSE at two boxes, for each third.
+/// COMPOSE at two boxes whose mask is given, for each third.
 pub fn composes<const K: usize>(
     instance: &Instance,
     state: &mut EdgeState,
+    all: BitRow<K>,
     dim: u32,
     u: u32,
     v: u32,
+    left: Mask,
 ) -> bool
     requires words { HoldsBoxes K (box_count instance.now) }
     requires sizes { IsSized instance.now state.old dim }
     requires u { u < box_count instance.now }
     requires v { v < box_count instance.now }
     requires distinct { u ≡ v → ⊥ }
+    requires all { (x : ℕ) → row_has all x ≡ nat_lt x (box_count instance.now) }
+    requires left { (r : PlainRel) → mask_has left r ≡ not (excludes state.old.trail dim u v r) }
     ensures { IsWorked instance.now state.old state.new result
         (λ rule. (x : ℕ) × (x < box_count instance.now) × (rule ≡ Compose dim u v x)) }
 {
-    let mut rest = beyond_compositions::<K>(instance, state, dim, u, v);
+    let mut rest = beyond_compositions(instance, state, all, dim, u, v, left);
     while let Some(x) = rest.first() {
         rest = rest.without(x);
         if compose_at(instance, state, dim, u, v, x) {

@@ -1,6 +1,8 @@
-use Rattle.std.proofs.Common.{arith}
+use Rattle.std.proofs.Common.{arith, ◌≡◌, ◌⊎◌, false}
+use Rattle.packing_terms.specs.declared.Rel.TheVariants.{Before, After}
 use Rattle.packing_terms.specs.Rules.{Rule}
-use Rattle.closure_terms.proofs.Worked.{worked_then, worked_kept, sizes_worked}
+use Rattle.relation_table.specs.Masks.{mask_has}
+use Rattle.closure_terms.proofs.Worked.{worked_as, worked_then, worked_kept, sizes_worked}
 use Rattle.closure_terms.specs.Instances.{Aparts, Cycles}
 use Rattle.rule_closure.proofs.edges.spread_joined.Goals as goal
 
@@ -32,4 +34,5 @@ returns g c =
     let p = c.args.p in
     let q = c.args.q in
     let first = worked_kept instance _ _ _ (λ (rule : Rule). Aparts instance j p q rule) c.if-aparts.false c.aparts.ensures in
-    worked_then instance _ _ _ _ (λ (rule : Rule). Aparts instance j p q rule) (λ (rule : Rule). Cycles instance j p q rule) first c.cycles.ensures
+    worked_as instance _ _ _ (λ (rule : Rule). Aparts instance j p q rule ⊎ Cycles instance j p q rule) (λ (rule : Rule). ((mask_has c.args.left Before ≡ false) × (mask_has c.args.left After ≡ false)) × (Aparts instance j p q rule ⊎ Cycles instance j p q rule)) (λ rule e. e.1)
+    (worked_then instance _ _ _ _ (λ (rule : Rule). Aparts instance j p q rule) (λ (rule : Rule). Cycles instance j p q rule) first c.cycles.ensures)

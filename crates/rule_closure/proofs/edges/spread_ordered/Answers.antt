@@ -1,6 +1,8 @@
-use Rattle.std.proofs.Common.{arith}
+use Rattle.std.proofs.Common.{arith, ◌≡◌, ◌⊎◌, false}
+use Rattle.packing_terms.specs.declared.Rel.TheVariants.{Overlap, After}
 use Rattle.packing_terms.specs.Rules.{Rule}
-use Rattle.closure_terms.proofs.Worked.{worked_then, worked_kept, sizes_worked}
+use Rattle.relation_table.specs.Masks.{mask_has}
+use Rattle.closure_terms.proofs.Worked.{worked_as, worked_then, worked_kept, sizes_worked}
 use Rattle.closure_terms.specs.Instances.{OrdersFirst, OrdersSecond}
 use Rattle.rule_closure.proofs.edges.spread_ordered.Goals as goal
 
@@ -32,4 +34,5 @@ returns g c =
     let p = c.args.p in
     let q = c.args.q in
     let first = worked_kept instance _ _ _ (λ (rule : Rule). OrdersFirst instance j p q rule) c.if-orders_first.false c.orders_first.ensures in
-    worked_then instance _ _ _ _ (λ (rule : Rule). OrdersFirst instance j p q rule) (λ (rule : Rule). OrdersSecond instance j p q rule) first c.orders_second.ensures
+    worked_as instance _ _ _ (λ (rule : Rule). OrdersFirst instance j p q rule ⊎ OrdersSecond instance j p q rule) (λ (rule : Rule). ((mask_has c.args.left Overlap ≡ false) × (mask_has c.args.left After ≡ false)) × (OrdersFirst instance j p q rule ⊎ OrdersSecond instance j p q rule)) (λ rule e. e.1)
+    (worked_then instance _ _ _ _ (λ (rule : Rule). OrdersFirst instance j p q rule) (λ (rule : Rule). OrdersSecond instance j p q rule) first c.orders_second.ensures)
