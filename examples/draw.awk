@@ -1,8 +1,9 @@
 # Draws the places of a document in two or three dimensions:  awk -f examples/draw.awk DOCUMENT
 #
-# Box 1 is A, box 2 is B, and so on; the first dimension goes to the right, the second upwards. A row has 48 letters (-v letters=24), and there are
-# as many rows as keep the shape, at most 16 (-v rows=9). Of three dimensions there is a plan for each height at which a box begins, and of bins
-# one for each bin.
+# Box 1 is A, box 2 is B, and so on: capital letters, small letters, digits, and from box 63 on from A
+# again. The first dimension goes to the right, the second upwards. A row has 48 letters
+# (-v letters=24), and there are as many rows as keep the shape, at most 16 (-v rows=9). Of three
+# dimensions there is a plan for each height at which a box begins, and of bins one for each bin.
 $1 == "answer" { job = $2 }
 $1 == "container" { d = NF - 1; for (i = 1; i <= d; i++) C[i] = $(i + 1) }
 $1 == "box" {
@@ -53,7 +54,7 @@ function plan(c, z,    r, k, x, y, line, v, a) {
             for (v = 1; v <= n; v++)
                 if (placed[v] && bin[v] == c && p[v, 1] <= x && x < p[v, 1] + b[v, 1] && p[v, 2] <= y && y < p[v, 2] + b[v, 2] \
                     && (z < 0 || (p[v, 3] <= z && z < p[v, 3] + b[v, 3])))
-                    a = substr("ABCDEFGHIJKLMNOPQRSTUVWXYZabcdefghijklmnopqrstuvwxyz", v, 1)
+                    a = substr("ABCDEFGHIJKLMNOPQRSTUVWXYZabcdefghijklmnopqrstuvwxyz0123456789", (v - 1) % 62 + 1, 1)
             line = line a
         }
         print line
