@@ -76,8 +76,8 @@ fn is_last(state: &EdgeState, last: u32) -> bool {
         && state.row(0, last, Rel::After).count() == last
 }
 
-// Puts all boxes one behind the other, and says what closing that comes to. `None` comes where it is
-// stable without the last box behind all others.
+// Puts all boxes one behind the other, and says what closing that comes to. `None` comes where it
+// is stable without the last box behind all others.
 fn close_chain(
     instance: &Instance,
     state: &mut EdgeState,

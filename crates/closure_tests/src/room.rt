@@ -43,16 +43,11 @@ pub fn is_edge(state: &EdgeState, dim: u32, u: u32, v: u32) -> bool
     u != v
 }
 
-/// Excludes a relation of two boxes, if there are such.
+/// Excludes a relation of two boxes, if there are two such.
 pub fn exclude_at(state: &mut EdgeState, dim: u32, u: u32, v: u32, rel: Rel)
     ensures { state.new ≡ record state.old { trail = state.new.trail } }
 {
     if is_edge(state, dim, u, v) {
         let _ = state.exclude(dim, u, v, rel);
     }
-}
-
-/// Whether there are two such boxes, and this relation is left to them.
-pub fn has(state: &EdgeState, dim: u32, u: u32, v: u32, rel: Rel) -> bool {
-    is_edge(state, dim, u, v) && state.mask(dim, u, v).has(rel)
 }

@@ -4,7 +4,7 @@ ghost use Rattle.packing_terms.specs.Packing.{dims, box_count};
 
 use crate::plain_closure::PlainState;
 use crate::random::{instance_of, next, rel_of, sides_of};
-use crate::room::{exclude_at, has, room_for};
+use crate::room::{exclude_at, is_edge, room_for};
 use box_instances::Instance;
 use edge_state::EdgeState;
 use rule_closure::{Closed, Closer};
@@ -61,9 +61,14 @@ fn exclude_some(
 
 // Whether both states have the same relations left at one pair.
 fn is_same_at(numbers: &[u32], state: &EdgeState, plain: &PlainState, i: u8, u: u8, v: u8) -> bool {
+    let dim = u32::from(i);
     let (first, second) = (box_of(numbers, u32::from(u)), box_of(numbers, u32::from(v)));
+    if !is_edge(state, dim, first, second) {
+        return false;
+    }
+    let left = state.mask(dim, first, second);
     for r in 0..3 {
-        if has(state, u32::from(i), first, second, rel_of(r)) == plain.is_out(i, u, v, r) {
+        if left.has(rel_of(r)) == plain.is_out(i, u, v, r) {
             return false;
         }
     }

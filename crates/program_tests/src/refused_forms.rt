@@ -1,9 +1,9 @@
 //! Documents that are refused by their form, each with its line: faults of the instance, of lines,
 //! of numbers.
-use crate::runs::told_of;
+use crate::rows::{Checked, is_checked};
 use std::test::Fail;
 
-const TEXTS: [(&[u8], &str); 13] = [
+const TEXTS: [Checked; 13] = [
     (
         b"answer fit\nformat 1\ncontainer 5 5\ncrate 1 1\nresult yes\n",
         "refused 4 text 1\n",
@@ -57,14 +57,13 @@ const TEXTS: [(&[u8], &str); 13] = [
 
 #[test]
 fn each_fault_of_an_instance_is_told_by_its_code(rt: HostRuntime) -> Result<(), Fail> {
-    for (document, line) in TEXTS {
-        let told = told_of(&rt, document)?;
-        assert!(rt; told.is_line(1, line), "{line}");
+    for row in &TEXTS {
+        assert!(rt; is_checked(&rt, 1, row)?, "{}", row.1);
     }
     Ok(())
 }
 
-const FORMS: [(&[u8], &str); 18] = [
+const FORMS: [Checked; 18] = [
     (b"answer pile\n", "refused 1 form\n"),
     (b"result yes\n", "refused 1 form\n"),
     (b"\x01\n", "refused 1 form\n"),
@@ -132,14 +131,13 @@ const FORMS: [(&[u8], &str); 18] = [
 
 #[test]
 fn lines_of_another_form_are_refused(rt: HostRuntime) -> Result<(), Fail> {
-    for (document, line) in FORMS {
-        let told = told_of(&rt, document)?;
-        assert!(rt; told.is_line(1, line), "{line}");
+    for row in &FORMS {
+        assert!(rt; is_checked(&rt, 1, row)?, "{}", row.1);
     }
     Ok(())
 }
 
-const RANGES: [(&[u8], &str); 16] = [
+const RANGES: [Checked; 16] = [
     (
         b"answer fit\nformat 1\ncontainer 10 10\nbox 6 4\nbox 6 6\nresult yes\nplace 0 0\nplace 0 99999999999999999999\nend\n",
         "refused 8 range\n",
@@ -208,9 +206,8 @@ const RANGES: [(&[u8], &str); 16] = [
 
 #[test]
 fn numbers_out_of_their_range_are_refused(rt: HostRuntime) -> Result<(), Fail> {
-    for (document, line) in RANGES {
-        let told = told_of(&rt, document)?;
-        assert!(rt; told.is_line(1, line), "{line}");
+    for row in &RANGES {
+        assert!(rt; is_checked(&rt, 1, row)?, "{}", row.1);
     }
     Ok(())
 }

@@ -1,9 +1,9 @@
 //! Tasks are explored at the same time: one is held until another was explored.
-use crate::runs::{told_at, told_by};
-use program_runs::EIGHT_IN_A_ROW;
+use crate::runs::told_by;
+use crate::texts::EIGHT_IN_A_ROW;
 use std::sync::atomic::{AtomicBool, Ordering};
 use std::test::Fail;
-use work_share::Gate;
+use work_share::{Gate, NoGate};
 
 // The most turns for which a task is held.
 const MOST_TURNS: u32 = 1_000_000_000;
@@ -64,12 +64,10 @@ fn workers_explore_at_the_same_time(rt: HostRuntime) -> Result<(), Fail> {
     for (job, held, awaited) in CASES {
         let words = [job, "--scales", "no"];
         let gate = Holding::new(held, awaited);
-        let told = told_at(&rt, &words, "2", EIGHT_IN_A_ROW, &gate)?;
+        let told = told_by(&rt, &words, "2", EIGHT_IN_A_ROW, &gate)?;
         assert!(rt; gate.is_passed(), "{job}");
-        assert!(rt;
-            told.is_as(&told_by(&rt, &words, "1", EIGHT_IN_A_ROW)?),
-            "{job}"
-        );
+        let alone = told_by(&rt, &words, "1", EIGHT_IN_A_ROW, &NoGate)?;
+        assert!(rt; told.is_as(&alone), "{job}");
     }
     Ok(())
 }

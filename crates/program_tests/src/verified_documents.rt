@@ -1,9 +1,9 @@
 //! Documents that are verified, each with its line: the rows of the solving jobs, other spellings,
 //! trees that no search wrote, and kerfs.
-use crate::runs::told_of;
+use crate::rows::{Checked, is_checked};
 use std::test::Fail;
 
-const VERIFIED: [(&[u8], &str); 22] = [
+const VERIFIED: [Checked; 22] = [
     (
         b"answer fit\nformat 1\ncontainer 10 10\nbox 6 4\nbox 6 6\nresult yes\nplace 0 0\nplace 0 4\nend\n",
         "verified fit yes\n",
@@ -96,9 +96,8 @@ const VERIFIED: [(&[u8], &str); 22] = [
 
 #[test]
 fn documents_of_all_claims_are_verified(rt: HostRuntime) -> Result<(), Fail> {
-    for (document, line) in VERIFIED {
-        let told = told_of(&rt, document)?;
-        assert!(rt; told.is_line(0, line), "{line}");
+    for row in &VERIFIED {
+        assert!(rt; is_checked(&rt, 0, row)?, "{}", row.1);
     }
     Ok(())
 }

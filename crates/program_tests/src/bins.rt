@@ -1,8 +1,8 @@
 //! Bins, each document whole.
-use program_runs::told_of;
+use crate::rows::{Solved, is_solved};
+use crate::runs::told_of;
+use crate::texts::PLANKS;
 use std::test::Fail;
-
-const PLANKS: &[u8] = b"format 1\ncontainer 10 10\nbox 10 5\nbox 10 5\nbox 10 5\n";
 
 const LARGE: &[u8] = b"format 1\ncontainer 10 10\nbox 6 6\nbox 6 6\n";
 
@@ -17,9 +17,7 @@ const KERF: &[u8] = b"format 2\ncontainer 9 9\nkerf 1 0\nbox 4 9\nbox 4 9\nbox 5
 const LEAST_2: &[u8] =
     b"result least 2\nplace 1 0 0\nplace 1 0 5\nplace 2 0 0\nproof\ng id id\nend\n";
 
-// Words, an instance in its one spelling, the status, and what the document has behind the
-// instance.
-const ROWS: [(&[&str], &[u8], u8, &[u8]); 9] = [
+const ROWS: [Solved; 9] = [
     (&["bins"], PLANKS, 0, LEAST_2),
     (&["bins", "--budget", "5"], PLANKS, 0, LEAST_2),
     (
@@ -63,10 +61,8 @@ const ROWS: [(&[&str], &[u8], u8, &[u8]); 9] = [
 
 #[test]
 fn bins_have_the_documents_of_the_rows(rt: HostRuntime) -> Result<(), Fail> {
-    for (words, text, status, rest) in ROWS {
-        let told = told_of(&rt, words, text)?;
-        assert_eq!(rt; told.status, status);
-        assert!(rt; told.is_document(b"answer bins\n", text, rest));
+    for row in &ROWS {
+        assert!(rt; is_solved(&rt, b"answer bins\n", row)?);
     }
     Ok(())
 }

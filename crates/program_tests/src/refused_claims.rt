@@ -1,9 +1,9 @@
 //! Documents that are refused by what they show, each with its line: their places, their trees,
 //! their end.
-use crate::runs::told_of;
+use crate::rows::{Checked, is_checked};
 use std::test::Fail;
 
-const PLACES: [(&[u8], &str); 13] = [
+const PLACES: [Checked; 13] = [
     (
         b"answer fit\nformat 1\ncontainer 10 10\nbox 6 4\nbox 6 6\nresult undecided\nend\n",
         "refused 6 claim\n",
@@ -60,14 +60,13 @@ const PLACES: [(&[u8], &str); 13] = [
 
 #[test]
 fn places_that_are_no_packing_of_the_claim_are_refused(rt: HostRuntime) -> Result<(), Fail> {
-    for (document, line) in PLACES {
-        let told = told_of(&rt, document)?;
-        assert!(rt; told.is_line(1, line), "{line}");
+    for row in &PLACES {
+        assert!(rt; is_checked(&rt, 1, row)?, "{}", row.1);
     }
     Ok(())
 }
 
-const TREES: [(&[u8], &str); 21] = [
+const TREES: [Checked; 21] = [
     (
         b"answer fit\nformat 1\ncontainer 10 10\nbox 6 6\nbox 6 6\nresult no\na 1 1 2\nx\nx\nend\n",
         "refused 7 choice\n",
@@ -150,9 +149,8 @@ const TREES: [(&[u8], &str); 21] = [
 
 #[test]
 fn trees_that_are_no_refutation_are_refused(rt: HostRuntime) -> Result<(), Fail> {
-    for (document, line) in TREES {
-        let told = told_of(&rt, document)?;
-        assert!(rt; told.is_line(1, line), "{line}");
+    for row in &TREES {
+        assert!(rt; is_checked(&rt, 1, row)?, "{}", row.1);
     }
     Ok(())
 }

@@ -1,8 +1,8 @@
 //! Strips, each document whole.
-use program_runs::told_of;
+use crate::rows::{Solved, is_solved};
+use crate::runs::told_of;
+use crate::texts::STRIP;
 use std::test::Fail;
-
-const STRIP: &[u8] = b"format 1\ncontainer 10 1\nbox 6 3\nbox 6 2\nbox 4 4\n";
 
 const TOO_WIDE: &[u8] = b"format 1\ncontainer 10 10\nbox 11 2\n";
 
@@ -22,9 +22,7 @@ const ALONE: &[u8] = b"format 1\ncontainer 3 3 7\nbox 3 3 9\n";
 
 const LEAST_5: &[u8] = b"result least 5\nplace 0 0\nplace 0 3\nplace 6 0\nproof\nx\nend\n";
 
-// Words, an instance in its one spelling, the status, and what the document has behind the
-// instance.
-const ROWS: [(&[&str], &[u8], u8, &[u8]); 10] = [
+const ROWS: [Solved; 10] = [
     (&["strip"], STRIP, 0, LEAST_5),
     (&["strip", "--budget", "3"], STRIP, 0, LEAST_5),
     (
@@ -69,10 +67,8 @@ const ROWS: [(&[&str], &[u8], u8, &[u8]); 10] = [
 
 #[test]
 fn strips_have_the_documents_of_the_rows(rt: HostRuntime) -> Result<(), Fail> {
-    for (words, text, status, rest) in ROWS {
-        let told = told_of(&rt, words, text)?;
-        assert_eq!(rt; told.status, status);
-        assert!(rt; told.is_document(b"answer strip\n", text, rest));
+    for row in &ROWS {
+        assert!(rt; is_solved(&rt, b"answer strip\n", row)?);
     }
     Ok(())
 }

@@ -1,9 +1,8 @@
 //! Knapsacks, each document whole.
-use program_runs::told_of;
+use crate::rows::{Solved, is_solved};
+use crate::runs::told_of;
+use crate::texts::SACK;
 use std::test::Fail;
-
-const THREE: &[u8] =
-    b"format 1\ncontainer 10 10\nbox 6 6 value 5\nbox 6 6 value 4\nbox 4 4 value 3\n";
 
 const BOTH: &[u8] = b"format 1\ncontainer 10 10\nbox 4 4 value 2\nbox 4 4 value 3\n";
 
@@ -20,14 +19,12 @@ const KERF: &[u8] =
 const GREATEST_8: &[u8] =
     b"result greatest 8\ntake 1 0 0\ntake 3 6 0\nproof\nc 1\nc 2\ns\nx\nw\nw\nend\n";
 
-// Words, an instance in its one spelling, the status, and what the document has behind the
-// instance.
-const ROWS: [(&[&str], &[u8], u8, &[u8]); 8] = [
-    (&["knapsack"], THREE, 0, GREATEST_8),
-    (&["knapsack", "--budget", "6"], THREE, 0, GREATEST_8),
+const ROWS: [Solved; 8] = [
+    (&["knapsack"], SACK, 0, GREATEST_8),
+    (&["knapsack", "--budget", "6"], SACK, 0, GREATEST_8),
     (
         &["knapsack", "--budget", "5"],
-        THREE,
+        SACK,
         3,
         b"result between 0 13\nproof\nw\nend\n",
     ),
@@ -65,10 +62,8 @@ const ROWS: [(&[&str], &[u8], u8, &[u8]); 8] = [
 
 #[test]
 fn knapsacks_have_the_documents_of_the_rows(rt: HostRuntime) -> Result<(), Fail> {
-    for (words, text, status, rest) in ROWS {
-        let told = told_of(&rt, words, text)?;
-        assert_eq!(rt; told.status, status);
-        assert!(rt; told.is_document(b"answer knapsack\n", text, rest));
+    for row in &ROWS {
+        assert!(rt; is_solved(&rt, b"answer knapsack\n", row)?);
     }
     Ok(())
 }

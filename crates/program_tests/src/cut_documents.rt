@@ -1,9 +1,7 @@
 //! Documents that end too early.
 use crate::runs::told_of;
+use crate::texts::TWO_BOXES_FIT;
 use std::test::Fail;
-
-const PAIR: &[u8] =
-    b"answer fit\nformat 1\ncontainer 10 10\nbox 6 4\nbox 6 6\nresult yes\nplace 0 0\nplace 0 4\nend\n";
 
 // How many bytes the first lines have, and the line of the document that ends there.
 const CUTS: [(usize, &str); 9] = [
@@ -21,7 +19,7 @@ const CUTS: [(usize, &str); 9] = [
 #[test]
 fn a_document_that_is_cut_behind_a_line_is_short(rt: HostRuntime) -> Result<(), Fail> {
     for (count, line) in CUTS {
-        let told = told_of(&rt, &PAIR[..count])?;
+        let told = told_of(&rt, &["check"], &TWO_BOXES_FIT[..count])?;
         assert!(rt; told.is_line(1, line), "{line}");
     }
     Ok(())

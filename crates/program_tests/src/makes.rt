@@ -1,6 +1,7 @@
 //! Generated instances, decided by one worker and by several.
 use crate::runs::{is_same_by, told_by};
 use std::test::Fail;
+use work_share::NoGate;
 
 // Words, and the status and the lines that they have.
 const ROWS: [(&[&str], u8, &str); 5] = [
@@ -35,7 +36,7 @@ const ROWS: [(&[&str], u8, &str); 5] = [
 fn made_instances_have_their_lines(rt: HostRuntime) -> Result<(), Fail> {
     for (words, status, lines) in ROWS {
         for workers in ["1", "8"] {
-            let told = told_by(&rt, words, workers, b"not read")?;
+            let told = told_by(&rt, words, workers, b"not read", &NoGate)?;
             assert!(rt; told.is_line(status, lines), "{lines}");
         }
     }

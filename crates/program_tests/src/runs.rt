@@ -1,17 +1,11 @@
-//! Runs of the whole program over memory, for the crates of tests: words and bytes in, bytes and a
-//! status out.
-#![tactic(auto)]
-
+//! Runs of the whole program over memory: words and bytes in, bytes and a status out.
 use pack_command::run;
 use pack_streams::{MemorySink, MemorySource, ReadAnswer, ReadStep, Source, WriteStep};
 use std::alloc::{AllocError, AllocGlobal, Global};
 use std::sync::Wait;
+use std::test::Fail;
 use std::thread::Threads;
 use work_share::{Gate, NoGate};
-
-/// Eight boxes in a row, which have a leaf for each order of seven of them: 5,039 branchings.
-pub const EIGHT_IN_A_ROW: &[u8] =
-    b"format 1\ncontainer 23 10\nbox 3 6\nbox 3 6\nbox 3 6\nbox 3 6\nbox 3 6\nbox 3 6\nbox 3 6\nbox 3 6\n";
 
 /// What a run answered and wrote, and what it left of its input.
 #[derive(Drop)]
@@ -69,14 +63,32 @@ impl Told {
     }
 }
 
-/// Runs the words on the input, where the source and the sink follow these plans and the workers
+/// What the source and both sinks do, step by step, before they go on without a fault.
+#[derive(Clone, Copy)]
+pub struct Plans<'a> {
+    pub reads: &'a [ReadStep],
+    pub writes: &'a [WriteStep],
+    pub messages: &'a [WriteStep],
+}
+
+impl<'a> Plans<'a> {
+    /// Nothing fails.
+    pub fn none() -> Plans<'a> {
+        Plans {
+            reads: &[],
+            writes: &[],
+            messages: &[],
+        }
+    }
+}
+
+/// Runs the words on the input, where the source and the sinks follow these plans and the workers
 /// call the gate.
 pub fn told_at<R: AllocGlobal + Threads + Wait + Sync, G: Gate + Sync>(
     rt: &R,
     words: &[&str],
     input: &[u8],
-    reads: &[ReadStep],
-    writes: &[WriteStep],
+    plans: Plans<'_>,
     gate: &G,
 ) -> Result<Told, AllocError> {
     let alloc = rt.alloc();
@@ -86,12 +98,12 @@ pub fn told_at<R: AllocGlobal + Threads + Wait + Sync, G: Gate + Sync>(
     }
     let mut source = MemorySource::new(
         Vec::from_slice(alloc, input)?,
-        Vec::from_slice(alloc, reads)?,
+        Vec::from_slice(alloc, plans.reads)?,
     );
-    let Ok(mut out) = MemorySink::new(alloc, 65536, Vec::from_slice(alloc, writes)?) else {
+    let Ok(mut out) = MemorySink::new(alloc, 65536, Vec::from_slice(alloc, plans.writes)?) else {
         return Err(AllocError);
     };
-    let Ok(mut err) = MemorySink::new(alloc, 256, Vec::new(alloc)) else {
+    let Ok(mut err) = MemorySink::new(alloc, 256, Vec::from_slice(alloc, plans.messages)?) else {
         return Err(AllocError);
     };
     let status = run(rt, alloc, &given, &mut source, &mut out, &mut err, gate);
@@ -111,7 +123,12 @@ pub fn told_with<R: AllocGlobal + Threads + Wait + Sync>(
     reads: &[ReadStep],
     writes: &[WriteStep],
 ) -> Result<Told, AllocError> {
-    told_at(rt, words, input, reads, writes, &NoGate)
+    let plans = Plans {
+        reads,
+        writes,
+        messages: &[],
+    };
+    told_at(rt, words, input, plans, &NoGate)
 }
 
 /// Runs the words on the input, where nothing fails.
@@ -120,7 +137,71 @@ pub fn told_of<R: AllocGlobal + Threads + Wait + Sync>(
     words: &[&str],
     input: &[u8],
 ) -> Result<Told, AllocError> {
-    told_with(rt, words, input, &[], &[])
+    told_at(rt, words, input, Plans::none(), &NoGate)
+}
+
+/// Runs the words on the input, which comes byte by byte up to a fault behind so many bytes.
+pub fn told_read_to<R: AllocGlobal + Threads + Wait + Sync>(
+    rt: &R,
+    words: &[&str],
+    input: &[u8],
+    count: usize,
+) -> Result<Told, AllocError> {
+    let mut reads = vec![in rt.alloc(); ReadStep::Give(1); count]?;
+    reads.push(ReadStep::Fail)?;
+    told_with(rt, words, input, &reads, &[])
+}
+
+/// Runs the words on the input, where so many bytes are taken one by one before a write fails.
+pub fn told_written_to<R: AllocGlobal + Threads + Wait + Sync>(
+    rt: &R,
+    words: &[&str],
+    input: &[u8],
+    count: usize,
+) -> Result<Told, AllocError> {
+    let mut writes = vec![in rt.alloc(); WriteStep::Take(1); count]?;
+    writes.push(WriteStep::Fail)?;
+    told_with(rt, words, input, &[], &writes)
+}
+
+/// Runs the words on the input by so many workers, which call the gate.
+pub fn told_by<R: AllocGlobal + Threads + Wait + Sync, G: Gate + Sync>(
+    rt: &R,
+    words: &[&str],
+    workers: &str,
+    input: &[u8],
+    gate: &G,
+) -> Result<Told, AllocError> {
+    let mut given = Vec::new(rt.alloc());
+    for word in words {
+        given.push(*word)?;
+    }
+    given.push("--workers")?;
+    given.push(workers)?;
+    told_at(rt, &given, input, Plans::none(), gate)
+}
+
+/// Whether ten runs by each of these numbers of workers answer and write what one worker does,
+/// which is this status.
+pub fn is_same_by<R: AllocGlobal + Threads + Wait + Sync>(
+    rt: &R,
+    words: &[&str],
+    input: &[u8],
+    status: u8,
+    workers: &[&str],
+) -> Result<bool, Fail> {
+    let alone = told_by(rt, words, "1", input, &NoGate)?;
+    if alone.status != status {
+        return Ok(false);
+    }
+    for count in workers {
+        for _ in 0..10 {
+            if !told_by(rt, words, count, input, &NoGate)?.is_as(&alone) {
+                return Ok(false);
+            }
+        }
+    }
+    Ok(true)
 }
 
 // What the source gives yet, up to its end or its next failure.
