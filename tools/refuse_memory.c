@@ -28,7 +28,8 @@ __attribute__((constructor)) static void begin(void) {
     const char *path = getenv("REFUSE_COUNT");
     int file = path == NULL ? -1 : open(path, O_RDWR | O_CLOEXEC);
     if (file >= 0) {
-        void *shared = mmap(NULL, sizeof(unsigned long), PROT_READ | PROT_WRITE, MAP_SHARED, file, 0);
+        int access = PROT_READ | PROT_WRITE;
+        void *shared = mmap(NULL, sizeof(unsigned long), access, MAP_SHARED, file, 0);
         if (shared != MAP_FAILED)
             count = shared;
         close(file);
