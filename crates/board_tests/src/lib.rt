@@ -14,6 +14,8 @@ mod schedules;
 #[cfg(test)]
 mod scripts;
 #[cfg(test)]
+mod short_tree;
+#[cfg(test)]
 mod shortage;
 #[cfg(test)]
 mod workers;

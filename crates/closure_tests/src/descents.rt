@@ -1,17 +1,16 @@
 //! Closing only what changed comes to the same as closing everything.
-ghost use Rattle.std.specs.Prelude.{◌≡◌};
+ghost use Rattle.std.specs.Prelude.{◌≡◌, IfOk};
 ghost use Rattle.packing_terms.specs.Packing.{dims, box_count};
 ghost use Rattle.packing_terms.specs.Exclusions.{excludes, IsEdgeAmong};
 ghost use Rattle.packing_terms.specs.Closure.{IsStable};
-ghost use Rattle.packing_terms.specs.Limits.{IsDimCount, IsBoxCount};
 ghost use Rattle.rule_terms.specs.Places.{HasNoEmptyMask};
 
 use crate::random::{instance_of, next, rel_of, sides_of};
-use box_instances::Instance;
+use crate::room::{Room, room_for};
+use box_instances::{Instance, NoMemory};
 use edge_state::{EdgeState, Rel};
 use rule_closure::{Closed, Closer};
 use std::alloc::Global;
-use std::process::Abort;
 use std::test::Fail;
 
 // Excludes one relation and closes what changed. A conflict is taken back.
@@ -156,34 +155,71 @@ fn descend(
     Some(stay)
 }
 
-// One descent from the closed root.
+// The states that are closed in both ways, and the closer for both.
+#[derive(Drop)]
+struct Descent {
+    state: EdgeState,
+    whole: EdgeState,
+    closer: Closer,
+}
+
+fn descent_of(alloc: Global, instance: &Instance) -> Result<Descent, NoMemory>
+    ensures dims { IfOk result (λ d. (d.state.dims ≡ dims instance.now)
+        × (d.whole.dims ≡ dims instance.now)) }
+    ensures boxes { IfOk result (λ d. (d.state.boxes ≡ box_count instance.now)
+        × (d.whole.boxes ≡ box_count instance.now)) }
+    ensures closer { IfOk result (λ d. d.closer
+        ≡ record { dims = dims instance.now; boxes = box_count instance.now }) }
+{
+    let room = room_for(alloc, instance)?;
+    let whole = EdgeState::new(alloc, instance.dims(), instance.len())?;
+    let Room { state, closer } = room;
+    Ok(Descent {
+        state,
+        whole,
+        closer,
+    })
+}
+
+// Closes the root and descends from there.
+fn descend_from_root(
+    instance: &Instance,
+    state: &mut EdgeState,
+    whole: &mut EdgeState,
+    closer: &mut Closer,
+    random: &mut u32,
+) -> Option<u32>
+    requires dims { state.old.dims ≡ dims instance.now }
+    requires boxes { state.old.boxes ≡ box_count instance.now }
+    requires whole_dims { whole.old.dims ≡ dims instance.now }
+    requires whole_boxes { whole.old.boxes ≡ box_count instance.now }
+    requires room { closer.old ≡ record { dims = state.old.dims; boxes = state.old.boxes } }
+{
+    match closer.close(instance, state) {
+        Closed::Stable => descend(instance, state, whole, closer, 30, random),
+        Closed::Conflict => Some(0),
+    }
+}
+
+// One descent from the closed root, of 30 exclusions.
 fn from_root(
-    rt: &impl Abort,
     alloc: Global,
     random: &mut u32,
     dims: u8,
     boxes: u8,
     most: u32,
-    container: u32,
-) -> Result<u32, Fail>
-    requires dims { IsDimCount dims }
-    requires boxes { IsBoxCount boxes }
-{
-    let sides = sides_of(alloc, random, boxes, most)?;
-    let instance = instance_of(alloc, dims, boxes, container, sides.as_slice())?;
-    let mut state = EdgeState::new(alloc, u32::from(dims), u32::from(boxes))?;
-    let mut whole = EdgeState::new(alloc, u32::from(dims), u32::from(boxes))?;
-    let mut closer = Closer::new(alloc, u32::from(dims), u32::from(boxes))?;
-    assert!(rt; instance.dims() == u32::from(dims));
-    assert!(rt; instance.len() == u32::from(boxes));
-    match closer.close(&instance, &mut state) {
-        Closed::Stable => {
-            let stay = descend(&instance, &mut state, &mut whole, &mut closer, 30, random);
-            assert!(rt; stay.is_some());
-            Ok(stay.unwrap_or(0))
-        }
-        Closed::Conflict => Ok(0),
-    }
+    side: u32,
+) -> Result<Option<u32>, Fail> {
+    let sides = sides_of(random, boxes, most);
+    let own = sides.get(..usize::from(boxes)).unwrap_or(&[]);
+    let container = [side; 4];
+    let instance = instance_of(
+        alloc,
+        container.get(..usize::from(dims)).unwrap_or(&[]),
+        own,
+    )?;
+    let mut d = descent_of(alloc, &instance)?;
+    Ok(descend_from_root(&instance, &mut d.state, &mut d.whole, &mut d.closer, random))
 }
 
 #[test]
@@ -194,10 +230,12 @@ fn closing_what_changed_is_closing(rt: HostRuntime) -> Result<(), Fail> {
         let dims = 2 + (number % 3) as u8;
         let boxes = 4 + (number % 17) as u8;
         let most = 7 + number % 3;
-        let here = from_root(&rt, rt.alloc(), &mut random, dims, boxes, most, 20)?;
-        stay = stay.saturating_add(here);
+        match from_root(rt.alloc(), &mut random, dims, boxes, most, 20)? {
+            Some(here) => stay = stay.saturating_add(here),
+            None => assert!(rt; false),
+        }
     }
-    assert!(rt; stay >= 2000, "{stay} stay");
+    assert!(rt; stay >= 2000);
     Ok(())
 }
 
@@ -207,10 +245,12 @@ fn closing_what_changed_is_closing_with_many_boxes(rt: HostRuntime) -> Result<()
     let mut stay = 0u32;
     for boxes in [63, 64, 65, 66, 127, 128] {
         for dims in 2..4u8 {
-            let here = from_root(&rt, rt.alloc(), &mut random, dims, boxes, 40, 90)?;
-            stay = stay.saturating_add(here);
+            match from_root(rt.alloc(), &mut random, dims, boxes, 40, 90)? {
+                Some(here) => stay = stay.saturating_add(here),
+                None => assert!(rt; false),
+            }
         }
     }
-    assert!(rt; stay >= 100, "{stay} stay");
+    assert!(rt; stay >= 100);
     Ok(())
 }

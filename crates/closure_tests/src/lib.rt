@@ -11,6 +11,8 @@ mod plain_closure;
 #[cfg(test)]
 mod random;
 #[cfg(test)]
+mod room;
+#[cfg(test)]
 mod rows;
 #[cfg(test)]
 mod states;

@@ -2,16 +2,17 @@
 //! Relations are numbers here: 0 is overlap, 1 before and 2 after. There are up to 4 dimensions and
 //! 20 boxes, and each container side is the same.
 
-use std::alloc::{AllocError, Global};
+/// The greatest number of boxes of a plain state.
+pub const MOST: usize = 20;
 
-/// A table of what is excluded, and the sides of the boxes, 4 each.
+/// A table of what is excluded, and the sides of the boxes.
 #[derive(Drop)]
 pub struct PlainState {
     pub dims: u8,
     pub boxes: u8,
-    pub container: u32,
-    pub sides: Vec<u32>,
-    pub excluded: Vec<bool>,
+    container: u32,
+    sides: [[u32; 4]; MOST],
+    excluded: [bool; 4800],
 }
 
 // Which chains of a box are weighed.
@@ -26,26 +27,26 @@ fn spot(i: u8, u: u8, v: u8, r: u8) -> usize {
 }
 
 impl PlainState {
-    /// A state with nothing excluded, with these sides.
-    pub fn new(
-        alloc: Global,
-        dims: u8,
-        boxes: u8,
-        container: u32,
-        sides: Vec<u32>,
-    ) -> Result<PlainState, AllocError> {
-        Ok(PlainState {
+    /// A state of so many boxes with nothing excluded, with the first of these sides.
+    pub fn new(dims: u8, boxes: u8, container: u32, sides: &[[u32; 4]]) -> PlainState {
+        let mut first = [[1; 4]; MOST];
+        for (own, given) in first.iter_mut().zip(sides) {
+            *own = *given;
+        }
+        PlainState {
             dims,
             boxes,
             container,
-            sides,
-            excluded: vec![in alloc; false; 4800]?,
-        })
+            sides: first,
+            excluded: [false; 4800],
+        }
     }
 
     fn side(&self, u: u8, i: u8) -> u32 {
-        let at = usize::from(u) * 4 + usize::from(i);
-        self.sides.get(at).copied().unwrap_or(0)
+        match self.sides.get(usize::from(u)) {
+            Some(own) => own.get(usize::from(i)).copied().unwrap_or(1),
+            None => 1,
+        }
     }
 
     /// Whether the relation is excluded.
@@ -57,12 +58,14 @@ impl PlainState {
     }
 
     fn put_out(&mut self, i: u8, u: u8, v: u8, r: u8) -> bool {
-        let at = spot(i, u, v, r);
-        if at < self.excluded.len() && !self.excluded[at] {
-            self.excluded[at] = true;
-            return true;
+        match self.excluded.get_mut(spot(i, u, v, r)) {
+            Some(is_out) => {
+                let is_new = !*is_out;
+                *is_out = true;
+                is_new
+            }
+            None => false,
         }
-        false
     }
 
     /// Excludes the relation and its mirror, and says whether that is new.
@@ -194,62 +197,79 @@ impl PlainState {
         changed
     }
 
-    // Raises the weights of the chains of each box by one box more.
+    // Whether a chain goes from one box to the other.
+    fn leads(&self, i: u8, x: u8, v: u8, chains: Chains) -> bool {
+        match chains {
+            Chains::EndThere => self.is_before(i, x, v),
+            Chains::StartThere => self.is_before(i, v, x),
+        }
+    }
+
+    // The weight of the heaviest chain of a box, where those of the others have these.
+    fn weight_of(&self, weights: &[u32], i: u8, v: u8, chains: Chains) -> u32 {
+        let mut most = self.side(v, i);
+        for x in 0..self.boxes {
+            if x != v && self.leads(i, x, v, chains) {
+                let before = weights.get(usize::from(x)).copied().unwrap_or(0);
+                most = most.max(before.saturating_add(self.side(v, i)));
+            }
+        }
+        most
+    }
+
+    // Weighs the chains of each box once more.
     fn raise(&self, weights: &mut [u32], i: u8, chains: Chains) {
         for v in 0..self.boxes {
-            for x in 0..self.boxes {
-                let leads = match chains {
-                    Chains::EndThere => self.is_before(i, x, v),
-                    Chains::StartThere => self.is_before(i, v, x),
-                };
-                let at = usize::from(x);
-                let to = usize::from(v);
-                if leads && v != x && at < weights.len() && to < weights.len() {
-                    let weight = weights[at].saturating_add(self.side(v, i));
-                    weights[to] = weights[to].max(weight);
-                }
+            let weight = self.weight_of(weights, i, v, chains);
+            if let Some(place) = weights.get_mut(usize::from(v)) {
+                *place = weight;
             }
         }
     }
 
     // The weights of the heaviest chains. Where no mask is empty and COMPOSE adds nothing, surely
     // before goes in no circle, so a chain has no more boxes than there are.
-    fn weigh(&self, alloc: Global, i: u8, chains: Chains) -> Result<Vec<u32>, AllocError> {
-        let mut weights = Vec::new(alloc);
-        for v in 0..self.boxes {
-            weights.push(self.side(v, i))?;
-        }
+    fn weigh(&self, i: u8, chains: Chains) -> [u32; MOST] {
+        let mut weights = [0; MOST];
         for _ in 0..self.boxes {
-            self.raise(weights.as_mut_slice(), i, chains);
+            self.raise(&mut weights, i, chains);
         }
-        Ok(weights)
+        weights
+    }
+
+    // CHAIN in one dimension, behind one box.
+    fn by_head(&mut self, i: u8, u: u8, head: u32, tails: &[u32]) -> bool {
+        let mut changed = false;
+        for v in 0..self.boxes {
+            let tail = tails.get(usize::from(v)).copied().unwrap_or(0);
+            if u != v && head.saturating_add(tail) > self.container {
+                let here = self.exclude(i, u, v, 1);
+                changed = changed | here;
+            }
+        }
+        changed
     }
 
     // CHAIN in one dimension, at all boxes.
-    fn by_chain(&mut self, alloc: Global, i: u8) -> Result<bool, AllocError> {
-        let heads = self.weigh(alloc, i, Chains::EndThere)?;
-        let tails = self.weigh(alloc, i, Chains::StartThere)?;
+    fn by_chain(&mut self, i: u8) -> bool {
+        let heads = self.weigh(i, Chains::EndThere);
+        let tails = self.weigh(i, Chains::StartThere);
         let mut changed = false;
         for u in 0..self.boxes {
-            for v in 0..self.boxes {
-                let head = heads.get(usize::from(u)).copied().unwrap_or(0);
-                let tail = tails.get(usize::from(v)).copied().unwrap_or(0);
-                if u != v && head.saturating_add(tail) > self.container {
-                    let here = self.exclude(i, u, v, 1);
-                    changed = changed | here;
-                }
-            }
-        }
-        Ok(changed)
-    }
-
-    fn by_chains(&mut self, alloc: Global) -> Result<bool, AllocError> {
-        let mut changed = false;
-        for i in 0..self.dims {
-            let here = self.by_chain(alloc, i)?;
+            let head = heads.get(usize::from(u)).copied().unwrap_or(0);
+            let here = self.by_head(i, u, head, &tails);
             changed = changed | here;
         }
-        Ok(changed)
+        changed
+    }
+
+    fn by_chains(&mut self) -> bool {
+        let mut changed = false;
+        for i in 0..self.dims {
+            let here = self.by_chain(i);
+            changed = changed | here;
+        }
+        changed
     }
 
     // All rules but CHAIN, until they change nothing.
@@ -263,17 +283,22 @@ impl PlainState {
 
     /// Excludes all that follows, until nothing more does or a mask is empty. Answers whether one
     /// is.
-    pub fn close(&mut self, alloc: Global) -> Result<bool, AllocError> {
+    pub fn close(&mut self) -> bool {
         for _ in 0..4000 {
             self.settle();
             if self.has_empty() {
-                return Ok(true);
+                return true;
             }
-            if !self.by_chains(alloc)? {
-                return Ok(false);
+            if !self.by_chains() {
+                return false;
             }
         }
-        Ok(false)
+        false
+    }
+
+    // Whether all three relations of two boxes are excluded.
+    fn is_empty(&self, i: u8, u: u8, v: u8) -> bool {
+        u != v && self.is_out(i, u, v, 0) && self.is_out(i, u, v, 1) && self.is_out(i, u, v, 2)
     }
 
     // Whether all three relations of some pair are excluded.
@@ -281,10 +306,7 @@ impl PlainState {
         for i in 0..self.dims {
             for u in 0..self.boxes {
                 for v in 0..self.boxes {
-                    let empty = self.is_out(i, u, v, 0)
-                        && self.is_out(i, u, v, 1)
-                        && self.is_out(i, u, v, 2);
-                    if u != v && empty {
+                    if self.is_empty(i, u, v) {
                         return true;
                     }
                 }

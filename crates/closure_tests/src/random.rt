@@ -3,8 +3,11 @@ ghost use Rattle.std.specs.Prelude.{◌≤◌};
 
 use box_instances::{BoxItem, Instance, Sides};
 use edge_state::Rel;
-use std::alloc::Global;
+use std::alloc::{AllocError, Global};
 use std::test::Fail;
+
+/// The sides of as many boxes as an instance may have, 4 each.
+pub type AllSides = [[u32; 4]; 128];
 
 /// The next number of a linear congruence, below `limit` unless that is 0.
 pub fn next(random: &mut u32, limit: u32) -> u32
@@ -26,40 +29,41 @@ pub fn rel_of(r: u8) -> Rel {
     }
 }
 
-/// Sides from 1 to `most`, 4 for each box.
-pub fn sides_of(alloc: Global, random: &mut u32, boxes: u8, most: u32) -> Result<Vec<u32>, Fail> {
-    let mut sides = Vec::new(alloc);
-    for _ in 0..boxes {
-        for _ in 0..4 {
-            sides.push(next(random, most).saturating_add(1))?;
-        }
-    }
-    Ok(sides)
+// A side from 1 to `most`.
+fn side_of(random: &mut u32, most: u32) -> u32 {
+    next(random, most).saturating_add(1)
 }
 
-/// The instance with the first of these sides of each box, in a container of equal sides.
-pub fn instance_of(
-    alloc: Global,
-    dims: u8,
-    boxes: u8,
-    container: u32,
-    sides: &[u32],
-) -> Result<Instance, Fail> {
+/// Sides from 1 to `most` for the first boxes, and of 1 for the others.
+pub fn sides_of(random: &mut u32, boxes: u8, most: u32) -> AllSides {
+    let mut all = [[1; 4]; 128];
+    for u in 0..usize::from(boxes).min(128) {
+        let first = side_of(random, most);
+        let second = side_of(random, most);
+        let third = side_of(random, most);
+        all[u] = [first, second, third, side_of(random, most)];
+    }
+    all
+}
+
+// A box with the first of these sides.
+fn item_of(alloc: Global, dims: usize, own: &[u32]) -> Result<BoxItem, AllocError> {
+    let sides = Sides::from_slice(alloc, own.get(..dims).unwrap_or(own))?;
+    Ok(BoxItem { sides, value: 0 })
+}
+
+// The boxes with the first of these sides.
+fn items_of(alloc: Global, dims: usize, sides: &[[u32; 4]]) -> Result<Vec<BoxItem>, AllocError> {
     let mut items = Vec::new(alloc);
-    for u in 0..boxes {
-        let mut own = Sides::new(alloc);
-        for i in 0..dims {
-            let at = usize::from(u) * 4 + usize::from(i);
-            own.push(sides.get(at).copied().unwrap_or(1))?;
-        }
-        items.push(BoxItem {
-            sides: own,
-            value: 0,
-        })?;
+    for own in sides {
+        items.push(item_of(alloc, dims, own)?)?;
     }
-    let mut whole = Sides::new(alloc);
-    for _ in 0..dims {
-        whole.push(container)?;
-    }
+    Ok(items)
+}
+
+/// The instance of the first of these sides of each box, as many as the container has.
+pub fn instance_of(alloc: Global, container: &[u32], sides: &[[u32; 4]]) -> Result<Instance, Fail> {
+    let items = items_of(alloc, container.len(), sides)?;
+    let whole = Sides::from_slice(alloc, container)?;
     Ok(Instance::new(whole, items)?)
 }

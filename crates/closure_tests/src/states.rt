@@ -1,124 +1,145 @@
 //! The closure of generated states is that of the definition.
 ghost use Rattle.std.specs.Prelude.{◌≡◌};
-ghost use Rattle.packing_terms.specs.Limits.{IsDimCount, IsBoxCount};
+ghost use Rattle.packing_terms.specs.Packing.{dims, box_count};
 
 use crate::plain_closure::PlainState;
 use crate::random::{instance_of, next, rel_of, sides_of};
+use crate::room::{exclude_at, is_edge, room_for};
 use box_instances::Instance;
 use edge_state::EdgeState;
 use rule_closure::{Closed, Closer};
 use std::alloc::Global;
-use std::process::Abort;
 use std::test::Fail;
 
-// The box of the state that stands for one of the plain state: that of the list, or the same.
-fn box_of(numbers: &[u32], u: u8) -> u32 {
-    numbers.get(usize::from(u)).copied().unwrap_or(u32::from(u))
+/// How closing a state in both ways came out.
+#[derive(Clone, Copy)]
+pub enum Ways {
+    BothStable,
+    BothInConflict,
+    Different,
 }
 
-/// Excludes some relations, fewer than `tries`, in both states.
-pub fn exclude_some(
-    rt: &impl Abort,
+// The box of the state that stands for one of the plain state: that of the list, or the same.
+fn box_of(numbers: &[u32], u: u32) -> u32 {
+    numbers.get(u as usize).copied().unwrap_or(u)
+}
+
+// Excludes one relation in both states.
+fn exclude_one(random: &mut u32, numbers: &[u32], plain: &mut PlainState, state: &mut EdgeState)
+    ensures { state.new ≡ record state.old { trail = state.new.trail } }
+{
+    let dim = next(random, u32::from(plain.dims));
+    let u = next(random, u32::from(plain.boxes));
+    let v = next(random, u32::from(plain.boxes));
+    let r = next(random, 3) as u8;
+    if u != v {
+        plain.exclude(dim as u8, u as u8, v as u8, r);
+        exclude_at(
+            state,
+            dim,
+            box_of(numbers, u),
+            box_of(numbers, v),
+            rel_of(r),
+        );
+    }
+}
+
+// Excludes some relations, fewer than `tries`, in both states.
+fn exclude_some(
     random: &mut u32,
     tries: u32,
     numbers: &[u32],
     plain: &mut PlainState,
     state: &mut EdgeState,
-) {
+)
+    ensures { state.new ≡ record state.old { trail = state.new.trail } }
+{
     for _ in 0..next(random, tries) {
-        let dim = next(random, u32::from(plain.dims));
-        let u = next(random, u32::from(plain.boxes));
-        let v = next(random, u32::from(plain.boxes));
-        let r = next(random, 3) as u8;
-        if u != v {
-            plain.exclude(dim as u8, u as u8, v as u8, r);
-            let (first, second) = (box_of(numbers, u as u8), box_of(numbers, v as u8));
-            assert!(rt; dim < state.dims() && first < state.boxes() && second < state.boxes());
-            assert!(rt; first != second);
-            state.exclude(dim, first, second, rel_of(r));
-        }
+        exclude_one(random, numbers, plain, state);
     }
 }
 
-/// Checks that both states exclude the same.
-pub fn check_same(rt: &impl Abort, numbers: &[u32], state: &EdgeState, plain: &PlainState) {
+// Whether both states have the same relations left at one pair.
+fn is_same_at(numbers: &[u32], state: &EdgeState, plain: &PlainState, i: u8, u: u8, v: u8) -> bool {
+    let dim = u32::from(i);
+    let (first, second) = (box_of(numbers, u32::from(u)), box_of(numbers, u32::from(v)));
+    if !is_edge(state, dim, first, second) {
+        return false;
+    }
+    let left = state.mask(dim, first, second);
+    for r in 0..3 {
+        if left.has(rel_of(r)) == plain.is_out(i, u, v, r) {
+            return false;
+        }
+    }
+    true
+}
+
+// Whether both states exclude the same.
+fn is_same(numbers: &[u32], state: &EdgeState, plain: &PlainState) -> bool {
     for i in 0..plain.dims {
         for u in 0..plain.boxes {
             for v in 0..plain.boxes {
-                for r in 0..3 {
-                    let dim = u32::from(i);
-                    let (first, second) = (box_of(numbers, u), box_of(numbers, v));
-                    if u != v {
-                        assert!(rt;
-                            dim < state.dims() && first < state.boxes() && second < state.boxes()
-                        );
-                        assert!(rt; first != second);
-                        let left = state.mask(dim, first, second).has(rel_of(r));
-                        assert!(rt; left != plain.is_out(i, u, v, r));
-                    }
+                if u != v && !is_same_at(numbers, state, plain, i, u, v) {
+                    return false;
                 }
             }
         }
     }
+    true
 }
 
-/// Closes a state of these sizes.
-pub fn close_state(
-    rt: &impl Abort,
-    closer: &mut Closer,
+// Closes both states.
+fn close_states(
     instance: &Instance,
+    numbers: &[u32],
+    plain: &mut PlainState,
     state: &mut EdgeState,
-    dims: u32,
-    boxes: u32,
-) -> Closed
-    requires { closer.old ≡ record { dims = dims; boxes = boxes } }
+    closer: &mut Closer,
+) -> Ways
+    requires dims { state.old.dims ≡ dims instance.now }
+    requires boxes { state.old.boxes ≡ box_count instance.now }
+    requires room { closer.old ≡ record { dims = state.old.dims; boxes = state.old.boxes } }
 {
-    assert!(rt; state.dims() == dims);
-    assert!(rt; state.boxes() == boxes);
-    assert!(rt; instance.dims() == dims);
-    assert!(rt; instance.len() == boxes);
-    closer.close(instance, state)
+    let is_conflict = plain.close();
+    match closer.close(instance, state) {
+        Closed::Conflict if is_conflict => Ways::BothInConflict,
+        Closed::Stable if !is_conflict && is_same(numbers, state, plain) => Ways::BothStable,
+        _ => Ways::Different,
+    }
 }
 
-// Closes a generated state in both ways, and says whether it is stable.
-fn closes_as_defined(
-    rt: &impl Abort,
+/// Excludes some relations of the boxes of a plain state, which have these numbers in the instance,
+/// and closes what comes of it in both ways.
+pub fn close_both(
+    alloc: Global,
+    random: &mut u32,
+    tries: u32,
+    instance: &Instance,
+    numbers: &[u32],
+    plain: &mut PlainState,
+) -> Result<Ways, Fail> {
+    let mut room = room_for(alloc, instance)?;
+    exclude_some(random, tries, numbers, plain, &mut room.state);
+    Ok(close_states(instance, numbers, plain, &mut room.state, &mut room.closer))
+}
+
+// Closes a generated state in both ways.
+fn close_drawn(
     alloc: Global,
     random: &mut u32,
     dims: u8,
     boxes: u8,
     most: u32,
     tries: u32,
-) -> Result<bool, Fail>
-    requires dims { IsDimCount dims }
-    requires boxes { IsBoxCount boxes }
-{
-    let sides = sides_of(alloc, random, boxes, most)?;
-    let instance = instance_of(alloc, dims, boxes, 20, sides.as_slice())?;
-    let mut plain = PlainState::new(alloc, dims, boxes, 20, sides)?;
-    let mut state = EdgeState::new(alloc, u32::from(dims), u32::from(boxes))?;
-    let mut closer = Closer::new(alloc, u32::from(dims), u32::from(boxes))?;
-    exclude_some(rt, random, tries, &[], &mut plain, &mut state);
-    let conflict = plain.close(alloc)?;
-    let closed = close_state(
-        rt,
-        &mut closer,
-        &instance,
-        &mut state,
-        u32::from(dims),
-        u32::from(boxes),
-    );
-    let stable = closed == Closed::Stable;
-    assert!(rt; stable != conflict);
-    if stable {
-        check_same(rt, &[], &state, &plain);
-    }
-    Ok(stable)
-}
-
-/// 1 or 0.
-pub fn one_if(is: bool) -> u32 {
-    if is { 1 } else { 0 }
+) -> Result<Ways, Fail> {
+    let sides = sides_of(random, boxes, most);
+    let own = sides.get(..usize::from(boxes)).unwrap_or(&[]);
+    let container = [20; 4];
+    let whole = container.get(..usize::from(dims)).unwrap_or(&[]);
+    let instance = instance_of(alloc, whole, own)?;
+    let mut plain = PlainState::new(dims, boxes, 20, own);
+    close_both(alloc, random, tries, &instance, &[], &mut plain)
 }
 
 #[test]
@@ -128,10 +149,13 @@ fn closures_are_those_of_the_definition(rt: HostRuntime) -> Result<(), Fail> {
     for number in 0..480u32 {
         let dims = 2 + (number % 3) as u8;
         let boxes = 2 + (number % 7) as u8;
-        let here = closes_as_defined(&rt, rt.alloc(), &mut random, dims, boxes, 14, 9)?;
-        stable = stable.saturating_add(one_if(here));
+        match close_drawn(rt.alloc(), &mut random, dims, boxes, 14, 9)? {
+            Ways::BothStable => stable = stable.saturating_add(1),
+            Ways::BothInConflict => {}
+            Ways::Different => assert!(rt; false),
+        }
     }
-    assert!(rt; stable >= 100 && stable <= 380, "{stable} stable");
+    assert!(rt; stable >= 100 && stable <= 380);
     Ok(())
 }
 
@@ -143,9 +167,12 @@ fn closures_of_many_boxes_are_those_of_the_definition(rt: HostRuntime) -> Result
         let dims = 2 + (number % 3) as u8;
         let boxes = 11 + (number % 10) as u8;
         let most = 8 + number % 6;
-        let here = closes_as_defined(&rt, rt.alloc(), &mut random, dims, boxes, most, 60)?;
-        stable = stable.saturating_add(one_if(here));
+        match close_drawn(rt.alloc(), &mut random, dims, boxes, most, 60)? {
+            Ways::BothStable => stable = stable.saturating_add(1),
+            Ways::BothInConflict => {}
+            Ways::Different => assert!(rt; false),
+        }
     }
-    assert!(rt; stable >= 10 && stable <= 50, "{stable} stable");
+    assert!(rt; stable >= 10 && stable <= 50);
     Ok(())
 }

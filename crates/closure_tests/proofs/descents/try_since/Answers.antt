@@ -1,4 +1,4 @@
-use Rattle.std.proofs.Common.{◌≡◌, ◌-◌, length, drop, List, subst, sym}
+use Rattle.std.proofs.Common.{List, subst, sym}
 use Rattle.packing_terms.specs.declared.Exclusion.{Exclusion}
 use Rattle.packing_terms.specs.Exclusions.{excludes, exclusion_at}
 use Rattle.packing_terms.specs.Closure.{IsStable}

@@ -1,0 +1,73 @@
+//! Tasks are explored at the same time: one is held until another was explored.
+use crate::runs::told_by;
+use crate::texts::EIGHT_IN_A_ROW;
+use std::sync::atomic::{AtomicBool, Ordering};
+use std::test::Fail;
+use work_share::{Gate, NoGate};
+
+// The most turns for which a task is held.
+const MOST_TURNS: u32 = 1_000_000_000;
+
+// Holds the task `held` until the task `awaited` was explored.
+#[derive(Drop)]
+struct Holding {
+    held: u64,
+    awaited: u64,
+    is_explored: AtomicBool,
+    is_given_up: AtomicBool,
+}
+
+impl Holding {
+    fn new(held: u64, awaited: u64) -> Holding {
+        Holding {
+            held,
+            awaited,
+            is_explored: AtomicBool::new(false),
+            is_given_up: AtomicBool::new(false),
+        }
+    }
+
+    // Whether the awaited task was explored while the other one was held.
+    fn is_passed(&self) -> bool {
+        self.is_explored.load(Ordering::SeqCst) && !self.is_given_up.load(Ordering::SeqCst)
+    }
+}
+
+impl Gate for Holding {
+    fn before(&self, number: u64) {
+        if number != self.held {
+            return;
+        }
+        for _ in 0..MOST_TURNS {
+            if self.is_explored.load(Ordering::SeqCst) {
+                return;
+            }
+        }
+        self.is_given_up.store(true, Ordering::SeqCst);
+    }
+
+    fn after(&self, number: u64) {
+        if number == self.awaited {
+            self.is_explored.store(true, Ordering::SeqCst);
+        }
+    }
+}
+
+// A job, the task that is held, and the one that is awaited. Two tasks wait at once: the root of
+// `fit`, and of `knapsack` at value 8, passes its cap, so that it is split into the tasks 1 and 2;
+// so does the only child of the root of `bins` at 4 bins, since eight boxes in one bin have 5,039
+// branchings, and it is split into the tasks 2 and 3.
+const CASES: [(&str, u64, u64); 3] = [("fit", 1, 2), ("bins", 2, 3), ("knapsack", 1, 2)];
+
+#[test]
+fn workers_explore_at_the_same_time(rt: HostRuntime) -> Result<(), Fail> {
+    for (job, held, awaited) in CASES {
+        let words = [job, "--scales", "no"];
+        let gate = Holding::new(held, awaited);
+        let told = told_by(&rt, &words, "2", EIGHT_IN_A_ROW, &gate)?;
+        assert!(rt; gate.is_passed(), "{job}");
+        let alone = told_by(&rt, &words, "1", EIGHT_IN_A_ROW, &NoGate)?;
+        assert!(rt; told.is_as(&alone), "{job}");
+    }
+    Ok(())
+}

@@ -1,0 +1,218 @@
+//! Runs of the whole program over memory: words and bytes in, bytes and a status out.
+use pack_command::run;
+use pack_streams::{MemorySink, MemorySource, ReadAnswer, ReadStep, Source, WriteStep};
+use std::alloc::{AllocError, AllocGlobal, Global};
+use std::sync::Wait;
+use std::test::Fail;
+use std::thread::Threads;
+use work_share::{Gate, NoGate};
+
+/// What a run answered and wrote, and what it left of its input.
+#[derive(Drop)]
+pub struct Told {
+    pub status: u8,
+    pub out: Vec<u8>,
+    pub err: Vec<u8>,
+    pub left: Vec<u8>,
+}
+
+impl Told {
+    /// Whether the run ended with this status and wrote these lines alone.
+    pub fn is_line(&self, status: u8, lines: &str) -> bool {
+        self.status == status && self.out.as_slice() == lines.as_bytes() && self.err.is_empty()
+    }
+
+    /// Whether the run ended with this status, told this cause, and wrote these bytes before.
+    pub fn is_stop(&self, status: u8, cause: &str, out: &[u8]) -> bool {
+        self.status == status
+            && self.err.as_slice() == cause.as_bytes()
+            && self.out.as_slice() == out
+    }
+
+    /// Whether the other run answered and wrote the same.
+    pub fn is_as(&self, other: &Told) -> bool {
+        self.status == other.status
+            && self.out.as_slice() == other.out.as_slice()
+            && self.err.as_slice() == other.err.as_slice()
+    }
+
+    /// Whether what was written is the document with this first line, these lines of the instance,
+    /// and behind them these.
+    pub fn is_document(&self, first: &[u8], instance: &[u8], rest: &[u8]) -> bool {
+        let head = first.len();
+        let body = head.saturating_add(instance.len());
+        if self.out.len() != body.saturating_add(rest.len()) || !self.err.is_empty() {
+            return false;
+        }
+        self.out.starts_with(first)
+            && &self.out[head..body] == instance
+            && &self.out[body..] == rest
+    }
+
+    /// How many lines begin with this byte.
+    pub fn lines_from(&self, first: u8) -> u32 {
+        let mut count = 0u32;
+        let mut before = b'\n';
+        for byte in &self.out {
+            if before == b'\n' && *byte == first {
+                count = count.saturating_add(1);
+            }
+            before = *byte;
+        }
+        count
+    }
+}
+
+/// What the source and both sinks do, step by step, before they go on without a fault.
+#[derive(Clone, Copy)]
+pub struct Plans<'a> {
+    pub reads: &'a [ReadStep],
+    pub writes: &'a [WriteStep],
+    pub messages: &'a [WriteStep],
+}
+
+impl<'a> Plans<'a> {
+    /// Nothing fails.
+    pub fn none() -> Plans<'a> {
+        Plans {
+            reads: &[],
+            writes: &[],
+            messages: &[],
+        }
+    }
+}
+
+/// Runs the words on the input, where the source and the sinks follow these plans and the workers
+/// call the gate.
+pub fn told_at<R: AllocGlobal + Threads + Wait + Sync, G: Gate + Sync>(
+    rt: &R,
+    words: &[&str],
+    input: &[u8],
+    plans: Plans<'_>,
+    gate: &G,
+) -> Result<Told, AllocError> {
+    let alloc = rt.alloc();
+    let mut given = Vec::new(alloc);
+    for word in words {
+        given.push(String::from_str(alloc, word)?)?;
+    }
+    let mut source = MemorySource::new(
+        Vec::from_slice(alloc, input)?,
+        Vec::from_slice(alloc, plans.reads)?,
+    );
+    let Ok(mut out) = MemorySink::new(alloc, 65536, Vec::from_slice(alloc, plans.writes)?) else {
+        return Err(AllocError);
+    };
+    let Ok(mut err) = MemorySink::new(alloc, 256, Vec::from_slice(alloc, plans.messages)?) else {
+        return Err(AllocError);
+    };
+    let status = run(rt, alloc, &given, &mut source, &mut out, &mut err, gate);
+    Ok(Told {
+        status,
+        out: Vec::from_slice(alloc, out.written())?,
+        err: Vec::from_slice(alloc, err.written())?,
+        left: rest_of(alloc, &mut source)?,
+    })
+}
+
+/// Runs the words on the input, where the source and the sink follow these plans.
+pub fn told_with<R: AllocGlobal + Threads + Wait + Sync>(
+    rt: &R,
+    words: &[&str],
+    input: &[u8],
+    reads: &[ReadStep],
+    writes: &[WriteStep],
+) -> Result<Told, AllocError> {
+    let plans = Plans {
+        reads,
+        writes,
+        messages: &[],
+    };
+    told_at(rt, words, input, plans, &NoGate)
+}
+
+/// Runs the words on the input, where nothing fails.
+pub fn told_of<R: AllocGlobal + Threads + Wait + Sync>(
+    rt: &R,
+    words: &[&str],
+    input: &[u8],
+) -> Result<Told, AllocError> {
+    told_at(rt, words, input, Plans::none(), &NoGate)
+}
+
+/// Runs the words on the input, which comes byte by byte up to a fault behind so many bytes.
+pub fn told_read_to<R: AllocGlobal + Threads + Wait + Sync>(
+    rt: &R,
+    words: &[&str],
+    input: &[u8],
+    count: usize,
+) -> Result<Told, AllocError> {
+    let mut reads = vec![in rt.alloc(); ReadStep::Give(1); count]?;
+    reads.push(ReadStep::Fail)?;
+    told_with(rt, words, input, &reads, &[])
+}
+
+/// Runs the words on the input, where so many bytes are taken one by one before a write fails.
+pub fn told_written_to<R: AllocGlobal + Threads + Wait + Sync>(
+    rt: &R,
+    words: &[&str],
+    input: &[u8],
+    count: usize,
+) -> Result<Told, AllocError> {
+    let mut writes = vec![in rt.alloc(); WriteStep::Take(1); count]?;
+    writes.push(WriteStep::Fail)?;
+    told_with(rt, words, input, &[], &writes)
+}
+
+/// Runs the words on the input by so many workers, which call the gate.
+pub fn told_by<R: AllocGlobal + Threads + Wait + Sync, G: Gate + Sync>(
+    rt: &R,
+    words: &[&str],
+    workers: &str,
+    input: &[u8],
+    gate: &G,
+) -> Result<Told, AllocError> {
+    let mut given = Vec::new(rt.alloc());
+    for word in words {
+        given.push(*word)?;
+    }
+    given.push("--workers")?;
+    given.push(workers)?;
+    told_at(rt, &given, input, Plans::none(), gate)
+}
+
+/// Whether ten runs by each of these numbers of workers answer and write what one worker does,
+/// which is this status.
+pub fn is_same_by<R: AllocGlobal + Threads + Wait + Sync>(
+    rt: &R,
+    words: &[&str],
+    input: &[u8],
+    status: u8,
+    workers: &[&str],
+) -> Result<bool, Fail> {
+    let alone = told_by(rt, words, "1", input, &NoGate)?;
+    if alone.status != status {
+        return Ok(false);
+    }
+    for count in workers {
+        for _ in 0..10 {
+            if !told_by(rt, words, count, input, &NoGate)?.is_as(&alone) {
+                return Ok(false);
+            }
+        }
+    }
+    Ok(true)
+}
+
+// What the source gives yet, up to its end or its next failure.
+fn rest_of(alloc: Global, source: &mut MemorySource) -> Result<Vec<u8>, AllocError> {
+    let mut rest = Vec::new(alloc);
+    let mut room = [0u8; 256];
+    for _ in 0..64 {
+        match source.read(&mut room) {
+            ReadAnswer::Got(count) => rest.extend_from_slice(&room[..count])?,
+            ReadAnswer::End | ReadAnswer::Failed => return Ok(rest),
+        }
+    }
+    Ok(rest)
+}
