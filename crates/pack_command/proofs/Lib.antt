@@ -2,7 +2,7 @@ pub mod Decided
 pub mod StripDecided
 pub mod BinsDecided
 pub mod ValueDecided
-pub mod Solving
+pub mod Found
 pub mod Answering
 pub mod Checked
 pub mod Written

@@ -2,7 +2,7 @@
 ghost use Rattle.std.specs.Prelude.{◌≡◌, ◌++◌, ℕ, List, IfOk, IfSome, IsErr, MatchBool, Some};
 ghost use Rattle.tree_terms.specs.Trees.{node_at, told};
 ghost use Rattle.tree_terms.specs.Paths.{node_told, outcome_at, IsReachable};
-ghost use Rattle.proof_tree.specs.Plain.{plain_outcome};
+ghost use Rattle.work_share.specs.Outcomes.{plain_outcome};
 ghost use Rattle.work_share.specs.Nodes.{plain_node};
 
 use crate::tree::{Node, Tree};

@@ -2,7 +2,7 @@ use Rattle.std.proofs.Common.{sym, subst}
 use Rattle.document_terms.specs.declared.claim.SolvingJob.{SolvingJob}
 use Rattle.answer_streams.specs.declared.solution.Solution.TheVariants.{Fit, Strip, Bins, Knapsack}
 use Rattle.answer_streams.specs.Solutions.{IsSolution}
-use Rattle.pack_command.proofs.Solving.{fit_solution, strip_solution, bins_solution, choice_solution}
+use Rattle.pack_command.proofs.Found.{fit_solution, strip_solution, bins_solution, choice_solution}
 use Rattle.pack_command.proofs.solving.solve.Goals as goal
 
 pub returns-in_ok-outcome-in-Fit : goal.returns-in_ok-outcome-in-Fit
