@@ -217,8 +217,12 @@ fn under(
     if instance.dims() != 2 || instance.len() != 2 || count > 2 {
         return Ok(None);
     }
-    let start = [ordered(Rel::Before), ordered(Rel::After)];
-    let mut refuter = Refuter::starting(alloc, instance, &start[..count])?;
+    let (before, after) = (ordered(Rel::Before), ordered(Rel::After));
+    let mut refuter = match count {
+        0 => Refuter::starting(alloc, instance, &[])?,
+        1 => Refuter::starting(alloc, instance, &[before])?,
+        _ => Refuter::starting(alloc, instance, &[before, after])?,
+    };
     Ok(Some(refuter.feed(token)))
 }
 
