@@ -3,8 +3,8 @@ use Rattle.tree_terms.specs.OuterTrees.{bin_tree}
 use Rattle.tree_terms.specs.Paths.{node_told}
 use Rattle.proof_tree.specs.Plain.{plain_token}
 use Rattle.work_share.specs.Nodes.{plain_node}
-use Rattle.search_tests.proofs.Reached.{child_reached}
-use Rattle.search_tests.proofs.paths.bins_go_down.Goals as goal
+use Rattle.tree_tests.proofs.Reached.{child_reached}
+use Rattle.tree_tests.proofs.paths.bins_go_down.Goals as goal
 
 pub node-requires-in-Split-Assign-eq1-eq0-eq1 : goal.node-requires-in-Split-Assign-eq1-eq0-eq1
 node-requires-in-Split-Assign-eq1-eq0-eq1 c =

@@ -1,0 +1,12 @@
+//! Tests of single calls with ample memory: relations, states, and the rules on states written out
+//! by hand.
+#![tactic(auto)]
+
+#[cfg(test)]
+mod cycles;
+#[cfg(test)]
+mod relations;
+#[cfg(test)]
+mod rules;
+#[cfg(test)]
+mod states;
