@@ -1,13 +1,13 @@
 -- What a block holds back, and what that says of the sink behind it.
-use Rattle.std.proofs.Common.{ℕ, ◌≡◌, ◌≤◌, ◌+◌, ◌-◌, min, List, [], ◌++◌, take, drop, length, arith, refl, sym, ap, subst, ◌∙◌, append-nil, append_assoc, Option, Some, None, Bool, true, false, Result, Ok, Err, OnOk, OnErr}
+use Rattle.std.proofs.Common.{ℕ, ◌≡◌, ◌≤◌, ◌+◌, ◌-◌, min, List, [], ◌++◌, take, drop, length, arith, refl, sym, ap, subst, ◌∙◌, append-nil, append_assoc, Option, Some, None, Bool, true, false, Result, Ok, Err, OnOk}
 use Rattle.std.specs.Result.{is_err}
-use Rattle.pack_streams.specs.Faults.{Rose}
+use Rattle.pack_streams.specs.Faults.{FailedOnce}
 use Rattle.std.proofs.lemmas.Bool.{true≢false}
 use Rattle.std.proofs.lemmas.List.{drop-take, drop-drop, drop-append-le, take-append-drop, length-take, length-take-le, take-take, append_cancel_left}
 use Rattle.std.proofs.Math.Seq.{take-append_seam, take-length}
 use Rattle.std.specs.Io.KnownBytes.{append_known}
 use Rattle.pack_streams.specs.Moves.{Gains}
-use Rattle.pack_streams.specs.Writing.{GainsPart, Writes}
+use Rattle.pack_streams.specs.Writing.{CountsWriting, GainsPart, Writes}
 use Rattle.answer_streams.specs.Fronts.{part_of, shown, IsToldFront}
 
 -- the part of a block is what is left of its front
@@ -100,29 +100,25 @@ whole_part w v text gains = (length text, gains ∙ ap (append_known w) (sym (ta
 pub behind_err : {E : Type 0} (w s v : Option (List ℕ)) (held : List ℕ) (f g h : ℕ) (text : List ℕ) (e d : E)
     → s ≡ w → g ≡ f → IsToldFront w v → Writes {E = E} s (append_known v held) g h text (Err e) → Writes {E = E} w v f h text (Err d)
 behind_err w s v held f g h text e d p q front t =
-    let rose : Rose g h = t.cause in
     record {
       whole = tt;
       part = part_behind w v held text front (subst (λ u. GainsPart u (append_known v held) text) p t.part);
-      count = omega (arith, q, t.count);
-      cause = omega (arith, q, rose);
+      count = subst (λ n. FailedOnce n h) q t.count;
     }
 
 -- a whole text through a front, and then what is held back, or a part of it
 pub behind_end : {E : Type 0} (w s u v : Option (List ℕ)) (block : List ℕ) (start end : ℕ) (f g h k : ℕ) (text : List ℕ) (r : Result (Unit {0}) E)
     → s ≡ w → g ≡ f → IsToldFront w v → Writes {E = E} s u g h text (Ok tt) → shown v block start end ≡ u → OnOk r (start ≡ end)
-    → h ≤ k → OnErr r (Rose h k) → Writes {E = E} w v f k text r
-behind_end w s u v block start end f g h k text (Ok x) p q front t same none count rose =
+    → CountsWriting h k r → Writes {E = E} w v f k text r
+behind_end w s u v block start end f g h k text (Ok x) p q front t same none count =
     let gains : v ≡ append_known w text =
     sym (known_none v) ∙ sym (shown_none v block start end none) ∙ same ∙ t.whole ∙ ap (λ z. append_known z text) p in
-    record { whole = gains; part = whole_part w v text gains; count = omega (arith, q, count, t.count); cause = tt }
-behind_end w s u v block start end f g h k text (Err x) p q front t same none count rose =
-    let risen : Rose h k = rose in
+    record { whole = gains; part = whole_part w v text gains; count = count ∙ t.count ∙ q }
+behind_end w s u v block start end f g h k text (Err x) p q front t same none count =
     record {
       whole = tt;
       part = part_behind w v (part_of block start end) text front (whole_part w (shown v block start end) text (same ∙ t.whole ∙ ap (λ z. append_known z text) p));
-      count = omega (arith, q, count, t.count);
-      cause = omega (arith, q, t.count, risen);
+      count = subst (λ n. FailedOnce n k) (t.count ∙ q) count;
     }
 
 -- a text that was written from the same start

@@ -1,8 +1,8 @@
 //! A sink that stands before another one and holds back up to 4,096 bytes.
-ghost use Rattle.std.specs.Prelude.{◌≡◌, ◌<◌, ◌≤◌, ◌+◌, ◌-◌, ◌++◌, ℕ, List, min, length, take, OnOk, OnErr};
-ghost use Rattle.pack_streams.specs.Faults.{Rose};
+ghost use Rattle.std.specs.Prelude.{◌≡◌, ◌<◌, ◌≤◌, ◌+◌, ◌-◌, ◌++◌, ℕ, List, min, length, take, OnOk};
+ghost use Rattle.pack_streams.specs.Faults.{FailedOnce};
 ghost use Rattle.pack_streams.specs.Moves.{Gains};
-ghost use Rattle.pack_streams.specs.Writing.{Writes};
+ghost use Rattle.pack_streams.specs.Writing.{CountsWriting, Writes};
 ghost use Rattle.answer_streams.specs.Fronts.{IsToldFront, part_of, shown};
 ghost use Rattle.std.proofs.Props.{props};
 
@@ -56,8 +56,9 @@ pub struct Front<'a, K: Sink, B: Behind> {
 fn give<K: Sink>(out: &mut K, piece: &[u8]) -> usize
     ensures within { result ≤ length piece.now }
     ensures moves { Gains (K.written out.old) (K.written out.new) (take result piece.now) }
-    ensures count { K.faults out.old ≤ K.faults out.new }
-    ensures cause { result < length piece.now → Rose (K.faults out.old) (K.faults out.new) }
+    ensures still { result ≡ length piece.now → K.faults out.new ≡ K.faults out.old }
+    ensures cause { result < length piece.now
+        → FailedOnce (K.faults out.old) (K.faults out.new) }
 {
     let mut done = 0;
     while done < piece.len() {
@@ -76,8 +77,8 @@ fn give_part<K: Sink>(out: &mut K, block: &[u8], start: usize, end: usize) -> us
     ensures within { result ≤ end - start }
     ensures moves { Gains (K.written out.old) (K.written out.new)
         (take result (part_of block.now start end)) }
-    ensures count { K.faults out.old ≤ K.faults out.new }
-    ensures cause { result < end - start → Rose (K.faults out.old) (K.faults out.new) }
+    ensures still { result ≡ end - start → K.faults out.new ≡ K.faults out.old }
+    ensures cause { result < end - start → FailedOnce (K.faults out.old) (K.faults out.new) }
 {
     give(out, &block[start..end])
 }
@@ -101,9 +102,8 @@ impl<'a, K: Sink, B: Behind> Front<'a, K, B> {
             self.new.end
             ≡ shown (K.written self.old.out.now) self.old.block self.old.start self.old.end }
         ensures empty { OnOk result (self.new.start ≡ self.new.end) }
-        ensures count { K.faults self.old.out.now ≤ K.faults self.new.out.now }
-        ensures cause { OnErr result
-            (Rose (K.faults self.old.out.now) (K.faults self.new.out.now)) }
+        ensures count { CountsWriting (K.faults self.old.out.now) (K.faults self.new.out.now)
+            result }
     {
         let taken = give_part(self.out, &self.block, self.start, self.end);
         self.start += taken;
@@ -121,9 +121,8 @@ impl<'a, K: Sink, B: Behind> Front<'a, K, B> {
             self.new.end
             ≡ shown (K.written self.old.out.now) self.old.block self.old.start self.old.end }
         ensures room { OnOk result (self.new.end < 4096) }
-        ensures count { K.faults self.old.out.now ≤ K.faults self.new.out.now }
-        ensures cause { OnErr result
-            (Rose (K.faults self.old.out.now) (K.faults self.new.out.now)) }
+        ensures count { CountsWriting (K.faults self.old.out.now) (K.faults self.new.out.now)
+            result }
     {
         if self.end < BLOCK {
             return Ok(());

@@ -5,11 +5,9 @@ use Rattle.packing_terms.specs.Goals.{FitsInBins, IsLeastBins, HasTooLargeBox}
 use Rattle.packing_terms.specs.TooLarge.{IsFirstTooLarge}
 use Rattle.packing_terms.specs.OuterRefutation.{IsBinRefutation}
 use Rattle.packing_terms.specs.Tokens.{PlainToken}
-use Rattle.tree_terms.specs.Trees.{outcome, count_of}
-use Rattle.tree_terms.specs.OuterTrees.{bin_tree}
 use Rattle.tree_terms.specs.OuterSearch.{AreBinNumbers}
-use Rattle.tree_terms.specs.Levels.{PlainReached, first_bins, bin_run}
-use Rattle.tree_terms.specs.RunEnds.{HasLargeTree, bin_answer}
+use Rattle.tree_terms.specs.Levels.{PlainReached, bin_run}
+use Rattle.tree_terms.specs.RunEnds.{HasLargeCount}
 use Rattle.proof_tree.specs.Plain.{plain_tokens}
 use Rattle.bin_knapsack.specs.declared.bins.Bins.{Bins}
 use Rattle.bin_knapsack.specs.declared.bins.Bins.TheVariants.{Least, Between, NoneFits}
@@ -50,11 +48,6 @@ abbrev pub AreTrueBins : PlainInstance → Bins → Type 0
 AreTrueBins instance (Least bins numbers tokens) = IsCertifiedLeast instance bins numbers.items (plain_tokens tokens.items)
 AreTrueBins instance (Between refuted tokens bins numbers) = IsCertifiedBetween instance refuted (plain_tokens tokens.items) bins numbers.items
 AreTrueBins instance (NoneFits v i) = (k : ℕ) → ¬ FitsInBins instance k
-
--- some number of bins that the run decides has more branchings than the budget
-abbrev pub HasLargeCount : PlainInstance → ℕ → Bool → Type 0
-HasLargeCount instance budget scales =
-    HasLargeTree (bin_answer instance budget scales) (first_bins instance scales) budget (λ k. count_of (outcome (bin_tree instance k scales)))
 
 -- `Between` exactly where some number of bins on the run has more branchings than the budget
 abbrev pub IsSpentExactly : PlainInstance → ℕ → Bool → Bins → Type 0

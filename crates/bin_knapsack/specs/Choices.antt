@@ -4,11 +4,9 @@ use Rattle.packing_terms.specs.Packing.{PlainInstance}
 use Rattle.packing_terms.specs.Goals.{ReachesValue, IsGreatestValue}
 use Rattle.packing_terms.specs.OuterRefutation.{IsValueRefutation}
 use Rattle.packing_terms.specs.Tokens.{PlainToken}
-use Rattle.tree_terms.specs.Trees.{outcome, count_of}
-use Rattle.tree_terms.specs.OuterTrees.{choice_tree}
 use Rattle.tree_terms.specs.OuterSearch.{AreTakenNumbers}
-use Rattle.tree_terms.specs.Levels.{PlainReached, first_values, value_run}
-use Rattle.tree_terms.specs.RunEnds.{HasLargeTree, value_answer}
+use Rattle.tree_terms.specs.Levels.{PlainReached, value_run}
+use Rattle.tree_terms.specs.RunEnds.{HasLargeWorth}
 use Rattle.proof_tree.specs.Plain.{plain_tokens}
 use Rattle.bin_knapsack.specs.declared.choice.Choice.{Choice}
 use Rattle.bin_knapsack.specs.declared.choice.Choice.TheVariants.{Greatest, Between}
@@ -42,11 +40,6 @@ pub record IsCertifiedBetween (instance : PlainInstance) (placed : ℕ) (numbers
 abbrev pub IsTrueChoice : PlainInstance → Choice → Type 0
 IsTrueChoice instance (Greatest value numbers tokens) = IsCertifiedGreatest instance value numbers.items (plain_tokens tokens.items)
 IsTrueChoice instance (Between placed numbers refuted tokens) = IsCertifiedBetween instance placed numbers.items refuted (plain_tokens tokens.items)
-
--- some value that the run decides has more branchings than the budget
-abbrev pub HasLargeWorth : PlainInstance → ℕ → Bool → Type 0
-HasLargeWorth instance budget scales =
-    HasLargeTree (value_answer instance budget scales) (first_values instance) budget (λ t. count_of (outcome (choice_tree instance t scales)))
 
 -- `Between` exactly where some value on the run has more branchings than the budget
 abbrev pub IsSpentExactly : PlainInstance → ℕ → Bool → Choice → Type 0

@@ -2,8 +2,8 @@
 ghost use Rattle.std.specs.Prelude.{◌≡◌};
 
 use crate::compare::is_same;
-use crate::rows::{FOUR, instance_of};
-use crate::runner::{Met, finish, split};
+use crate::rows::{EIGHT, FOUR, instance_of};
+use crate::runner::{Met, complete, drive, finish, split};
 use box_instances::NoMemory;
 use class_search::ClassTree;
 use proof_tree::Outcome;
@@ -89,6 +89,34 @@ fn run_past(alloc: Global, tree: &ClassTree<'_>) -> Result<Option<Outcome>, NoMe
         return Ok(None);
     }
     join(alloc, board)
+}
+
+// Eight times the leftmost task that waits is taken and split.
+const DOWN_TO_EIGHT: [u32; 16] = [0, 3, 0, 3, 0, 3, 0, 3, 0, 3, 0, 3, 0, 3, 0, 3];
+
+// Tasks are split down to depth 8, and then all that wait are explored: eight splits and nine tasks,
+// each of them taken first.
+fn run_deep(alloc: Global, tree: &ClassTree<'_>) -> Result<Option<Outcome>, NoMemory> {
+    let mut met = Met::new(alloc);
+    let mut board = Board::start(alloc, tree, 5039)?;
+    drive(alloc, tree, 5039, &mut board, &mut met, &DOWN_TO_EIGHT)?;
+    let is_whole = complete(alloc, tree, 5039, &mut board, &mut met, 10)?;
+    if !is_whole || board.history().len() != 34 {
+        return Ok(None);
+    }
+    join(alloc, board)
+}
+
+#[test]
+fn a_tree_that_is_split_to_depth_8_is_the_same(rt: HostRuntime) -> Result<(), Fail> {
+    let alloc = rt.alloc();
+    let instance = instance_of(alloc, &EIGHT)?;
+    let tree = ClassTree::new(alloc, &instance, false)?;
+    let joined = run_deep(alloc, &tree)?.unwrap_or(Outcome::Past);
+    assert!(rt; is_same(&joined, &tree.explore(alloc, &[], 5039)?));
+    let is_no = matches!(joined, Outcome::No { count: 5039, .. });
+    assert!(rt; is_no);
+    Ok(())
 }
 
 #[test]

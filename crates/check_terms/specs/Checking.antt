@@ -82,3 +82,8 @@ abbrev pub nodes_after_all : {Node : Type 0} → (List Node → PlainToken → R
     → Result (List Node) RefuseCode
 nodes_after_all after nodes [] = Ok nodes
 nodes_after_all after nodes (t ∷ ts) = after nodes t >>= λ left. nodes_after_all after left ts
+
+-- the same as they are fed: what is held after them all
+abbrev pub checked_after_all : {Node : Type 0} → (List Node → PlainToken → Result (List Node) RefuseCode) → Checked Node → List PlainToken → Checked Node
+checked_after_all after s [] = s
+checked_after_all after s (t ∷ ts) = checked_after_all after (checked_after after s t) ts

@@ -1,5 +1,5 @@
 -- A pass over a document, phase by phase.
-use Rattle.std.proofs.Common.{◌≡◌, ◌∙◌, ℕ, ◌+◌, inr, true, refl, sym, ap, subst, arith, List, [], Option, Some, None, Result, Ok, Err}
+use Rattle.std.proofs.Common.{◌≡◌, ◌∙◌, ℕ, ◌+◌, ◌≤◌, inr, true, refl, sym, ap, subst, arith, List, [], Option, Some, None, Result, Ok, Err}
 use Rattle.text_terms.specs.Feeding.{Lexer, new_lexer}
 use Rattle.document_terms.specs.declared.claim.Claim.{Claim}
 use Rattle.verdict_terms.specs.declared.reason.Reason.{Reason}
@@ -12,11 +12,11 @@ use Rattle.document_check.specs.declared.check.CheckEnd.TheVariants.{Refused, To
 use Rattle.document_lines.specs.declared.judge.ReadEnd.{ReadEnd}
 use Rattle.document_lines.specs.declared.judge.ReadEnd.TheVariants.{End, Paused, Refused as ReadRefused, TooLong as ReadTooLong, ReadFault as ReadFailed, NoMemory as ReadNoMemory}
 use Rattle.document_check.specs.declared.position.Position.{Position}
-use Rattle.document_check.specs.Checked.{most_bytes, IsChecked, Comes}
-use Rattle.document_lines.specs.Reading.{PlainJudge, IsAt, IsReadBehind, EndsAs, ended_claim}
+use Rattle.document_check.specs.Checked.{most_document_bytes, IsChecked}
+use Rattle.document_lines.specs.Reading.{PlainJudge, IsAt, IsRead, IsReadBehind, ended_claim}
 use Rattle.document_check.specs.Passes.{end_of, IsCheckedFrom, IsReadOn, Goes}
 use Rattle.document_check.proofs.Beginnings.{at_behind}
-use Rattle.document_lines.proofs.Steps.{gives_none, so_far_start}
+use Rattle.document_lines.proofs.Steps.{gives_none, so_far_start, none_before}
 
 -- the verdict at the end of the text
 abbrev verdict_of : Option Claim → ℕ → Result Claim Refusal
@@ -37,56 +37,74 @@ at_end_is (Ended claim) n = refl
 
 module _ (old left : Option (List ℕ)) (before now : ℕ) (at : Position) (stage : Stage) (next : Lexer) (behind : Stage) (count : ℕ) where
   abbrev pub Behind : ReadEnd → Type 0
-  Behind end = IsReadBehind most_bytes old left before now at.lexer stage at.count next behind count end
+  Behind end = IsReadBehind most_document_bytes old left before now at.lexer stage at.count next behind count end
 
-  ended : (start : ℕ) (claim : Option Claim) (taken : List ℕ) → EndsAs most_bytes left start now taken next behind count End → ended_claim behind ≡ claim
-      → Comes left start now taken (end_of claim next.number)
-  ended start (Some claim) taken (ends, within, verdict) e = (verdict ∙ (at_end_is behind next.number ∙ ap (λ c. verdict_of c next.number) e), within, ends)
-  ended start None taken (ends, within, verdict) e = (verdict ∙ (at_end_is behind next.number ∙ ap (λ c. verdict_of c next.number) e), within, inr ends)
+  ended : (first : Option (List ℕ)) (claim : Option Claim) → IsRead most_document_bytes first left before now next behind count End → ended_claim behind ≡ claim
+      → IsChecked first left before now (end_of claim next.number)
+  ended first (Some claim) r e = record {
+    taken = r.taken;
+    gives = r.gives;
+    faults = r.faults;
+    comes = (r.ends.2 ∙ (at_end_is behind next.number ∙ ap (λ c. verdict_of c next.number) e), r.ends.1, r.ends.0);
+  }
+  ended first None r e = record {
+    taken = r.taken;
+    gives = r.gives;
+    faults = r.faults;
+    comes = (r.ends.2 ∙ (at_end_is behind next.number ∙ ap (λ c. verdict_of c next.number) e), r.ends.1, inr (r.ends.0, r.ends.3));
+  }
 
   pub end_from : Behind End → (claim : Option Claim) → ended_claim behind ≡ claim → IsCheckedFrom old left before now at stage (end_of claim next.number)
-  end_from read claim e first start le taking =
-      let r = read first start le taking in
-      record { taken = r.taken; gives = r.gives; rising = r.rising; comes = ended start claim r.taken r.ends e }
+  end_from read claim e first taking = ended first claim (read first taking) e
 
   pub refused_from : (reason : Reason) → Behind (ReadRefused reason) → IsCheckedFrom old left before now at stage (Refused next.number reason)
-  refused_from reason read first start le taking =
-      let r = read first start le taking in
-      record { taken = r.taken; gives = r.gives; rising = r.rising; comes = r.ends }
+  refused_from reason read first taking =
+      let r = read first taking in
+      record { taken = r.taken; gives = r.gives; faults = r.faults; comes = r.ends }
 
   pub long_from : Behind ReadTooLong → IsCheckedFrom old left before now at stage TooLong
-  long_from read first start le taking =
-      let r = read first start le taking in
-      record { taken = r.taken; gives = r.gives; rising = r.rising; comes = r.ends }
+  long_from read first taking =
+      let r = read first taking in
+      record { taken = r.taken; gives = r.gives; faults = r.faults; comes = r.ends }
 
   pub fault_from : Behind ReadFailed → IsCheckedFrom old left before now at stage ReadFault
-  fault_from read first start le taking =
-      let r = read first start le taking in
-      record { taken = r.taken; gives = r.gives; rising = r.rising; comes = r.ends }
+  fault_from read first taking =
+      let r = read first taking in
+      record { taken = r.taken; gives = r.gives; faults = r.faults; comes = r.ends }
 
   pub memory_from : Behind ReadNoMemory → IsCheckedFrom old left before now at stage NoMemory
-  memory_from read first start le taking =
-      let r = read first start le taking in
-      record { taken = r.taken; gives = r.gives; rising = r.rising; comes = tt }
+  memory_from read first taking =
+      let r = read first taking in
+      record { taken = r.taken; gives = r.gives; faults = r.faults; comes = r.ends }
 
   pub paused_from : Behind Paused → IsReadOn old left before now at stage (record { lexer = next; count = count }) behind
-  paused_from read first start le taking =
-      let r = read first start le taking in
-      (r.rising, record { taken = r.taken; gives = r.gives; counted = r.ends.0; so_far = r.ends.1 })
+  paused_from read first taking =
+      let r = read first taking in
+      (r.faults, record { taken = r.taken; gives = r.gives; counted = r.ends.0; so_far = r.ends.1 })
+
+-- memory was refused between two lines
+pub memory_here : (old : Option (List ℕ)) (faults : ℕ) (at : Position) (stage : Stage) → at.count ≤ most_document_bytes → IsCheckedFrom old old faults faults at stage NoMemory
+memory_here old faults at stage few first taking = record {
+  taken = taking.taken;
+  gives = taking.gives;
+  faults = refl;
+  comes = ((let c = taking.counted in omega (arith, c, few)), none_before at.lexer stage taking.taken taking.so_far);
+}
 
 -- one phase, and then what is left
 module _ (old mid left : Option (List ℕ)) (before between now : ℕ) (at next : Position) (stage behind : Stage) (result : CheckEnd) where
   pub then_from : IsReadOn old mid before between at stage next behind → (rest : Stage) → behind ≡ rest → IsCheckedFrom mid left between now next rest result
       → IsCheckedFrom old left before now at stage result
-  then_from on rest same more first start le taking =
-      let g = on first start le taking in
-      subst (λ s. IsCheckedFrom mid left between now next s result) (sym same) more first start g.0 g.1
+  then_from on rest same more first taking =
+      let go = on first taking in
+      subst (λ n. IsChecked first left n now result) go.0
+      (subst (λ s. IsCheckedFrom mid left between now next s result) (sym same) more first go.1)
 
 -- from the first byte on
 pub from_start : (old left : Option (List ℕ)) (before now : ℕ) (result : CheckEnd) → IsCheckedFrom old left before now (record { lexer = new_lexer; count = 0 }) Beginning result
     → IsChecked old left before now result
 from_start old left before now result from =
-    from old before (omega arith) (record { taken = []; gives = gives_none old; counted = refl; so_far = so_far_start })
+    from old (record { taken = []; gives = gives_none old; counted = refl; so_far = so_far_start })
 
 -- lines of a judge that tells where the document stands behind them
 pub goes_known : (old left : Option (List ℕ)) (before now : ℕ) (at next : Position) (judge : PlainJudge) (stage behind known : Stage) (result : Option CheckEnd)

@@ -1,6 +1,6 @@
 -- A pass over a document, phase by phase: each phase goes on from where the last one left the
 -- source, behind any bytes that were taken before.
-use Rattle.std.specs.Prelude.{ℕ, ◌+◌, ◌≤◌, List, Option, Some, None, Result, Ok, Err}
+use Rattle.std.specs.Prelude.{ℕ, ◌+◌, ◌≡◌, ◌≤◌, List, Option, Some, None, Result, Ok, Err}
 use Rattle.document_terms.specs.declared.claim.Claim.{Claim}
 use Rattle.verdict_terms.specs.declared.reason.Reason.TheVariants.{TooShort}
 use Rattle.verdict_terms.specs.Stages.{Stage, claimed}
@@ -9,29 +9,28 @@ use Rattle.document_lines.specs.declared.head.Claimed.{Claimed}
 use Rattle.document_check.specs.declared.check.CheckEnd.{CheckEnd}
 use Rattle.document_check.specs.declared.check.CheckEnd.TheVariants.{Verified, Refused}
 use Rattle.document_check.specs.declared.position.Position.{Position}
-use Rattle.document_check.specs.Checked.{most_bytes, IsChecked}
+use Rattle.document_check.specs.Checked.{most_document_bytes, IsChecked}
 use Rattle.document_lines.specs.Reading.{IsTaking}
 
 -- no more lines ended than bytes were taken, and not too many of them
 abbrev pub IsPosition : Position → Type 0
-IsPosition at = (at.lexer.number ≤ at.count) × (at.count ≤ most_bytes)
+IsPosition at = (at.lexer.number ≤ at.count) × (at.count ≤ most_document_bytes)
 
 -- what the end of the text comes to after n lines
 abbrev pub end_of : Option Claim → ℕ → CheckEnd
 end_of (Some claim) n = Verified claim
 end_of None n = Refused (n + 1) TooShort
 
--- what the rest of a document comes to: `first` is what the source told, and `start` its count of
--- faults, before the first byte
+-- what the rest of a document comes to: `first` is what the source told before the first byte
 abbrev pub IsCheckedFrom : Option (List ℕ) → Option (List ℕ) → ℕ → ℕ → Position → Stage → CheckEnd → Type 0
 IsCheckedFrom old left before now at stage result =
-    (first : Option (List ℕ)) (start : ℕ) → start ≤ before → IsTaking first old at.lexer stage at.count → IsChecked first left start now result
+    (first : Option (List ℕ)) → IsTaking first old at.lexer stage at.count → IsChecked first left before now result
 
--- lines were taken, and the document goes on at another stage
+-- lines were taken without a fault, and the document goes on at another stage
 abbrev pub IsReadOn : Option (List ℕ) → Option (List ℕ) → ℕ → ℕ → Position → Stage → Position → Stage → Type 0
 IsReadOn old left before now at stage next behind =
-    (first : Option (List ℕ)) (start : ℕ) → start ≤ before → IsTaking first old at.lexer stage at.count
-    → (start ≤ now) × IsTaking first left next.lexer behind next.count
+    (first : Option (List ℕ)) → IsTaking first old at.lexer stage at.count
+    → (now ≡ before) × IsTaking first left next.lexer behind next.count
 
 abbrev pub Goes : Option (List ℕ) → Option (List ℕ) → ℕ → ℕ → Position → Stage → Position → Stage → Option CheckEnd → Type 0
 Goes old left before now at stage next behind (Some result) = IsCheckedFrom old left before now at stage result

@@ -77,9 +77,10 @@ fn check_claimed<S: Source>(
 /// Reads a document to its end or to the line feed of its first refused line, and no further, in
 /// one pass.
 ///
-/// `TooLong` and `ReadFault` come only where no line that was whole before is refused, and
-/// `ReadFault` only where the source's count of faults rose. It holds the instance, the places of
-/// its boxes, the open nodes of one tree and the words of one line.
+/// `TooLong`, `ReadFault` and `NoMemory` come only where no line that was whole before is refused.
+/// The first read that fails is the last, and `TooLong` takes one byte more than the limit. It
+/// holds the instance, the places of its boxes, the open nodes of one tree and the words of one
+/// line.
 pub fn check_document<S: Source>(alloc: Global, input: &mut S) -> CheckEnd
     ensures { IsChecked (S.left input.old) (S.left input.new) (S.faults input.old)
         (S.faults input.new) result }

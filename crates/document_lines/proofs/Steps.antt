@@ -1,9 +1,9 @@
 -- The steps of reading, over plain values.
-use Rattle.std.proofs.Common.{◌≡◌, ℕ, suc, ◌+◌, ◌<◌, ◌≤◌, inl, inr, refl, sym, ap, subst, ◌∙◌, arith, Bool, true, false, cond, List, [], ◌∷◌, ◌++◌, length, take, append_assoc, append-nil, get_or, Option, Some, None, Result, Ok, Err, not}
+use Rattle.std.proofs.Common.{◌≡◌, ℕ, suc, pred, ◌+◌, ◌<◌, ◌≤◌, inl, inr, refl, sym, ap, subst, ◌∙◌, arith, Bool, true, false, cond, List, [], ◌∷◌, ◌++◌, length, take, drop, append_assoc, append-nil, get_or, Option, Some, None, Result, Ok, Err, not}
 use Rattle.std.specs.List.{slice_split, onto_first}
 use Rattle.std.specs.Io.KnownBytes.{IsAtEnd}
 use Rattle.std.proofs.lemmas.Bool.{eqb-true}
-use Rattle.std.proofs.lemmas.List.{length-append, take_at}
+use Rattle.std.proofs.lemmas.List.{length-append, take_at, take-append-drop}
 use Rattle.std.proofs.lemmas.List.Splits.{length-slice_split}
 use Rattle.pack_streams.specs.Moves.{Gives}
 use Rattle.text_terms.specs.Lines.{is_line_feed, text_lines, drop_empty_end}
@@ -17,7 +17,7 @@ use Rattle.verdict_terms.specs.Documents.{Refusal, document_at_line, document_at
 use Rattle.verdict_terms.specs.Fed.{taken_line, fed_verdict, NoneRefused, EndsRefused}
 use Rattle.verdict_terms.proofs.FedGiven.{documents_are_fed}
 use Rattle.verdict_terms.proofs.Stays.{refusals_stay, split_feed, end_append, end_line}
-use Rattle.pack_streams.specs.Faults.{Rose}
+use Rattle.pack_streams.specs.Faults.{FailedOnce}
 use Rattle.pack_streams.specs.Moves.{ReadsPiece}
 use Rattle.pack_streams.specs.declared.source.ReadAnswer.TheVariants.{Got, End as SourceEnd}
 use Rattle.pack_streams.proofs.Runs.{gives_more}
@@ -25,7 +25,7 @@ use Rattle.document_lines.specs.declared.judge.LineStop.{LineStop}
 use Rattle.document_lines.specs.declared.judge.LineStop.TheVariants.{Refused as LineRefused}
 use Rattle.document_lines.specs.declared.judge.ReadEnd.{ReadEnd}
 use Rattle.document_lines.specs.declared.judge.ReadEnd.TheVariants.{End, Paused, Refused, TooLong, ReadFault, NoMemory}
-use Rattle.document_lines.specs.Reading.{IsSoFar, IsTaking, TakesByte, TakesEnd, IsRead}
+use Rattle.document_lines.specs.Reading.{IsSoFar, IsTaking, TakesByte, TakesEnd, NoneRefusedBefore, IsRead}
 
 -- ---- bytes of a source
 
@@ -147,105 +147,27 @@ none_refused s stage taken h front rest refusal e ends v =
     let n = h.number in
     absurd (omega (arith, l, here, count, a, b, n))
 
+-- fewer bytes have no refused line either
+fewer_refused : (n : ℕ) (bytes : List ℕ) → NoneRefused bytes → NoneRefused (take n bytes)
+fewer_refused n bytes none front rest refusal e =
+    none front (rest ++ drop n bytes) refusal (sym (take-append-drop n bytes) ∙ ap (λ xs. xs ++ drop n bytes) e ∙ append_assoc front rest (drop n bytes))
+
+-- bytes that leave a stage have no refused line, also before the last of them
+pub none_before : (s : Lexer) (stage : Stage) (taken : List ℕ) → IsSoFar s stage taken → NoneRefusedBefore taken
+none_before s stage taken h = fewer_refused (pred (length taken)) taken (none_refused s stage taken h)
+
+-- nor have they before one byte more
+none_before_one : (s : Lexer) (stage : Stage) (taken : List ℕ) (b : ℕ) → IsSoFar s stage taken → NoneRefusedBefore (taken ++ b ∷ [])
+none_before_one s stage taken b h =
+    let l = length-append taken (b ∷ []) in
+    let last : length taken ≡ pred (length (taken ++ b ∷ [])) = omega (arith, l) in
+    subst NoneRefused (sym (take_at taken (b ∷ []) (pred (length (taken ++ b ∷ []))) last)) (none_refused s stage taken h)
+
 -- ---- how the reading ends
 
-rises : (before between after : ℕ) → before ≤ between → Rose between after → Rose before after
-rises before between after l rose = omega (arith, l, rose)
-
-module _ (limit m : ℕ) (old mid now : Option (List ℕ)) (before between after : ℕ) (s : Lexer) (stage : Stage) (n : ℕ) (so_far : IsTaking old mid s stage n)
-    (few : n ≤ limit) (rising : before ≤ between) (later : between ≤ after) where
-  -- at the end of the source
-  pub read_end : (piece : List ℕ) (new : Lexer) (next : Stage) (result : ReadEnd) → ReadsPiece mid now SourceEnd piece → TakesEnd s stage new next result
-      → IsRead limit old now before after new next m result
-  read_end piece new next End reads ends = record {
-    taken = so_far.taken;
-    gives = subst (λ x. Gives old x so_far.taken) (sym reads.1) so_far.gives;
-    rising = omega (arith, rising, later);
-    ends = (
-      subst IsAtEnd (sym reads.1) reads.0,
-      (let c = so_far.counted in omega (arith, c, few)),
-      ap document_verdict (sym (append-nil so_far.taken)) ∙ sym (so_far.so_far.goes []) ∙ ends,
-    );
-  }
-  read_end piece new next (Refused reason) reads ends = record {
-    taken = so_far.taken;
-    gives = subst (λ x. Gives old x so_far.taken) (sym reads.1) so_far.gives;
-    rising = omega (arith, rising, later);
-    ends = (
-      ap document_verdict (sym (append-nil so_far.taken)) ∙ sym (so_far.so_far.goes []) ∙ ends,
-      (let c = so_far.counted in omega (arith, c, few)),
-      inr (subst IsAtEnd (sym reads.1) reads.0),
-    );
-  }
-  read_end piece new next Paused reads ends = absurd ends
-  read_end piece new next TooLong reads ends = absurd ends
-  read_end piece new next ReadFault reads ends = absurd ends
-  read_end piece new next NoMemory reads ends = record {
-    taken = so_far.taken;
-    gives = subst (λ x. Gives old x so_far.taken) (sym reads.1) so_far.gives;
-    rising = omega (arith, rising, later);
-    ends = tt;
-  }
-
-  -- a read that failed
-  pub read_failed : now ≡ mid → Rose between after → IsRead limit old now before after s stage m ReadFault
-  read_failed same rose = record {
-    taken = so_far.taken;
-    gives = subst (λ x. Gives old x so_far.taken) (sym same) so_far.gives;
-    rising = omega (arith, rising, later);
-    ends = (rises before between after rising rose, none_refused s stage so_far.taken so_far.so_far);
-  }
-
-  -- the next byte, and what is held behind it
-  pub taking_more : (k b : ℕ) (next : Stage) (new : Lexer) → ReadsPiece mid now (Got k) (b ∷ []) → TakesByte s stage b new next (Ok tt)
-      → IsTaking old now new next (n + 1)
-  taking_more k b next new reads step =
-      subst (λ x. IsTaking old now x next (n + 1)) (sym step.0) (record {
-        taken = so_far.taken ++ b ∷ [];
-        gives = gives_more old mid now so_far.taken (b ∷ []) so_far.gives (one_byte k b reads);
-        counted = length-append so_far.taken (b ∷ []) ∙ ap (λ m. m + 1) so_far.counted;
-        so_far = so_far_more s stage next so_far.taken b so_far.so_far (λ rest. step.1 rest ∙ ap (λ x. fed_verdict x next rest) step.0);
-      })
-    where
-      one_byte : (k b : ℕ) → ReadsPiece mid now (Got k) (b ∷ []) → Gives mid now (b ∷ [])
-      one_byte k b reads = let one : k ≡ 1 = let l = reads.0 in let m = reads.1 in omega (arith, l, m) in subst (λ j. Gives mid now (take j (b ∷ []))) one reads.2
-
-  pub read_refused : (k b : ℕ) (next : Stage) (new : Lexer) (reason : Reason) → n < limit → ReadsPiece mid now (Got k) (b ∷ []) → TakesByte s stage b new next (Err (LineRefused reason))
-      → IsRead limit old now before after new next m (Refused reason)
-  read_refused k b next new reason room reads step =
-      let h = refused_here s stage so_far.taken b reason so_far.so_far step.1 (λ rest. step.2 rest ∙ ap (λ (x : Lexer). Err (record { line = x.number; reason = reason })) step.0) in
-      let same : (feed b s).number ≡ new.number = ap (λ (x : Lexer). x.number) (sym step.0) in record {
-        taken = so_far.taken ++ b ∷ [];
-        gives = gives_more old mid now so_far.taken (b ∷ []) so_far.gives (one_byte k b reads);
-        rising = omega (arith, rising, later);
-        ends = (
-          subst (λ l. document_verdict (so_far.taken ++ b ∷ []) ≡ Err (record { line = l; reason = reason })) same h.0,
-          (let l = length-append so_far.taken (b ∷ []) in let c = so_far.counted in omega (arith, l, c, room)),
-          inl (subst (λ l. EndsRefused (so_far.taken ++ b ∷ []) (record { line = l; reason = reason })) same h.1),
-        );
-      }
-    where
-      one_byte : (k b : ℕ) → ReadsPiece mid now (Got k) (b ∷ []) → Gives mid now (b ∷ [])
-      one_byte k b reads = let one : k ≡ 1 = let l = reads.0 in let m = reads.1 in omega (arith, l, m) in subst (λ j. Gives mid now (take j (b ∷ []))) one reads.2
-
-  pub read_long : (k b : ℕ) → n ≡ limit → ReadsPiece mid now (Got k) (b ∷ []) → IsRead limit old now before after s stage m TooLong
-  read_long k b full reads = record {
-    taken = so_far.taken ++ b ∷ [];
-    gives = gives_more old mid now so_far.taken (b ∷ []) so_far.gives
-        (let one : k ≡ 1 = let l = reads.0 in let m = reads.1 in omega (arith, l, m) in subst (λ j. Gives mid now (take j (b ∷ []))) one reads.2);
-    rising = omega (arith, rising, later);
-    ends = (
-      (let l = length-append so_far.taken (b ∷ []) in let c = so_far.counted in omega (arith, l, c, full)),
-      subst NoneRefused (sym (take_at so_far.taken (b ∷ []) limit (so_far.counted ∙ full))) (none_refused s stage so_far.taken so_far.so_far),
-    );
-  }
-
--- ---- the loop
-
--- what holds after so many bytes
-pub record IsLooping (old now : Option (List ℕ)) (before after : ℕ) (s : Lexer) (stage : Stage) (n : ℕ) : Type 0 where
-  pub taking : IsTaking old now s stage n
-  pub rising : before ≤ after
+-- one byte was read
+one_byte : (mid now : Option (List ℕ)) (k b : ℕ) → ReadsPiece mid now (Got k) (b ∷ []) → Gives mid now (b ∷ [])
+one_byte mid now k b reads = let one : k ≡ 1 = let l = reads.0 in let m = reads.1 in omega (arith, l, m) in subst (λ j. Gives mid now (take j (b ∷ []))) one reads.2
 
 -- a piece of one byte
 pub single : (xs : List ℕ) → length xs ≡ 1 → xs ≡ get_or xs 0 0 ∷ []
@@ -253,65 +175,138 @@ single [] e = absurd (omega (arith, e))
 single (x ∷ []) e = refl
 single (x ∷ y ∷ xs) e = absurd (omega (arith, e))
 
-module _ (limit m : ℕ) (old mid now : Option (List ℕ)) (before between after : ℕ) (s : Lexer) (stage : Stage) (n : ℕ) (h : IsLooping old mid before between s stage n)
-    (later : between ≤ after) where
+-- so many bytes were taken, and then a read that didn't fail
+module _ (limit m : ℕ) (old mid now : Option (List ℕ)) (before after : ℕ) (s : Lexer) (stage : Stage) (n : ℕ) (so_far : IsTaking old mid s stage n)
+    (same : after ≡ before) where
+  -- the end of the source
   pub ends_here : (piece : List ℕ) (new : Lexer) (next : Stage) (result : ReadEnd) → n ≤ limit → ReadsPiece mid now SourceEnd piece → TakesEnd s stage new next result
       → IsRead limit old now before after new next m result
-  ends_here piece new next result few = read_end limit m old mid now before between after s stage n h.taking few h.rising later piece new next result
+  ends_here piece new next End few reads ends = record {
+    taken = so_far.taken;
+    gives = subst (λ x. Gives old x so_far.taken) (sym reads.1) so_far.gives;
+    faults = same;
+    ends = (
+      subst IsAtEnd (sym reads.1) reads.0,
+      (let c = so_far.counted in omega (arith, c, few)),
+      ap document_verdict (sym (append-nil so_far.taken)) ∙ sym (so_far.so_far.goes []) ∙ ends,
+      none_refused s stage so_far.taken so_far.so_far,
+    );
+  }
+  ends_here piece new next (Refused reason) few reads ends = record {
+    taken = so_far.taken;
+    gives = subst (λ x. Gives old x so_far.taken) (sym reads.1) so_far.gives;
+    faults = same;
+    ends = (
+      ap document_verdict (sym (append-nil so_far.taken)) ∙ sym (so_far.so_far.goes []) ∙ ends,
+      (let c = so_far.counted in omega (arith, c, few)),
+      inr (subst IsAtEnd (sym reads.1) reads.0, none_refused s stage so_far.taken so_far.so_far),
+    );
+  }
+  ends_here piece new next Paused few reads ends = absurd ends
+  ends_here piece new next TooLong few reads ends = absurd ends
+  ends_here piece new next ReadFault few reads ends = absurd ends
+  ends_here piece new next NoMemory few reads ends = record {
+    taken = so_far.taken;
+    gives = subst (λ x. Gives old x so_far.taken) (sym reads.1) so_far.gives;
+    faults = same;
+    ends = ((let c = so_far.counted in omega (arith, c, few)), none_before s stage so_far.taken so_far.so_far);
+  }
 
-  pub fails_here : n ≤ limit → now ≡ mid → Rose between after → IsRead limit old now before after s stage m ReadFault
-  fails_here few = read_failed limit m old mid now before between after s stage n h.taking few h.rising later
+  -- a byte, in a piece of one byte
+  one_read : (k : ℕ) (piece : List ℕ) → length piece ≡ 1 → ReadsPiece mid now (Got k) piece → Gives mid now (get_or piece 0 0 ∷ [])
+  one_read k piece e reads = one_byte mid now k (get_or piece 0 0) (subst (λ p. ReadsPiece mid now (Got k) p) (single piece e) reads)
 
-  -- a read of one byte, in a piece of one byte
-  one_read : (k : ℕ) (piece : List ℕ) → length piece ≡ 1 → ReadsPiece mid now (Got k) piece → ReadsPiece mid now (Got k) (get_or piece 0 0 ∷ [])
-  one_read k piece e = subst (λ p. ReadsPiece mid now (Got k) p) (single piece e)
+  gives_one : (k : ℕ) (piece : List ℕ) → length piece ≡ 1 → ReadsPiece mid now (Got k) piece → Gives old now (so_far.taken ++ get_or piece 0 0 ∷ [])
+  gives_one k piece e reads = gives_more old mid now so_far.taken (get_or piece 0 0 ∷ []) so_far.gives (one_read k piece e reads)
 
+  one_more_byte : (b : ℕ) → length (so_far.taken ++ b ∷ []) ≡ n + 1
+  one_more_byte b = length-append so_far.taken (b ∷ []) ∙ ap (λ k. k + 1) so_far.counted
+
+  -- what is held behind it
+  pub taking_more : (k : ℕ) (piece : List ℕ) (next : Stage) (new : Lexer) → length piece ≡ 1 → ReadsPiece mid now (Got k) piece
+      → TakesByte s stage (get_or piece 0 0) new next (Ok tt) → IsTaking old now new next (n + 1)
+  taking_more k piece next new e reads step =
+      subst (λ x. IsTaking old now x next (n + 1)) (sym step.0) (record {
+        taken = so_far.taken ++ get_or piece 0 0 ∷ [];
+        gives = gives_one k piece e reads;
+        counted = one_more_byte (get_or piece 0 0);
+        so_far = so_far_more s stage next so_far.taken (get_or piece 0 0) so_far.so_far (λ rest. step.1 rest ∙ ap (λ x. fed_verdict x next rest) step.0);
+      })
+
+  -- it ends the refused line
   pub refused_at : (k : ℕ) (piece : List ℕ) (next : Stage) (new : Lexer) → n < limit → length piece ≡ 1 → ReadsPiece mid now (Got k) piece
       → (code : LineStop) (reason : Reason) → code ≡ LineRefused reason → TakesByte s stage (get_or piece 0 0) new next (Err code) → IsRead limit old now before after new next m (Refused reason)
   refused_at k piece next new room e reads code reason is step =
-      read_refused limit m old mid now before between after s stage n h.taking (omega (arith, room)) h.rising later k (get_or piece 0 0) next new reason room (one_read k piece e reads)
-      (subst (λ x. TakesByte s stage (get_or piece 0 0) new next (Err x)) is step)
+      let b : ℕ = get_or piece 0 0 in
+      let refused : TakesByte s stage b new next (Err (LineRefused reason)) = subst (λ x. TakesByte s stage b new next (Err x)) is step in
+      let h = refused_here s stage so_far.taken b reason so_far.so_far refused.1 (λ rest. refused.2 rest ∙ ap (λ (x : Lexer). Err (record { line = x.number; reason = reason })) refused.0) in
+      let line : (feed b s).number ≡ new.number = ap (λ (x : Lexer). x.number) (sym refused.0) in record {
+        taken = so_far.taken ++ b ∷ [];
+        gives = gives_one k piece e reads;
+        faults = same;
+        ends = (
+          subst (λ l. document_verdict (so_far.taken ++ b ∷ []) ≡ Err (record { line = l; reason = reason })) line h.0,
+          (let l = one_more_byte b in omega (arith, l, room)),
+          inl (subst (λ l. EndsRefused (so_far.taken ++ b ∷ []) (record { line = l; reason = reason })) line h.1),
+        );
+      }
 
+  -- memory was refused for the line that it ends
   pub no_memory_at : (k : ℕ) (piece : List ℕ) (next : Stage) (new : Lexer) → n < limit → length piece ≡ 1 → ReadsPiece mid now (Got k) piece
       → IsRead limit old now before after new next m NoMemory
-  no_memory_at k piece next new room e reads =
-      let r = one_read k piece e reads in
-      let one : k ≡ 1 = let l = r.0 in let m = r.1 in omega (arith, l, m) in record {
-        taken = h.taking.taken ++ get_or piece 0 0 ∷ [];
-        gives = gives_more old mid now h.taking.taken (get_or piece 0 0 ∷ []) h.taking.gives (subst (λ j. Gives mid now (take j (get_or piece 0 0 ∷ []))) one r.2);
-        rising = let a = h.rising in omega (arith, a, later);
-        ends = tt;
-      }
-
-  pub long_here : (k : ℕ) (piece : List ℕ) → n ≡ limit → length piece ≡ 1 → ReadsPiece mid now (Got k) piece → IsRead limit old now before after s stage m TooLong
-  long_here k piece full e reads =
-      read_long limit m old mid now before between after s stage n h.taking (omega (arith, full)) h.rising later k (get_or piece 0 0) full (one_read k piece e reads)
-
-  pub loop_more : (k : ℕ) (piece : List ℕ) (next : Stage) (new : Lexer) → n < limit → length piece ≡ 1 → ReadsPiece mid now (Got k) piece
-      → TakesByte s stage (get_or piece 0 0) new next (Ok tt) → IsLooping old now before after new next (n + 1)
-  loop_more k piece next new room e reads step = record {
-    taking = taking_more limit m old mid now before between after s stage n h.taking (omega (arith, room)) h.rising later k (get_or piece 0 0) next new (one_read k piece e reads) step;
-    rising = let a = h.rising in omega (arith, a, later);
+  no_memory_at k piece next new room e reads = record {
+    taken = so_far.taken ++ get_or piece 0 0 ∷ [];
+    gives = gives_one k piece e reads;
+    faults = same;
+    ends = (
+      (let l = one_more_byte (get_or piece 0 0) in omega (arith, l, room)),
+      none_before_one s stage so_far.taken (get_or piece 0 0) so_far.so_far,
+    );
   }
 
-  -- the judge has taken its last line
-  pub paused_at : (k : ℕ) (piece : List ℕ) (next : Stage) (new : Lexer) → n < limit → length piece ≡ 1 → ReadsPiece mid now (Got k) piece
-      → TakesByte s stage (get_or piece 0 0) new next (Ok tt) → m ≡ n + 1 → IsRead limit old now before after new next m Paused
-  paused_at k piece next new room e reads step counted =
-      let l = loop_more k piece next new room e reads step in record {
-        taken = l.taking.taken;
-        gives = l.taking.gives;
-        rising = l.rising;
-        ends = (l.taking.counted ∙ sym counted, l.taking.so_far);
+  -- it is one byte too many
+  pub long_here : (k : ℕ) (piece : List ℕ) → n ≡ limit → length piece ≡ 1 → ReadsPiece mid now (Got k) piece → IsRead limit old now before after s stage m TooLong
+  long_here k piece full e reads =
+      let b : ℕ = get_or piece 0 0 in record {
+        taken = so_far.taken ++ b ∷ [];
+        gives = gives_one k piece e reads;
+        faults = same;
+        ends = (
+          one_more_byte b ∙ ap (λ x. x + 1) full,
+          subst NoneRefused (sym (take_at so_far.taken (b ∷ []) limit (so_far.counted ∙ full))) (none_refused s stage so_far.taken so_far.so_far),
+        );
       }
+
+  -- the judge has taken its last line
+  pub paused_at : (k : ℕ) (piece : List ℕ) (next : Stage) (new : Lexer) → length piece ≡ 1 → ReadsPiece mid now (Got k) piece
+      → TakesByte s stage (get_or piece 0 0) new next (Ok tt) → m ≡ n + 1 → IsRead limit old now before after new next m Paused
+  paused_at k piece next new e reads step counted =
+      let l = taking_more k piece next new e reads step in record {
+        taken = l.taken;
+        gives = l.gives;
+        faults = same;
+        ends = (l.counted ∙ sym counted, l.so_far);
+      }
+
+-- so many bytes were taken, and then a read failed
+pub fails_here : (limit m : ℕ) (old mid now : Option (List ℕ)) (before after : ℕ) (s : Lexer) (stage : Stage) (n : ℕ) → IsTaking old mid s stage n → FailedOnce before after
+    → n ≤ limit → now ≡ mid → IsRead limit old now before after s stage m ReadFault
+fails_here limit m old mid now before after s stage n so_far once few same = record {
+  taken = so_far.taken;
+  gives = subst (λ x. Gives old x so_far.taken) (sym same) so_far.gives;
+  faults = once;
+  ends = ((let c = so_far.counted in omega (arith, c, few)), none_refused s stage so_far.taken so_far.so_far);
+}
+
+-- ---- the loop
 
 -- what holds in the loop, behind any bytes that were taken before
 pub record IsReading (old now : Option (List ℕ)) (before after : ℕ) (s0 : Lexer) (stage0 : Stage) (n0 : ℕ) (s : Lexer) (stage : Stage) (n : ℕ) (takes : Bool) (piece : List ℕ) : Type 0 where
-  pub looping : (first : Option (List ℕ)) (start : ℕ) → start ≤ before → IsTaking first old s0 stage0 n0 → IsLooping first now start after s stage n
+  pub taking : (first : Option (List ℕ)) → IsTaking first old s0 stage0 n0 → IsTaking first now s stage n
   pub one : length piece ≡ 1
   pub number : s.number ≤ n
   pub few : n ≤ 1099511627776
-  pub rising : before ≤ after
+  pub same : after ≡ before
   pub ready : takes ≡ true
 
 -- a byte ends at most one line

@@ -1,15 +1,15 @@
 -- Reading a document from a source, a byte at a time.
-use Rattle.std.specs.Prelude.{ℕ, ◌+◌, ◌<◌, ◌≤◌, ◌≡◌, ◌⊎◌, List, [], ◌∷◌, ◌++◌, length, take, Bool, true, Option, Some, None, Result, Ok, Err}
+use Rattle.std.specs.Prelude.{ℕ, pred, ◌+◌, ◌≤◌, ◌≡◌, ◌⊎◌, List, [], ◌∷◌, ◌++◌, length, take, Bool, true, Option, Some, None, Result, Ok, Err}
 use Rattle.std.specs.List.{slice_split}
 use Rattle.std.specs.Io.KnownBytes.{IsAtEnd}
-use Rattle.pack_streams.specs.Faults.{Rose}
+use Rattle.pack_streams.specs.Faults.{FailedOnce}
 use Rattle.pack_streams.specs.Moves.{Gives}
 use Rattle.text_terms.specs.Lines.{is_line_feed}
 use Rattle.text_terms.specs.Feeding.{Lexer, ended_line, feed}
 use Rattle.document_terms.specs.declared.claim.Claim.{Claim}
 use Rattle.verdict_terms.specs.Stages.{Stage, stage_after}
 use Rattle.verdict_terms.specs.Stages.Stage.{Ended}
-use Rattle.verdict_terms.specs.Documents.{document_at_end, document_verdict}
+use Rattle.verdict_terms.specs.Documents.{Refusal, document_at_end, document_verdict}
 use Rattle.verdict_terms.specs.Fed.{fed_verdict, NoneRefused, EndsRefused}
 use Rattle.document_lines.specs.declared.judge.LineStop.{LineStop}
 use Rattle.document_lines.specs.declared.judge.LineStop.TheVariants.{Refused as LineRefused, NoMemory as LineNoMemory}
@@ -46,30 +46,47 @@ pub record IsTaking (old now : Option (List ℕ)) (s : Lexer) (stage : Stage) (c
   pub counted : length taken ≡ count
   pub so_far : IsSoFar s stage taken
 
+-- the bytes taken are enough for a refusal: they end in the line feed of the refused line, or they
+-- are the whole input and no line of them that a line feed ends is refused
+abbrev pub AreBytesEnough : Option (List ℕ) → List ℕ → Refusal → Type 0
+AreBytesEnough left taken refusal = EndsRefused taken refusal ⊎ (IsAtEnd left × NoneRefused taken)
+
+-- no line that was whole before the last of these bytes is refused
+abbrev pub NoneRefusedBefore : List ℕ → Type 0
+NoneRefusedBefore bytes = NoneRefused (take (pred (length bytes)) bytes)
+
 -- what the reading came to, by the bytes taken
-abbrev pub EndsAs : ℕ → Option (List ℕ) → ℕ → ℕ → List ℕ → Lexer → Stage → ℕ → ReadEnd → Type 0
-EndsAs limit left before now taken s stage count End =
-    IsAtEnd left × (length taken ≤ limit) × (document_verdict taken ≡ document_at_end stage s.number)
-EndsAs limit left before now taken s stage count Paused = (length taken ≡ count) × IsSoFar s stage taken
-EndsAs limit left before now taken s stage count (Refused reason) =
+abbrev pub EndsAs : ℕ → Option (List ℕ) → List ℕ → Lexer → Stage → ℕ → ReadEnd → Type 0
+EndsAs limit left taken s stage count End =
+    IsAtEnd left × (length taken ≤ limit) × (document_verdict taken ≡ document_at_end stage s.number) × NoneRefused taken
+EndsAs limit left taken s stage count Paused = (length taken ≡ count) × IsSoFar s stage taken
+EndsAs limit left taken s stage count (Refused reason) =
     (document_verdict taken ≡ Err (record { line = s.number; reason = reason })) × (length taken ≤ limit)
-    × (EndsRefused taken (record { line = s.number; reason = reason }) ⊎ IsAtEnd left)
-EndsAs limit left before now taken s stage count TooLong = (limit < length taken) × NoneRefused (take limit taken)
-EndsAs limit left before now taken s stage count ReadFault = Rose before now × NoneRefused taken
-EndsAs limit left before now taken s stage count NoMemory = Unit {0}
+    × AreBytesEnough left taken (record { line = s.number; reason = reason })
+EndsAs limit left taken s stage count TooLong = (length taken ≡ limit + 1) × NoneRefused (take limit taken)
+EndsAs limit left taken s stage count ReadFault = (length taken ≤ limit) × NoneRefused taken
+EndsAs limit left taken s stage count NoMemory = (length taken ≤ limit) × NoneRefusedBefore taken
+
+-- the count of faults of the source: the first read that fails is the last
+abbrev pub CountsLines : ℕ → ℕ → ReadEnd → Type 0
+CountsLines before now ReadFault = FailedOnce before now
+CountsLines before now End = now ≡ before
+CountsLines before now Paused = now ≡ before
+CountsLines before now (Refused reason) = now ≡ before
+CountsLines before now TooLong = now ≡ before
+CountsLines before now NoMemory = now ≡ before
 
 pub record IsRead (limit : ℕ) (old left : Option (List ℕ)) (before now : ℕ) (s : Lexer) (stage : Stage) (count : ℕ) (result : ReadEnd) : Type 0 where
   pub taken : List ℕ
   pub gives : Gives old left taken
-  pub rising : before ≤ now
-  pub ends : EndsAs limit left before now taken s stage count result
+  pub faults : CountsLines before now result
+  pub ends : EndsAs limit left taken s stage count result
 
--- What a reading does, behind any bytes that were taken before: `first` is what the source told,
--- and `start` its count of faults, before the first of them.
+-- What a reading does, behind any bytes that were taken before: `first` is what the source told
+-- before the first of them.
 abbrev pub IsReadBehind : ℕ → Option (List ℕ) → Option (List ℕ) → ℕ → ℕ → Lexer → Stage → ℕ → Lexer → Stage → ℕ → ReadEnd → Type 0
 IsReadBehind limit old left before now s stage n new next count result =
-    (first : Option (List ℕ)) (start : ℕ) → start ≤ before → IsTaking first old s stage n
-    → IsRead limit first left start now new next count result
+    (first : Option (List ℕ)) → IsTaking first old s stage n → IsRead limit first left before now new next count result
 
 -- a byte that was taken: whatever follows, the verdict goes on from what is held now; or the byte
 -- ends a line that is refused

@@ -26,7 +26,7 @@ use Rattle.verdict_terms.specs.Form.{IsDocument, IsResult, Backs, AreProved, Are
 use Rattle.answer_terms.specs.Answers.{Lines, answer_text, answer_lines, document_lines, backing_lines, place_lines, bin_lines, take_lines, token_lines, proved_lines}
 use Rattle.answer_terms.specs.Answers.Answer.{Claimed}
 use Rattle.answer_terms.specs.Shown.{Shows, ShowsHeight, ShowsBins, ShowsValue, ShowsNone}
-use Rattle.own_documents.specs.Own.{ShownClaimsHaveDocuments, OwnDocumentsAreVerified}
+use Rattle.own_documents.specs.Own.{IsDocumentAbout, ShownClaimsHaveDocuments, OwnDocumentsAreVerified}
 use Rattle.answer_terms.proofs.Shown.{answers_shown}
 use Rattle.verdict_terms.proofs.FormGiven.{documents_have_form}
 use Rattle.own_documents.proofs.Filled.{AreFilled, filled_append, clean_text, filled_text, filled_instance, instance_form}
@@ -62,21 +62,24 @@ filled_document instance job result backing limits words lines =
     )
 
 pub backed_document : (instance : PlainInstance) (claim : Claim) (numbers : List ℕ) (tokens : List PlainToken) → IsInstance instance
-    → IsBacked instance claim numbers tokens → IsDocument (answer_text instance (Claimed claim numbers tokens)) claim
+    → IsBacked instance claim numbers tokens → IsDocumentAbout instance (answer_text instance (Claimed claim numbers tokens)) claim
 unfolding answer_text
 backed_document instance claim numbers tokens limits backed =
     let filled : AreFilled (answer_lines instance (Claimed claim numbers tokens)) =
     filled_document instance (job_of claim) (result_words claim) (backing_lines instance claim numbers tokens) limits backed.words backed.filled in
     record {
-      instance = instance;
-      written = instance_words instance;
-      result = result_words claim;
-      backing = backing_lines instance claim numbers tokens;
-      clean = clean_text (answer_lines instance (Claimed claim numbers tokens)) filled;
-      are = filled_text (answer_lines instance (Claimed claim numbers tokens)) filled;
-      is_instance = instance_form instance limits;
-      is_result = backed.result;
-      backed = backed.backs;
+      document = record {
+        instance = instance;
+        written = instance_words instance;
+        result = result_words claim;
+        backing = backing_lines instance claim numbers tokens;
+        clean = clean_text (answer_lines instance (Claimed claim numbers tokens)) filled;
+        are = filled_text (answer_lines instance (Claimed claim numbers tokens)) filled;
+        is_instance = instance_form instance limits;
+        is_result = backed.result;
+        backed = backed.backs;
+      };
+      about = refl;
     }
 
 -- ---- the parts
@@ -391,5 +394,9 @@ shown_documents instance claim numbers tokens limits h = backed_document instanc
 pub own_verified : OwnDocumentsAreVerified
 own_verified job budget scales instance claim numbers tokens limits e =
     let shown = answers_shown job budget scales instance claim numbers tokens limits e in
-    (documents_have_form (answer_text instance (Claimed claim numbers tokens)) claim).1
-    (shown_documents instance claim numbers tokens limits shown.shown)
+    let is = shown_documents instance claim numbers tokens limits shown.shown in
+    record {
+      of_job = shown.of_job;
+      is = is;
+      verified = (documents_have_form (answer_text instance (Claimed claim numbers tokens)) claim).1 is.document;
+    }

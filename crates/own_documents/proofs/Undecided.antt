@@ -1,16 +1,19 @@
 -- The document that says undecided is verified with no claim.
-use Rattle.std.proofs.Common.{◌≡◌, ℕ, refl, ap, sym, ◌∙◌, arith, List, [], ◌∷◌, ◌++◌, length, codes}
+use Rattle.std.proofs.Common.{◌≡◌, ℕ, refl, ap, sym, ◌∙◌, arith, List, [], ◌∷◌, ◌++◌, length, codes, Option, Some, None}
 use Rattle.packing_terms.specs.Packing.{PlainInstance, PlainBox}
 use Rattle.text_terms.specs.Spelling.{instance_words, lines_text}
 use Rattle.text_terms.specs.Form.{HasForm, AreBoxLines, IsKerfPart}
 use Rattle.document_terms.specs.declared.claim.Claim.{Claim}
-use Rattle.document_terms.specs.declared.claim.SolvingJob.TheVariants.{Fit}
+use Rattle.document_terms.specs.declared.claim.SolvingJob.TheVariants.{Fit, Strip, Bins, Knapsack}
 use Rattle.document_terms.specs.declared.claim.Claim.TheVariants.{Fitting, NotFitting, LeastHeight, HeightBetween, NoHeight, LeastBins, BinsBetween, NoBins, GreatestValue, ValueBetween}
 use Rattle.verdict_terms.specs.Form.{IsDocument, IsResult}
 use Rattle.verdict_terms.proofs.FormGiven.{documents_have_form}
 use Rattle.answer_terms.specs.Answers.{Lines, answer_text, answer_lines}
 use Rattle.answer_terms.specs.Answers.Answer.{Undecided}
-use Rattle.own_documents.specs.Own.{UndecidedIsRefused}
+use Rattle.answer_terms.specs.Solved.{solved, strip_answer, bins_answer}
+use Rattle.tree_terms.specs.ClassTree.{first_too_large_box, first_too_wide}
+use Rattle.tree_terms.specs.Levels.{height_run, bin_run}
+use Rattle.own_documents.specs.Own.{OnlyFitIsUndecided, UndecidedIsRefused}
 use Rattle.own_documents.proofs.Filled.{filled_text, instance_form}
 use Rattle.own_documents.proofs.Accepted.{filled_document}
 
@@ -86,3 +89,19 @@ undecided_refused instance claim limits e =
     same_result (instance_words instance) d.written (codes "undecided" ∷ []) d.result ((codes "end" ∷ []) ∷ []) (d.backing ++ (codes "end" ∷ []) ∷ [])
     (form_no_result (instance_words instance) instance (instance_form instance limits)) (form_no_result d.written d.instance d.is_instance) rest in
     no_claim d.instance claim d.result same d.is_result
+
+-- an answer that isn't undecided
+pub only_fit : OnlyFitIsUndecided
+unfolding solved
+only_fit Fit budget scales instance e = refl
+only_fit Strip budget scales instance e = absurd (by_wide (first_too_wide instance) e)
+  where
+    by_wide : (p : Option (ℕ × ℕ)) → ¬ (strip_answer p (height_run instance budget scales) ≡ Undecided)
+    by_wide (Some p) f = absurd (cc (f))
+    by_wide None f = absurd (cc (f))
+only_fit Bins budget scales instance e = absurd (by_large (first_too_large_box instance) e)
+  where
+    by_large : (p : Option (ℕ × ℕ)) → ¬ (bins_answer p (bin_run instance budget scales) ≡ Undecided)
+    by_large (Some p) f = absurd (cc (f))
+    by_large None f = absurd (cc (f))
+only_fit Knapsack budget scales instance e = absurd (cc (e))

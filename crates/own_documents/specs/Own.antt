@@ -12,17 +12,34 @@ use Rattle.answer_terms.specs.Answers.{answer_text}
 use Rattle.answer_terms.specs.Answers.Answer.{Undecided, Claimed}
 use Rattle.answer_terms.specs.Solved.{solved}
 use Rattle.answer_terms.specs.Shown.{Shows}
+use Rattle.document_terms.specs.Claims.{job_of}
+use Rattle.document_terms.specs.declared.claim.SolvingJob.TheVariants.{Fit}
 
--- whoever found the numbers and the tokens, the text is a document of the claim
+-- the text is a document of the claim, and the instance in it is this one
+pub record IsDocumentAbout (instance : PlainInstance) (text : List ℕ) (claim : Claim) : Type 0 where
+  pub document : IsDocument text claim
+  pub about : document.instance ≡ instance
+
+-- whoever found the numbers and the tokens, the text is a document of the claim about the instance
 abbrev pub ShownClaimsHaveDocuments : Type 0
 ShownClaimsHaveDocuments = (instance : PlainInstance) (claim : Claim) (numbers : List ℕ) (tokens : List PlainToken) → IsInstance instance
-    → Shows instance claim numbers tokens → IsDocument (answer_text instance (Claimed claim numbers tokens)) claim
+    → Shows instance claim numbers tokens → IsDocumentAbout instance (answer_text instance (Claimed claim numbers tokens)) claim
 
--- the document that answers with a claim is verified with it
+-- the text is verified with the claim, which is one of the job and about the instance
+pub record IsVerifiedFor (job : SolvingJob) (instance : PlainInstance) (text : List ℕ) (claim : Claim) : Type 0 where
+  pub of_job : job_of claim ≡ job
+  pub is : IsDocumentAbout instance text claim
+  pub verified : document_verdict text ≡ Ok claim
+
+-- the document that answers a job with a claim is verified with it, and about the asked instance
 abbrev pub OwnDocumentsAreVerified : Type 0
 OwnDocumentsAreVerified = (job : SolvingJob) (budget : ℕ) (scales : Bool) (instance : PlainInstance) (claim : Claim) (numbers : List ℕ) (tokens : List PlainToken)
     → IsInstance instance → solved job budget scales instance ≡ Claimed claim numbers tokens
-    → document_verdict (answer_text instance (Claimed claim numbers tokens)) ≡ Ok claim
+    → IsVerifiedFor job instance (answer_text instance (Claimed claim numbers tokens)) claim
+
+-- `fit` alone is answered by undecided
+abbrev pub OnlyFitIsUndecided : Type 0
+OnlyFitIsUndecided = (job : SolvingJob) (budget : ℕ) (scales : Bool) (instance : PlainInstance) → solved job budget scales instance ≡ Undecided → job ≡ Fit
 
 -- the document that says undecided is verified with no claim
 abbrev pub UndecidedIsRefused : Type 0

@@ -1,15 +1,21 @@
 //! What the definitions promise, each the contract of a function with an empty body.
-ghost use Rattle.own_documents.specs.Own.{ShownClaimsHaveDocuments, OwnDocumentsAreVerified, UndecidedIsRefused};
+ghost use Rattle.own_documents.specs.Own.{ShownClaimsHaveDocuments, OwnDocumentsAreVerified, OnlyFitIsUndecided, UndecidedIsRefused};
 
-/// Where numbers and tokens show a claim, the text with them is a document of the claim, whoever
-/// found them.
+/// Where numbers and tokens show a claim about an instance, the text with them is a document of the
+/// claim, and the instance in it is that one, whoever found them.
 pub fn shown_claims_have_documents()
     ensures { ShownClaimsHaveDocuments }
 {}
 
-/// A document that answers a job with a claim is verified with that claim.
+/// A document that answers a job with a claim is verified with that claim, which is one of the job,
+/// and the instance in it is the one that was asked.
 pub fn own_documents_are_verified()
     ensures { OwnDocumentsAreVerified }
+{}
+
+/// No job but `fit` is answered by undecided.
+pub fn only_fit_is_undecided()
+    ensures { OnlyFitIsUndecided }
 {}
 
 /// The document that says undecided is verified with no claim.

@@ -3,4 +3,7 @@
 
 mod laws;
 
-pub use laws::{own_documents_are_verified, shown_claims_have_documents, undecided_is_refused};
+pub use laws::{
+    only_fit_is_undecided, own_documents_are_verified, shown_claims_have_documents,
+    undecided_is_refused,
+};

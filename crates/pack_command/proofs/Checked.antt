@@ -13,7 +13,8 @@ use Rattle.verdict_terms.proofs.Stays.{refusals_stay}
 use Rattle.verdict_terms.proofs.FormGiven.{documents_have_form}
 use Rattle.verdict_terms.proofs.True.{documents_are_true}
 use Rattle.verdict_terms.specs.Fed.{NoneRefused}
-use Rattle.document_check.specs.Checked.{most_bytes, AreBytesEnough}
+use Rattle.document_lines.specs.Reading.{AreBytesEnough}
+use Rattle.document_check.specs.Checked.{most_document_bytes}
 use Rattle.pack_command.specs.declared.stop.Stop.{Stop}
 use Rattle.pack_command.specs.Asked.{solving_job, AsksToSolve, AsksCheck}
 use Rattle.answer_streams.specs.Verdicts.{verdict_status}
@@ -65,7 +66,7 @@ reached_verdict old left taken bytes (Err refusal) is gives reached = by_enough 
     by_enough (inl ends) =
         let rest = told_rest old left taken bytes is gives in
         ap document_verdict rest.1 ∙ refusals_stay taken rest.0 refusal reached.0 ends
-    by_enough (inr ended) = ap document_verdict (sym (taken_all old left taken bytes is gives ended)) ∙ reached.0
+    by_enough (inr whole) = ap document_verdict (sym (taken_all old left taken bytes is gives whole.0)) ∙ reached.0
 
 pub judged_exactly : (old new sunk_old sunk_new : Option (List ℕ)) (status : ℕ) (bytes : List ℕ) → old ≡ Some bytes
     → IsVerdictWritten old new sunk_old sunk_new status → IsExactly bytes sunk_old sunk_new status
@@ -78,11 +79,11 @@ judged_exactly old new sunk_old sunk_new status bytes is judged =
     }
 
 -- no verdict is reached on more bytes than are read, where no whole line within these is refused
-pub judged_within : (old new sunk_old sunk_new : Option (List ℕ)) (status : ℕ) (bytes : List ℕ) → old ≡ Some bytes → most_bytes < length bytes
-    → NoneRefused (take most_bytes bytes) → IsVerdictWritten old new sunk_old sunk_new status → ⊥
-judged_within old new sunk_old sunk_new status bytes is past none judged = go judged.verdict judged.found
+pub found_within : (old new : Option (List ℕ)) (bytes : List ℕ) → old ≡ Some bytes → most_document_bytes < length bytes
+    → NoneRefused (take most_document_bytes bytes) → (verdict : Result Claim Refusal) → IsVerdictFound old new verdict → ⊥
+found_within old new bytes is past none = go
   where
-    whole : (taken : List ℕ) → length taken ≤ most_bytes → taken ≡ bytes → ⊥
+    whole : (taken : List ℕ) → length taken ≤ most_document_bytes → taken ≡ bytes → ⊥
     whole taken few same = omega (arith, few, past, ap length same)
 
     go : (verdict : Result Claim Refusal) → IsVerdictFound old new verdict → ⊥
@@ -90,14 +91,14 @@ judged_within old new sunk_old sunk_new status bytes is past none judged = go ju
     go (Err refusal) found = by_enough found.reached.2
       where
         by_enough : AreBytesEnough new found.taken refusal → ⊥
-        by_enough (inr ended) = whole found.taken found.reached.1 (taken_all old new found.taken bytes is found.gives ended)
+        by_enough (inr all) = whole found.taken found.reached.1 (taken_all old new found.taken bytes is found.gives all.0)
         by_enough (inl ends) =
             let rest = told_rest old new found.taken bytes is found.gives in
-            let few : length found.taken ≤ most_bytes = found.reached.1 in
-            let more : ℕ = most_bytes - length found.taken in
-            let split : most_bytes ≡ length found.taken + more = omega (arith, few) in
+            let few : length found.taken ≤ most_document_bytes = found.reached.1 in
+            let more : ℕ = most_document_bytes - length found.taken in
+            let split : most_document_bytes ≡ length found.taken + more = omega (arith, few) in
             none found.taken (take more rest.0) refusal
-            (ap (take most_bytes) rest.1 ∙ ap (λ n. take n (found.taken ++ rest.0)) split ∙ take-append-add found.taken rest.0 more) ends found.reached.0
+            (ap (take most_document_bytes) rest.1 ∙ ap (λ n. take n (found.taken ++ rest.0)) split ∙ take-append-add found.taken rest.0 more) ends found.reached.0
 
 -- a verified document shows its claim, and that is true
 pub judged_claimed : (old new sunk_old sunk_new : Option (List ℕ)) (status : ℕ) → status ≡ 0

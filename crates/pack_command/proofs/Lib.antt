@@ -5,6 +5,7 @@ pub mod ValueDecided
 pub mod Found
 pub mod Answering
 pub mod Checked
+pub mod Causes
 pub mod Written
 pub mod Stopped
 pub mod OwnWritten

@@ -1,22 +1,27 @@
--- The documents that are written are verified.
-use Rattle.std.proofs.Common.{ℕ, ◌≡◌, ◌⊎◌, inl, inr, refl, sym, subst, List, Option, String, Global}
+-- The documents that are written are verified, and about the instance that was asked.
+use Rattle.std.proofs.Common.{ℕ, ◌≡◌, ◌⊎◌, inl, inr, refl, List, Option, Ok, Some, String, Global}
 use Rattle.packing_terms.specs.Packing.{PlainInstance}
 use Rattle.packing_terms.specs.Limits.{IsInstance}
+use Rattle.text_terms.specs.Texts.{text_instance}
 use Rattle.document_terms.specs.declared.claim.SolvingJob.{SolvingJob}
 use Rattle.answer_terms.specs.Answers.{Answer, answer_text, status_of}
 use Rattle.answer_terms.specs.Answers.Answer.{Undecided, Claimed}
 use Rattle.answer_terms.specs.Solved.{solved}
 use Rattle.own_documents.proofs.Accepted.{own_verified}
-use Rattle.own_documents.proofs.Undecided.{undecided_refused}
+use Rattle.own_documents.proofs.Undecided.{only_fit, undecided_refused}
 use Rattle.text_terms.specs.declared.settings.Settings.{Settings}
+use Rattle.pack_streams.specs.Moves.{Gains}
+use Rattle.pack_command.specs.Answered.{answer_for}
+use Rattle.pack_command.specs.Asked.{AsksToSolve}
 use Rattle.pack_command.specs.Run.{IsWritten}
 use Rattle.pack_command.specs.Own.{IsVerified, IsUnverified, IsOwnDocument}
+use Rattle.pack_command.proofs.Written.{written_answers, written_limits}
 
 own_answer : (job : SolvingJob) (settings : Settings) (instance : PlainInstance) → IsInstance instance → (a : Answer)
     → solved job settings.budget settings.scales instance ≡ a
-    → IsVerified (answer_text instance a) (status_of a) ⊎ IsUnverified (answer_text instance a) (status_of a)
+    → IsVerified job instance (answer_text instance a) (status_of a) ⊎ IsUnverified job (answer_text instance a) (status_of a)
 own_answer job settings instance limits Undecided e =
-    inr (record { undecided = refl; refused = (λ claim v. undecided_refused instance claim limits v) })
+    inr (record { asked = only_fit job settings.budget settings.scales instance e; undecided = refl; refused = (λ claim v. undecided_refused instance claim limits v) })
 own_answer job settings instance limits (Claimed claim numbers tokens) e =
     inl (record {
       claim = claim;
@@ -24,20 +29,20 @@ own_answer job settings instance limits (Claimed claim numbers tokens) e =
       status_is = refl;
     })
 
--- the same document and status
-same_own : (document text : List ℕ) (status said : ℕ) → document ≡ text → status ≡ said → IsVerified text said ⊎ IsUnverified text said
-    → IsVerified document status ⊎ IsUnverified document status
-same_own document text status said d s own =
-    subst (λ (x : List ℕ). IsVerified x status ⊎ IsUnverified x status) (sym d) (subst (λ (n : ℕ). IsVerified text n ⊎ IsUnverified text n) (sym s) own)
+-- the document of the definition
+own_text : (job : SolvingJob) (settings : Settings) (instance : PlainInstance) → IsInstance instance → (sunk_old sunk_new : Option (List ℕ))
+    → Gains sunk_old sunk_new (answer_for job settings instance).text → IsOwnDocument job instance sunk_old sunk_new (answer_for job settings instance).status
+own_text job settings instance limits sunk_old sunk_new gains = record {
+  document = (answer_for job settings instance).text;
+  written = gains;
+  own = own_answer job settings instance limits (solved job settings.budget settings.scales instance) refl;
+}
 
-pub own_written : (words : List (String Global)) (old new sunk_old sunk_new : Option (List ℕ)) (status : ℕ) → IsWritten words old new sunk_old sunk_new status
-    → IsOwnDocument sunk_old sunk_new status
-own_written words old new sunk_old sunk_new status w =
-    let a = w.answered in
-    let answer : Answer = solved a.job a.settings.budget a.settings.scales a.instance in
-    record {
-      document = w.document;
-      written = w.written;
-      own = same_own w.document (answer_text a.instance answer) status (status_of answer) a.document_is a.status_is
-          (own_answer a.job a.settings a.instance a.limits answer refl);
-    }
+pub own_written : (words : List (String Global)) (old new sunk_old sunk_new : Option (List ℕ)) (status : ℕ) (settings : Settings) (told : List ℕ) (instance : PlainInstance)
+    → IsWritten words old new sunk_old sunk_new status → old ≡ Some told → text_instance told ≡ Ok instance → (job : SolvingJob) → AsksToSolve words job settings
+    → IsOwnDocument job instance sunk_old sunk_new status
+own_written words old new sunk_old sunk_new status settings told instance w is read job asks =
+    let a = written_answers words old new sunk_old sunk_new status settings told instance w is read job asks in
+    let limits = written_limits words old new sunk_old sunk_new status settings told instance w is read in
+    let own = own_text job settings instance limits sunk_old sunk_new a.1 in
+    rw a.0 own

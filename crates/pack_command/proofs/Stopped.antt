@@ -15,7 +15,7 @@ module _ (words : List (String Global)) (old new sunk_old sunk_new : Option (Lis
   pub never_stops : (stop : Stop) → IsStopped words old new sunk_old sunk_new stop → ¬ (stop ≡ ReadFault) → ¬ (stop ≡ WriteFault) → ¬ (stop ≡ NoMemory) → ⊥
   never_stops Words s r w m = absurd (cc (s.0, asks.is))
   never_stops TooLong s r w m =
-      let (bytes, gives, past) = s.1 in
+      let (bytes, gives, past, most) = s.1 in
       let l = taken_within old new bytes told is gives in
       absurd (omega (arith, l, past, few))
   never_stops (Text fault) s r w m =

@@ -1,5 +1,5 @@
 -- Within the limits, and without a fault, the answer that was written is the one that the instance has, and it decides.
-use Rattle.std.proofs.Common.{ℕ, ◌≡◌, ◌≤◌, inl, inr, List, [], ◌++◌, length, length-append, append-nil, arith, sym, ap, ◌∙◌, subst, Option, Some, None, Ok, String, Global, Result}
+use Rattle.std.proofs.Common.{ℕ, ◌≡◌, ◌+◌, ◌≤◌, ◌↔◌, inl, inr, List, [], ◌++◌, length, length-append, append-nil, arith, sym, ap, ◌∙◌, subst, Option, Some, None, Ok, String, Global, Result}
 use Rattle.std.proofs.lemmas.Bool.{true≢false}
 use Rattle.std.specs.Io.KnownBytes.{IsAtEnd}
 use Rattle.packing_terms.specs.Packing.{PlainInstance}
@@ -16,7 +16,8 @@ use Rattle.pack_words.specs.declared.job.JobWords.{JobWords}
 use Rattle.pack_words.proofs.Walking.{some_inj}
 use Rattle.text_terms.specs.declared.settings.Settings.{Settings}
 use Rattle.pack_command.specs.Asked.{solving_job, AsksToSolve}
-use Rattle.pack_command.specs.Answered.{answer_for, IsDecided, IsEnough}
+use Rattle.pack_command.specs.Answered.{answer_for, class_bound, IsDecided, IsEnough}
+use Rattle.pack_command.specs.Decides.{IsJobDecided, IsExactlyFit}
 use Rattle.pack_command.specs.Strips.{IsStripDecided}
 use Rattle.pack_command.specs.FewestBins.{AreBinsDecided}
 use Rattle.pack_command.specs.GreatestValues.{IsValueDecided}
@@ -81,57 +82,85 @@ module _ (words : List (String Global)) (old new sunk_old sunk_new : Option (Lis
       let d : w.document ≡ (answer_for job settings instance).text = a.document_is ∙ ap (λ (x : JobAnswer). x.text) e in
       (a.status_is ∙ ap (λ (x : JobAnswer). x.status) e, subst (λ t. Gains sunk_old sunk_new t) d w.written)
 
-  limits : IsInstance instance
-  limits = subst IsInstance same_instance (w.answered).limits
+  pub written_limits : IsInstance instance
+  written_limits = subst IsInstance same_instance (w.answered).limits
 
   -- and it decides
   pub written_decides : AsksToSolve words Fit settings → IsDecided instance settings sunk_old sunk_new status
   written_decides asks =
       let a = written_answers Fit asks in
-      subst (λ s. IsDecided instance settings sunk_old sunk_new s) (sym a.0) (fit_decided settings instance limits sunk_old sunk_new a.1)
+      subst (λ s. IsDecided instance settings sunk_old sunk_new s) (sym a.0) (fit_decided settings instance written_limits sunk_old sunk_new a.1)
 
   pub written_least : AsksToSolve words Strip settings → IsStripDecided instance settings sunk_old sunk_new status
   written_least asks =
       let a = written_answers Strip asks in
-      subst (λ s. IsStripDecided instance settings sunk_old sunk_new s) (sym a.0) (strip_decided settings instance limits sunk_old sunk_new a.1)
+      subst (λ s. IsStripDecided instance settings sunk_old sunk_new s) (sym a.0) (strip_decided settings instance written_limits sunk_old sunk_new a.1)
 
   pub written_fewest : AsksToSolve words Bins settings → AreBinsDecided instance settings sunk_old sunk_new status
   written_fewest asks =
       let a = written_answers Bins asks in
-      subst (λ s. AreBinsDecided instance settings sunk_old sunk_new s) (sym a.0) (bins_decided settings instance limits sunk_old sunk_new a.1)
+      subst (λ s. AreBinsDecided instance settings sunk_old sunk_new s) (sym a.0) (bins_decided settings instance written_limits sunk_old sunk_new a.1)
 
   pub written_greatest : AsksToSolve words Knapsack settings → IsValueDecided instance settings sunk_old sunk_new status
   written_greatest asks =
       let a = written_answers Knapsack asks in
-      subst (λ s. IsValueDecided instance settings sunk_old sunk_new s) (sym a.0) (value_decided settings instance limits sunk_old sunk_new a.1)
+      subst (λ s. IsValueDecided instance settings sunk_old sunk_new s) (sym a.0) (value_decided settings instance written_limits sunk_old sunk_new a.1)
+
+  pub written_job : (job : SolvingJob) → AsksToSolve words job settings → IsJobDecided job instance settings sunk_old sunk_new status
+  written_job Fit asks = written_decides asks
+  written_job Strip asks = written_least asks
+  written_job Bins asks = written_fewest asks
+  written_job Knapsack asks = written_greatest asks
+
+  -- with a budget that is enough the status of `fit` says exactly whether the instance fits
+  fit_exactly : class_bound instance ≤ settings.budget + 1 → IsDecided instance settings sunk_old sunk_new status → IsExactlyFit instance status
+  fit_exactly enough (inl y) =
+      let e = y.status_is in
+      record {
+        yes = ((λ zero. (y.places, y.packing)), (λ fits. e));
+        no = ((λ one. absurd (omega (arith, e, one))), (λ none. absurd (none (y.places, y.packing))));
+      }
+  fit_exactly enough (inr (inl n)) =
+      let e = n.status_is in
+      record {
+        yes = ((λ zero. absurd (omega (arith, e, zero))), (λ fits. absurd (n.none fits)));
+        no = ((λ one. n.none), (λ none. e));
+      }
+  fit_exactly enough (inr (inr u)) =
+      let p = u.past in
+      let b = class_count instance (some_dimension instance (written_internal instance written_limits)) [] settings.scales in
+      absurd (omega (arith, p, b, enough))
+
+  pub written_fits : AsksToSolve words Fit settings → class_bound instance ≤ settings.budget + 1 → IsExactlyFit instance status
+  written_fits asks enough = fit_exactly enough (written_decides asks)
 
   fit_enough : IsEnough Fit instance settings.budget → IsDecided instance settings sunk_old sunk_new status → ¬ (status ≡ 3)
   fit_enough enough (inl y) three = let e = y.status_is in omega (arith, e, three)
   fit_enough enough (inr (inl n)) three = let e = n.status_is in omega (arith, e, three)
   fit_enough enough (inr (inr u)) three =
       let p = u.past in
-      let b = class_count instance (some_dimension instance (written_internal instance limits)) [] settings.scales in
+      let b = class_count instance (some_dimension instance (written_internal instance written_limits)) [] settings.scales in
       omega (arith, p, b, enough)
 
   strip_enough : IsEnough Strip instance settings.budget → IsStripDecided instance settings sunk_old sunk_new status → ¬ (status ≡ 3)
   strip_enough enough (inl l) three = let e = l.status_is in omega (arith, e, three)
   strip_enough enough (inr (inl b)) three =
       true≢false (sym ((height_spent instance settings.budget settings.scales).1 b.past)
-      ∙ height_enough instance (written_internal instance limits) settings.budget settings.scales enough)
+      ∙ height_enough instance (written_internal instance written_limits) settings.budget settings.scales enough)
   strip_enough enough (inr (inr n)) three = let e = n.status_is in omega (arith, e, three)
 
   fewest_enough : IsEnough Bins instance settings.budget → AreBinsDecided instance settings sunk_old sunk_new status → ¬ (status ≡ 3)
   fewest_enough enough (inl l) three = let e = l.status_is in omega (arith, e, three)
   fewest_enough enough (inr (inl b)) three =
       true≢false (sym ((bins_spent instance settings.budget settings.scales).1 b.past)
-      ∙ bins_enough instance (written_internal instance limits) settings.budget settings.scales enough)
+      ∙ bins_enough instance (written_internal instance written_limits) settings.budget settings.scales enough)
   fewest_enough enough (inr (inr n)) three = let e = n.status_is in omega (arith, e, three)
 
   greatest_enough : IsEnough Knapsack instance settings.budget → IsValueDecided instance settings sunk_old sunk_new status → ¬ (status ≡ 3)
   greatest_enough enough (inl l) three = let e = l.status_is in omega (arith, e, three)
   greatest_enough enough (inr b) three =
       true≢false (sym ((value_spent instance settings.budget settings.scales).1 b.past)
-      ∙ value_enough instance (written_internal instance limits) settings.budget settings.scales enough)
+      ∙ value_enough instance (written_internal instance written_limits) settings.budget settings.scales enough)
 
   -- a budget that bounds every count is enough
   pub written_enough : (job : SolvingJob) → AsksToSolve words job settings → IsEnough job instance settings.budget → ¬ (status ≡ 3)

@@ -1,5 +1,5 @@
 -- What the check of a document promises. `taken` are the bytes that were taken from the source.
-use Rattle.std.specs.Prelude.{ℕ, ◌<◌, ◌≤◌, ◌≡◌, ◌⊎◌, List, length, take, Result, Ok, Err}
+use Rattle.std.specs.Prelude.{ℕ, ◌+◌, ◌≤◌, ◌≡◌, ◌⊎◌, List, length, take, Result, Ok, Err}
 use Rattle.std.specs.declared.option.Option.{Option}
 use Rattle.std.specs.Io.KnownBytes.{IsAtEnd}
 use Rattle.document_terms.specs.declared.claim.Claim.{Claim}
@@ -9,17 +9,17 @@ use Rattle.pack_streams.specs.Writing.{GainsPart}
 use Rattle.verdict_terms.specs.Documents.{Refusal, document_verdict, verdict_line}
 use Rattle.verdict_terms.specs.Fed.{NoneRefused}
 use Rattle.verdict_terms.specs.Form.{IsDocument}
-use Rattle.document_check.specs.Checked.{most_bytes, AreBytesEnough}
+use Rattle.document_lines.specs.Reading.{AreBytesEnough, NoneRefusedBefore}
+use Rattle.document_check.specs.Checked.{most_document_bytes}
 use Rattle.pack_command.specs.declared.stop.Stop.{Stop}
 use Rattle.pack_command.specs.declared.stop.Stop.TheVariants.{Words, TooLong, Text, ReadFault, WriteFault, NoMemory}
 use Rattle.answer_streams.specs.declared.verdict.Verdict.{Verdict}
 use Rattle.answer_streams.specs.Verdicts.{plain_verdict, verdict_status}
 
--- the bytes taken have the verdict: they are the whole input, or end in the line feed of the
--- refused line
+-- the bytes taken have the verdict, and are enough for it
 abbrev pub HasVerdict : Option (List ℕ) → List ℕ → Result Claim Refusal → Type 0
-HasVerdict left taken (Ok claim) = (document_verdict taken ≡ Ok claim) × (length taken ≤ most_bytes) × IsAtEnd left
-HasVerdict left taken (Err refusal) = (document_verdict taken ≡ Err refusal) × (length taken ≤ most_bytes) × AreBytesEnough left taken refusal
+HasVerdict left taken (Ok claim) = (document_verdict taken ≡ Ok claim) × (length taken ≤ most_document_bytes) × IsAtEnd left
+HasVerdict left taken (Err refusal) = (document_verdict taken ≡ Err refusal) × (length taken ≤ most_document_bytes) × AreBytesEnough left taken refusal
 
 -- a verdict was reached
 pub record IsVerdictFound (old new : Option (List ℕ)) (verdict : Result Claim Refusal) : Type 0 where
@@ -27,25 +27,33 @@ pub record IsVerdictFound (old new : Option (List ℕ)) (verdict : Result Claim 
   pub gives : Gives old new taken
   pub reached : HasVerdict new taken verdict
 
--- more bytes came than are read, and no line that was whole within these is refused
+-- one byte more came than is read, and no line that was whole before it is refused
 pub record IsPastLimit (old new : Option (List ℕ)) : Type 0 where
   pub taken : List ℕ
   pub gives : Gives old new taken
-  pub past : most_bytes < length taken
-  pub none : NoneRefused (take most_bytes taken)
+  pub past : length taken ≡ most_document_bytes + 1
+  pub none : NoneRefused (take most_document_bytes taken)
 
 -- the input broke off, and no line that was whole before is refused
 pub record IsBrokenOff (old new : Option (List ℕ)) : Type 0 where
   pub taken : List ℕ
   pub gives : Gives old new taken
+  pub within : length taken ≤ most_document_bytes
   pub none : NoneRefused taken
+
+-- memory was refused, and no line that was whole before is refused
+pub record IsGivenUp (old new : Option (List ℕ)) : Type 0 where
+  pub taken : List ℕ
+  pub gives : Gives old new taken
+  pub within : length taken ≤ most_document_bytes
+  pub none : NoneRefusedBefore taken
 
 -- the verdict, or why there is none
 abbrev pub IsVerdict : Option (List ℕ) → Option (List ℕ) → Result Verdict Stop → Type 0
 IsVerdict old new (Ok verdict) = IsVerdictFound old new (plain_verdict verdict)
 IsVerdict old new (Err TooLong) = IsPastLimit old new
 IsVerdict old new (Err ReadFault) = IsBrokenOff old new
-IsVerdict old new (Err NoMemory) = (taken : List ℕ) × Gives old new taken
+IsVerdict old new (Err NoMemory) = IsGivenUp old new
 IsVerdict old new (Err Words) = ⊥
 IsVerdict old new (Err (Text fault)) = ⊥
 IsVerdict old new (Err WriteFault) = ⊥
@@ -68,7 +76,7 @@ abbrev pub IsWithoutVerdict : (old new sunk_old sunk_new : Option (List ℕ)) �
 IsWithoutVerdict old new sunk_old sunk_new TooLong = IsPastLimit old new × (sunk_new ≡ sunk_old)
 IsWithoutVerdict old new sunk_old sunk_new ReadFault = IsBrokenOff old new × (sunk_new ≡ sunk_old)
 IsWithoutVerdict old new sunk_old sunk_new WriteFault = IsLineCut old new sunk_old sunk_new
-IsWithoutVerdict old new sunk_old sunk_new NoMemory = ((taken : List ℕ) × Gives old new taken) × (sunk_new ≡ sunk_old)
+IsWithoutVerdict old new sunk_old sunk_new NoMemory = IsGivenUp old new × (sunk_new ≡ sunk_old)
 IsWithoutVerdict old new sunk_old sunk_new Words = ⊥
 IsWithoutVerdict old new sunk_old sunk_new (Text fault) = ⊥
 

@@ -13,7 +13,7 @@ use Rattle.answer_terms.specs.Answers.{answer_text}
 use Rattle.answer_terms.specs.Answers.Answer.{Claimed}
 use Rattle.answer_terms.specs.Solved.{none_answer}
 use Rattle.pack_streams.specs.Moves.{Gains}
-use Rattle.bin_knapsack.specs.BinAnswers.{HasLargeCount}
+use Rattle.tree_terms.specs.RunEnds.{HasLargeCount}
 use Rattle.text_terms.specs.declared.settings.Settings.{Settings}
 
 -- The least number of bins over all packings, with each box's bin and place and tokens that refute

@@ -11,7 +11,7 @@ use Rattle.document_terms.specs.declared.claim.Claim.TheVariants.{GreatestValue,
 use Rattle.answer_terms.specs.Answers.{answer_text}
 use Rattle.answer_terms.specs.Answers.Answer.{Claimed}
 use Rattle.pack_streams.specs.Moves.{Gains}
-use Rattle.bin_knapsack.specs.Choices.{HasLargeWorth}
+use Rattle.tree_terms.specs.RunEnds.{HasLargeWorth}
 use Rattle.text_terms.specs.declared.settings.Settings.{Settings}
 
 -- The greatest value over all sets of boxes that fit, with the taken boxes and their places and

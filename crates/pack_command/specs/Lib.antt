@@ -7,6 +7,8 @@ pub mod GreatestValues
 pub mod Inputs
 pub mod Run
 pub mod Checks
+pub mod Counts
+pub mod Decides
 pub mod Generated
 pub mod Ends
 pub mod Own

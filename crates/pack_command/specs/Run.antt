@@ -1,18 +1,18 @@
 -- What the top call promises.
-use Rattle.std.specs.Prelude.{ℕ, ◌≡◌, ◌≤◌, List, String, Ok, Err}
+use Rattle.std.specs.Prelude.{ℕ, ◌≡◌, ◌⊎◌, List, String, Ok, Err, Result}
 use Rattle.std.specs.declared.option.Option.{Option}
 use Rattle.std.specs.declared.alloc.Global.{Global}
 use Rattle.packing_terms.specs.Packing.{PlainInstance}
 use Rattle.packing_terms.specs.Limits.{IsInstance}
 use Rattle.text_terms.specs.Texts.{text_instance}
-use Rattle.pack_streams.specs.Faults.{Rose}
-use Rattle.pack_streams.specs.Moves.{Gives, Gains}
-use Rattle.pack_streams.specs.Writing.{GainsPart}
+use Rattle.pack_streams.specs.Moves.{Gains}
+use Rattle.pack_streams.specs.Writing.{GainsPart, Writes}
 use Rattle.text_terms.specs.declared.settings.Settings.{Settings}
 use Rattle.document_terms.specs.declared.claim.SolvingJob.{SolvingJob}
 use Rattle.pack_command.specs.Answered.{answer_for}
 use Rattle.pack_command.specs.Asked.{AsksToSolve, AsksNothing}
-use Rattle.pack_command.specs.Inputs.{IsWholeInput, IsInputRead}
+use Rattle.pack_command.specs.Inputs.{IsWholeInput, IsPartTaken, IsInputRead}
+use Rattle.pack_streams.specs.declared.moves.WriteFault.{WriteFault as WriteFailed}
 use Rattle.pack_command.specs.declared.stop.Stop.{Stop}
 use Rattle.pack_command.specs.declared.stop.Stop.TheVariants.{Words, TooLong, Text, ReadFault, WriteFault, NoMemory}
 
@@ -48,7 +48,7 @@ IsStopped words old new sunk_old sunk_new TooLong = Asks words × IsInputRead ol
 IsStopped words old new sunk_old sunk_new (Text fault) = Asks words × IsInputRead old new (Err (Text fault)) × (sunk_new ≡ sunk_old)
 IsStopped words old new sunk_old sunk_new ReadFault = Asks words × IsInputRead old new (Err ReadFault) × (sunk_new ≡ sunk_old)
 IsStopped words old new sunk_old sunk_new WriteFault = IsCutShort words old new sunk_old sunk_new
-IsStopped words old new sunk_old sunk_new NoMemory = ((bytes : List ℕ) × Gives old new bytes) × (sunk_new ≡ sunk_old)
+IsStopped words old new sunk_old sunk_new NoMemory = ((new ≡ old) ⊎ (Asks words × IsPartTaken old new)) × (sunk_new ≡ sunk_old)
 
 -- an answer with its whole document written
 pub record IsWritten (words : List (String Global)) (old new sunk_old sunk_new : Option (List ℕ)) (status : ℕ) : Type 0 where
@@ -56,8 +56,7 @@ pub record IsWritten (words : List (String Global)) (old new sunk_old sunk_new :
   pub answered : IsAnswered words old new status document
   pub written : Gains sunk_old sunk_new document
 
--- the message is written whole, unless the sink failed
-pub record IsTold (sunk_old sunk_new : Option (List ℕ)) (before now : ℕ) (message : List ℕ) : Type 0 where
-  pub whole : (Rose before now → ⊥) → Gains sunk_old sunk_new message
-  pub part : GainsPart sunk_old sunk_new message
-  pub count : before ≤ now
+-- the message is written whole, unless a write of the sink fails, which is the last one then
+abbrev pub IsTold : (sunk_old sunk_new : Option (List ℕ)) → ℕ → ℕ → List ℕ → Type 0
+IsTold sunk_old sunk_new before now message =
+    (told : Result (Unit {0}) WriteFailed) × Writes sunk_old sunk_new before now message told

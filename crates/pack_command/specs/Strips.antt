@@ -12,7 +12,7 @@ use Rattle.answer_terms.specs.Answers.{answer_text}
 use Rattle.answer_terms.specs.Answers.Answer.{Claimed}
 use Rattle.answer_terms.specs.Solved.{none_answer}
 use Rattle.pack_streams.specs.Moves.{Gains}
-use Rattle.strip_solver.specs.Strips.{HasLargeHeight}
+use Rattle.tree_terms.specs.RunEnds.{HasLargeHeight}
 use Rattle.text_terms.specs.declared.settings.Settings.{Settings}
 
 -- The least height over all packings, with places that are a packing in it and tokens that refute

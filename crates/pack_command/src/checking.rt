@@ -1,7 +1,8 @@
 //! The job `check`: a document is verified, or refused at its first faulty line.
-ghost use Rattle.std.specs.Prelude.{◌≡◌, ◌≢◌, ◌<◌, ◌≤◌, ℕ, List, length, take, Some, IfOk, IfErr};
-ghost use Rattle.pack_streams.specs.Faults.{Rose};
+ghost use Rattle.std.specs.Prelude.{◌≡◌, ◌≢◌, ◌<◌, ◌≤◌, ◌⊎◌, ℕ, List, length, take, Some, IfOk, IfErr};
 ghost use Rattle.verdict_terms.specs.Fed.{NoneRefused};
+ghost use Rattle.document_check.specs.Checked.{most_document_bytes};
+ghost use Rattle.pack_command.specs.Counts.{CountsReads, CountsWrites, CountsStatus, IsFaultStatus};
 ghost use Rattle.pack_command.specs.Stops.{stop_status};
 ghost use Rattle.pack_command.specs.Checks.{IsVerdict, IsVerdictStatus, IsVerdictWritten, IsWithoutVerdict, IsExactly, IsClaimed};
 ghost use Rattle.pack_command.specs.declared.stop.Stop.{Stop as PlainStop};
@@ -15,8 +16,7 @@ use std::alloc::Global;
 // The verdict on the document that a source gives.
 fn read_verdict<S: Source>(alloc: Global, input: &mut S) -> Result<Verdict, Stop>
     ensures is { IsVerdict (S.left input.old) (S.left input.new) result }
-    ensures count { S.faults input.old ≤ S.faults input.new }
-    ensures cause { result ≡ Err Stop.ReadFault → Rose (S.faults input.old) (S.faults input.new) }
+    ensures reads { CountsReads (S.faults input.old) (S.faults input.new) result }
 {
     match check_document(alloc, input) {
         CheckEnd::Verified(claim) => Ok(Verdict::Verified(claim)),
@@ -36,12 +36,9 @@ pub fn check<S: Source, K: Sink>(alloc: Global, input: &mut S, out: &mut K) -> R
     ensures unjudged { IfErr result
         (IsWithoutVerdict (S.left input.old) (S.left input.new) (K.written out.old)
         (K.written out.new)) }
-    ensures read_fault { result ≡ Err Stop.ReadFault
-        → Rose (S.faults input.old) (S.faults input.new) }
-    ensures write_fault { result ≡ Err Stop.WriteFault
-        → Rose (K.faults out.old) (K.faults out.new) }
-    ensures counts { (S.faults input.old ≤ S.faults input.new)
-        × (K.faults out.old ≤ K.faults out.new) }
+    ensures unwritten { IfErr result (λ stop. stop ≢ Stop.WriteFault → out.new ≡ out.old) }
+    ensures reads { CountsReads (S.faults input.old) (S.faults input.new) result }
+    ensures writes { CountsWrites (K.faults out.old) (K.faults out.new) result }
 {
     let verdict = read_verdict(alloc, input)?;
     match stream(out, &verdict) {
@@ -56,36 +53,33 @@ pub fn check<S: Source, K: Sink>(alloc: Global, input: &mut S, out: &mut K) -> R
 /// 1,099,511,627,776 bytes came, 4 at a failed read, 5 at a failed write and 6 at want of memory.
 /// No byte behind the line feed of a refused line is taken. With 2, 4 and 6 nothing was written.
 pub fn check_stream<S: Source, K: Sink>(alloc: Global, input: &mut S, out: &mut K) -> u8
-    // Verified or refused by the bytes taken, and the line was written whole, whether or not a
-    // count of faults rose.
+    // Verified or refused by the bytes taken, and the line was written whole.
     ensures judged { IsVerdictStatus result
         → IsVerdictWritten (S.left input.old) (S.left input.new) (K.written out.old)
         (K.written out.new) result }
 
-    // Else the cause holds.
+    // Else the cause holds, and nothing was done to the sink, but for the part that was written
+    // before a fault.
     ensures unjudged { ¬ IsVerdictStatus result → (stop : PlainStop) × (result ≡ stop_status stop)
         × IsWithoutVerdict (S.left input.old) (S.left input.new) (K.written out.old)
         (K.written out.new) stop }
-    ensures read_fault { result ≡ 4 → Rose (S.faults input.old) (S.faults input.new) }
-    ensures write_fault { result ≡ 5 → Rose (K.faults out.old) (K.faults out.new) }
-    ensures counts { (S.faults input.old ≤ S.faults input.new)
-        × (K.faults out.old ≤ K.faults out.new) }
+    ensures unwritten { ¬ IsVerdictStatus result → result ≢ 5 → out.new ≡ out.old }
 
-    // Within the limit, and without a fault or want of memory, it is exactly the line and the
-    // status of the definition.
-    ensures exactly { (bytes : List ℕ) → S.left input.old ≡ Some bytes
-        → length bytes ≤ 1099511627776
-        → (Rose (S.faults input.old) (S.faults input.new) → ⊥)
-        → (Rose (K.faults out.old) (K.faults out.new) → ⊥) → result ≢ 6
+    // The first read or write that fails is the last, and has its status.
+    ensures reads { CountsStatus 4 result (S.faults input.old) (S.faults input.new) }
+    ensures writes { CountsStatus 5 result (K.faults out.old) (K.faults out.new) }
+
+    // Within the limit it is exactly the line and the status of the definition, unless a read or a
+    // write fails or memory is refused.
+    ensures exactly { (bytes : List ℕ) → S.left input.old ≡ Some bytes → IsVerdictStatus result
         → IsExactly bytes (K.written out.old) (K.written out.new) result }
+    ensures completes { (bytes : List ℕ) → S.left input.old ≡ Some bytes
+        → length bytes ≤ most_document_bytes → IsVerdictStatus result ⊎ IsFaultStatus result }
 
     // Where more bytes come, and no line that is whole within the limit is refused, it is too long.
     ensures too_long { (bytes : List ℕ) → S.left input.old ≡ Some bytes
-        → 1099511627776 < length bytes
-        → NoneRefused (take 1099511627776 bytes)
-        → (Rose (S.faults input.old) (S.faults input.new) → ⊥)
-        → (Rose (K.faults out.old) (K.faults out.new) → ⊥) → result ≢ 6
-        → result ≡ 2 }
+        → most_document_bytes < length bytes → NoneRefused (take most_document_bytes bytes)
+        → (result ≡ 2) ⊎ IsFaultStatus result }
 
     // What is verified is true.
     ensures claimed { result ≡ 0

@@ -1,7 +1,7 @@
 //! The instance that a source gives.
-ghost use Rattle.std.specs.Prelude.{◌≡◌, ◌≤◌, IfOk};
+ghost use Rattle.std.specs.Prelude.{IfOk};
 ghost use Rattle.packing_terms.specs.Limits.{IsInstance};
-ghost use Rattle.pack_streams.specs.Faults.{Rose};
+ghost use Rattle.pack_command.specs.Counts.{CountsReads};
 ghost use Rattle.pack_command.specs.Inputs.{IsInputRead};
 
 use crate::stop::Stop;
@@ -17,8 +17,7 @@ const LIMIT: usize = 1_048_576;
 pub fn read_input<S: Source>(alloc: Global, input: &mut S) -> Result<Instance, Stop>
     ensures moves { IsInputRead (S.left input.old) (S.left input.new) result }
     ensures limits { IfOk result IsInstance }
-    ensures count { S.faults input.old ≤ S.faults input.new }
-    ensures cause { result ≡ Err Stop.ReadFault → Rose (S.faults input.old) (S.faults input.new) }
+    ensures reads { CountsReads (S.faults input.old) (S.faults input.new) result }
 {
     let text = match read_up_to(alloc, input, LIMIT) {
         Ok(text) => text,

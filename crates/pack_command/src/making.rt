@@ -1,7 +1,7 @@
 //! The job `make`: an instance is made of a number, and decided.
-ghost use Rattle.std.specs.Prelude.{◌≡◌, ◌≤◌, Err, IfOk, IfErr, OnOk};
-ghost use Rattle.pack_streams.specs.Faults.{Rose};
+ghost use Rattle.std.specs.Prelude.{◌≡◌, ◌≢◌, IfOk, IfErr, OnOk};
 ghost use Rattle.pack_streams.specs.Moves.{Gains};
+ghost use Rattle.pack_command.specs.Counts.{CountsWrites};
 ghost use Rattle.pack_command.specs.Generated.{made_for, IsMadeCut, IsMadeOf};
 
 use crate::stop::Stop;
@@ -49,9 +49,8 @@ pub fn make_and_tell<R: Threads + Wait + Sync, K: Sink, G: Gate + Sync>(
         (Gains (K.written out.old) (K.written out.new) (made_for number settings.now).text) }
     ensures cut { IfErr result
         (IsMadeCut number settings.now (K.written out.old) (K.written out.new)) }
-    ensures write_fault { result ≡ Err Stop.WriteFault
-        → Rose (K.faults out.old) (K.faults out.new) }
-    ensures count { K.faults out.old ≤ K.faults out.new }
+    ensures unwritten { IfErr result (λ stop. stop ≢ Stop.WriteFault → out.new ≡ out.old) }
+    ensures writes { CountsWrites (K.faults out.old) (K.faults out.new) result }
 {
     let Ok(made) = made(rt, alloc, number, settings, gate) else {
         return Err(Stop::NoMemory);

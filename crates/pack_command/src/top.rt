@@ -1,22 +1,18 @@
 //! The top call.
-ghost use Rattle.std.specs.Prelude.{◌≡◌, ◌≢◌, ◌<◌, ◌≤◌, ℕ, List, String, length, take, Some, Ok, Err, IfOk, IfErr};
+ghost use Rattle.std.specs.Prelude.{◌≡◌, ◌≢◌, ◌≤◌, ◌+◌, ◌⊎◌, ℕ, List, String, Err, IfOk, IfErr};
 ghost use Rattle.std.specs.declared.alloc.Global.{Global as PlainGlobal};
 ghost use Rattle.packing_terms.specs.Packing.{PlainInstance};
-ghost use Rattle.text_terms.specs.Texts.{text_instance};
-ghost use Rattle.pack_streams.specs.Faults.{Rose};
 ghost use Rattle.pack_streams.specs.Moves.{Gains};
 ghost use Rattle.document_terms.specs.declared.claim.SolvingJob.{SolvingJob as PlainJob};
-ghost use Rattle.document_terms.specs.declared.claim.SolvingJob.TheVariants.{Fit, Strip, Bins, Knapsack};
-ghost use Rattle.verdict_terms.specs.Fed.{NoneRefused};
-ghost use Rattle.pack_command.specs.Answered.{answer_for, IsAnswerStatus, IsDecided, IsEnough};
-ghost use Rattle.pack_command.specs.Asked.{AsksToSolve, AsksCheck, AsksToMake};
+ghost use Rattle.document_terms.specs.declared.claim.SolvingJob.TheVariants.{Fit};
+ghost use Rattle.pack_command.specs.Answered.{answer_for, class_bound, IsAnswerStatus, IsEnough};
+ghost use Rattle.pack_command.specs.Asked.{AsksToSolve, AsksCheck, AsksToMake, IsSolving, IsChecking, HasAnswer, ReadsNothing, IsRefusable};
 ghost use Rattle.pack_command.specs.Checks.{IsExactly, IsClaimed};
+ghost use Rattle.pack_command.specs.Counts.{CountsReads, CountsWrites, CountsStatus, IsFaultStatus};
+ghost use Rattle.pack_command.specs.Decides.{IsJobDecided, IsExactlyFit};
 ghost use Rattle.pack_command.specs.Ends.{IsDone, IsUndone};
 ghost use Rattle.pack_command.specs.Generated.{IsExactlyMade};
 ghost use Rattle.pack_command.specs.Own.{IsOwnDocument};
-ghost use Rattle.pack_command.specs.Strips.{IsStripDecided};
-ghost use Rattle.pack_command.specs.FewestBins.{AreBinsDecided};
-ghost use Rattle.pack_command.specs.GreatestValues.{IsValueDecided};
 ghost use Rattle.pack_command.specs.Stops.{stop_status, message_of};
 ghost use Rattle.pack_command.specs.Run.{IsWritten, IsStopped, IsTold};
 ghost use Rattle.pack_command.specs.declared.stop.Stop.{Stop as PlainStop};
@@ -56,106 +52,65 @@ pub fn run<R: Threads + Wait + Sync, S: Source, K: Sink, E: Sink, G: Gate + Sync
     err: &mut E,
     gate: &G,
 ) -> u8
-    // Within the limits, and without a fault or want of memory, the status and the document are
-    // those of the definition, in which the number of workers has no part.
-    ensures answers { (job : PlainJob) (settings : PlainSettings) (bytes : List ℕ)
-        (instance : PlainInstance)
-        → AsksToSolve words.now job settings → S.left input.old ≡ Some bytes
-        → length bytes ≤ 1048576 → text_instance bytes ≡ Ok instance
-        → (Rose (S.faults input.old) (S.faults input.new) → ⊥)
-        → (Rose (K.faults out.old) (K.faults out.new) → ⊥) → result ≢ 6
+    // The answer of a solving job is true of the instance that the input is the text of: `fit` is yes
+    // with a packing or no with a refutation, exactly as a packing exists, or undecided exactly where
+    // the tree has more branchings than the budget; the others are least or greatest over all
+    // packings, none exactly where there is none, or between two levels exactly where the tree of a
+    // level that is decided has more branchings than the budget, with both certificates.
+    ensures decides { (job : PlainJob) (settings : PlainSettings) (instance : PlainInstance)
+        → IsSolving words.now (S.left input.old) job settings instance → IsAnswerStatus result
+        → IsJobDecided job instance settings (K.written out.old) (K.written out.new) result }
+
+    // It is the answer of the definition, in which the number of workers has no part.
+    ensures answers { (job : PlainJob) (settings : PlainSettings) (instance : PlainInstance)
+        → IsSolving words.now (S.left input.old) job settings instance → IsAnswerStatus result
         → (result ≡ (answer_for job settings instance).status)
         × Gains (K.written out.old) (K.written out.new) (answer_for job settings instance).text }
 
-    // So `fit` is yes with a packing or no with a refutation, exactly as a packing exists, or
-    // undecided exactly where the tree has more branchings than the budget.
-    ensures decides { (settings : PlainSettings) (bytes : List ℕ) (instance : PlainInstance)
-        → AsksToSolve words.now Fit settings
-        → S.left input.old ≡ Some bytes → length bytes ≤ 1048576 → text_instance bytes ≡ Ok instance
-        → (Rose (S.faults input.old) (S.faults input.new) → ⊥)
-        → (Rose (K.faults out.old) (K.faults out.new) → ⊥) → result ≢ 6
-        → IsDecided instance settings (K.written out.old) (K.written out.new) result }
-
-    // And `strip` is the least height over all packings with both certificates, or none exactly
-    // where there is none, or two heights between which it lies, with both certificates, exactly
-    // where the tree of a height that is decided has more branchings than the budget.
-    ensures least { (settings : PlainSettings) (bytes : List ℕ) (instance : PlainInstance)
-        → AsksToSolve words.now Strip settings
-        → S.left input.old ≡ Some bytes → length bytes ≤ 1048576 → text_instance bytes ≡ Ok instance
-        → (Rose (S.faults input.old) (S.faults input.new) → ⊥)
-        → (Rose (K.faults out.old) (K.faults out.new) → ⊥) → result ≢ 6
-        → IsStripDecided instance settings (K.written out.old) (K.written out.new) result }
-
-    // And `bins` is the least number of bins over all packings with both certificates, or none
-    // exactly where there is none, or two numbers between which it lies, with both certificates,
-    // exactly where the tree of a number that is decided has more branchings than the budget.
-    ensures fewest { (settings : PlainSettings) (bytes : List ℕ) (instance : PlainInstance)
-        → AsksToSolve words.now Bins settings
-        → S.left input.old ≡ Some bytes → length bytes ≤ 1048576 → text_instance bytes ≡ Ok instance
-        → (Rose (S.faults input.old) (S.faults input.new) → ⊥)
-        → (Rose (K.faults out.old) (K.faults out.new) → ⊥) → result ≢ 6
-        → AreBinsDecided instance settings (K.written out.old) (K.written out.new) result }
-
-    // And `knapsack` is the greatest value over all sets of boxes that fit with both certificates,
-    // or two values between which it lies, with both certificates, exactly where the tree of a
-    // value that is decided has more branchings than the budget.
-    ensures greatest { (settings : PlainSettings) (bytes : List ℕ) (instance : PlainInstance)
-        → AsksToSolve words.now Knapsack settings
-        → S.left input.old ≡ Some bytes → length bytes ≤ 1048576 → text_instance bytes ≡ Ok instance
-        → (Rose (S.faults input.old) (S.faults input.new) → ⊥)
-        → (Rose (K.faults out.old) (K.faults out.new) → ⊥) → result ≢ 6
-        → IsValueDecided instance settings (K.written out.old) (K.written out.new) result }
-
-    // None is undecided or between where the budget is enough for every tree of the job.
-    ensures enough { (job : PlainJob) (settings : PlainSettings) (bytes : List ℕ)
-        (instance : PlainInstance)
-        → AsksToSolve words.now job settings → S.left input.old ≡ Some bytes
-        → text_instance bytes ≡ Ok instance
+    // None is undecided or between where the budget is enough for every tree of the job: then the
+    // status of `fit` says exactly whether the instance fits.
+    ensures enough { (job : PlainJob) (settings : PlainSettings) (instance : PlainInstance)
+        → IsSolving words.now (S.left input.old) job settings instance
         → IsEnough job instance settings.budget → result ≢ 3 }
+    ensures fits { (settings : PlainSettings) (instance : PlainInstance)
+        → IsSolving words.now (S.left input.old) Fit settings instance → IsAnswerStatus result
+        → class_bound instance ≤ settings.budget + 1 → IsExactlyFit instance result }
 
-    // Where the words ask for `check`, it is exactly the line of the verdict on the bytes, with its
-    // status.
-    ensures checks { (bytes : List ℕ) → AsksCheck words.now → S.left input.old ≡ Some bytes
-        → length bytes ≤ 1099511627776
-        → (Rose (S.faults input.old) (S.faults input.new) → ⊥)
-        → (Rose (K.faults out.old) (K.faults out.new) → ⊥) → result ≢ 6
-        → IsExactly bytes (K.written out.old) (K.written out.new) result }
+    // The document is verified with a claim of the job about that instance, or it says undecided,
+    // for `fit` alone, and is verified with none.
+    ensures verified { (job : PlainJob) (settings : PlainSettings) (instance : PlainInstance)
+        → IsSolving words.now (S.left input.old) job settings instance → IsAnswerStatus result
+        → IsOwnDocument job instance (K.written out.old) (K.written out.new) result }
 
-    // Where more bytes come, and no line that is whole within the limit is refused, it is too long.
-    ensures too_long { (bytes : List ℕ) → AsksCheck words.now → S.left input.old ≡ Some bytes
-        → 1099511627776 < length bytes
-        → NoneRefused (take 1099511627776 bytes)
-        → (Rose (S.faults input.old) (S.faults input.new) → ⊥)
-        → (Rose (K.faults out.old) (K.faults out.new) → ⊥) → result ≢ 6 → result ≡ 2 }
-
-    // What `check` verifies is true of the instance in the document, whoever wrote it.
+    // `check` writes exactly the line of the verdict on the input, with its status, and what it
+    // verifies is true of the instance in the document, whoever wrote it.
+    ensures checks { (bytes : List ℕ) → IsChecking words.now (S.left input.old) bytes
+        → IsAnswerStatus result → IsExactly bytes (K.written out.old) (K.written out.new) result }
     ensures claimed { AsksCheck words.now → result ≡ 0
         → IsClaimed (S.left input.old) (S.left input.new) (K.written out.old) (K.written out.new) }
 
-    // Where they ask for `make`, it is exactly the summary of the number, with the status of its
-    // decision: yes only where the generated instance fits, no only where it doesn't, and undecided
-    // exactly where its tree has more branchings than the budget.
+    // `make` writes exactly the summary of the number, with the status of its decision: yes only
+    // where the generated instance fits, no only where it doesn't, and undecided exactly where its
+    // tree has more branchings than the budget.
     ensures makes { (number : ℕ) (settings : PlainSettings) → AsksToMake words.now number settings
-        → (Rose (K.faults out.old) (K.faults out.new) → ⊥) → result ≢ 6
+        → IsAnswerStatus result
         → IsExactlyMade number settings (K.written out.old) (K.written out.new) result }
 
-    // Nothing of the source is touched for it.
-    ensures unread { (number : ℕ) (settings : PlainSettings) → AsksToMake words.now number settings
-        → (input.new ≡ input.old) × (result ≢ 4) }
+    // Words and an input that have an answer are answered, unless a read or a write fails or memory
+    // is refused; those that are to be refused are refused for their cause, which is told, unless a
+    // read fails or memory is refused.
+    ensures completes { HasAnswer words.now (S.left input.old)
+        → IsAnswerStatus result ⊎ IsFaultStatus result }
+    ensures refuses { (stop : PlainStop) → IsRefusable words.now (S.left input.old) stop
+        → ((result ≡ 2) × IsTold (E.written err.old) (E.written err.new) (E.faults err.old)
+        (E.faults err.new) (message_of stop)) ⊎ ((result ≡ 4) ⊎ (result ≡ 6)) }
 
-    // With an answer the whole input was taken and the whole document was written, whether or not a
-    // count of faults rose. `check` takes the whole input or no byte behind the refused line, and
-    // writes its whole line. `make` takes nothing.
+    // With an answer the whole input was taken and the whole document was written. `check` takes the
+    // whole input or no byte behind the refused line, and writes its whole line.
     ensures answered { IsAnswerStatus result
         → IsDone words.now (S.left input.old) (S.left input.new) (K.written out.old)
         (K.written out.new) result
-        × (E.written err.new ≡ E.written err.old) }
-
-    // The document is verified with a claim, which is then true of the instance in it, or it says
-    // undecided and is verified with none.
-    ensures verified { (job : PlainJob) (settings : PlainSettings)
-        → AsksToSolve words.now job settings → IsAnswerStatus result
-        → IsOwnDocument (K.written out.old) (K.written out.new) result }
+        × (err.new ≡ err.old) }
 
     // Without one, the cause holds, and it was told.
     ensures stopped { ¬ IsAnswerStatus result → (stop : PlainStop) × (result ≡ stop_status stop)
@@ -163,10 +118,15 @@ pub fn run<R: Threads + Wait + Sync, S: Source, K: Sink, E: Sink, G: Gate + Sync
         (K.written out.new) stop
         × IsTold (E.written err.old) (E.written err.new) (E.faults err.old) (E.faults err.new)
         (message_of stop) }
-    ensures read_fault { result ≡ 4 → Rose (S.faults input.old) (S.faults input.new) }
-    ensures write_fault { result ≡ 5 → Rose (K.faults out.old) (K.faults out.new) }
-    ensures counts { (S.faults input.old ≤ S.faults input.new)
-        × (K.faults out.old ≤ K.faults out.new) × (E.faults err.old ≤ E.faults err.new) }
+
+    // Then nothing was done to the sink, but for the part that was written before a fault; and
+    // nothing to the source where the words are none or `make`.
+    ensures unwritten { ¬ IsAnswerStatus result → result ≢ 5 → out.new ≡ out.old }
+    ensures unread { ReadsNothing words.now → (input.new ≡ input.old) × (result ≢ 4) }
+
+    // The first read or write that fails is the last, and has its status.
+    ensures reads { CountsStatus 4 result (S.faults input.old) (S.faults input.new) }
+    ensures writes { CountsStatus 5 result (K.faults out.old) (K.faults out.new) }
 {
     match job(rt, alloc, words, input, out, gate) {
         Ok(status) => status,
@@ -195,12 +155,9 @@ fn answer<R: Threads + Wait + Sync, S: Source, K: Sink, G: Gate + Sync>(
     ensures stopped { (words : List (String PlainGlobal)) → AsksToSolve words job settings
         → IfErr result (IsStopped words (S.left input.old) (S.left input.new) (K.written out.old)
         (K.written out.new)) }
-    ensures read_fault { result ≡ Err Stop.ReadFault
-        → Rose (S.faults input.old) (S.faults input.new) }
-    ensures write_fault { result ≡ Err Stop.WriteFault
-        → Rose (K.faults out.old) (K.faults out.new) }
-    ensures counts { (S.faults input.old ≤ S.faults input.new)
-        × (K.faults out.old ≤ K.faults out.new) }
+    ensures unwritten { IfErr result (λ stop. stop ≢ Stop.WriteFault → out.new ≡ out.old) }
+    ensures reads { CountsReads (S.faults input.old) (S.faults input.new) result }
+    ensures writes { CountsWrites (K.faults out.old) (K.faults out.new) result }
 {
     let instance = read_input(alloc, input)?;
     let solution = match solve(rt, alloc, &instance, job, settings, gate) {
@@ -233,14 +190,10 @@ fn job<R: Threads + Wait + Sync, S: Source, K: Sink, G: Gate + Sync>(
     ensures stopped { IfErr result
         (IsUndone words.now (S.left input.old) (S.left input.new) (K.written out.old)
         (K.written out.new)) }
-    ensures unread { (number : ℕ) (settings : PlainSettings) → AsksToMake words.now number settings
-        → input.new ≡ input.old }
-    ensures read_fault { result ≡ Err Stop.ReadFault
-        → Rose (S.faults input.old) (S.faults input.new) }
-    ensures write_fault { result ≡ Err Stop.WriteFault
-        → Rose (K.faults out.old) (K.faults out.new) }
-    ensures counts { (S.faults input.old ≤ S.faults input.new)
-        × (K.faults out.old ≤ K.faults out.new) }
+    ensures unread { ReadsNothing words.now → input.new ≡ input.old }
+    ensures unwritten { IfErr result (λ stop. stop ≢ Stop.WriteFault → out.new ≡ out.old) }
+    ensures reads { CountsReads (S.faults input.old) (S.faults input.new) result }
+    ensures writes { CountsWrites (K.faults out.old) (K.faults out.new) result }
 {
     let asked = read_job(alloc, words)?;
     match asked {

@@ -54,10 +54,15 @@ impl Gate for Holding {
 }
 
 // A job, the task that is held, and the one that is awaited. Two tasks wait at once: the root of
-// `fit`, and of `knapsack` at value 8, passes its cap, so that it is split into the tasks 1 and 2;
-// so does the only child of the root of `bins` at 4 bins, since eight boxes in one bin have 5,039
-// branchings, and it is split into the tasks 2 and 3.
-const CASES: [(&str, u64, u64); 3] = [("fit", 1, 2), ("bins", 2, 3), ("knapsack", 1, 2)];
+// `fit`, of `strip` at height 6 and of `knapsack` at value 8 passes its cap, so that it is split into
+// the tasks 1 and 2; so does the only child of the root of `bins` at 4 bins, since eight boxes in one
+// bin have 5,039 branchings, and it is split into the tasks 2 and 3.
+const CASES: [(&str, u64, u64); 4] = [
+    ("fit", 1, 2),
+    ("strip", 1, 2),
+    ("bins", 2, 3),
+    ("knapsack", 1, 2),
+];
 
 #[test]
 fn workers_explore_at_the_same_time(rt: HostRuntime) -> Result<(), Fail> {
@@ -69,5 +74,45 @@ fn workers_explore_at_the_same_time(rt: HostRuntime) -> Result<(), Fail> {
         let alone = told_by(&rt, &words, "1", EIGHT_IN_A_ROW, &NoGate)?;
         assert!(rt; told.is_as(&alone), "{job}");
     }
+    Ok(())
+}
+
+// The first child of the root has 6,795 branchings, more than its cap, and the second one 867, less
+// than its cap.
+const UNEVEN: &[u8] =
+    b"format 1\ncontainer 11 10\nbox 4 4\nbox 4 2\nbox 5 2\nbox 2 5\nbox 4 5\nbox 6 3\nbox 4 2\nbox 5 4\n";
+
+// One gate and then another.
+#[derive(Drop)]
+struct Both {
+    first: Holding,
+    second: Holding,
+}
+
+impl Gate for Both {
+    fn before(&self, number: u64) {
+        self.first.before(number);
+        self.second.before(number);
+    }
+
+    fn after(&self, number: u64) {
+        self.first.after(number);
+        self.second.after(number);
+    }
+}
+
+// Task 1 is held until task 2 was explored, whose worker then finds none that waits. Task 1 is split
+// into the tasks 3 and 4, and task 3 is held until that worker has come back and explored task 4.
+#[test]
+fn a_worker_that_found_no_task_comes_back(rt: HostRuntime) -> Result<(), Fail> {
+    let words = ["fit", "--scales", "no"];
+    let gate = Both {
+        first: Holding::new(1, 2),
+        second: Holding::new(3, 4),
+    };
+    let told = told_by(&rt, &words, "2", UNEVEN, &gate)?;
+    assert!(rt; gate.first.is_passed());
+    assert!(rt; gate.second.is_passed());
+    assert!(rt; told.is_as(&told_by(&rt, &words, "1", UNEVEN, &NoGate)?));
     Ok(())
 }

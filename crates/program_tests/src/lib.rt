@@ -14,6 +14,8 @@ mod gates;
 #[cfg(test)]
 mod knapsacks;
 #[cfg(test)]
+mod limits;
+#[cfg(test)]
 mod makes;
 #[cfg(test)]
 mod refusals;

@@ -1,6 +1,6 @@
 //! Runs of the whole program over memory: words and bytes in, bytes and a status out.
 use pack_command::run;
-use pack_streams::{MemorySink, MemorySource, ReadAnswer, ReadStep, Source, WriteStep};
+use pack_streams::{DropSink, MemorySink, MemorySource, ReadAnswer, ReadStep, Source, WriteStep};
 use std::alloc::{AllocError, AllocGlobal, Global};
 use std::sync::Wait;
 use std::test::Fail;
@@ -27,6 +27,11 @@ impl Told {
         self.status == status
             && self.err.as_slice() == cause.as_bytes()
             && self.out.as_slice() == out
+    }
+
+    /// Whether the run ended with this status and wrote these bytes alone.
+    pub fn is_as_written(&self, status: u8, out: &[u8]) -> bool {
+        self.status == status && self.out.as_slice() == out && self.err.is_empty()
     }
 
     /// Whether the other run answered and wrote the same.
@@ -202,6 +207,53 @@ pub fn is_same_by<R: AllocGlobal + Threads + Wait + Sync>(
         }
     }
     Ok(true)
+}
+
+// A source in memory that counts how often it is read.
+#[derive(Drop)]
+struct CountingSource {
+    source: MemorySource,
+    reads: usize,
+}
+
+impl Source for CountingSource {
+    ghost use Rattle.std.specs.Prelude.{None};
+
+    ghost left = { λ _. None };
+
+    ghost faults = { λ s. s.source.faults };
+
+    fn read(&mut self, into: &mut [u8]) -> ReadAnswer {
+        self.reads = self.reads.saturating_add(1);
+        self.source.read(into)
+    }
+}
+
+/// How often a run of the words reads the input, of which each read takes what fits.
+pub fn told_read_whole<R: AllocGlobal + Threads + Wait + Sync>(
+    rt: &R,
+    words: &[&str],
+    input: &[u8],
+) -> Result<usize, AllocError> {
+    let alloc = rt.alloc();
+    let mut given = Vec::new(alloc);
+    for word in words {
+        given.push(String::from_str(alloc, word)?)?;
+    }
+    let mut source = CountingSource {
+        source: MemorySource::new(Vec::from_slice(alloc, input)?, Vec::new(alloc)),
+        reads: 0,
+    };
+    let _status = run(
+        rt,
+        alloc,
+        &given,
+        &mut source,
+        &mut DropSink::new(),
+        &mut DropSink::new(),
+        &NoGate,
+    );
+    Ok(source.reads)
 }
 
 // What the source gives yet, up to its end or its next failure.

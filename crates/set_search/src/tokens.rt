@@ -1,15 +1,16 @@
 //! Tokens of the outer trees, one after another.
-ghost use Rattle.std.specs.Prelude.{◌≡◌, ◌++◌, ◌∷◌, [], map, OnOk};
+ghost use Rattle.std.specs.Prelude.{◌≡◌, ◌++◌, ◌∷◌, [], map, OnOk, OnErr};
 ghost use Rattle.packing_terms.specs.Tokens.PlainToken.{SetRefuted};
 ghost use Rattle.proof_tree.specs.Plain.{plain_token};
 
 use box_instances::NoMemory;
 use proof_tree::Token;
 
-/// Appends a token.
+/// Appends a token. Where memory is refused, the tokens are as before.
 pub fn push_token(tokens: &mut Vec<Token>, token: Token) -> Result<(), NoMemory>
-    ensures { OnOk result (map plain_token tokens.new.items
+    ensures appends { OnOk result (map plain_token tokens.new.items
         ≡ map plain_token tokens.old.items ++ plain_token token ∷ []) }
+    ensures back { OnErr result (tokens.new.items ≡ tokens.old.items) }
 {
     let Ok(()) = tokens.push(token) else {
         return Err(NoMemory);
@@ -18,17 +19,22 @@ pub fn push_token(tokens: &mut Vec<Token>, token: Token) -> Result<(), NoMemory>
 }
 
 /// Appends that a set is refuted, of a bin or of the boxes that are in, and the tokens that refute
-/// it, which are moved.
+/// it, which are moved. Where memory is refused, the tokens are as before.
 pub fn push_refuted(
     tokens: &mut Vec<Token>,
     bin: Option<u32>,
     mut inner: Vec<Token>,
 ) -> Result<(), NoMemory>
-    ensures { OnOk result (map plain_token tokens.new.items
+    ensures appends { OnOk result (map plain_token tokens.new.items
         ≡ map plain_token tokens.old.items ++ SetRefuted bin ∷ map plain_token inner.items) }
+    ensures back { OnErr result (tokens.new.items ≡ tokens.old.items) }
 {
-    push_token(tokens, Token::SetRefuted { bin })?;
+    let before = tokens.len();
+    let Ok(()) = tokens.push(Token::SetRefuted { bin }) else {
+        return Err(NoMemory);
+    };
     let Ok(()) = tokens.append(&mut inner) else {
+        tokens.truncate(before);
         return Err(NoMemory);
     };
     Ok(())

@@ -5,10 +5,8 @@ use Rattle.packing_terms.specs.Goals.{with_last_side, IsLeastHeight, HasTooWideB
 use Rattle.packing_terms.specs.TooLarge.{IsFirstTooWide}
 use Rattle.packing_terms.specs.Refutation.{Refutes}
 use Rattle.packing_terms.specs.Tokens.{PlainToken}
-use Rattle.tree_terms.specs.Trees.{outcome, count_of}
-use Rattle.tree_terms.specs.ClassTree.{class_tree}
-use Rattle.tree_terms.specs.Levels.{PlainReached, first_heights, height_run}
-use Rattle.tree_terms.specs.RunEnds.{HasLargeTree, height_answer}
+use Rattle.tree_terms.specs.Levels.{PlainReached, height_run}
+use Rattle.tree_terms.specs.RunEnds.{HasLargeHeight}
 use Rattle.proof_tree.specs.Plain.{plain_tokens}
 use Rattle.strip_solver.specs.declared.strip.Strip.{Strip}
 use Rattle.strip_solver.specs.declared.strip.Strip.TheVariants.{Least, Between, NoneFits}
@@ -48,12 +46,6 @@ abbrev pub IsTrueStrip : PlainInstance → Strip → Type 0
 IsTrueStrip instance (Least height places tokens) = IsCertifiedLeast instance height places.items (plain_tokens tokens.items)
 IsTrueStrip instance (Between refuted tokens height places) = IsCertifiedBetween instance refuted (plain_tokens tokens.items) height places.items
 IsTrueStrip instance (NoneFits v i) = (h : ℕ) → ¬ Fits (with_last_side instance h)
-
--- some height that the run decides has more branchings than the budget
-abbrev pub HasLargeHeight : PlainInstance → ℕ → Bool → Type 0
-HasLargeHeight instance budget scales =
-    HasLargeTree (height_answer instance budget scales) (first_heights instance) budget
-    (λ h. count_of (outcome (class_tree (with_last_side instance h) [] scales)))
 
 -- `Between` exactly where some height on the run has more branchings than the budget
 abbrev pub IsSpentExactly : PlainInstance → ℕ → Bool → Strip → Type 0

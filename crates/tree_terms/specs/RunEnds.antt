@@ -2,10 +2,10 @@
 use Rattle.std.specs.Prelude.{ℕ, suc, ◌<◌, ◌≤◌, ◌≡◌, ◌⊎◌, Bool, false, []}
 use Rattle.packing_terms.specs.Packing.{PlainInstance}
 use Rattle.packing_terms.specs.Goals.{with_last_side}
-use Rattle.tree_terms.specs.Trees.{outcome, told}
+use Rattle.tree_terms.specs.Trees.{outcome, told, count_of}
 use Rattle.tree_terms.specs.ClassTree.{class_tree}
 use Rattle.tree_terms.specs.OuterTrees.{bin_tree, choice_tree}
-use Rattle.tree_terms.specs.Levels.{PlainLevel, PlacedBy, RefutedBy, SpentAt, PlainReached, halfway, moved, is_run_over, level_by}
+use Rattle.tree_terms.specs.Levels.{PlainLevel, PlacedBy, RefutedBy, SpentAt, PlainReached, halfway, moved, is_run_over, level_by, first_heights, first_bins, first_values}
 
 -- the level is decided on the run from these two levels
 pub data IsLevelAsked (answer : ℕ → PlainLevel) : PlainReached → ℕ → Type 0 where
@@ -51,3 +51,19 @@ value_answer instance budget scales t = level_by (told budget (outcome (choice_t
 -- some level that the run decides has a tree whose count is past the budget
 abbrev pub HasLargeTree : (ℕ → PlainLevel) → PlainReached → ℕ → (ℕ → ℕ) → Type 0
 HasLargeTree answer first budget count = (level : ℕ) × IsLevelAsked answer first level × (budget < count level)
+
+-- some height that a strip decides has more branchings than the budget
+abbrev pub HasLargeHeight : PlainInstance → ℕ → Bool → Type 0
+HasLargeHeight instance budget scales =
+    HasLargeTree (height_answer instance budget scales) (first_heights instance) budget
+    (λ h. count_of (outcome (class_tree (with_last_side instance h) [] scales)))
+
+-- some number of bins that is decided has more branchings than the budget
+abbrev pub HasLargeCount : PlainInstance → ℕ → Bool → Type 0
+HasLargeCount instance budget scales =
+    HasLargeTree (bin_answer instance budget scales) (first_bins instance scales) budget (λ k. count_of (outcome (bin_tree instance k scales)))
+
+-- some value that a knapsack decides has more branchings than the budget
+abbrev pub HasLargeWorth : PlainInstance → ℕ → Bool → Type 0
+HasLargeWorth instance budget scales =
+    HasLargeTree (value_answer instance budget scales) (first_values instance) budget (λ t. count_of (outcome (choice_tree instance t scales)))

@@ -81,7 +81,7 @@ tree_given claim tree left (t ∷ ts) (words ∷ body) are e whole not_whole =
 refutes_whole : (refuted : Refuted) (tokens : List PlainToken) → AreRefutation refuted tokens → (left : Tree) × (tree_after_all (begun refuted) tokens ≡ Ok left) × (is_whole left ≡ true)
 refutes_whole (ToFit instance) tokens r = (
   InnerTree instance [],
-  all_after (InnerTree instance) (inner_after instance) (λ nodes t. refl) ([] ∷ []) tokens ∙ ap (map_ok (InnerTree instance)) ((inner_refutes instance tokens).1 r),
+  all_after (InnerTree instance) (inner_after instance) (λ nodes t. refl) ([] ∷ []) tokens ∙ ap (map_ok (InnerTree instance)) ((inner_refutes instance [] tokens).1 r),
   refl,
 )
 refutes_whole (ToFitIn instance k) tokens r = (

@@ -77,7 +77,7 @@ pub whole_refutes : (refuted : Refuted) (tokens : List PlainToken) (tree : Tree)
 whole_refutes (ToFit instance) tokens tree e w =
     let m = made (InnerTree instance) (inner_after instance) (λ nodes t. refl) (nodes_after_all (inner_after instance) ([] ∷ []) tokens) tree
     (sym (all_after (InnerTree instance) (inner_after instance) (λ nodes t. refl) ([] ∷ []) tokens) ∙ e) in
-    (inner_refutes instance tokens).0 (m.1 ∙ ap Ok (inner_whole instance m.0 (subst (λ x. is_whole x ≡ true) (sym m.2) w)))
+    (inner_refutes instance [] tokens).0 (m.1 ∙ ap Ok (inner_whole instance m.0 (subst (λ x. is_whole x ≡ true) (sym m.2) w)))
 whole_refutes (ToFitIn instance k) tokens tree e w =
     let m = made (BinTree instance k) (bins_after instance k) (λ nodes t. refl) (nodes_after_all (bins_after instance k) (Outer [] ∷ []) tokens) tree
     (sym (all_after (BinTree instance k) (bins_after instance k) (λ nodes t. refl) (Outer [] ∷ []) tokens) ∙ e) in

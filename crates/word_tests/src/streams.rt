@@ -152,6 +152,63 @@ fn a_writer_that_takes_nothing_or_cannot_flush_fails(rt: HostRuntime) {
     assert_eq!(rt; sink.write(b"b"), WriteAnswer::Failed);
 }
 
+// Gives one byte, then the end, and then another byte.
+#[derive(Drop)]
+struct PausedReader {
+    calls: u32,
+}
+
+impl io::Read for PausedReader {
+    fn read(&mut self, into: &mut [u8]) -> io::Result<usize> {
+        let call = self.calls;
+        self.calls = call.wrapping_add(1);
+        if call == 1 || into.is_empty() {
+            return Ok(0);
+        }
+        into[0] = b'a';
+        Ok(1)
+    }
+}
+
+#[test]
+fn a_reader_is_asked_once_for_each_read(rt: HostRuntime) {
+    let mut source = StdSource::new(PausedReader { calls: 0 });
+    let mut room = [0u8; 4];
+    assert_eq!(rt; source.read(&mut room), ReadAnswer::Got(1));
+    assert_eq!(rt; source.read(&mut room), ReadAnswer::End);
+    room[0] = 0;
+    assert_eq!(rt; source.read(&mut room), ReadAnswer::Got(1));
+    assert_eq!(rt; room[0], b'a');
+}
+
+// Can be flushed where something was written since it was flushed last.
+#[derive(Drop)]
+struct FlushedWriter {
+    is_written: bool,
+}
+
+impl io::Write for FlushedWriter {
+    fn write(&mut self, piece: &[u8]) -> io::Result<usize> {
+        self.is_written = true;
+        Ok(piece.len())
+    }
+
+    fn flush(&mut self) -> io::Result<()> {
+        if !self.is_written {
+            return Err(io::Error::from(io::ErrorKind::Other));
+        }
+        self.is_written = false;
+        Ok(())
+    }
+}
+
+#[test]
+fn bytes_are_flushed_behind_each_write(rt: HostRuntime) {
+    let mut sink = StdSink::new(FlushedWriter { is_written: false });
+    assert_eq!(rt; sink.write(b"ab"), WriteAnswer::Took(2));
+    assert_eq!(rt; sink.write(b"c"), WriteAnswer::Took(1));
+}
+
 // Is at its end, and counts its calls.
 #[derive(Drop)]
 struct EndedSource {

@@ -305,7 +305,7 @@ impl<'a, T: Tree> Board<'a, T> {
         self.budget == budget && self.tree.same(tree)
     }
 
-    /// The events that led to the state, from the first on: their replay gives it.
+    /// Events, from the first on, whose replay gives the state.
     pub fn history(&self) -> &[Event]
         ensures { replay (T.shape self.now.tree) self.now.budget result.now ≡ self.now.state }
     {

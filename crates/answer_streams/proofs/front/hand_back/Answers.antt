@@ -12,7 +12,7 @@ returns-in-Ok-clause-written g c = λ before text wrote.
     let whole = subst
     (λ r. Writes g.B.Behind.begun (shown (g.K.Sink.written old.out.now) old.block old.start old.end) before (g.K.Sink.faults old.out.now) text r) c.in-Ok.is wrote in
     rw (c.sink_behind.ensures.out, c.sink_behind.ensures.result)
-    (behind_end _ _ _ _ front.block front.start front.end before before _ _ text _ refl refl front.since whole ended.shown ended.empty ended.count ended.cause)
+    (behind_end _ _ _ _ front.block front.start front.end before before _ _ text _ refl refl front.since whole ended.shown ended.empty ended.count)
 
 pub returns-in-Err-clause-written : goal.returns-in-Err-clause-written
 returns-in-Err-clause-written g c = λ before text wrote.

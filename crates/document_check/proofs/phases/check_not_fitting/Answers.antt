@@ -4,6 +4,7 @@ use Rattle.verdict_terms.specs.Stages.{Stage}
 use Rattle.verdict_terms.specs.Stages.Stage.{Refuting}
 use Rattle.document_check.specs.Passes.{IsCheckedFrom}
 use Rattle.document_check.proofs.Beginnings.{inner_begun}
+use Rattle.document_check.proofs.Passes.{memory_here}
 use Rattle.document_check.proofs.phases.check_not_fitting.Goals as goal
 
 pub returns-in-Ok : goal.returns-in-Ok
@@ -12,3 +13,6 @@ returns-in-Ok g c =
     (λ (s : Stage). IsCheckedFrom (g.S.Source.left c.args.input.now) (g.S.Source.left c.check_tokens.new.input) (g.S.Source.faults c.args.input.now) (g.S.Source.faults c.check_tokens.new.input)
     c.args.at.now s c.check_tokens.result)
     (ap (Refuting NotFitting) (inner_begun c.in-Ok.refuter c.args.instance.now c.in-Ok.ensures)) c.check_tokens.ensures
+
+pub returns-in-Err : goal.returns-in-Err
+returns-in-Err g c = memory_here _ _ c.args.at.now _ c.requires.1

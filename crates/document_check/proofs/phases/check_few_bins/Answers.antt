@@ -1,0 +1,5 @@
+use Rattle.document_check.proofs.Passes.{memory_here}
+use Rattle.document_check.proofs.phases.check_few_bins.Goals as goal
+
+pub returns-in-Err : goal.returns-in-Err
+returns-in-Err g c = memory_here _ _ c.args.at.now _ c.requires.at.1
