@@ -1,67 +1,73 @@
 -- The rows of a new state.
-use Rattle.std.proofs.Common.{◌≡◌, ℕ, zero, suc, ◌+◌, ◌/◌, ◌%◌, ◌<◌, ◌≤◌, ◌⊎◌, inl, inr, refl, sym, ap, ◌∙◌, arith, Bool, true, false, not, cond, ◌&&◌, eqb, ltb, List, [], ◌∷◌, length, get_or, replicate}
-use Rattle.std.proofs.Math.ListN.{set, length-set}
+use Rattle.std.proofs.Common.{◌≡◌, ℕ, ◌+◌, ◌/◌, ◌%◌, ◌*◌, ◌≢◌, ◌<◌, ◌≤◌, ◌⊎◌, inl, inr, refl, sym, ap, ◌∙◌, arith, Bool, true, false, not, cond, ◌&&◌, eqb, ltb, List, [], length, get_or}
+use Rattle.std.proofs.Math.ListN.{length-set}
 use Rattle.std.proofs.lemmas.List.{get_or-set_same, get_or-set_other, length-replicate}
-use Rattle.std.proofs.lemmas.Bool.{cases_eq, cases_lt, true≢false, lt-ltb, le-ltb}
-use Rattle.std.proofs.lemmas.Nat.Bits.{bit_at-zero}
+use Rattle.std.proofs.lemmas.Bool.{cases_eq, cases_lt, true≢false, lt-ltb, ltb-true, and_parts}
 use Rattle.edge_state.specs.BitRows.{row_has}
 use Rattle.edge_state.specs.RowTables.{PlainTable, filled_table, IsRowSet}
 use Rattle.edge_state.specs.Edges.{is_other_box}
-use Rattle.edge_state.proofs.Tables.{without_own}
 
--- one row more without its own box
-pub own_count : (t u : PlainTable) (at : ℕ) (test : ℕ → Bool) → IsRowSet t u at test → length u.rows ≡ length t.rows
+-- one row is written
+own_count : (t u : PlainTable) (at : ℕ) (test : ℕ → Bool) → IsRowSet t u at test → length u.rows ≡ length t.rows
 own_count t u at test set_one = ap (λ (q : PlainTable). length q.rows) set_one.made ∙ length-set _ _ _
 
-pub own_rest : (at : ℕ) (s t u : PlainTable) (test : ℕ → Bool) → ((k : ℕ) → at ≤ k → get_or t.rows k [] ≡ get_or s.rows k [])
-    → IsRowSet t u at test → (k : ℕ) → at + 1 ≤ k → get_or u.rows k [] ≡ get_or s.rows k []
-own_rest at s t u test rest set_one k h =
-    ap (λ (q : PlainTable). get_or q.rows k []) set_one.made
-    ∙ (get_or-set_other t.rows at k set_one.row [] (λ e. absurd (omega (arith, e))) ∙ rest k (omega arith))
+own_rest : (t u : PlainTable) (at : ℕ) (test : ℕ → Bool) → IsRowSet t u at test → (k : ℕ) → k ≢ at → get_or u.rows k [] ≡ get_or t.rows k []
+own_rest t u at test set_one k ne = ap (λ (q : PlainTable). get_or q.rows k []) set_one.made ∙ get_or-set_other t.rows at k set_one.row [] ne
 
-pub own_each : (n at : ℕ) (s t u : PlainTable) → ((k : ℕ) → k < length s.rows → (x : ℕ) → row_has (get_or s.rows k []) x ≡ ltb x n)
-    → at < length t.rows → length t.rows ≡ length s.rows
-    → ((k : ℕ) → k < at → (x : ℕ) → row_has (get_or t.rows k []) x ≡ is_other_box n (k / 3 % n) x)
-    → ((k : ℕ) → at ≤ k → get_or t.rows k [] ≡ get_or s.rows k [])
-    → IsRowSet t u at (λ x. row_has (get_or t.rows at []) x && not (eqb x (at / 3 % n)))
-    → (k : ℕ) → k < at + 1 → (x : ℕ) → row_has (get_or u.rows k []) x ≡ is_other_box n (k / 3 % n) x
-own_each n at s t u every there count each rest set_one k h x =
-    ap (λ (q : PlainTable). row_has (get_or q.rows k []) x) set_one.made ∙ go (cases_eq k at)
+own_row : (t u : PlainTable) (at : ℕ) (test : ℕ → Bool) (k : ℕ) → k ≡ at → at < length t.rows → IsRowSet t u at test → (x : ℕ) → row_has (get_or u.rows k []) x ≡ test x
+own_row t u at test k e there set_one x =
+    ap (λ (q : PlainTable). row_has (get_or q.rows k []) x) set_one.made
+    ∙ (rw (e, get_or-set_same t.rows at set_one.row [] there) (set_one.has x))
+
+-- rows are written one after another, those of a box for its three relations at once
+pub filled_more : (n place u : ℕ) (s t : PlainTable) (row : List ℕ) → u ≡ place % n → ((x : ℕ) → row_has row x ≡ ltb x n && not (eqb x u))
+    → ((k : ℕ) → k < place * 3 → (x : ℕ) → row_has (get_or s.rows k []) x ≡ is_other_box n (k / 3 % n) x)
+    → ((k : ℕ) → k < place * 3 → get_or t.rows k [] ≡ get_or s.rows k [])
+    → ((k : ℕ) → place * 3 ≤ k → k < place * 3 + 3 → (x : ℕ) → row_has (get_or t.rows k []) x ≡ row_has row x)
+    → (k : ℕ) → k < (place + 1) * 3 → (x : ℕ) → row_has (get_or t.rows k []) x ≡ is_other_box n (k / 3 % n) x
+filled_more n place u s t row is others each before made k h x = go (cases_lt k (place * 3))
   where
-    all : row_has (get_or t.rows at []) x ≡ ltb x n
-    all = ap (λ (r : List ℕ). row_has r x) (rest at (omega arith)) ∙ every at (rw (← count) there) x
+    go : (k < place * 3) ⊎ (place * 3 ≤ k) → row_has (get_or t.rows k []) x ≡ is_other_box n (k / 3 % n) x
+    go (inl l) = ap (λ (r : List ℕ). row_has r x) (before k l) ∙ each k l x
+    go (inr l) =
+        let e : k / 3 ≡ place = omega arith in
+        made k l (omega arith) x ∙ (others x ∙ rw (e, is) refl)
 
-    go : (k ≡ at) ⊎ (k ≡ at → ⊥) → row_has (get_or (set t.rows at set_one.row) k []) x ≡ is_other_box n (k / 3 % n) x
-    go (inl e) = rw (e, get_or-set_same t.rows at set_one.row [] there) (without_own n at x (get_or t.rows at []) set_one.row all (set_one.has x))
-    go (inr ne) = rw (get_or-set_other t.rows at k set_one.row [] ne) (each k (omega (arith, ne)) x)
+-- a row that has boxes from 64 on is kept in two words
+pub words_kept : (n u : ℕ) (t : PlainTable) (row : List ℕ) → n ≤ 128 → ((x : ℕ) → row_has row x ≡ ltb x n && not (eqb x u))
+    → (64 < n → t.seconds ≡ length t.rows) → (x : ℕ) → 64 ≤ x → row_has row x ≡ true → (x < 128) × (t.seconds ≡ length t.rows)
+words_kept n u t row few others kept x far h = let l = ltb-true x n (and_parts _ _ (sym (others x) ∙ h)).0 in (omega arith, kept (omega arith))
 
--- rows that are all the same
-same_at : (n k : ℕ) (r : List ℕ) → k < n → get_or (replicate n r) k [] ≡ r
-same_at zero k r h = absurd (omega arith)
-same_at (suc n) zero r h = refl
-same_at (suc n) (suc k) r h = same_at n k r (omega arith)
-
--- the row of all boxes in the words that are kept
-kept_words : (n : ℕ) (row : List ℕ) (wide : Bool) (x : ℕ) → n ≤ 128 → (wide ≡ false → n ≤ 64) → row_has row x ≡ ltb x n
-    → row_has (get_or row 0 0 ∷ cond wide (get_or row 1 0) 0 ∷ []) x ≡ ltb x n
-kept_words n row wide x few narrow all = go (x / 64) wide refl narrow
+-- three rows written one after another
+pub three_written : (place : ℕ) (s t u v : PlainTable) (row : List ℕ) → place * 3 + 2 < length s.rows → IsRowSet s t (place * 3) (row_has row)
+    → IsRowSet t u (place * 3 + 1) (row_has row) → IsRowSet u v (place * 3 + 2) (row_has row)
+    → (length v.rows ≡ length s.rows) × (v.seconds ≡ s.seconds) × ((k : ℕ) → k < place * 3 → get_or v.rows k [] ≡ get_or s.rows k [])
+    × ((k : ℕ) → place * 3 ≤ k → k < place * 3 + 3 → (x : ℕ) → row_has (get_or v.rows k []) x ≡ row_has row x)
+three_written place s t u v row there first second third = (
+  own_count _ _ _ _ third ∙ (own_count _ _ _ _ second ∙ own_count _ _ _ _ first),
+  ap (λ (q : PlainTable). q.seconds) third.made ∙ (ap (λ (q : PlainTable). q.seconds) second.made ∙ ap (λ (q : PlainTable). q.seconds) first.made),
+  λ k h. own_rest _ _ _ _ third k (omega arith) ∙ (own_rest _ _ _ _ second k (omega arith) ∙ own_rest _ _ _ _ first k (omega arith)),
+  λ k l h x. here k l h x (cases_eq k (place * 3)) (cases_eq k (place * 3 + 1)),
+)
   where
-    go : (j : ℕ) (b : Bool) → x / 64 ≡ j → (b ≡ false → n ≤ 64) → row_has (get_or row 0 0 ∷ cond b (get_or row 1 0) 0 ∷ []) x ≡ ltb x n
-    go zero b e f = rw e (rw e at all)
-    go (suc zero) true e f = rw e (rw e at all)
-    go (suc zero) false e f = rw (e, bit_at-zero (x % 64)) (sym (le-ltb x n (let h = f refl in omega (arith, e, h))))
-    go (suc (suc j)) b e f = rw (e, bit_at-zero (x % 64)) (sym (le-ltb x n (omega (arith, e, few))))
+    at_t : place * 3 < length s.rows
+    at_t = omega arith
+
+    at_u : place * 3 + 1 < length t.rows
+    at_u = let e = own_count _ _ _ _ first in omega arith
+
+    at_v : place * 3 + 2 < length u.rows
+    at_v = let e = own_count _ _ _ _ first in let f = own_count _ _ _ _ second in omega arith
+
+    here : (k : ℕ) → place * 3 ≤ k → k < place * 3 + 3 → (x : ℕ) → (k ≡ place * 3) ⊎ (k ≡ place * 3 → ⊥) → (k ≡ place * 3 + 1) ⊎ (k ≡ place * 3 + 1 → ⊥)
+        → row_has (get_or v.rows k []) x ≡ row_has row x
+    here k l h x (inl e) _ =
+        ap (λ (r : List ℕ). row_has r x) (own_rest _ _ _ _ third k (omega arith) ∙ own_rest _ _ _ _ second k (omega arith)) ∙ own_row _ _ _ _ k e at_t first x
+    here k l h x (inr ne) (inl e) = ap (λ (r : List ℕ). row_has r x) (own_rest _ _ _ _ third k (omega arith)) ∙ own_row _ _ _ _ k e at_u second x
+    here k l h x (inr ne) (inr nf) = own_row _ _ _ _ k (omega (arith, ne, nf)) at_v third x
 
 pub filled_count : (count : ℕ) (row : List ℕ) (wide : Bool) (t : PlainTable) → t ≡ filled_table count row wide → length t.rows ≡ count
 filled_count count row wide t e = ap (λ (q : PlainTable). length q.rows) e ∙ length-replicate {A = List ℕ} count _
-
--- a table of such rows
-pub filled_all : (count n : ℕ) (row : List ℕ) (wide : Bool) (t : PlainTable) → n ≤ 128 → (wide ≡ false → n ≤ 64) → ((x : ℕ) → row_has row x ≡ ltb x n)
-    → t ≡ filled_table count row wide → (at : ℕ) → at < length t.rows → (x : ℕ) → row_has (get_or t.rows at []) x ≡ ltb x n
-filled_all count n row wide t few narrow all e at h x =
-    ap (λ (q : PlainTable). row_has (get_or q.rows at []) x) e
-    ∙ (ap (λ (r : List ℕ). row_has r x) (same_at count at (get_or row 0 0 ∷ cond wide (get_or row 1 0) 0 ∷ []) (rw (sym (filled_count count row wide t e)) h))
-    ∙ kept_words n row wide x few narrow (all x))
 
 -- boxes need no second word where the most don't
 pub narrow_few : (n k : ℕ) → n ≤ k → ltb 64 k ≡ false → n ≤ 64

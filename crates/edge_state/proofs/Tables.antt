@@ -184,11 +184,6 @@ below_one_more x v = same_bool _ _ (λ h. forth (or_cases _ _ h)) (λ h. back (l
     back h (inl e) = or_right (ltb x v) (eqb x v) (eq-eqb x v e)
     back h (inr ne) = or_left (ltb x v) (eqb x v) (lt-ltb x v (omega (arith, ne)))
 
--- a row of all boxes but its own
-pub without_own : (n at x : ℕ) (row w : List ℕ) → row_has row x ≡ ltb x n → row_has w x ≡ row_has row x && not (eqb x (at / 3 % n))
-    → row_has w x ≡ is_other_box n (at / 3 % n) x
-without_own n at x row w all made = made ∙ ap (λ b. b && not (eqb x (at / 3 % n))) all
-
 -- a mask from which each relation was taken that isn't kept
 pub mask_kept : (m1 m2 m3 : ℕ) (o b a : Bool) → ((r : Rel) → mask_has m1 r ≡ mask_has 7 r && (not (is_same_rel Overlap r) || o))
     → ((r : Rel) → mask_has m2 r ≡ mask_has m1 r && (not (is_same_rel Before r) || b))

@@ -1,5 +1,5 @@
 //! Rows of bits in as many words as their numbers need.
-ghost use Rattle.std.specs.Prelude.{◌≡◌, ◌<◌, ◌≤◌, ◌*◌, ◌&&◌, ◌||◌, ◌==◌, not, false, ℕ, [], IfOk, length, replicate, set, slice_index, slice_index_or, if◌then◌else◌};
+ghost use Rattle.std.specs.Prelude.{◌≡◌, ◌<◌, ◌≤◌, ◌*◌, ◌&&◌, ◌||◌, ◌==◌, not, false, true, ℕ, [], IfOk, length, replicate, set, slice_index, slice_index_or, if◌then◌else◌};
 ghost use Rattle.edge_state.specs.BitRows.{IsRowWidth, row_has};
 ghost use Rattle.edge_state.specs.RowTables.{filled_table, IsRowSet};
 
@@ -38,15 +38,6 @@ fn seconds_of(count: usize, wide: bool) -> usize
     if wide { count } else { 0 }
 }
 
-// Writes one word over all.
-fn fill_words(words: &mut Vec<u64>, word: u64)
-    ensures { words.new.items ≡ replicate (length words.old.items) word }
-{
-    for at in 0..words.len() {
-        words[at] = word;
-    }
-}
-
 impl RowTable {
     /// So many times the same row, with a second word only where that is wanted.
     pub fn new(
@@ -66,13 +57,18 @@ impl RowTable {
         Ok(RowTable { first, second })
     }
 
-    /// Makes all rows this one. `wide` says whether they are kept with their second words.
-    pub fn fill(&mut self, row: BitRow<2>, wide: bool)
-        requires { self.old.seconds ≡ (if wide then length self.old.rows else 0) }
-        ensures { self.new ≡ filled_table (length self.old.rows) row wide }
+    /// Makes one row this one, in the words that are kept.
+    #[inline]
+    pub fn write(&mut self, at: usize, row: BitRow<2>)
+        requires at { at < length self.old.rows }
+        requires kept { (x : ℕ) → 64 ≤ x → row_has row x ≡ true
+            → (x < 128) × (at < self.old.seconds) }
+        ensures { IsRowSet self.old self.new at (row_has row) }
     {
-        fill_words(&mut self.first, row.word(0));
-        fill_words(&mut self.second, row.word(1));
+        self.first[at] = row.word(0);
+        if at < self.second.len() {
+            self.second[at] = row.word(1);
+        }
     }
 
     /// How many rows there are.
