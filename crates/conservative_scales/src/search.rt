@@ -1,16 +1,17 @@
 //! The first tuple of the list that exceeds.
-ghost use Rattle.std.specs.Prelude.{◌≡◌, ◌≤◌, [], length, drop, MatchOption, MatchBool, IfSome, None, Some};
+ghost use Rattle.std.specs.Prelude.{◌≡◌, ◌≤◌, ◌<◌, ◌+◌, ◌*◌, ◌^◌, ℕ, [], length, drop, slice_index, MatchOption, MatchBool, IfSome, None, Some};
 ghost use Rattle.std.specs.List.{find};
-ghost use Rattle.packing_terms.specs.Packing.{dims};
+ghost use Rattle.packing_terms.specs.Packing.{dims, box_count, container_side};
 ghost use Rattle.packing_terms.specs.Limits.{IsInternalInstance};
-ghost use Rattle.packing_terms.specs.Scales.{IsTuple, SidesFit, Exceeds};
+ghost use Rattle.packing_terms.specs.Scales.{IsTuple, IsLegalScale, SidesFit, Exceeds, scale_whole};
 ghost use Rattle.packing_terms.specs.Goals.{FitsInBins};
 ghost use Rattle.packing_terms.specs.Tuples.{first_excess, has_excess};
 ghost use Rattle.conservative_scales.specs.Within.{within, AreLegalFrom};
 ghost use Rattle.conservative_scales.specs.Partials.{IsPartial};
 
+use crate::functions::whole;
 use crate::listed::next_function;
-use crate::partial::Partial;
+use crate::partial::{exceeds, scale};
 use box_instances::Instance;
 use packing_terms::ScaleFn;
 use smallvec::SmallVec;
@@ -19,39 +20,59 @@ use std::alloc::Global;
 /// One scale function for each dimension.
 pub type ScaleTuple = SmallVec<ScaleFn, 4>;
 
-// Whether a tuple exceeds that ends in the functions from `dim` on, of which `rest` has the
-// products, and that has at most `left` functions other than id before them. The first one is left
-// in `tuple`.
+// What stands in place of the container's side in a dimension.
+fn whole_of(instance: &Instance, dim: u32, f: ScaleFn) -> u128
+    requires limits { IsInternalInstance instance.now }
+    requires there { dim < dims instance.now }
+    requires legal { IsLegalScale f (container_side instance.now dim) }
+    ensures value { result ≡ scale_whole f (container_side instance.now dim) }
+    ensures limit { result ≤ 2 ^ 31 }
+{
+    whole(f, instance.container_side(dim)) as u128
+}
+
+// Whether a tuple exceeds that ends in the functions from `dim` on, whose products begin at a place
+// of the table, and that has at most `left` functions other than id before them. The first one is
+// left in `tuple`.
 fn search(
     instance: &Instance,
     copies: u32,
     dim: u32,
     left: u32,
     tuple: &mut [ScaleFn],
-    rest: &Partial,
+    images: &mut [u128],
+    at: usize,
+    whole_product: u128,
 ) -> bool
     requires limits { IsInternalInstance instance.now }
     requires fit { SidesFit instance.now }
     requires few { copies ≤ 128 }
     requires count { length tuple.old ≡ dims instance.now }
     requires there { dim ≤ dims instance.now }
+    requires room { at + box_count instance.now + dim * box_count instance.now
+        ≤ length images.old }
     requires legal { AreLegalFrom instance.now dim (drop dim tuple.old) }
-    requires partial { IsPartial instance.now dim (drop dim tuple.old) rest.now.images
-        rest.now.whole }
+    requires partial { IsPartial instance.now dim (drop dim tuple.old)
+        (λ v. slice_index images.old (at + v)) whole_product }
     ensures found { MatchBool result
         (find (has_excess instance.now copies) (within instance.now dim left (drop dim tuple.old))
         ≡ Some tuple.new)
         (find (has_excess instance.now copies) (within instance.now dim left (drop dim tuple.old))
         ≡ None) }
     ensures kept { drop dim tuple.new ≡ drop dim tuple.old }
+    ensures length { length images.new ≡ length images.old }
+    ensures products { (k : ℕ) → k < at + box_count instance.now
+        → slice_index images.new k ≡ slice_index images.old k }
 {
     if dim == 0 {
-        return rest.exceeds(instance, copies);
+        return exceeds(instance, copies, images, at, whole_product);
     }
     let below = dim - 1;
+    let next_at = at + instance.len() as usize;
     tuple[below as usize] = ScaleFn::Id;
-    let same = rest.with(instance, below, ScaleFn::Id);
-    if search(instance, copies, below, left, tuple, &same) {
+    scale(instance, below, ScaleFn::Id, images, at);
+    let same = whole_product * whole_of(instance, below, ScaleFn::Id);
+    if search(instance, copies, below, left, tuple, images, next_at, same) {
         return true;
     }
     if left == 0 {
@@ -60,8 +81,18 @@ fn search(
     let mut next = next_function(instance, below, ScaleFn::Id);
     while let Some(f) = next {
         tuple[below as usize] = f;
-        let scaled = rest.with(instance, below, f);
-        if search(instance, copies, below, left - 1, tuple, &scaled) {
+        scale(instance, below, f, images, at);
+        let scaled = whole_product * whole_of(instance, below, f);
+        if search(
+            instance,
+            copies,
+            below,
+            left - 1,
+            tuple,
+            images,
+            next_at,
+            scaled,
+        ) {
             return true;
         }
         next = next_function(instance, below, f);
@@ -81,6 +112,48 @@ fn copied(alloc: Global, functions: &[ScaleFn]) -> ScaleTuple
     tuple
 }
 
+// The first tuple of the list that exceeds, found in a table of so many places.
+fn first_within<const T: usize>(
+    alloc: Global,
+    instance: &Instance,
+    copies: u32,
+) -> Option<ScaleTuple>
+    requires size { T ≤ 640 }
+    requires room { (dims instance.now + 1) * box_count instance.now ≤ T }
+    requires fit { SidesFit instance.now }
+    requires few { copies ≤ 128 }
+    ensures { MatchOption result (first_excess instance.now copies ≡ None)
+        (λ t. first_excess instance.now copies ≡ Some t.items) }
+{
+    let mut tuple = [ScaleFn::Id; 4];
+    let mut images = [1; T];
+    let dims = instance.dims();
+    let chosen = &mut tuple[..dims as usize];
+    if search(instance, copies, dims, 2, chosen, &mut images, 0, 1) {
+        Some(copied(alloc, chosen))
+    } else {
+        None
+    }
+}
+
+// The same, in a table of as many places as the boxes need, up to a factor: one that is larger
+// costs its size each time.
+fn first_of(alloc: Global, instance: &Instance, copies: u32) -> Option<ScaleTuple>
+    requires fit { SidesFit instance.now }
+    requires few { copies ≤ 128 }
+    ensures { MatchOption result (first_excess instance.now copies ≡ None)
+        (λ t. first_excess instance.now copies ≡ Some t.items) }
+{
+    let places = (instance.dims() + 1) * instance.len();
+    if places <= 32 {
+        return first_within::<32>(alloc, instance, copies);
+    }
+    if places <= 128 {
+        return first_within::<128>(alloc, instance, copies);
+    }
+    first_within::<640>(alloc, instance, copies)
+}
+
 /// The first tuple of the list that exceeds, and none exactly where none of the list does. Then the
 /// boxes don't fit in so many bins.
 pub fn first_exceeding(alloc: Global, instance: &Instance, copies: u32) -> Option<ScaleTuple>
@@ -91,12 +164,7 @@ pub fn first_exceeding(alloc: Global, instance: &Instance, copies: u32) -> Optio
     ensures exceeds { IfSome result (λ t. Exceeds instance.now t.items copies) }
     ensures refutes { IfSome result (λ t. ¬ FitsInBins instance.now copies) }
 {
-    let mut tuple = [ScaleFn::Id; 4];
-    let dims = instance.dims();
-    let chosen = &mut tuple[..dims as usize];
-    if search(instance, copies, dims, 2, chosen, &Partial::new()) {
-        Some(copied(alloc, chosen))
-    } else {
-        None
-    }
+    // For the proof alone: tells the limits of the instance.
+    let _limits = instance.len();
+    first_of(alloc, instance, copies)
 }

@@ -1,24 +1,32 @@
-use Rattle.std.proofs.Common.{◌-◌, ◌<◌, arith, refl, ◌∙◌, length, length-set}
+use Rattle.std.proofs.Common.{◌-◌, ◌+◌, ◌*◌, ◌<◌, arith, refl, ap, ◌∙◌, length, length-set, get_or}
+use Rattle.packing_terms.specs.Packing.{box_count}
 use Rattle.packing_terms.specs.declared.ScaleFn.TheVariants.{Id}
 use Rattle.conservative_scales.proofs.Searching.{at_written, legal_written, partial_written, chosen_is, few_left, kept_written, open_found, open_next, id_found, id_none, whole_least}
-use Rattle.conservative_scales.proofs.PartialProducts.{few_small, few_whole}
+use Rattle.conservative_scales.proofs.PartialProducts.{few_small, few_whole, scaled_small, rows_less}
 use Rattle.conservative_scales.proofs.search.+search.Goals as goal
 
-pub with-same-requires-clause-small : goal.with-same-requires-clause-small
-with-same-requires-clause-small t c =
-    few_small c.args.instance.now c.args.dim _ _ _ c.requires.partial (few_left c.args.instance.now c.args.dim c.args.tuple.now c.requires.limits c.requires.count (omega arith))
+pub scale-requires-clause-small : goal.scale-requires-clause-small
+scale-requires-clause-small t c =
+    few_small c.args.instance.now c.args.dim _ (λ v. get_or c.args.images.now (c.args.at + v) 0) _ c.requires.partial
+    (few_left c.args.instance.now c.args.dim c.args.tuple.now c.requires.limits c.requires.count (omega arith))
 
-pub with-same-requires-clause-whole_small : goal.with-same-requires-clause-whole_small
-with-same-requires-clause-whole_small t c =
-    few_whole c.args.instance.now c.args.dim _ _ _ c.requires.partial (few_left c.args.instance.now c.args.dim c.args.tuple.now c.requires.limits c.requires.count (omega arith))
+pub scale-requires-in-Some-clause-small : goal.scale-requires-in-Some-clause-small
+scale-requires-in-Some-clause-small t c v l =
+    rw (c.loop-next.invariant.products (c.args.at + v) (omega (arith, l)))
+    (few_small c.args.instance.now c.args.dim _ (λ u. get_or c.args.images.now (c.args.at + u) 0) _ c.requires.partial
+    (few_left c.args.instance.now c.args.dim c.args.tuple.now c.requires.limits c.requires.count (omega arith)) v l)
 
-pub with-scaled-requires-clause-small : goal.with-scaled-requires-clause-small
-with-scaled-requires-clause-small t c =
-    few_small c.args.instance.now c.args.dim _ _ _ c.requires.partial (few_left c.args.instance.now c.args.dim c.args.tuple.now c.requires.limits c.requires.count (omega arith))
+pub overflow_mul-same : goal.overflow_mul-same
+overflow_mul-same t c =
+    let w = few_whole c.args.instance.now c.args.dim _ (λ v. get_or c.args.images.now (c.args.at + v) 0) _ c.requires.partial
+    (few_left c.args.instance.now c.args.dim c.args.tuple.now c.requires.limits c.requires.count (omega arith)) in
+    omega (arith, scaled_small _ _ w c.whole_of.ensures.limit)
 
-pub with-scaled-requires-clause-whole_small : goal.with-scaled-requires-clause-whole_small
-with-scaled-requires-clause-whole_small t c =
-    few_whole c.args.instance.now c.args.dim _ _ _ c.requires.partial (few_left c.args.instance.now c.args.dim c.args.tuple.now c.requires.limits c.requires.count (omega arith))
+pub overflow_mul-scaled : goal.overflow_mul-scaled
+overflow_mul-scaled t c =
+    let w = few_whole c.args.instance.now c.args.dim _ (λ v. get_or c.args.images.now (c.args.at + v) 0) _ c.requires.partial
+    (few_left c.args.instance.now c.args.dim c.args.tuple.now c.requires.limits c.requires.count (omega arith)) in
+    omega (arith, scaled_small _ _ w c.whole_of-in-Some.ensures.limit)
 
 pub returns-then-dim-eq0-clause-found : goal.returns-then-dim-eq0-clause-found
 returns-then-dim-eq0-clause-found t c =
@@ -39,9 +47,16 @@ search-requires t c =
               (
                 omega arith,
                 (
-                  legal_written c.args.instance.now 0 c.args.dim (c.args.dim - 1) 0 _ c.args.tuple.now Id (omega arith) k refl tt c.requires.legal,
-                  partial_written c.args.instance.now 0 c.args.dim (c.args.dim - 1) 0 _ c.args.tuple.now Id (omega arith) k refl _ _ _ _
-                      c.requires.limits c.requires.fit (omega arith) tt c.with-same.ensures.images c.with-same.ensures.whole c.requires.partial,
+                  (let r = rows_less c.args.dim (c.args.dim - 1) (box_count c.args.instance.now) (omega arith) in
+                      omega (arith, r, c.scale.ensures.length, c.len.ensures.value, c.requires.room)),
+                  (
+                    legal_written c.args.instance.now 0 c.args.dim (c.args.dim - 1) 0 _ c.args.tuple.now Id (omega arith) k refl tt c.requires.legal,
+                    partial_written c.args.instance.now 0 c.args.dim (c.args.dim - 1) 0 _ c.args.tuple.now Id (omega arith) k refl
+                        (λ v. get_or c.args.images.now (c.args.at + v) 0) (λ v. get_or c.scale.new.images (c.args.at + c.len.result + v) 0) _ _
+                        c.requires.limits c.requires.fit (omega arith) tt
+                        (λ v l. rw c.len.ensures.value (c.scale.ensures.scaled v l))
+                        (ap (λ w. c.args.whole_product * w) c.whole_of.ensures.value) c.requires.partial,
+                  ),
                 ),
               ),
             ),
@@ -74,10 +89,14 @@ loop-next-init t c =
     let k : c.args.dim - 1 < length c.args.tuple.now = omega arith in
     let e = at_written c.args.instance.now 0 c.args.dim (c.args.dim - 1) 0 _ c.args.tuple.now Id (omega arith) k refl in
     record {
-      kept = kept_written c.args.instance.now 0 c.args.dim (c.args.dim - 1) 0 _ c.args.tuple.now Id (omega arith) k refl _ c.if-search.ensures.kept;
-      same = id_none c.args.instance.now c.args.copies c.args.dim (c.args.dim - 1) c.args.left _ _ (omega arith) (omega arith)
-          c.next_function-next.ensures.next (rw e at c.if-search.ensures.found);
-      legal = c.next_function-next.ensures.legal;
+      open_at = record {
+        kept = kept_written c.args.instance.now 0 c.args.dim (c.args.dim - 1) 0 _ c.args.tuple.now Id (omega arith) k refl _ c.if-search.ensures.kept;
+        same = id_none c.args.instance.now c.args.copies c.args.dim (c.args.dim - 1) c.args.left _ _ (omega arith) (omega arith)
+            c.next_function-next.ensures.next (rw e at c.if-search.ensures.found);
+        legal = c.next_function-next.ensures.legal;
+      };
+      length = c.if-search.ensures.length ∙ c.scale.ensures.length;
+      products = λ m l. c.if-search.ensures.products m (omega (arith, l)) ∙ c.scale.ensures.kept m l;
     }
 
 pub search-requires-in-Some : goal.search-requires-in-Some
@@ -95,11 +114,17 @@ search-requires-in-Some t c =
               (
                 omega arith,
                 (
-                  legal_written c.args.instance.now 0 c.args.dim (c.args.dim - 1) 0 _ c.loop-next.tuple c.in-Some.f (omega arith) k c.loop-next.invariant.kept
-                      (rw c.in-Some.is at c.loop-next.invariant.legal) c.requires.legal,
-                  partial_written c.args.instance.now 0 c.args.dim (c.args.dim - 1) 0 _ c.loop-next.tuple c.in-Some.f (omega arith) k c.loop-next.invariant.kept _ _ _ _
-                      c.requires.limits c.requires.fit (omega arith) (rw c.in-Some.is at c.loop-next.invariant.legal)
-                      c.with-scaled.ensures.images c.with-scaled.ensures.whole c.requires.partial,
+                  (let r = rows_less c.args.dim (c.args.dim - 1) (box_count c.args.instance.now) (omega arith) in
+                      omega (arith, r, c.scale-in-Some.ensures.length, c.loop-next.invariant.length, c.len.ensures.value, c.requires.room)),
+                  (
+                    legal_written c.args.instance.now 0 c.args.dim (c.args.dim - 1) 0 _ c.loop-next.tuple c.in-Some.f (omega arith) k c.loop-next.invariant.open_at.kept
+                        (rw c.in-Some.is at c.loop-next.invariant.open_at.legal) c.requires.legal,
+                    partial_written c.args.instance.now 0 c.args.dim (c.args.dim - 1) 0 _ c.loop-next.tuple c.in-Some.f (omega arith) k c.loop-next.invariant.open_at.kept
+                        (λ v. get_or c.args.images.now (c.args.at + v) 0) (λ v. get_or c.scale-in-Some.new.images (c.args.at + c.len.result + v) 0) _ _
+                        c.requires.limits c.requires.fit (omega arith) (rw c.in-Some.is at c.loop-next.invariant.open_at.legal)
+                        (λ v l. rw (c.len.ensures.value, ← c.loop-next.invariant.products (c.args.at + v) (omega (arith, l))) (c.scale-in-Some.ensures.scaled v l))
+                        (ap (λ w. c.args.whole_product * w) c.whole_of-in-Some.ensures.value) c.requires.partial,
+                  ),
                 ),
               ),
             ),
@@ -111,17 +136,28 @@ search-requires-in-Some t c =
 pub returns-then-search-2-clause-found : goal.returns-then-search-2-clause-found
 returns-then-search-2-clause-found t c =
     let k : c.args.dim - 1 < length c.loop-next.tuple = omega (arith, length-set c.args.tuple.now (c.args.dim - 1) Id) in
-    open_found c.args.instance.now c.args.copies c.args.dim (c.args.dim - 1) c.args.left _ c.loop-next.tuple c.in-Some.f (omega arith) k c.loop-next.invariant.kept _
-    (rw c.in-Some.is at c.loop-next.invariant) c.if-search-2.ensures.found
+    open_found c.args.instance.now c.args.copies c.args.dim (c.args.dim - 1) c.args.left _ c.loop-next.tuple c.in-Some.f (omega arith) k c.loop-next.invariant.open_at.kept _
+    (rw c.in-Some.is at c.loop-next.invariant.open_at) c.if-search-2.ensures.found
 
 pub returns-then-search-2-clause-kept : goal.returns-then-search-2-clause-kept
 returns-then-search-2-clause-kept t c =
     let k : c.args.dim - 1 < length c.loop-next.tuple = omega (arith, length-set c.args.tuple.now (c.args.dim - 1) Id) in
-    kept_written c.args.instance.now 0 c.args.dim (c.args.dim - 1) 0 _ c.loop-next.tuple c.in-Some.f (omega arith) k c.loop-next.invariant.kept _ c.if-search-2.ensures.kept
+    kept_written c.args.instance.now 0 c.args.dim (c.args.dim - 1) 0 _ c.loop-next.tuple c.in-Some.f (omega arith) k c.loop-next.invariant.open_at.kept _ c.if-search-2.ensures.kept
 
 pub loop-next-preserved : goal.loop-next-preserved
 loop-next-preserved t c =
     let k : c.args.dim - 1 < length c.loop-next.tuple = omega (arith, length-set c.args.tuple.now (c.args.dim - 1) Id) in
-    open_next c.args.instance.now c.args.copies c.args.dim (c.args.dim - 1) c.args.left _ c.loop-next.tuple c.in-Some.f (omega arith) k c.loop-next.invariant.kept _ _
-    (rw c.in-Some.is at c.loop-next.invariant) c.if-search-2.ensures.found c.next_function-next-in-Some.ensures.next c.next_function-next-in-Some.ensures.legal
-    c.if-search-2.ensures.kept
+    record {
+      open_at = open_next c.args.instance.now c.args.copies c.args.dim (c.args.dim - 1) c.args.left _ c.loop-next.tuple c.in-Some.f (omega arith) k c.loop-next.invariant.open_at.kept _ _
+          (rw c.in-Some.is at c.loop-next.invariant.open_at) c.if-search-2.ensures.found c.next_function-next-in-Some.ensures.next c.next_function-next-in-Some.ensures.legal
+          c.if-search-2.ensures.kept;
+      length = c.if-search-2.ensures.length ∙ (c.scale-in-Some.ensures.length ∙ c.loop-next.invariant.length);
+      products = λ m l. c.if-search-2.ensures.products m (omega (arith, l)) ∙ (c.scale-in-Some.ensures.kept m l ∙ c.loop-next.invariant.products m l);
+    }
+
+pub returns-then-search-clause-products : goal.returns-then-search-clause-products
+returns-then-search-clause-products t c m l = c.if-search.ensures.products m (omega (arith, l)) ∙ c.scale.ensures.kept m l
+
+pub returns-then-search-2-clause-products : goal.returns-then-search-2-clause-products
+returns-then-search-2-clause-products t c m l =
+    c.if-search-2.ensures.products m (omega (arith, l)) ∙ (c.scale-in-Some.ensures.kept m l ∙ c.loop-next.invariant.products m l)

@@ -1,30 +1,29 @@
-use Rattle.std.proofs.Common.{ap, sym, ◌∙◌, Some}
-use Rattle.conservative_scales.proofs.Tuples.{excess_within, none_left}
-use Rattle.conservative_scales.proofs.PartialProducts.{partial_none}
+use Rattle.std.proofs.Common.{◌≡◌, ℕ, List, Option, None, Some}
+use Rattle.std.specs.Prelude.{IfSome, MatchOption}
+use Rattle.packing_terms.specs.Packing.{PlainInstance}
+use Rattle.packing_terms.specs.Limits.{IsInternalInstance}
+use Rattle.packing_terms.specs.Goals.{FitsInBins}
+use Rattle.packing_terms.specs.Scales.{Exceeds, SidesFit}
+use Rattle.packing_terms.specs.Tuples.{first_excess}
+use Rattle.packing_terms.specs.declared.ScaleFn.{ScaleFn}
 use Rattle.packing_terms.proofs.Internal.{internal_sides, some_box}
 use Rattle.packing_terms.proofs.Listed.{first_exceeds, container_wide}
 use Rattle.scale_terms.proofs.Excess.{excess_law}
 use Rattle.conservative_scales.proofs.search.first_exceeding.Goals as goal
 
-pub returns-then-search-clause-first : goal.returns-then-search-clause-first
-returns-then-search-clause-first c =
-    excess_within c.args.instance.now c.args.copies _ _ c.dims-dims.ensures.value (none_left c.dims-dims.result _)
-    ∙ c.if-search.ensures.found ∙ ap Some (sym c.copied.ensures)
+module _ {X : Type 0} (items : X → List ScaleFn) (instance : PlainInstance) (c : ℕ) (limits : IsInternalInstance instance) (fit : SidesFit instance) where
+  found_exceeds : (r : Option X) → MatchOption r (first_excess instance c ≡ None) (λ t. first_excess instance c ≡ Some (items t))
+      → IfSome r (λ t. Exceeds instance (items t) c)
+  found_exceeds None e = tt
+  found_exceeds (Some t) e = first_exceeds instance (container_wide instance (internal_sides instance limits) fit (some_box instance limits)) fit c _ e
 
-pub returns-else-search-clause-first : goal.returns-else-search-clause-first
-returns-else-search-clause-first c =
-    excess_within c.args.instance.now c.args.copies _ _ c.dims-dims.ensures.value (none_left c.dims-dims.result _)
-    ∙ c.if-search.ensures.found
+  found_refutes : (r : Option X) → MatchOption r (first_excess instance c ≡ None) (λ t. first_excess instance c ≡ Some (items t))
+      → IfSome r (λ t. ¬ FitsInBins instance c)
+  found_refutes None e = tt
+  found_refutes (Some t) e = excess_law.bins _ _ _ (found_exceeds (Some t) e)
 
-pub returns-then-search-clause-exceeds : goal.returns-then-search-clause-exceeds
-returns-then-search-clause-exceeds c =
-    let limits = c.dims-dims.ensures.limits in
-    first_exceeds c.args.instance.now (container_wide c.args.instance.now (internal_sides c.args.instance.now limits) c.requires.fit (some_box c.args.instance.now limits))
-    c.requires.fit c.args.copies _ (returns-then-search-clause-first c)
+pub returns-clause-exceeds : goal.returns-clause-exceeds
+returns-clause-exceeds c = found_exceeds _ c.args.instance.now c.args.copies c.len-limits.ensures.limits c.requires.fit c.first_of.result c.first_of.ensures
 
-pub returns-then-search-clause-refutes : goal.returns-then-search-clause-refutes
-returns-then-search-clause-refutes c = excess_law.bins _ _ _ (returns-then-search-clause-exceeds c)
-
-pub search-requires-clause-partial : goal.search-requires-clause-partial
-search-requires-clause-partial c =
-    rw (none_left, c.dims-dims.ensures.value) (partial_none c.args.instance.now _ _ c.dims-dims.ensures.limits c.new.ensures.images c.new.ensures.whole)
+pub returns-clause-refutes : goal.returns-clause-refutes
+returns-clause-refutes c = found_refutes _ c.args.instance.now c.args.copies c.len-limits.ensures.limits c.requires.fit c.first_of.result c.first_of.ensures
