@@ -13,6 +13,7 @@ use crate::values::decide_value;
 use box_instances::{Instance, NoMemory};
 use level_search::Reached;
 use proof_tree::Token;
+use set_search::SetSearch;
 use std::alloc::Global;
 use std::sync::Wait;
 use std::thread::Threads;
@@ -42,7 +43,7 @@ fn value_short(alloc: Global, instance: &Instance) -> Result<Vec<Token>, NoMemor
     Ok(tokens)
 }
 
-// The run of values.
+// The run of values. Sets are decided in one memory for all of them.
 fn bisect_values<R: Threads + Wait + Sync, G: Gate + Sync>(
     rt: &R,
     alloc: Global,
@@ -57,9 +58,10 @@ fn bisect_values<R: Threads + Wait + Sync, G: Gate + Sync>(
     let _limits = instance.len();
     let above = whole_worth(instance) + 1;
     let tokens = value_short(alloc, instance)?;
+    let mut search = SetSearch::new(alloc, instance, settings.scales)?;
     let mut reached = Reached::starting(above, tokens, 0, Vec::new(alloc));
     while let Some(level) = reached.next_level() {
-        let answer = decide_value(rt, alloc, instance, level, settings, gate)?;
+        let answer = decide_value(rt, alloc, &mut search, instance, level, settings, gate)?;
         reached = reached.after(level, answer);
     }
     Ok(reached)

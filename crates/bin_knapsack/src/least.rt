@@ -19,6 +19,7 @@ use box_instances::{Instance, NoMemory};
 use class_search::first_too_large;
 use level_search::Reached;
 use proof_tree::{Outcome, Token};
+use set_search::SetSearch;
 use std::alloc::Global;
 use std::sync::Wait;
 use std::thread::Threads;
@@ -43,7 +44,8 @@ fn no_bins(alloc: Global, instance: &Instance, scales: bool) -> Result<Vec<Token
     }
 }
 
-// The run of numbers of bins of an instance none of whose boxes is too large.
+// The run of numbers of bins of an instance none of whose boxes is too large. Sets are decided in
+// one memory for all numbers.
 fn bisect_bins<R: Threads + Wait + Sync, G: Gate + Sync>(
     rt: &R,
     alloc: Global,
@@ -57,11 +59,13 @@ fn bisect_bins<R: Threads + Wait + Sync, G: Gate + Sync>(
 {
     // For the proof alone: tells the limits of the instance.
     let _limits = instance.len();
+    let mut search = SetSearch::new(alloc, instance, settings.scales)?;
     let numbers = spread_all(alloc, instance)?;
     let tokens = no_bins(alloc, instance, settings.scales)?;
     let mut reached = Reached::starting(0, tokens, u64::from(instance.len()), numbers);
     while let Some(level) = reached.next_level() {
-        let answer = decide_bins(rt, alloc, instance, level as u32, settings, gate)?;
+        let bins = level as u32;
+        let answer = decide_bins(rt, alloc, &mut search, instance, bins, settings, gate)?;
         reached = reached.after(level, answer);
     }
     Ok(reached)

@@ -138,7 +138,8 @@ pub fn enter(
         (lists_of node.answers.items) }
     requires fresh { node.visited ≡ 0 }
     requires within { own ≤ cap }
-    ensures { IfOk result (λ r. plain_outcome r ≡ told cap (outcome
+    ensures same { search.new ≡ search.old }
+    ensures outcome { IfOk result (λ r. plain_outcome r ≡ told cap (outcome
         (bin_node instance.now search.old.scales most (drop node.placed (ranked instance.now))
         (lists_of node.bins.items) (lists_of node.answers.items) own))) }
 {

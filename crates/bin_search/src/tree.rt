@@ -72,9 +72,23 @@ impl<'a> BinTree<'a> {
         })
     }
 
-    // What the tree gives under a cap.
-    fn explore_root(&self, alloc: Global, cap: u64) -> Result<Outcome, NoMemory>
-        ensures { IfOk result (λ r. plain_outcome r ≡ told cap (outcome (shape self.now))) }
+    /// What the tree gives under a cap, by decisions of sets of the same instance with the same
+    /// choice of scales: its outcome where that has a count of at most `cap`, and `Past` exactly
+    /// where its count is greater. What these decisions keep serves the trees of other numbers of
+    /// bins too.
+    pub fn explore_with(
+        &self,
+        alloc: Global,
+        search: &mut SetSearch<'_>,
+        cap: u64,
+    ) -> Result<Outcome, NoMemory>
+        requires { search.old ≡ record {
+          instance = self.now.instance;
+          scales = self.now.scales;
+        } }
+        ensures same { search.new ≡ search.old }
+        ensures outcome { IfOk result
+            (λ r. plain_outcome r ≡ told cap (outcome (shape self.now))) }
     {
         // For the proof alone: tells the limits of the instance.
         let _limits = self.instance.len();
@@ -83,7 +97,6 @@ impl<'a> BinTree<'a> {
             push_token(&mut tokens, token)?;
             return Ok(Outcome::No { tokens, count: 0 });
         }
-        let mut search = SetSearch::new(alloc, self.instance, self.scales)?;
         let root = Placed {
             placed: 0,
             bins: Vec::new(alloc),
@@ -91,16 +104,15 @@ impl<'a> BinTree<'a> {
             visited: 0,
         };
         let order = self.order.as_slice();
-        enter(
-            alloc,
-            &mut search,
-            self.instance,
-            order,
-            self.bins,
-            root,
-            0,
-            cap,
-        )
+        enter(alloc, search, self.instance, order, self.bins, root, 0, cap)
+    }
+
+    // What the tree gives under a cap.
+    fn explore_root(&self, alloc: Global, cap: u64) -> Result<Outcome, NoMemory>
+        ensures { IfOk result (λ r. plain_outcome r ≡ told cap (outcome (shape self.now))) }
+    {
+        let mut search = SetSearch::new(alloc, self.instance, self.scales)?;
+        self.explore_with(alloc, &mut search, cap)
     }
 
     // The last step of a path that isn't empty.

@@ -67,13 +67,25 @@ impl<'a> ChoiceTree<'a> {
         })
     }
 
-    // What the tree gives under a cap.
-    fn explore_root(&self, alloc: Global, cap: u64) -> Result<Outcome, NoMemory>
-        ensures { IfOk result (λ r. plain_outcome r ≡ told cap (outcome (shape self.now))) }
+    /// What the tree gives under a cap, by decisions of sets of the same instance with the same
+    /// choice of scales: its outcome where that has a count of at most `cap`, and `Past` exactly
+    /// where its count is greater. What these decisions keep serves the trees of other values too.
+    pub fn explore_with(
+        &self,
+        alloc: Global,
+        search: &mut SetSearch<'_>,
+        cap: u64,
+    ) -> Result<Outcome, NoMemory>
+        requires { search.old ≡ record {
+          instance = self.now.instance;
+          scales = self.now.scales;
+        } }
+        ensures same { search.new ≡ search.old }
+        ensures outcome { IfOk result
+            (λ r. plain_outcome r ≡ told cap (outcome (shape self.now))) }
     {
         // For the proof alone: tells the limits of the instance.
         let _limits = self.instance.len();
-        let mut search = SetSearch::new(alloc, self.instance, self.scales)?;
         let root = Chosen {
             decided: 0,
             taken: Vec::new(alloc),
@@ -82,7 +94,7 @@ impl<'a> ChoiceTree<'a> {
         let order = self.order.as_slice();
         walk(
             alloc,
-            &mut search,
+            search,
             self.instance,
             order,
             self.value,
@@ -90,6 +102,14 @@ impl<'a> ChoiceTree<'a> {
             0,
             cap,
         )
+    }
+
+    // What the tree gives under a cap.
+    fn explore_root(&self, alloc: Global, cap: u64) -> Result<Outcome, NoMemory>
+        ensures { IfOk result (λ r. plain_outcome r ≡ told cap (outcome (shape self.now))) }
+    {
+        let mut search = SetSearch::new(alloc, self.instance, self.scales)?;
+        self.explore_with(alloc, &mut search, cap)
     }
 
     // What the tree below the child at the end of a path gives under a cap.

@@ -32,7 +32,8 @@ pub fn walk(
     requires order { order.now ≡ ranked instance.now }
     requires node { IsChosen instance.now node.decided node.taken.items node.numbers.items }
     requires within { own ≤ cap }
-    ensures { IfOk result (λ r. plain_outcome r ≡ told cap (outcome
+    ensures same { search.new ≡ search.old }
+    ensures outcome { IfOk result (λ r. plain_outcome r ≡ told cap (outcome
         (choice_node instance.now search.old.scales value (drop node.decided (ranked instance.now))
         node.taken.items node.numbers.items own))) }
 {

@@ -1,3 +1,5 @@
 pub mod Verdicts
 pub mod Sets
 pub mod Reaching
+pub mod Memories
+pub mod Entries

@@ -1,2 +1,4 @@
 pub mod Searches
 pub mod Children
+pub mod Memories
+pub mod Entries

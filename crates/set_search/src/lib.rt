@@ -4,7 +4,10 @@
 
 mod answer;
 mod child;
+mod copies;
 mod insert;
+mod key;
+mod memory;
 mod search;
 mod tokens;
 

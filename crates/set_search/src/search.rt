@@ -3,11 +3,14 @@ ghost use Rattle.std.specs.Prelude.{◌≡◌, ◌≤◌, length, IfOk, []};
 ghost use Rattle.packing_terms.specs.Goals.{subset, IsBoxSet};
 ghost use Rattle.packing_terms.specs.Limits.{IsDimCount, most_boxes};
 ghost use Rattle.set_search.specs.Searches.{AreClosers};
+ghost use Rattle.set_search.specs.Memories.{HasBoxes};
 ghost use Rattle.tree_terms.specs.Trees.{told};
 ghost use Rattle.tree_terms.specs.OuterTrees.{set_verdict};
 ghost use Rattle.work_share.specs.Outcomes.{plain_outcome};
 ghost use Rattle.class_search.specs.Right.{IsRight};
 
+use crate::key::SetKey;
+use crate::memory::SetMemory;
 use box_instances::{BoxSet, Instance, NoMemory};
 use class_search::decide_in;
 use edge_state::EdgeState;
@@ -23,7 +26,9 @@ pub const MOST_BUDGET: u64 = 10_000_000;
 ///
 /// It is seen as the instance and the choice of scales. An outer search makes thousands of small
 /// decisions; so the instance of a set, its state and the room of a closing are taken once, for all
-/// of them.
+/// of them. And most of its sets come again and again, in one tree for bins, and in the trees of
+/// many values: what was found of a set is kept, and told again without a search, at most 65,536
+/// sets with at most 4,194,304 numbers and tokens. Sets for which there is no memory aren't kept.
 #[derive(Drop)]
 pub struct SetSearch<'a> {
     whole: &'a Instance,
@@ -31,16 +36,19 @@ pub struct SetSearch<'a> {
     set: BoxSet<'a>,
     state: EdgeState,
     closers: Vec<Closer>,
+    memory: SetMemory,
 }
 
 impl<'a> Model for SetSearch<'a> {
     ghost use Rattle.set_search.specs.Searches.{PlainSetSearch, HasRoom};
+    ghost use Rattle.set_search.specs.Memories.{AreVerdicts};
 
     ghost Value = { PlainSetSearch };
 
     ghost view = { λ s. record { instance = s.whole.now; scales = s.scales } };
 
-    ghost invariant = { λ s. HasRoom s.whole.now s.set.whole s.state s.closers.items };
+    ghost invariant = { λ s. HasRoom s.whole.now s.set.whole s.state s.closers.items
+        × AreVerdicts s.whole.now s.scales s.memory };
 }
 
 // The room of a closing, for each number of boxes up to this one.
@@ -77,7 +85,60 @@ impl<'a> SetSearch<'a> {
             set,
             state,
             closers,
+            memory: SetMemory::new(alloc),
         })
+    }
+
+    // Decides a set by a search.
+    fn decide_anew(&mut self, alloc: Global, keep: &[u32], budget: u64) -> Result<Outcome, NoMemory>
+        requires some { 1 ≤ length keep.now }
+        requires set { IsBoxSet self.old.instance keep.now }
+        ensures same { self.new ≡ self.old }
+        ensures outcome { IfOk result (λ r. plain_outcome r
+            ≡ told budget (set_verdict self.old.instance self.old.scales keep.now)) }
+    {
+        // For the proof alone: tells the limits of the instance.
+        let _limits = self.whole.len();
+        self.set.set_to(keep);
+        self.state.resize(keep.len() as u32);
+        let closer = &mut self.closers[keep.len() - 1];
+        let instance = self.set.instance();
+        decide_in(
+            alloc,
+            instance,
+            &mut self.state,
+            closer,
+            budget,
+            self.scales,
+        )
+    }
+
+    // Keeps what was found of a set, if its search wasn't cut off.
+    fn keep_found(
+        &mut self,
+        alloc: Global,
+        keep: &[u32],
+        key: &SetKey,
+        budget: u64,
+        found: &Outcome,
+    )
+        requires boxes { HasBoxes key.now.boxes keep.now }
+        requires set { IsBoxSet self.old.instance keep.now }
+        requires found { plain_outcome found.now
+            ≡ told budget (set_verdict self.old.instance self.old.scales keep.now) }
+        ensures { self.new ≡ self.old }
+    {
+        match found {
+            Outcome::Past => {}
+            Outcome::Yes {
+                numbers: _,
+                count: _,
+            } => self.memory.keep(alloc, key, found),
+            Outcome::No {
+                tokens: _,
+                count: _,
+            } => self.memory.keep(alloc, key, found),
+        }
     }
 
     /// Whether the boxes of a set, by rising number, fit: the outcome of the set's class tree where
@@ -94,17 +155,12 @@ impl<'a> SetSearch<'a> {
     {
         // For the proof alone: tells the limits of the instance.
         let _limits = self.whole.len();
-        self.set.set_to(keep);
-        self.state.resize(keep.len() as u32);
-        let closer = &mut self.closers[keep.len() - 1];
-        let instance = self.set.instance();
-        decide_in(
-            alloc,
-            instance,
-            &mut self.state,
-            closer,
-            budget,
-            self.scales,
-        )
+        let key = SetKey::of(keep);
+        if let Some(outcome) = self.memory.recall(alloc, &key, budget)? {
+            return Ok(outcome);
+        }
+        let outcome = self.decide_anew(alloc, keep, budget)?;
+        self.keep_found(alloc, keep, &key, budget, &outcome);
+        Ok(outcome)
     }
 }

@@ -1,3 +1,4 @@
+use Rattle.std.proofs.Common.{◌≡◌}
 use Rattle.packing_terms.specs.Packing.{box_count}
 use Rattle.tree_terms.specs.Levels.{first_bins}
 use Rattle.tree_terms.specs.RunEnds.{bin_answer}
@@ -6,9 +7,11 @@ use Rattle.level_search.proofs.OnRun.{IsOnRun, decisions_left}
 use Rattle.bin_knapsack.proofs.least.bisect_bins.Given as goal
 
 abbrev pub invariant-loop-level : goal.invariant-loop-level
-invariant-loop-level g l =
-    IsOnRun (bin_answer l.fn.instance l.fn.settings.budget l.fn.settings.scales) 0 (box_count l.fn.instance)
-    (first_bins l.fn.instance l.fn.settings.scales) (plain_reached l.reached)
+invariant-loop-level g l = record {
+  run : IsOnRun (bin_answer l.fn.instance l.fn.settings.budget l.fn.settings.scales) 0 (box_count l.fn.instance)
+      (first_bins l.fn.instance l.fn.settings.scales) (plain_reached l.reached);
+  search : l.search ≡ record { instance = l.fn.instance; scales = l.fn.settings.scales };
+}
 
 abbrev pub decreases-loop-level : goal.decreases-loop-level
 decreases-loop-level g l = decisions_left (plain_reached l.reached)

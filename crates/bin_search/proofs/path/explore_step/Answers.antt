@@ -63,5 +63,5 @@ returns-in_ok-put_list-in-Fits c =
     let e = rw h.same at c.in_ok-put_list-in-Fits.ensures in
     let f = rw (c.in_ok-grow_bin.ensures.same, c.requires.search, c.deref-in-Fits.ensures.value) at c.in_ok-answers-in-Fits.ensures.answers in
     let g = c.in_ok-answers-in-Fits.ensures.same ∙ c.in_ok-grow_bin.ensures.same in
-    let k = rw (g, e, f) at c.enter.ensures in
+    let k = rw (g, e, f) at c.enter.ensures.outcome in
     subst (λ (x : SearchTree). IfOk c.enter.result (λ r. plain_outcome r ≡ told c.args.cap (outcome x))) (step_fits t c.requires.limits c.args.step.placed (lists_of c.args.step.bins.items) c.requires.above c.args.step.child c.requires.near c.in-Fits.numbers.items h.cost c.in-Fits.own h.is h.counted) k

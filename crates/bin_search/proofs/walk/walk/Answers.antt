@@ -30,8 +30,8 @@ loop-node-init c =
       same = refl;
     })
 
-pub returns-in-None : goal.returns-in-None
-returns-in-None c =
+pub returns-in-None-clause-outcome : goal.returns-in-None-clause-outcome
+returns-in-None-clause-outcome c =
     let t : PlainBinTree = record { instance = c.args.instance.now; bins = c.args.most; scales = c.args.search.now.scales } in
     let whole : Verdict = outcome (bin_node c.args.instance.now c.args.search.now.scales c.args.most (drop c.args.node.placed (ranked c.args.instance.now)) (lists_of c.args.node.bins.items) (lists_of c.args.node.answers.items) c.args.own) in
     let all : c.loop-node.node.visited ≡ width t c.loop-node.node = c.if-node-children.true ∙ (c.children.ensures ∙ (ap (λ (x : List _). child_count c.args.most (lists_of x)) c.deref.ensures.value ∙ sym (placements_count c.args.most (lists_of c.loop-node.node.bins.items) (box_of c.args.instance.now c.loop-node.node)))) in
@@ -56,8 +56,8 @@ open_next-requires-clause-set c =
     let node = left.node in
     rw (c.loop-node.invariant.same, c.requires.search) (grown_set c.args.instance.now c.requires.limits c.args.most c.loop-node.node.placed (lists_of c.loop-node.node.bins.items) (lists_of c.loop-node.node.answers.items) node.node node.there c.loop-node.node.visited)
 
-pub returns-in-Past : goal.returns-in-Past
-returns-in-Past c =
+pub returns-in-Past-clause-outcome : goal.returns-in-Past-clause-outcome
+returns-in-Past-clause-outcome c =
     let t : PlainBinTree = record { instance = c.args.instance.now; bins = c.args.most; scales = c.args.search.now.scales } in
     let whole : Verdict = outcome (bin_node c.args.instance.now c.args.search.now.scales c.args.most (drop c.args.node.placed (ranked c.args.instance.now)) (lists_of c.args.node.bins.items) (lists_of c.args.node.answers.items) c.args.own) in
     let counted = (c.children.ensures ∙ (ap (λ (x : List _). child_count c.args.most (lists_of x)) c.deref.ensures.value ∙ sym (placements_count c.args.most (lists_of c.loop-node.node.bins.items) (box_of c.args.instance.now c.loop-node.node)))) in
@@ -141,8 +141,8 @@ bin_numbers-requires c =
     rw (c.deref-then-child-order.ensures.value, c.deref-then-child-order-2.ensures.value) (has_answers c.args.instance.now c.requires.limits c.args.most c.in-Entered.child.placed (lists_of c.in-Entered.child.bins.items) (lists_of c.in-Entered.child.answers.items)
     (omega (arith, most, c.requires.few)) p (omega (arith, m, n)))
 
-pub returns-then-child-order : goal.returns-then-child-order
-returns-then-child-order c =
+pub returns-then-child-order-clause-outcome : goal.returns-then-child-order-clause-outcome
+returns-then-child-order-clause-outcome c =
     let t : PlainBinTree = record { instance = c.args.instance.now; bins = c.args.most; scales = c.args.search.now.scales } in
     let whole : Verdict = outcome (bin_node c.args.instance.now c.args.search.now.scales c.args.most (drop c.args.node.placed (ranked c.args.instance.now)) (lists_of c.args.node.bins.items) (lists_of c.args.node.answers.items) c.args.own) in
     let counted = (c.children.ensures ∙ (ap (λ (x : List _). child_count c.args.most (lists_of x)) c.deref.ensures.value ∙ sym (placements_count c.args.most (lists_of c.loop-node.node.bins.items) (box_of c.args.instance.now c.loop-node.node)))) in

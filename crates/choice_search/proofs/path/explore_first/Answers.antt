@@ -39,6 +39,6 @@ pub returns : goal.returns
 returns c =
     let t : PlainChoiceTree = record { instance = c.args.instance.now; goal = c.args.value; scales = c.args.search.now.scales } in
     let h = rw (c.requires.search, c.requires.order, c.deref.ensures.value, c.in-Fits.is) at c.in_ok-grow.ensures.child in
-    let k = rw (c.in_ok-grow.ensures.same, h.same) at c.walk.ensures in
+    let k = rw (c.in_ok-grow.ensures.same, h.same) at c.walk.ensures.outcome in
     subst (λ (x : SearchTree). IfOk c.walk.result (λ r. plain_outcome r ≡ told c.args.cap (outcome x)))
     (first_fits t c.args.above.decided c.args.above.taken.items c.requires.above c.in-Fits.numbers.items h.cost c.in-Fits.own h.is h.counted) k

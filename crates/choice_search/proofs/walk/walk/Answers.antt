@@ -21,8 +21,8 @@ loop-node-init c =
     let t : PlainChoiceTree = record { instance = c.args.instance.now; goal = c.args.value; scales = c.args.search.now.scales } in
     rw (c.new-tokens.ensures.items, c.new-stack.ensures.items) (record { left = starts t c.args.node c.args.own c.requires.node; within = c.requires.within; same = refl })
 
-pub returns-in-Reached : goal.returns-in-Reached
-returns-in-Reached c =
+pub returns-in-Reached-clause-outcome : goal.returns-in-Reached-clause-outcome
+returns-in-Reached-clause-outcome c =
     let t : PlainChoiceTree = record { instance = c.args.instance.now; goal = c.args.value; scales = c.args.search.now.scales } in
     let whole : Verdict = node_verdict t c.args.node c.args.own in
     let met : IsMet c.args.instance.now c.args.value c.loop-node.node.decided c.loop-node.node.taken.items Reached
@@ -30,8 +30,8 @@ returns-in-Reached c =
     ap (λ (ns : List ℕ). Decided (Yes ns c.loop-node.count)) (c.in_ok-numbers-in-Reached.ensures ∙ ap₂ (choice_numbers c.args.instance.now) c.deref-in-Reached.ensures.value c.deref-in-Reached-2.ensures.value)
     ∙ finished c.args.cap _ whole (reached_last t whole (map plain_token c.loop-node.tokens.items) c.loop-node.count c.loop-node.node (reverse c.loop-node.stack.items) c.loop-node.invariant.left met) c.loop-node.invariant.within
 
-pub returns-in_default : goal.returns-in_default
-returns-in_default c =
+pub returns-in_default-clause-outcome : goal.returns-in_default-clause-outcome
+returns-in_default-clause-outcome c =
     let t : PlainChoiceTree = record { instance = c.args.instance.now; goal = c.args.value; scales = c.args.search.now.scales } in
     let whole : Verdict = node_verdict t c.args.node c.args.own in
     let met : IsMet c.args.instance.now c.args.value c.loop-node.node.decided c.loop-node.node.taken.items Short
@@ -40,8 +40,8 @@ returns-in_default c =
     ap (λ (l : List PlainToken). Decided (No l c.loop-node.count)) c.in_ok-push_token-in-Short.ensures
     ∙ finished c.args.cap _ whole (short_last t whole (map plain_token c.loop-node.tokens.items) c.loop-node.count c.loop-node.node met.0 met.1 (rw e at c.loop-node.invariant.left)) c.loop-node.invariant.within
 
-pub returns-then-count-cap : goal.returns-then-count-cap
-returns-then-count-cap c =
+pub returns-then-count-cap-clause-outcome : goal.returns-then-count-cap-clause-outcome
+returns-then-count-cap-clause-outcome c =
     let t : PlainChoiceTree = record { instance = c.args.instance.now; goal = c.args.value; scales = c.args.search.now.scales } in
     let whole : Verdict = node_verdict t c.args.node c.args.own in
     let met : IsMet c.args.instance.now c.args.value c.loop-node.node.decided c.loop-node.node.taken.items Short
@@ -70,8 +70,8 @@ open_first-requires c =
     rw (c.loop-node.invariant.same, c.requires.search)
     (more_set c.args.instance.now c.loop-node.node.decided c.loop-node.node.taken.items c.loop-node.node.numbers.items c.loop-node.invariant.left.node c.in-Divided.v met.2)
 
-pub returns-in-Past : goal.returns-in-Past
-returns-in-Past c =
+pub returns-in-Past-clause-outcome : goal.returns-in-Past-clause-outcome
+returns-in-Past-clause-outcome c =
     let t : PlainChoiceTree = record { instance = c.args.instance.now; goal = c.args.value; scales = c.args.search.now.scales } in
     let whole : Verdict = node_verdict t c.args.node c.args.own in
     let met : IsMet c.args.instance.now c.args.value c.loop-node.node.decided c.loop-node.node.taken.items (Divided c.in-Divided.v)
