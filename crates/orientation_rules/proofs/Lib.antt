@@ -4,3 +4,5 @@ pub mod ChainLaws
 pub mod LeadRows
 pub mod TakenOut
 pub mod Finished
+pub mod HandedOn
+pub mod KeptRuns

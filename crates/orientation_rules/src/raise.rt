@@ -13,7 +13,7 @@ use rule_terms::Direction;
 
 // Raises the weight of v, whose own side is given, to that of a chain which goes on to x, where
 // that is more.
-fn raise_by(
+pub fn raise_by(
     instance: &Instance,
     state: &EdgeState,
     dim: u32,

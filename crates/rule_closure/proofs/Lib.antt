@@ -1,3 +1,4 @@
 pub mod Closings
 mod Compositions
 mod Guards
+pub mod Levels

@@ -8,25 +8,22 @@ use Rattle.edge_state.proofs.RowBits.{members_fewer}
 use Rattle.edge_state.proofs.Kept.{row_shut}
 use Rattle.closure_terms.proofs.Filters.{row_within}
 use Rattle.closure_terms.specs.Passes.{IsShut}
-use Rattle.closure_terms.proofs.Passes.{pass_none, sizes_passed, heads_more, tails_more, shut_kept, shut_fits}
+use Rattle.closure_terms.proofs.Passes.{pass_none, sizes_passed, heads_more, tails_more, shut_kept}
 use Rattle.closure_terms.proofs.Members.{pass_row, pass_all}
+use Rattle.rule_closure.proofs.Levels.{shut_known}
 use Rattle.rule_closure.proofs.chains.shut_from.Goals as goal
-
-pub returns-then-most-least : goal.returns-then-most-least
-returns-then-most-least g c =
-    pass_none _ _ (λ es. (v : ℕ) → v < box_count c.args.instance.now → IsShut c.args.instance.now c.args.dim c.args.head.now c.args.tail.now c.args.u v es)
-    (λ v small. shut_fits c.args.instance.now c.args.dim c.args.head.now c.args.tail.now c.args.u v c.args.most _
-    (rw (← c.container_side.ensures, ← c.from-limit.ensures) (c.least_beyond-least.ensures _ c.if-most-least.true)) (c.requires.most v (rw c.requires.tail_count small)))
 
 pub loop-v-init : goal.loop-v-init
 loop-v-init g c = record {
-  pass = pass_none _ _ (λ es. (v : ℕ) → v < box_count c.args.instance.now → row_has c.row_in-rest.result v ≡ false
+  pass = pass_none _ _ (λ es. (v : ℕ) → v < box_count c.args.instance.now → row_has c.minus-rest.result v ≡ false
       → IsShut c.args.instance.now c.args.dim c.args.head.now c.args.tail.now c.args.u v es)
-      (λ v small off. record {
-        shut = λ ne wide. row_shut c.args.state.now.boxes c.args.dim c.args.u v (excludes c.args.state.now.trail) Before (row_has c.row_in-rest.result v)
-            (rw c.requires.sizes.same_boxes small) ne (c.row_in-rest.ensures v) off;
-      });
-  within = λ v on. rw (← c.requires.sizes.same_boxes) (row_within c.args.state.now.boxes c.args.u v _ (row_has c.row_in-rest.result v) (c.row_in-rest.ensures v) on);
+      (λ v small off. shut_known c.args.instance.now c.args.dim c.args.head.now c.args.tail.now c.args.u v c.args.state.now.trail _ _ _ (c.minus-rest.ensures v) off (c.requires.known v small)
+      (λ none. record {
+        shut = λ ne wide. row_shut c.args.state.now.boxes c.args.dim c.args.u v (excludes c.args.state.now.trail) Before (row_has c.row_in-before.result v)
+            (rw c.requires.sizes.same_boxes small) ne (c.row_in-before.ensures v) none;
+      }));
+  within = λ v on. rw (← c.requires.sizes.same_boxes) (row_within c.args.state.now.boxes c.args.u v _ (row_has c.row_in-before.result v) (c.row_in-before.ensures v)
+      (and_parts _ _ (sym (c.minus-rest.ensures v) ∙ on)).0);
 }
 
 pub shut-requires-clause-least : goal.shut-requires-clause-least

@@ -1,15 +1,34 @@
-use Rattle.std.proofs.Common.{arith, ◌≤◌, ◌-◌, ◌*◌, ◌/◌, ◌∙◌, ap, length}
+use Rattle.std.proofs.Common.{arith, rules, ◌≤◌, ◌-◌, ◌*◌, ◌/◌, ◌∙◌, ap, length}
 use Rattle.rule_terms.proofs.Applied.{extends_trans}
 use Rattle.edge_state.specs.Edges.{PlainEdges}
 use Rattle.edge_state.specs.BitRows.{row_has}
 use Rattle.edge_state.proofs.RowBits.{members_few}
 use Rattle.closure_terms.proofs.Settled.{trail_short, settled_transitive, stable_settled}
 use Rattle.closure_terms.proofs.Looked.{looked_after, less_to_do, marked}
+use Rattle.rule_closure.proofs.Levels.{kept_set}
 use Rattle.rule_closure.proofs.closer.close_with.Goals as goal
 
-pub cover_chains-requires-clause-transitive : goal.cover_chains-requires-clause-transitive
-cover_chains-requires-clause-transitive g c =
-    let looked = c.loop-dim.invariant.looked in settled_transitive _ _ _ (looked.within _ c.in-Some-first.ensures.least.there) looked.settled
+pub cover_chains-requires : goal.cover_chains-requires
+cover_chains-requires g c =
+    let looked = c.loop-dim.invariant.looked in
+    let there = looked.within _ c.in-Some-first.ensures.least.there in (
+      search rules,
+      (
+        c.requires.words,
+        (
+          record { same_dims = c.loop-dim.invariant.same_dims ∙ c.requires.dims; same_boxes = c.loop-dim.invariant.same_boxes ∙ c.requires.boxes; there = there },
+          (
+            c.loop-dim.invariant.kept.each c.in-Some-first.dim _ there,
+            (looked.settled.full, settled_transitive _ _ _ there looked.settled),
+          ),
+        ),
+      ),
+    )
+
+pub returns-in_default-settle-clause-kept : goal.returns-in_default-settle-clause-kept
+returns-in_default-settle-clause-kept g c =
+    let there = c.loop-dim.invariant.looked.within _ c.in-Some-first.ensures.least.there in
+    kept_set _ _ _ _ _ c.loop-dim.invariant.kept there (c.cover_chains.ensures.room ∙ c.loop-dim.invariant.kept.each c.in-Some-first.dim _ there)
 
 pub settle-requires-in-Some-first : goal.settle-requires-in-Some-first
 settle-requires-in-Some-first g c = (
@@ -53,8 +72,8 @@ loop-dim-preserved g c = record {
   same_boxes = ap (λ (z : PlainEdges). z.boxes) c.settle-in-Some-first.ensures.sizes ∙ (c.cover_chains.ensures.worked.same_boxes ∙ c.loop-dim.invariant.same_boxes);
   same_room = ap (λ (z : PlainEdges). z.room) c.settle-in-Some-first.ensures.sizes ∙ (c.cover_chains.ensures.worked.same_room ∙ c.loop-dim.invariant.same_room);
   extends = extends_trans _ _ _ _ c.loop-dim.invariant.extends (extends_trans _ _ _ _ c.cover_chains.ensures.worked.extends c.settle-in-Some-first.ensures.extends);
-  head_count = c.cover_chains.ensures.head_count;
-  tail_count = c.cover_chains.ensures.tail_count;
+  kept = (let there = c.loop-dim.invariant.looked.within _ c.in-Some-first.ensures.least.there in
+      kept_set _ _ _ _ _ c.loop-dim.invariant.kept there (c.cover_chains.ensures.room ∙ c.loop-dim.invariant.kept.each c.in-Some-first.dim _ there));
   looked = c.in-Some-settle.ensures.looked;
 }
 

@@ -1,8 +1,9 @@
 use Rattle.std.proofs.Common.{◌≡◌, ◌+◌, ◌-◌, ◌*◌, ◌/◌, length}
 use Rattle.rule_terms.specs.Applied.{Extends}
 use Rattle.edge_state.specs.BitRows.{row_has, members_below}
-use Rattle.packing_terms.specs.Packing.{box_count}
+use Rattle.packing_terms.specs.Packing.{dims, box_count}
 use Rattle.closure_terms.specs.Work.{IsLookedThrough}
+use Rattle.rule_closure.specs.Closes.{AreKept}
 use Rattle.rule_closure.proofs.closer.close_with.Given as goal
 
 abbrev pub invariant-loop-dim : goal.invariant-loop-dim
@@ -11,8 +12,7 @@ invariant-loop-dim g l = record {
   same_boxes : l.state.boxes ≡ l.fn.state.boxes;
   same_room : l.state.room ≡ l.fn.state.room;
   extends : Extends l.instance l.fn.state.trail l.state.trail;
-  head_count : length l.head ≡ box_count l.instance;
-  tail_count : length l.tail ≡ box_count l.instance;
+  kept : AreKept (dims l.instance) (box_count l.instance) l.kept;
   looked : IsLookedThrough l.instance l.state.trail l.state.trail l.dirty;
 }
 

@@ -1,0 +1,14 @@
+use Rattle.std.proofs.Common.{◌≡◌, ◌∙◌, ℕ, List, length, sym}
+use Rattle.orientation_rules.proofs.KeptRuns.{kept_empty}
+use Rattle.orientation_rules.proofs.kept.KeptWeights.new.Goals as goal
+
+pub invariant_of-result : goal.invariant_of-result
+invariant_of-result g c =
+    rw (
+      c.in-Ok.ensures.items_if_clones_equal (λ y e. e),
+      c.in-Ok-vec.ensures.items_if_clones_equal (λ y e. e),
+      c.in-Ok-vec-2.ensures.items_if_clones_equal (λ y e. e),
+      c.in-Ok-vec-3.ensures.items_if_clones_equal (λ y e. e),
+      c.in-Ok-vec-4.ensures.items_if_clones_equal (λ y e. e),
+    )
+    (kept_empty c.args.boxes 0 c.empty.result c.empty-2.result c.empty.ensures c.empty-2.ensures)

@@ -1,0 +1,47 @@
+use Rattle.std.proofs.Common.{◌≡◌, ◌+◌, ◌<◌, ◌∙◌, ℕ, refl, sym, inl, inr, ◌⊎◌, List, [], true, false, slice_index, slice_index_or, length, arith, subst}
+use Rattle.std.proofs.lemmas.Bool.{or_parts, or_cases, and_parts}
+use Rattle.packing_terms.specs.Packing.{box_count, side}
+use Rattle.packing_terms.specs.Exclusions.{excludes}
+use Rattle.edge_state.specs.BitRows.{row_has}
+use Rattle.rule_terms.specs.declared.Direction.TheVariants.{Forwards}
+use Rattle.rule_terms.specs.Runs.{Leads}
+use Rattle.orientation_rules.specs.KeptWeights.{GoesOn}
+use Rattle.orientation_rules.proofs.KeptRuns.{below_next, none_out, row_of, get_any}
+use Rattle.orientation_rules.proofs.kept.still_holds.Goals as goal
+
+pub loop-v-preserved : goal.loop-v-preserved
+loop-v-preserved g c =
+    let n = box_count c.args.instance.now in
+    let R = Leads (excludes c.args.state.now.trail) c.args.dim Forwards in
+    let i = c.loop-v.invariant in
+    let v = c.loop-v.v in
+    let rows = c.args.rows.now in
+    let hv : v < n = omega (arith, c.loop-v-test.true, c.len-v-end.ensures.value) in
+    let there : v < length rows = omega (arith, hv, c.requires.rows) in
+    let same : slice_index_or rows v [] ≡ c.index-rows-at.result = get_any rows v [] _ there ∙ sym c.index-rows-at.is in
+    let kept = row_has c.index-rows-at.result in
+    let now = row_has c.leads_row-now.result in
+    let more = row_has c.minus-more.result in
+    let on = λ (x : ℕ) (hx : x < n) (ne : v ≡ x → ⊥) (lead : R v x). row_of n R v x (now x) c.requires.ordered.one_way hv hx ne lead
+    (λ off lead. c.leads_row-now.ensures.others x (rw c.requires.ordered.same_boxes hx) ne off lead) in
+    record {
+      sides = below_next v (λ u. slice_index c.args.sides.now u ≡ side c.args.instance.now u c.args.dim) i.sides (omega (arith, c.if-sides-at.false, c.from.ensures, c.side.ensures));
+      old = λ u x l. below_next v (λ u. GoesOn rows u x → R u x) (λ u l. i.old u x l)
+          (λ g. (c.leads_row-now.ensures.leads x (none_out _ _ _ (c.minus.ensures x) (c.if-not-has_none.ensures refl x) ((rw same at g)))).1) u l;
+      first = λ u x l hx. below_next v (λ u. row_has c.with_if_any.result u ≡ false → (u ≡ x → ⊥) → R u x → GoesOn rows u x)
+          (λ u l off. i.first u x l hx (c.with_if_any.ensures.off u off).0)
+          (λ off ne lead. rw same (none_out _ _ _ (c.minus-more.ensures x) ((c.with_if_any.ensures.off v off).1 refl x) (on x hx ne lead))) u l;
+      second = λ u x l hx off. below_next v (λ u. (u ≡ x → ⊥) → R u x → GoesOn rows u x)
+          (λ u l. i.second u x l hx (or_parts _ _ (sym (c.or.ensures x) ∙ off)).0)
+          (λ ne lead. rw same (none_out _ _ _ (c.minus-more.ensures x) (or_parts _ _ (sym (c.or.ensures x) ∙ off)).1 (on x hx ne lead))) u l;
+      ahead = λ u h. ahead_at u (c.with_if_any.ensures.on u h);
+      behind = λ u h. behind_at u (or_cases _ _ (sym (c.or.ensures u) ∙ h));
+    }
+  where
+    ahead_at : (u : ℕ) → (row_has c.loop-v.ahead u ≡ true) ⊎ (u ≡ c.loop-v.v) → u < c.loop-v.v + 1
+    ahead_at u (inl h) = let l = c.loop-v.invariant.ahead u h in omega (arith, l)
+    ahead_at u (inr e) = omega (arith, e)
+
+    behind_at : (u : ℕ) → (row_has c.loop-v.behind u ≡ true) ⊎ (row_has c.minus-more.result u ≡ true) → u < c.args.state.now.boxes
+    behind_at u (inl h) = c.loop-v.invariant.behind u h
+    behind_at u (inr h) = c.leads_row-now.ensures.within u (and_parts _ _ (sym (c.minus-more.ensures u) ∙ h)).0

@@ -1,0 +1,66 @@
+-- Weights of chains that are kept, with the rows of what a chain of each box may go on to, and of
+-- the boxes beside which it fits. What is known of them is of these rows alone, and of no state.
+use Rattle.std.specs.Prelude.{ℕ, ◌≡◌, ◌+◌, ◌<◌, ◌≤◌, List, [], length, slice_index, slice_index_or, true, false}
+use Rattle.packing_terms.specs.Packing.{PlainInstance, box_count, side, container_side}
+use Rattle.packing_terms.specs.Exclusions.{excludes}
+use Rattle.edge_state.specs.BitRows.{row_has}
+use Rattle.edge_state.specs.Edges.{PlainEdges}
+use Rattle.rule_terms.specs.declared.Direction.TheVariants.{Forwards, Backwards}
+use Rattle.rule_terms.specs.Runs.{AreRuns, HasNoHeavierRun, Leads}
+use Rattle.orientation_rules.specs.Weights.{IsHeaviest}
+
+-- the row of v has x
+abbrev pub GoesOn : List (List ℕ) → ℕ → ℕ → Type 0
+GoesOn rows v x = row_has (slice_index_or rows v []) x ≡ true
+
+-- each number is the weight of a run along what leads on, and none can be raised
+pub record AreSettled (n : ℕ) (R : ℕ → ℕ → Type 0) (w : ℕ → ℕ) (ks : List ℕ) : Type 0 where
+  pub runs : AreRuns n R w ks
+  pub settled : (v x : ℕ) → v < n → x < n → HasNoHeavierRun R w ks v x
+
+-- weights of heaviest chains that end in each box and that start there, read along the rows, and
+-- rows of boxes with which together they aren't more than the limit
+pub record AreKeptWeights (limit : ℕ) (sides head tail : List ℕ) (rows fits : List (List ℕ)) : Type 0 where
+  pub sides_count : length sides ≡ length head
+  pub tail_count : length tail ≡ length head
+  pub rows_count : length rows ≡ length head
+  pub fits_count : length fits ≡ length head
+  pub heads : AreSettled (length head) (λ v x. GoesOn rows x v) (λ v. slice_index sides v) head
+  pub tails : AreSettled (length head) (λ v x. GoesOn rows v x) (λ v. slice_index sides v) tail
+  pub fit : (u v : ℕ) → u < length head → v < length head → GoesOn fits u v → slice_index head u + slice_index tail v ≤ limit
+
+-- the sides are those of the boxes, and each box still goes on to those of its row; to another one
+-- only boxes of the first row of two go on, and only to boxes of the second
+pub record StillHolds (instance : PlainInstance) (s : PlainEdges) (i : ℕ) (known : List ℕ) (rows : List (List ℕ)) (first second : List ℕ) : Type 0 where
+  pub sides : (u : ℕ) → u < box_count instance → slice_index known u ≡ side instance u i
+  pub old : (u x : ℕ) → u < box_count instance → GoesOn rows u x → Leads (excludes s.trail) i Forwards u x
+  pub ahead : (u x : ℕ) → u < box_count instance → x < box_count instance → row_has first u ≡ false → (u ≡ x → ⊥) → Leads (excludes s.trail) i Forwards u x → GoesOn rows u x
+  pub behind : (u x : ℕ) → u < box_count instance → x < box_count instance → row_has second x ≡ false → (u ≡ x → ⊥) → Leads (excludes s.trail) i Forwards u x → GoesOn rows u x
+  pub ahead_within : (u : ℕ) → row_has first u ≡ true → u < s.boxes
+  pub behind_within : (u : ℕ) → row_has second u ≡ true → u < s.boxes
+
+-- what is seen of kept weights: the limit, and the weights of the chains that end in each box and
+-- that start there
+pub record PlainWeights : Type 0 where
+  pub limit : ℕ
+  pub head : List ℕ
+  pub tail : List ℕ
+
+-- the weights are those of the heaviest chains of the boxes, and the limit is the container's side
+pub record AreHeaviestWeights (instance : PlainInstance) (s : PlainEdges) (i : ℕ) (k : PlainWeights) : Type 0 where
+  pub limit : k.limit ≡ container_side instance i
+  pub head_count : length k.head ≡ box_count instance
+  pub tail_count : length k.tail ≡ box_count instance
+  pub heads : (v : ℕ) → v < box_count instance → IsHeaviest instance s i Backwards v (slice_index k.head v)
+  pub tails : (v : ℕ) → v < box_count instance → IsHeaviest instance s i Forwards v (slice_index k.tail v)
+
+-- so many levels are in use, and each has room for so many boxes
+pub record AreKeptLevels (boxes used : ℕ) (worked : PlainWeights) (levels : List PlainWeights) : Type 0 where
+  pub within : used ≤ length levels
+  pub work : length worked.head ≡ boxes
+  pub each : (k : ℕ) (other : PlainWeights) → k < length levels → length (slice_index_or levels k other).head ≡ boxes
+
+-- what is seen of the levels: the number of boxes, and the weights that were made last
+pub record PlainLevels : Type 0 where
+  pub boxes : ℕ
+  pub weights : PlainWeights

@@ -1,0 +1,202 @@
+//! Kept weights of one dimension, level by level: those of the nodes above in a search.
+ghost use Rattle.std.specs.Prelude.{◌≡◌, ◌+◌, ◌<◌, ◌≤◌, ℕ, true, false, length, slice_index, IfOk};
+ghost use Rattle.packing_terms.specs.Packing.{dims, box_count, container_side};
+ghost use Rattle.packing_terms.specs.Exclusions.{excludes, IsSurelyBefore};
+ghost use Rattle.packing_terms.specs.declared.Rel.TheVariants.{Before};
+ghost use Rattle.edge_state.specs.BitRows.{IsRowWidth, row_has, HoldsBoxes};
+ghost use Rattle.rule_terms.specs.declared.Direction.TheVariants.{Forwards, Backwards};
+ghost use Rattle.rule_terms.specs.Places.{HasNoEmptyMask};
+ghost use Rattle.rule_terms.specs.Runs.{IsTransitive, AreHeaviestHeads, AreHeaviestTails};
+ghost use Rattle.orientation_rules.specs.Weights.{HasOneWayChains};
+ghost use Rattle.orientation_rules.specs.KeptWeights.{AreHeaviestWeights};
+
+use crate::kept::KeptWeights;
+use box_instances::{Instance, NoMemory};
+use edge_state::{BitRow, EdgeState};
+use std::alloc::Global;
+use std::marker::Model;
+
+/// The weights of heaviest chains in one dimension, made from those that were kept before, the
+/// newest of which stand on top. With them is kept which two boxes are known to fit.
+///
+/// It is seen as the number of boxes, and the weights that were made last.
+#[derive(Drop)]
+pub struct KeptLevels<const K: usize> {
+    boxes: u32,
+    used: usize,
+    rose: bool,
+    fresh: bool,
+    work: KeptWeights<K>,
+    levels: Vec<KeptWeights<K>>,
+}
+
+impl<const K: usize> Model for KeptLevels<K> {
+    ghost use Rattle.orientation_rules.specs.KeptWeights.{PlainLevels, AreKeptLevels};
+
+    ghost Value = { PlainLevels };
+
+    ghost view = { λ k. record { boxes = k.boxes; weights = k.work } };
+
+    ghost invariant = { λ k. AreKeptLevels k.boxes k.used k.work k.levels.items };
+}
+
+// Which of so many levels is written next: the topmost anew where it is of this closing, or where
+// all are in use.
+fn slot(used: usize, count: usize, fresh: bool) -> usize
+    requires { 0 < count }
+    ensures { result < count }
+{
+    if fresh && used > 0 && used <= count {
+        return used - 1;
+    }
+    used.min(count - 1)
+}
+
+impl<const K: usize> KeptLevels<K> {
+    /// Room for so many levels, each for so many boxes. None is in use.
+    pub fn new(alloc: Global, boxes: u32, count: u32) -> Result<KeptLevels<K>, NoMemory>
+        requires { IsRowWidth K }
+        ensures { IfOk result (λ kept. kept.boxes ≡ boxes) }
+    {
+        let work = KeptWeights::new(alloc, boxes)?;
+        let mut levels = Vec::new(alloc);
+        for _ in 0..count {
+            let level = KeptWeights::new(alloc, boxes)?;
+            let Ok(()) = levels.push(level) else {
+                return Err(NoMemory);
+            };
+        }
+        Ok(KeptLevels {
+            boxes,
+            used: 0,
+            rose: false,
+            fresh: false,
+            work,
+            levels,
+        })
+    }
+
+    /// Begins another closing, whose weights don't take the place of those that are kept.
+    pub fn begin(&mut self)
+        ensures { self.new ≡ self.old }
+    {
+        self.fresh = false;
+    }
+
+    // Makes the weights of a state from those of the newest level that serves. Those above it are
+    // given up.
+    fn renew_newest(&mut self, instance: &Instance, state: &EdgeState, dim: u32) -> bool
+        requires words { HoldsBoxes K state.now.boxes }
+        requires room { self.old.boxes ≡ box_count instance.now }
+        requires ordered_back { HasOneWayChains instance.now state.now dim Backwards }
+        requires ordered { HasOneWayChains instance.now state.now dim Forwards }
+        ensures boxes { self.new.boxes ≡ self.old.boxes }
+        ensures renewed { result ≡ true
+            → AreHeaviestWeights instance.now state.now dim self.new.weights }
+    {
+        while self.used > 0 {
+            let mut rose = false;
+            let level = &self.levels[self.used - 1];
+            if self.work.renew(level, instance, state, dim, &mut rose) {
+                self.rose = rose;
+                return true;
+            }
+            self.used -= 1;
+        }
+        false
+    }
+
+    // The same, or from nothing.
+    fn weigh(&mut self, instance: &Instance, state: &EdgeState, dim: u32)
+        requires words { HoldsBoxes K state.now.boxes }
+        requires room { self.old.boxes ≡ box_count instance.now }
+        requires ordered_back { HasOneWayChains instance.now state.now dim Backwards }
+        requires ordered { HasOneWayChains instance.now state.now dim Forwards }
+        ensures boxes { self.new.boxes ≡ self.old.boxes }
+        ensures weights { AreHeaviestWeights instance.now state.now dim self.new.weights }
+    {
+        if self.renew_newest(instance, state, dim) {
+            return;
+        }
+        self.work.weigh(instance, state, dim);
+        self.rose = true;
+    }
+
+    /// Makes the weights of the heaviest chains of a state, from those that were kept where these
+    /// serve. No mask is empty, and surely before is transitive in this dimension, as COMPOSE makes
+    /// it.
+    pub fn renew(&mut self, instance: &Instance, state: &EdgeState, dim: u32)
+        requires words { HoldsBoxes K state.now.boxes }
+        requires room { self.old.boxes ≡ box_count instance.now }
+        requires dims { state.now.dims ≡ dims instance.now }
+        requires boxes { state.now.boxes ≡ box_count instance.now }
+        requires dim { dim < state.now.dims }
+        requires full { HasNoEmptyMask instance.now (excludes state.now.trail) }
+        requires transitive { IsTransitive (box_count instance.now) (IsSurelyBefore
+            (excludes state.now.trail) dim) }
+        ensures boxes { self.new.boxes ≡ self.old.boxes }
+        ensures limit { self.new.weights.limit ≡ container_side instance.now dim }
+        ensures head_count { length self.new.weights.head ≡ box_count instance.now }
+        ensures tail_count { length self.new.weights.tail ≡ box_count instance.now }
+        ensures heads { AreHeaviestHeads instance.now
+            (excludes state.now.trail) dim self.new.weights.head }
+        ensures tails { AreHeaviestTails instance.now
+            (excludes state.now.trail) dim self.new.weights.tail }
+    {
+        // For the proof alone: tells the limits of the state.
+        let _boxes = state.boxes();
+        self.weigh(instance, state, dim);
+    }
+
+    /// Keeps the weights on top, and with them that each two boxes fit of which the first may be
+    /// before the second: the chains that end in the one and start in the other aren't longer
+    /// together than the limit. Where no weight rose since they were kept, they stay as they are.
+    pub fn keep(&mut self, state: &EdgeState, dim: u32)
+        requires words { HoldsBoxes K state.now.boxes }
+        requires dim { dim < state.now.dims }
+        requires room { self.old.boxes ≡ state.now.boxes }
+        requires fit { (u v : ℕ) → u < state.now.boxes → v < state.now.boxes → (u ≡ v → ⊥)
+            → excludes state.now.trail dim u v Before ≡ false
+            → slice_index self.old.weights.head u + slice_index self.old.weights.tail v
+            ≤ self.old.weights.limit }
+        ensures { self.new.boxes ≡ self.old.boxes }
+    {
+        let count = self.levels.len();
+        if !self.rose || count == 0 {
+            return;
+        }
+        self.work.set_fits(state, dim);
+        let at = slot(self.used, count, self.fresh);
+        std::mem::swap(&mut self.work, &mut self.levels[at]);
+        self.used = at + 1;
+        self.fresh = true;
+    }
+
+    /// The weights of the heaviest chains that end in each box.
+    #[inline]
+    pub fn head(&self) -> &[u64]
+        ensures { result.now ≡ self.now.weights.head }
+    {
+        self.work.head()
+    }
+
+    /// The weights of the heaviest chains that start in each box.
+    #[inline]
+    pub fn tail(&self) -> &[u64]
+        ensures { result.now ≡ self.now.weights.tail }
+    {
+        self.work.tail()
+    }
+
+    /// Boxes beside which `u` is known to fit: a chain that ends in `u` and one that starts in such
+    /// a box aren't longer together than the limit.
+    #[inline]
+    pub fn fitting(&self, u: u32) -> BitRow<K>
+        requires { u < self.now.boxes }
+        ensures { (v : ℕ) → v < self.now.boxes → row_has result v ≡ true
+            → slice_index self.now.weights.head u + slice_index self.now.weights.tail v
+            ≤ self.now.weights.limit }
+    {
+        self.work.fitting(u)
+    }
+}

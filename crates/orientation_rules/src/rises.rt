@@ -1,0 +1,174 @@
+//! Weights of chains that hold in one state are made those of a later one: what is raised is
+//! handed on to the boxes whose chains go on to it.
+ghost use Rattle.std.specs.Prelude.{◌≡◌, ◌==◌, ◌<◌, ◌≤◌, ◌*◌, ◌&&◌, ◌||◌, ℕ, true, false, length, slice_index};
+ghost use Rattle.packing_terms.specs.Packing.{box_count};
+ghost use Rattle.packing_terms.specs.Exclusions.{excludes};
+ghost use Rattle.edge_state.specs.BitRows.{IsRowWidth, row_has, HoldsBoxes};
+ghost use Rattle.rule_terms.specs.Runs.{Leads};
+ghost use Rattle.orientation_rules.specs.Weights.{HasOneWayChains, AreWeights, IsRaised, IsWeighedAt, IsHeaviest};
+
+use crate::leads::leads_row;
+use crate::raise::{raise_along, raise_by};
+use box_instances::Instance;
+use edge_state::{BitRow, EdgeState};
+use rule_terms::Direction;
+
+// The row with one number more, where it is wanted.
+#[inline]
+fn with_if<const K: usize>(row: BitRow<K>, number: u32, wanted: bool) -> BitRow<K>
+    requires width { IsRowWidth K }
+    requires number { number < 64 * K }
+    ensures { (x : ℕ) → row_has result x ≡ row_has row.entry x || x == number && wanted }
+{
+    if wanted { row.with(number) } else { row }
+}
+
+// The boxes whose chains go on to v, where no mask is empty: any other is led to both ways.
+#[inline]
+fn led_row<const K: usize>(state: &EdgeState, dim: u32, direction: Direction, v: u32) -> BitRow<K>
+    requires words { HoldsBoxes K state.now.boxes }
+    requires dim { dim < state.now.dims }
+    requires v { v < state.now.boxes }
+    ensures within { (x : ℕ) → row_has result x ≡ true → x < state.now.boxes }
+    ensures others { (x : ℕ) → x < state.now.boxes → (v ≡ x → ⊥) → row_has result x ≡ false
+        → Leads (excludes state.now.trail) dim direction x v
+        → Leads (excludes state.now.trail) dim direction v x }
+    ensures leads { (x : ℕ) → row_has result x ≡ true
+        → (v ≡ x → ⊥) × Leads (excludes state.now.trail) dim direction x v }
+{
+    match direction {
+        Direction::Forwards => leads_row(state, dim, Direction::Backwards, v),
+        Direction::Backwards => leads_row(state, dim, Direction::Forwards, v),
+    }
+}
+
+// A box of the row from which no chain goes on to another one of it, as far as so many steps find
+// one: those that come first have all that they hand on.
+fn last_in<const K: usize>(
+    state: &EdgeState,
+    dim: u32,
+    direction: Direction,
+    row: BitRow<K>,
+    first: u32,
+) -> u32
+    requires words { HoldsBoxes K state.now.boxes }
+    requires dim { dim < state.now.dims }
+    requires within { (x : ℕ) → row_has row x ≡ true → x < state.now.boxes }
+    requires first { row_has row first ≡ true }
+    ensures { row_has row.entry result ≡ true }
+{
+    let mut v = first;
+    for _ in 0..state.boxes() {
+        let ahead = leads_row::<K>(state, dim, direction, v);
+        let Some(x) = ahead.and(row).first() else {
+            return v;
+        };
+        v = x;
+    }
+    v
+}
+
+// Raises each box whose chains go on to v, and adds to the row those that rose.
+fn hand_on<const K: usize>(
+    instance: &Instance,
+    state: &EdgeState,
+    dim: u32,
+    direction: Direction,
+    v: u32,
+    risen: &mut BitRow<K>,
+    into: &mut [u64],
+) -> bool
+    requires words { HoldsBoxes K state.now.boxes }
+    requires ordered { HasOneWayChains instance.now state.now dim direction }
+    requires v { v < state.now.boxes }
+    requires count { length into.old ≡ box_count instance.now }
+    requires weights { AreWeights instance.now state.now dim direction into.old }
+    requires within { (x : ℕ) → row_has risen.old x ≡ true → x < state.now.boxes }
+    ensures raised { IsRaised instance.now state.now dim direction into.old into.new result }
+    ensures within { (x : ℕ) → row_has risen.new x ≡ true → x < state.now.boxes }
+    ensures weighed { (u : ℕ) → u < box_count instance.now
+        → IsWeighedAt instance.now state.now dim direction into.new u v }
+    ensures stays { (u : ℕ) → row_has risen.new u ≡ false
+        → (row_has risen.old u ≡ false) × (slice_index into.new u ≡ slice_index into.old u) }
+    ensures grows { (u : ℕ) → slice_index into.old u ≤ slice_index into.new u }
+    ensures none { result ≡ false → (u : ℕ) → row_has risen.new u ≡ row_has risen.old u }
+{
+    let mut led = led_row::<K>(state, dim, direction, v);
+    let mut changed = false;
+    while let Some(u) = led.first() {
+        led = led.without(u);
+        let own = u64::from(instance.side(u, dim));
+        let here = raise_by(instance, state, dim, direction, u, v, own, into);
+        *risen = with_if(*risen, u, here);
+        changed = changed | here;
+    }
+    changed
+}
+
+// Raises each box whose chains go on to one of the row, and to those that rise, until none is left.
+// Answers which boxes are in the row or rose.
+fn hand_on_all<const K: usize>(
+    instance: &Instance,
+    state: &EdgeState,
+    dim: u32,
+    direction: Direction,
+    row: BitRow<K>,
+    into: &mut [u64],
+) -> BitRow<K>
+    requires words { HoldsBoxes K state.now.boxes }
+    requires ordered { HasOneWayChains instance.now state.now dim direction }
+    requires count { length into.old ≡ box_count instance.now }
+    requires weights { AreWeights instance.now state.now dim direction into.old }
+    requires within { (x : ℕ) → row_has row x ≡ true → x < state.now.boxes }
+    requires weighed { (u x : ℕ) → u < box_count instance.now → x < box_count instance.now
+        → row_has row x ≡ false
+        → IsWeighedAt instance.now state.now dim direction into.old u x }
+    ensures heaviest { (v : ℕ) → v < box_count instance.now
+        → IsHeaviest instance.now state.now dim direction v (slice_index into.new v) }
+    ensures stays { (u : ℕ) → row_has result u ≡ false
+        → (row_has row.entry u ≡ false) × (slice_index into.new u ≡ slice_index into.old u) }
+{
+    let mut all = row;
+    let mut rest = row;
+    while let Some(first) = rest.first() {
+        let v = last_in(state, dim, direction, rest, first);
+        rest = rest.without(v);
+        hand_on(instance, state, dim, direction, v, &mut rest, into);
+        all = all.or(rest);
+    }
+    all
+}
+
+/// Makes weights of chains the weights of the heaviest, where only the boxes of a row may have a
+/// heavier chain, so far as the numbers tell. Answers a row with all boxes that rose.
+pub fn raise_touched<const K: usize>(
+    instance: &Instance,
+    state: &EdgeState,
+    dim: u32,
+    direction: Direction,
+    touched: BitRow<K>,
+    into: &mut [u64],
+) -> BitRow<K>
+    requires words { HoldsBoxes K state.now.boxes }
+    requires ordered { HasOneWayChains instance.now state.now dim direction }
+    requires count { length into.old ≡ box_count instance.now }
+    requires weights { AreWeights instance.now state.now dim direction into.old }
+    requires within { (x : ℕ) → row_has touched x ≡ true → x < state.now.boxes }
+    requires weighed { (u x : ℕ) → u < box_count instance.now → x < box_count instance.now
+        → row_has touched u ≡ false
+        → IsWeighedAt instance.now state.now dim direction into.old u x }
+    ensures heaviest { (v : ℕ) → v < box_count instance.now
+        → IsHeaviest instance.now state.now dim direction v (slice_index into.new v) }
+    ensures stays { (u : ℕ) → row_has result u ≡ false
+        → slice_index into.new u ≡ slice_index into.old u }
+{
+    let mut rest = touched;
+    let mut risen = BitRow::empty();
+    while let Some(v) = rest.first() {
+        rest = rest.without(v);
+        let row = leads_row::<K>(state, dim, direction, v);
+        let here = raise_along(instance, state, dim, direction, v, row, into);
+        risen = with_if(risen, v, here);
+    }
+    hand_on_all(instance, state, dim, direction, risen, into)
+}
