@@ -41,7 +41,7 @@ impl<const K: usize> Model for KeptLevels<K> {
 }
 
 // Which of so many levels is written next: the topmost anew where it is of this closing, or where
-// all are in use.
+// there is no other.
 fn slot(used: usize, count: usize, fresh: bool) -> usize
     requires { 0 < count }
     ensures { result < count }
@@ -148,6 +148,32 @@ impl<const K: usize> KeptLevels<K> {
         self.weigh(instance, state, dim);
     }
 
+    // Gives up every other level, the older of each two, so that there is room on top. Levels that
+    // stay for long so stand farther apart the older they are.
+    fn thin(&mut self)
+        ensures { self.new ≡ self.old }
+    {
+        let half = self.levels.len() / 2;
+        for k in 0..half {
+            self.levels.swap(k, 2 * k + 1);
+        }
+        self.used = half;
+    }
+
+    // Puts the weights on top.
+    fn push(&mut self)
+        ensures { self.new.boxes ≡ self.old.boxes }
+    {
+        let count = self.levels.len();
+        if count == 0 {
+            return;
+        }
+        let at = slot(self.used, count, self.fresh);
+        std::mem::swap(&mut self.work, &mut self.levels[at]);
+        self.used = at + 1;
+        self.fresh = true;
+    }
+
     /// Keeps the weights on top, and with them that each two boxes fit of which the first may be
     /// before the second: the chains that end in the one and start in the other aren't longer
     /// together than the limit. Where no weight rose since they were kept, they stay as they are.
@@ -161,15 +187,14 @@ impl<const K: usize> KeptLevels<K> {
             ≤ self.old.weights.limit }
         ensures { self.new.boxes ≡ self.old.boxes }
     {
-        let count = self.levels.len();
-        if !self.rose || count == 0 {
+        if !self.rose {
             return;
         }
         self.work.set_fits(state, dim);
-        let at = slot(self.used, count, self.fresh);
-        std::mem::swap(&mut self.work, &mut self.levels[at]);
-        self.used = at + 1;
-        self.fresh = true;
+        if self.used >= self.levels.len() && !self.fresh {
+            self.thin();
+        }
+        self.push();
     }
 
     /// The weights of the heaviest chains that end in each box.

@@ -1,7 +1,11 @@
 -- The instances that are applied for one edge, in one order of its boxes, by what they ask of it.
-use Rattle.std.specs.Prelude.{ℕ, ◌≡◌, ◌≢◌, ◌<◌, ◌⊎◌}
-use Rattle.packing_terms.specs.Packing.{PlainInstance, dims, box_count}
+use Rattle.std.specs.Prelude.{ℕ, ◌≡◌, ◌≢◌, ◌<◌, ◌≤◌, ◌⊎◌}
+use Rattle.packing_terms.specs.Packing.{PlainInstance, dims, box_count, side}
 use Rattle.packing_terms.specs.Rules.{Rule, Apart, Triple, Cycle, Order}
+
+-- no box is longer
+abbrev pub HasNoLonger : PlainInstance → ℕ → ℕ → Type 0
+HasNoLonger instance i most = (v : ℕ) → v < box_count instance → side instance v i ≤ most
 
 -- those that ask for boxes that are apart
 abbrev pub IsReachedApart : PlainInstance → ℕ → ℕ → ℕ → Rule → Type 0

@@ -1,7 +1,7 @@
 //! What follows from a changed edge: the instances of the rules that read its mask.
 //!
-//! Each call applies some instances one after another and answers whether a mask is empty;
-//! empty; it stops there.
+//! Each call applies some instances one after another and answers whether a mask is empty; it stops
+//! there.
 ghost use Rattle.std.specs.Prelude.{◌≡◌, ◌<◌, ℕ, false, nat_lt};
 ghost use Rattle.packing_terms.specs.declared.Rel.TheVariants.{Overlap, Before, After};
 ghost use Rattle.packing_terms.specs.Packing.{box_count};
@@ -9,7 +9,7 @@ ghost use Rattle.relation_table.specs.Masks.{mask_has};
 ghost use Rattle.edge_state.specs.BitRows.{HoldsBoxes, row_has};
 ghost use Rattle.closure_terms.specs.States.{IsSized};
 ghost use Rattle.closure_terms.specs.Work.{IsWorked, IsAppliedAt};
-ghost use Rattle.rule_closure.specs.Reached.{IsReachedApart, IsReachedJoined, IsReachedOrdered};
+ghost use Rattle.rule_closure.specs.Reached.{HasNoLonger, IsReachedApart, IsReachedJoined, IsReachedOrdered};
 
 use crate::orders::{orders_crossed, orders_first, orders_second};
 use crate::work::{aparts, chords, composes, cycles, triples};
@@ -26,6 +26,7 @@ fn spread_apart<const K: usize>(
     p: u32,
     q: u32,
     left: Mask,
+    most: u32,
 ) -> bool
     requires words { HoldsBoxes K (box_count instance.now) }
     requires sizes { IsSized instance.now state.old dim }
@@ -33,13 +34,14 @@ fn spread_apart<const K: usize>(
     requires q { q < box_count instance.now }
     requires distinct { p ≡ q → ⊥ }
     requires all { (x : ℕ) → row_has all x ≡ nat_lt x (box_count instance.now) }
+    requires most { HasNoLonger instance.now dim most }
     ensures { IsWorked instance.now state.old state.new result
         (λ rule. (mask_has left Overlap ≡ false) × IsReachedApart instance.now dim p q rule) }
 {
     if left.has(Rel::Overlap) {
         return false;
     }
-    if triples::<K>(instance, state, dim, p, q) {
+    if triples::<K>(instance, state, dim, p, q, most) {
         return true;
     }
     chords(instance, state, all, dim, p, q)
@@ -116,6 +118,7 @@ pub fn spread_from<const K: usize>(
     dim: u32,
     p: u32,
     q: u32,
+    most: u32,
 ) -> bool
     requires words { HoldsBoxes K (box_count instance.now) }
     requires sizes { IsSized instance.now state.old dim }
@@ -123,13 +126,14 @@ pub fn spread_from<const K: usize>(
     requires q { q < box_count instance.now }
     requires distinct { p ≡ q → ⊥ }
     requires all { (x : ℕ) → row_has all x ≡ nat_lt x (box_count instance.now) }
+    requires most { HasNoLonger instance.now dim most }
     ensures { IsWorked instance.now state.old state.new result (IsAppliedAt dim p q) }
 {
     let left = state.mask_in::<K>(dim, p, q);
     if composes(instance, state, all, dim, p, q, left) {
         return true;
     }
-    if spread_apart(instance, state, all, dim, p, q, left) {
+    if spread_apart(instance, state, all, dim, p, q, left, most) {
         return true;
     }
     if spread_joined(instance, state, all, dim, p, q, left) {

@@ -1,7 +1,7 @@
 //! COMPOSE, TRIPLE, APART and CYCLE at what a changed edge tells.
 //!
-//! Each call applies some instances one after another and answers whether a mask is empty;
-//! empty; it stops there.
+//! Each call applies some instances one after another and answers whether a mask is empty; it stops
+//! there.
 ghost use Rattle.std.specs.Prelude.{◌≡◌, ◌≢◌, ◌<◌, ◌≤◌, ◌+◌, ℕ, not, nat_lt, [], ◌∷◌};
 ghost use Rattle.packing_terms.specs.declared.Rel.{Rel as PlainRel};
 ghost use Rattle.packing_terms.specs.Exclusions.{excludes};
@@ -11,10 +11,11 @@ ghost use Rattle.relation_table.specs.Masks.{mask_has};
 ghost use Rattle.edge_state.specs.BitRows.{HoldsBoxes, row_has};
 ghost use Rattle.closure_terms.specs.States.{IsSized};
 ghost use Rattle.closure_terms.specs.Work.{IsWorked};
+ghost use Rattle.rule_closure.specs.Reached.{HasNoLonger};
 
 use crate::empties::is_empty_at;
 use crate::rows::{
-    beyond_compositions, beyond_cycles, beyond_triples, cycle_seconds, cycle_thirds, gone,
+    beyond_compositions, beyond_cycles, beyond_triples, cycle_seconds, cycle_thirds, gone, is_empty,
 };
 use box_instances::Instance;
 use cycle_rules::apply_cycle;
@@ -117,8 +118,8 @@ fn triple_over(
     triple_at(instance, state, dim, u, v, x)
 }
 
-/// TRIPLE with two boxes, for each third that is apart from the second.
-pub fn triples<const K: usize>(
+// TRIPLE with two boxes, for each third that is apart from the second.
+fn triples_through<const K: usize>(
     instance: &Instance,
     state: &mut EdgeState,
     dim: u32,
@@ -142,6 +143,31 @@ pub fn triples<const K: usize>(
         }
     }
     false
+}
+
+/// The same, where a box may be long enough: none is longer than `most`.
+#[inline]
+pub fn triples<const K: usize>(
+    instance: &Instance,
+    state: &mut EdgeState,
+    dim: u32,
+    u: u32,
+    x: u32,
+    most: u32,
+) -> bool
+    requires words { HoldsBoxes K (box_count instance.now) }
+    requires sizes { IsSized instance.now state.old dim }
+    requires u { u < box_count instance.now }
+    requires x { x < box_count instance.now }
+    requires distinct { u ≡ x → ⊥ }
+    requires most { HasNoLonger instance.now dim most }
+    ensures { IsWorked instance.now state.old state.new result
+        (λ rule. (v : ℕ) × (v < box_count instance.now) × (rule ≡ Triple dim u v x)) }
+{
+    if u64::from(most) < least_third(instance, dim, u, x) {
+        return false;
+    }
+    triples_through::<K>(instance, state, dim, u, x)
 }
 
 // COMPOSE at three boxes.
@@ -216,7 +242,7 @@ fn cycle_at(
 }
 
 // CYCLE at three boxes, with each fourth.
-fn cycles_from<const K: usize>(
+fn cycles_through<const K: usize>(
     instance: &Instance,
     state: &mut EdgeState,
     dim: u32,
@@ -249,6 +275,30 @@ fn cycles_from<const K: usize>(
         }
     }
     false
+}
+
+// The same, where there may be a fourth.
+#[inline]
+fn cycles_from<const K: usize>(
+    instance: &Instance,
+    state: &mut EdgeState,
+    dim: u32,
+    a: u32,
+    b: u32,
+    c: u32,
+) -> bool
+    requires words { HoldsBoxes K (box_count instance.now) }
+    requires sizes { IsSized instance.now state.old dim }
+    requires a { a < box_count instance.now }
+    requires b { b < box_count instance.now }
+    requires c { c < box_count instance.now }
+    ensures { IsWorked instance.now state.old state.new result
+        (λ rule. (d : ℕ) × (d < box_count instance.now) × (rule ≡ Cycle dim a b c d)) }
+{
+    if is_empty(beyond_cycles::<K>(instance, state, dim, a, b, c)) {
+        return false;
+    }
+    cycles_through::<K>(instance, state, dim, a, b, c)
 }
 
 /// CYCLE with the first two boxes given.

@@ -1,5 +1,4 @@
-use Rattle.std.proofs.Common.{◌≡◌, ◌≢◌, ◌+◌, ◌<◌, ◌≤◌, ◌∙◌, ◌⊎◌, inl, inr, ℕ, List, [], true, false, length, slice_index_or, arith, sym, subst}
-use Rattle.std.proofs.lemmas.Bool.{cases_eq}
+use Rattle.std.proofs.Common.{◌≡◌, ◌<◌, ◌∙◌, [], true, false, length, slice_index_or, arith, sym}
 use Rattle.std.proofs.lemmas.List.{length-set, get_or-set_other}
 use Rattle.edge_state.specs.BitRows.{row_has}
 use Rattle.orientation_rules.specs.KeptWeights.{GoesOn}

@@ -1,4 +1,4 @@
-use Rattle.std.proofs.Common.{◌≡◌, ◌*◌, ◌∙◌, ◌<◌, ◌≤◌, ℕ, sym, refl, arith, rules}
+use Rattle.std.proofs.Common.{◌*◌, ◌∙◌, ◌<◌, ℕ, sym, refl, rules}
 use Rattle.std.proofs.lemmas.Bool.{true≢false}
 use Rattle.packing_terms.specs.Packing.{box_count, side}
 use Rattle.packing_terms.specs.Exclusions.{excludes}

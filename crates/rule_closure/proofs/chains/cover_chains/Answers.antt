@@ -1,4 +1,4 @@
-use Rattle.std.proofs.Common.{◌≡◌, ◌<◌, ◌∙◌, ℕ, sym, arith, rules}
+use Rattle.std.proofs.Common.{◌≡◌, ◌∙◌, sym, arith, rules}
 use Rattle.packing_terms.specs.Packing.{box_count}
 use Rattle.closure_terms.proofs.Passes.{worked_heaviest}
 use Rattle.rule_closure.proofs.Levels.{fits_shut}

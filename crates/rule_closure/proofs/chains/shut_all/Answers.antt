@@ -1,6 +1,6 @@
-use Rattle.std.proofs.Common.{◌≡◌, ◌<◌, ◌≤◌, ◌+◌, ◌∙◌, ℕ, List, ap, length, slice_index, arith, rules}
+use Rattle.std.proofs.Common.{◌<◌, ◌∙◌, ℕ, List, ap, length, arith, rules}
 use Rattle.packing_terms.specs.Packing.{box_count}
-use Rattle.closure_terms.specs.Passes.{IsPass, IsShut}
+use Rattle.closure_terms.specs.Passes.{IsShut}
 use Rattle.closure_terms.proofs.Passes.{pass_start, pass_next, sizes_passed, heads_more, tails_more, shut_kept}
 use Rattle.rule_closure.proofs.chains.shut_all.Goals as goal
 

@@ -43,7 +43,7 @@ settle-requires-in-Some-first g c = (
           c.requires.all,
           (
             marked _ _ _ _ c.mark-next.ensures c.cover_chains.ensures.worked.extends,
-            looked_after _ _ _ _ _ _ _ c.loop-dim.invariant.looked c.cover_chains.ensures.worked c.mark-next.ensures c.without.ensures,
+            (looked_after _ _ _ _ _ _ _ c.loop-dim.invariant.looked c.cover_chains.ensures.worked c.mark-next.ensures c.without-rest.ensures, (c.longest_sides-longest.ensures.count, c.longest_sides-longest.ensures.each)),
           ),
         ),
       ),
@@ -62,9 +62,9 @@ loop-dim-smaller g c =
     let same_dims = ap (λ (z : PlainEdges). z.dims) c.settle-in-Some-first.ensures.sizes ∙ (c.cover_chains.ensures.worked.same_dims ∙ c.loop-dim.invariant.same_dims) in
     let same_boxes = ap (λ (z : PlainEdges). z.boxes) c.settle-in-Some-first.ensures.sizes ∙ (c.cover_chains.ensures.worked.same_boxes ∙ c.loop-dim.invariant.same_boxes) in
     let short : length s.trail ≤ room = rw (← same_dims, ← same_boxes) (trail_short s.dims s.boxes s.trail c.dims-sizes.ensures.limits.trail) in
-    less_to_do c.args.instance.now _ _ _ room c.mark-next.result c.in-Some-first.dim c.loop-dim.dirty c.without.result c.in-Some-settle.more
+    less_to_do c.args.instance.now _ _ _ room c.mark-next.result c.in-Some-first.dim c.loop-dim.dirty c.without-rest.result c.in-Some-settle.more
     c.cover_chains.ensures.worked.extends c.settle-in-Some-first.ensures.extends c.mark-next.ensures short (members_few (row_has c.in-Some-settle.more) 64)
-    c.in-Some-settle.ensures.still c.without.ensures c.in-Some-first.ensures.least.there c.in-Some-first.ensures.limit
+    c.in-Some-settle.ensures.still c.without-rest.ensures c.in-Some-first.ensures.least.there c.in-Some-first.ensures.limit
 
 pub loop-dim-preserved : goal.loop-dim-preserved
 loop-dim-preserved g c = record {

@@ -28,7 +28,7 @@ spread_apart-requires g c =
               c.requires.q,
               (
                 c.requires.distinct,
-                c.requires.all,
+                (c.requires.all, c.requires.most),
               ),
             ),
           ),

@@ -18,11 +18,12 @@ loop-change-init g c = record {
   still = λ e. refl;
 }
 
-pub is_empty_at-requires : goal.is_empty_at-requires
-is_empty_at-requires g c =
+pub is_empty_in-requires : goal.is_empty_in-requires
+is_empty_in-requires g c =
     let s = c.loop-change.state in
     let edge = change_edge s.dims s.boxes s.trail c.loop-change.next _ c.in-Some.change c.dims-sizes.ensures.limits.trail c.in-Some.ensures in
     record {
+      words = c.requires.words;
       sizes = record {
         same_dims = c.loop-change.invariant.same_dims ∙ c.requires.dims;
         same_boxes = c.loop-change.invariant.same_boxes ∙ c.requires.boxes;
@@ -43,6 +44,12 @@ dirtied-more-requires-clause-dim g c =
     let edge = change_edge s.dims s.boxes s.trail c.loop-change.next _ c.in-Some.change c.dims-sizes.ensures.limits.trail c.in-Some.ensures in
     omega (arith, edge.dim, c.dims-sizes.ensures.limits.dimensions.1)
 
+pub bounds-longest-change : goal.bounds-longest-change
+bounds-longest-change g c =
+    let s = c.loop-change.state in
+    let edge = change_edge s.dims s.boxes s.trail c.loop-change.next _ c.in-Some.change c.dims-sizes.ensures.limits.trail c.in-Some.ensures in
+    omega (arith, edge.dim, c.dims-sizes.ensures.limits.dimensions.1, c.requires.count)
+
 pub spread-requires : goal.spread-requires
 spread-requires g c =
     let s = c.loop-change.state in
@@ -62,7 +69,7 @@ spread-requires g c =
               omega (arith, edge.second, c.loop-change.invariant.same_boxes, c.requires.boxes),
               (
                 edge.distinct,
-                c.requires.all,
+                (c.requires.all, c.requires.longest _ (omega (arith, edge.dim, c.loop-change.invariant.same_dims, c.requires.dims))),
               ),
             ),
           ),
@@ -96,7 +103,7 @@ loop-change-preserved g c =
       extends = extends_trans _ _ _ _ c.loop-change.invariant.extends work.extends;
       later = omega (arith, c.loop-change.invariant.later, past.0);
       within = grown_past c.args.instance.now _ _ _ _ _ work.extends change.before_last c.behind-after.ensures;
-      looked = looked_step c.args.instance.now _ _ c.in-Some.change _ _ _ _ here c.if-is_empty_at.ensures work change c.behind-after.ensures
+      looked = looked_step c.args.instance.now _ _ c.in-Some.change _ _ _ _ here c.if-is_empty_in.ensures work change c.behind-after.ensures
           c.dirtied-more.ensures.clean c.dirtied-more.ensures.unordered c.dirtied-more.ensures.within c.loop-change.invariant.looked;
       still = λ e. absurd (omega (arith, e, c.loop-change.invariant.later, past.0));
     }

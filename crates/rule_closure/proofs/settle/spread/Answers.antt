@@ -20,7 +20,7 @@ spread_from-requires-2 g c = (
           c.requires.u,
           (
             λ e. c.requires.distinct (sym e),
-            c.requires.all,
+            (c.requires.all, c.requires.most),
           ),
         ),
       ),

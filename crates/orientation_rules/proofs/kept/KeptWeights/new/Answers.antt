@@ -1,4 +1,3 @@
-use Rattle.std.proofs.Common.{◌≡◌, ◌∙◌, ℕ, List, length, sym}
 use Rattle.orientation_rules.proofs.KeptRuns.{kept_empty}
 use Rattle.orientation_rules.proofs.kept.KeptWeights.new.Goals as goal
 

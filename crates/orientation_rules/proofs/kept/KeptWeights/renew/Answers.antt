@@ -1,11 +1,7 @@
-use Rattle.std.proofs.Common.{◌≡◌, ◌+◌, ◌<◌, ◌≤◌, ◌∙◌, ℕ, refl, sym, ap, List, length, slice_index, arith, rules, false}
+use Rattle.std.proofs.Common.{◌≡◌, ◌∙◌, ℕ, refl, ap, List, length, slice_index, arith, rules}
 use Rattle.std.proofs.lemmas.List.{with_items_is}
-use Rattle.packing_terms.specs.Packing.{box_count, side, container_side}
-use Rattle.packing_terms.specs.Exclusions.{excludes}
-use Rattle.edge_state.specs.BitRows.{row_has}
-use Rattle.rule_terms.specs.declared.Direction.TheVariants.{Forwards, Backwards}
-use Rattle.rule_terms.specs.Runs.{Leads}
-use Rattle.orientation_rules.specs.KeptWeights.{GoesOn, StillHolds}
+use Rattle.packing_terms.specs.Packing.{box_count}
+use Rattle.orientation_rules.specs.KeptWeights.{StillHolds}
 use Rattle.orientation_rules.proofs.KeptRuns.{kept_from, kept_same, heads_run, tails_run, heads_settled, tails_settled, fits_left}
 use Rattle.orientation_rules.proofs.kept.KeptWeights.renew.Goals as goal
 

@@ -1,4 +1,4 @@
-use Rattle.std.proofs.Common.{◌≡◌, ◌≤◌, ◌<◌, ℕ, length}
+use Rattle.std.proofs.Common.{◌≡◌}
 use Rattle.orientation_rules.specs.KeptWeights.{AreKeptLevels}
 use Rattle.orientation_rules.proofs.levels.KeptLevels.renew_newest.Given as goal
 

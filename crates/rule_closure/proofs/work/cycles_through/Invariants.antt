@@ -3,7 +3,7 @@ use Rattle.packing_terms.specs.Packing.{box_count}
 use Rattle.packing_terms.specs.Rules.{Cycle}
 use Rattle.edge_state.specs.BitRows.{row_has, members_below}
 use Rattle.closure_terms.specs.Work.{IsWorked}
-use Rattle.rule_closure.proofs.work.cycles_from.Given as goal
+use Rattle.rule_closure.proofs.work.cycles_through.Given as goal
 
 abbrev pub invariant-loop-d : goal.invariant-loop-d
 invariant-loop-d g l = record {

@@ -1,0 +1,11 @@
+use Rattle.std.proofs.Common.{◌≡◌, ◌/◌, length}
+use Rattle.orientation_rules.specs.KeptWeights.{AreKeptLevels}
+use Rattle.orientation_rules.proofs.levels.KeptLevels.thin.Given as goal
+
+abbrev pub invariant-loop-k : goal.invariant-loop-k
+invariant-loop-k g l = record {
+  boxes : l.self-inside.boxes ≡ l.fn.self.boxes;
+  work : l.self-inside.work ≡ l.fn.self.weights;
+  half : l.half ≡ length l.self-inside.levels.items / 2;
+  levels : AreKeptLevels l.self-inside.boxes l.self-inside.used l.self-inside.work l.self-inside.levels.items;
+}
