@@ -1,0 +1,7 @@
+//! What the symmetry of an instance allows: exclusions that some packing respects wherever there is
+//! a packing.
+#![tactic(auto)]
+
+mod laws;
+
+pub use laws::{facts_are_at_edges, facts_keep_an_answer};
