@@ -12,7 +12,7 @@ pub struct SetKey {
     pub place: usize,
 }
 
-// By multiplication, as of numbers in order; the last bits to be mixed are the highest.
+// Of this each box mixes the bits; the highest ones hang on all boxes.
 const FACTOR: u64 = 0x9E37_79B9_7F4A_7C15;
 
 impl SetKey {
@@ -25,7 +25,7 @@ impl SetKey {
         let mut hash: u64 = 0;
         for v in keep {
             boxes = boxes.with(*v);
-            hash = (hash.rotate_left(5) ^ u64::from(*v) ^ 1).wrapping_mul(FACTOR);
+            hash = (hash.rotate_left(5) ^ (u64::from(*v) + 1)).wrapping_mul(FACTOR);
         }
         SetKey {
             boxes,
