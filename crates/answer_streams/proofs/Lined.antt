@@ -6,7 +6,7 @@ use Rattle.document_terms.specs.declared.claim.Claim.{Claim}
 use Rattle.document_terms.specs.declared.claim.Claim.TheVariants.{Fitting, NotFitting, LeastHeight, HeightBetween, NoHeight, LeastBins, BinsBetween, NoBins, GreatestValue, ValueBetween}
 use Rattle.verdict_terms.specs.declared.reason.Reason.{Reason}
 use Rattle.verdict_terms.specs.Reasons.{reason_words}
-use Rattle.verdict_terms.specs.Documents.{verdict_line}
+use Rattle.verdict_terms.specs.Documents.{verdict_line, reduced_verdict_line}
 use Rattle.answer_streams.specs.Lines.{claim_text, reason_end}
 
 -- a text of one number more, as a line of words has it
@@ -22,7 +22,7 @@ two_numbers front first second =
     ∙ sym (append_assoc front (first ++ (32 ∷ (second ++ []))) (10 ∷ []))
 
 -- the line of a claim
-pub claim_line : (claim : Claim) → claim_text claim ≡ verdict_line (Ok claim)
+pub claim_line : (claim : Claim) → codes "verified " ++ claim_text claim ≡ verdict_line (Ok claim)
 claim_line Fitting = refl
 claim_line NotFitting = refl
 claim_line (LeastHeight h) = one_number (codes "verified strip least ") (decimal h)
@@ -33,6 +33,19 @@ claim_line (BinsBetween a b) = two_numbers (codes "verified bins between ") (dec
 claim_line NoBins = refl
 claim_line (GreatestValue v) = one_number (codes "verified knapsack greatest ") (decimal v)
 claim_line (ValueBetween a b) = two_numbers (codes "verified knapsack between ") (decimal a) (decimal b)
+
+-- that of a reduced document
+pub reduced_line : (claim : Claim) → codes "verified reduced " ++ claim_text claim ≡ reduced_verdict_line (Ok claim)
+reduced_line Fitting = refl
+reduced_line NotFitting = refl
+reduced_line (LeastHeight h) = one_number (codes "verified reduced strip least ") (decimal h)
+reduced_line (HeightBetween a b) = two_numbers (codes "verified reduced strip between ") (decimal a) (decimal b)
+reduced_line NoHeight = refl
+reduced_line (LeastBins k) = one_number (codes "verified reduced bins least ") (decimal k)
+reduced_line (BinsBetween a b) = two_numbers (codes "verified reduced bins between ") (decimal a) (decimal b)
+reduced_line NoBins = refl
+reduced_line (GreatestValue v) = one_number (codes "verified reduced knapsack greatest ") (decimal v)
+reduced_line (ValueBetween a b) = two_numbers (codes "verified reduced knapsack between ") (decimal a) (decimal b)
 
 -- the line of a refusal
 pub refusal_line : (line : ℕ) (reason : Reason)

@@ -3,3 +3,4 @@ pub mod Placed
 pub mod Solutions
 pub mod Verdicts
 pub mod Lines
+pub mod Headed

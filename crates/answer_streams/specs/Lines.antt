@@ -23,15 +23,15 @@ reason_end reason = flat_map (λ word. 32 ∷ word) (reason_words reason) ++ 10 
 abbrev pub code_end : RefuseCode → List ℕ
 code_end code = 32 ∷ (code_word code ++ 10 ∷ [])
 
--- the line of a claim, as it is written
+-- the line of a claim from its job on, as it is written
 abbrev pub claim_text : Claim → List ℕ
-claim_text Fitting = codes "verified fit yes\n"
-claim_text NotFitting = codes "verified fit no\n"
-claim_text (LeastHeight h) = number_line (codes "verified strip least ") h
-claim_text (HeightBetween a b) = pair_line (codes "verified strip between ") a b
-claim_text NoHeight = codes "verified strip none\n"
-claim_text (LeastBins k) = number_line (codes "verified bins least ") k
-claim_text (BinsBetween a b) = pair_line (codes "verified bins between ") a b
-claim_text NoBins = codes "verified bins none\n"
-claim_text (GreatestValue v) = number_line (codes "verified knapsack greatest ") v
-claim_text (ValueBetween a b) = pair_line (codes "verified knapsack between ") a b
+claim_text Fitting = codes "fit yes\n"
+claim_text NotFitting = codes "fit no\n"
+claim_text (LeastHeight h) = number_line (codes "strip least ") h
+claim_text (HeightBetween a b) = pair_line (codes "strip between ") a b
+claim_text NoHeight = codes "strip none\n"
+claim_text (LeastBins k) = number_line (codes "bins least ") k
+claim_text (BinsBetween a b) = pair_line (codes "bins between ") a b
+claim_text NoBins = codes "bins none\n"
+claim_text (GreatestValue v) = number_line (codes "knapsack greatest ") v
+claim_text (ValueBetween a b) = pair_line (codes "knapsack between ") a b

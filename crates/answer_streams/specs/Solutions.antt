@@ -1,11 +1,12 @@
--- What a solving job finds, as an answer of the definition.
+-- What a job finds, as an answer of the definition.
 use Rattle.std.specs.Prelude.{ℕ, ◌+◌, ◌*◌, ◌<◌, ◌≡◌, List, length}
 use Rattle.packing_terms.specs.Packing.{PlainInstance, dims, box_count}
-use Rattle.document_terms.specs.declared.claim.SolvingJob.{SolvingJob}
 use Rattle.document_terms.specs.declared.claim.Claim.TheVariants.{LeastHeight, HeightBetween, NoHeight, LeastBins, BinsBetween, NoBins, GreatestValue, ValueBetween}
-use Rattle.answer_terms.specs.Answers.{Answer}
+use Rattle.answer_terms.specs.Answers.{Answer, answer_text, status_of}
 use Rattle.answer_terms.specs.Answers.Answer.{Claimed}
-use Rattle.answer_terms.specs.Solved.{solved, fit_answer, none_answer}
+use Rattle.answer_terms.specs.Reduced.{reduced_text, document_answer}
+use Rattle.answer_terms.specs.Solved.{fit_answer, none_answer}
+use Rattle.answer_terms.specs.declared.job.DocumentJob.{DocumentJob}
 use Rattle.work_share.specs.Outcomes.{plain_outcome}
 use Rattle.proof_tree.specs.Plain.{plain_tokens}
 use Rattle.strip_solver.specs.declared.strip.Strip.{Strip as FoundStrip}
@@ -17,7 +18,7 @@ use Rattle.bin_knapsack.specs.declared.choice.Choice.TheVariants.{Greatest, Betw
 use Rattle.text_terms.specs.declared.settings.Settings.{Settings}
 use Rattle.answer_streams.specs.Placed.{IsPlaced}
 use Rattle.answer_streams.specs.declared.solution.Solution.{Solution}
-use Rattle.answer_streams.specs.declared.solution.Solution.TheVariants.{Fit, Strip, Bins, Knapsack}
+use Rattle.answer_streams.specs.declared.solution.Solution.TheVariants.{Fit, Strip, Bins, Knapsack, Reduced}
 
 -- the answer of a strip
 abbrev pub strip_found : FoundStrip → Answer
@@ -41,6 +42,15 @@ answer_found (Fit outcome) = fit_answer (plain_outcome outcome)
 answer_found (Strip strip) = strip_found strip
 answer_found (Bins bins) = bins_found bins
 answer_found (Knapsack choice) = choice_found choice
+answer_found (Reduced outcome) = fit_answer (plain_outcome outcome)
+
+-- the document with it
+abbrev pub solution_text : PlainInstance → Solution → List ℕ
+solution_text instance (Fit outcome) = answer_text instance (fit_answer (plain_outcome outcome))
+solution_text instance (Strip strip) = answer_text instance (strip_found strip)
+solution_text instance (Bins bins) = answer_text instance (bins_found bins)
+solution_text instance (Knapsack choice) = answer_text instance (choice_found choice)
+solution_text instance (Reduced outcome) = reduced_text instance (fit_answer (plain_outcome outcome))
 
 -- a number for each box and dimension
 abbrev pub AreAllPlaced : PlainInstance → List ℕ → Type 0
@@ -69,8 +79,10 @@ IsPlacedSolution instance (Fit outcome) = IsPlaced instance (plain_outcome outco
 IsPlacedSolution instance (Strip strip) = IsPlacedStrip instance strip
 IsPlacedSolution instance (Bins bins) = ArePlacedBins instance bins
 IsPlacedSolution instance (Knapsack choice) = Unit {0}
+IsPlacedSolution instance (Reduced outcome) = IsPlaced instance (plain_outcome outcome)
 
--- the answer of the job for the instance, under these settings
-pub record IsSolution (job : SolvingJob) (settings : Settings) (instance : PlainInstance) (solution : Solution) : Type 0 where
-  pub answer : answer_found solution ≡ solved job settings.budget settings.scales instance
+-- its status and its document are those of the job's answer for the instance, under these settings
+pub record IsSolution (job : DocumentJob) (settings : Settings) (instance : PlainInstance) (solution : Solution) : Type 0 where
+  pub status : status_of (answer_found solution) ≡ (document_answer job settings.budget settings.scales instance).status
+  pub text : solution_text instance solution ≡ (document_answer job settings.budget settings.scales instance).text
   pub placed : IsPlacedSolution instance solution

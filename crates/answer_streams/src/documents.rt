@@ -1,4 +1,4 @@
-//! The documents that answer `fit`, in their one written spelling. Writing takes no memory.
+//! The documents that answer `fit` and `reduced`, in their one written spelling. Writing takes no memory.
 ghost use Rattle.std.specs.Prelude.{◌≡◌, ◌<◌, ◌*◌, ◌∷◌, [], map, length};
 ghost use Rattle.std.specs.Fmt.{decimal};
 ghost use Rattle.packing_terms.specs.Packing.{dims, box_count, place};
@@ -10,15 +10,17 @@ ghost use Rattle.document_terms.specs.declared.claim.Claim.TheVariants.{Fitting,
 ghost use Rattle.instance_text.specs.Writing.{after_spaces};
 ghost use Rattle.work_share.specs.Outcomes.{plain_outcome};
 ghost use Rattle.proof_tree.specs.Plain.{plain_tokens};
-ghost use Rattle.answer_terms.specs.Answers.{place_words, place_lines, answer_text};
+ghost use Rattle.answer_terms.specs.Answers.{place_words, place_lines};
 ghost use Rattle.answer_terms.specs.Answers.Answer.{Undecided, Claimed};
 ghost use Rattle.answer_terms.specs.Solved.{fit_answer};
+ghost use Rattle.answer_streams.specs.Headed.{first_line, fit_text};
 ghost use Rattle.answer_streams.specs.Placed.{IsPlaced};
 
 use box_instances::Instance;
 use instance_text::write_instance;
 use pack_streams::{Sink, WriteFault, write_number, write_on};
 use proof_tree::{Outcome, Token, write_tokens_on};
+use verdict_terms::Heading;
 
 /// How writing went so far. Each call below writes where no fault came before, and else does
 /// nothing.
@@ -99,15 +101,30 @@ pub fn write_instance_on<K: Sink>(sink: &mut K, so_far: Written, instance: &Inst
     }
 }
 
+// The first line of a document of `fit`.
+fn first_line(heading: Heading) -> &'static [u8]
+    ensures { result.now ≡ first_line heading }
+{
+    match heading {
+        Heading::Answer => b"answer fit\n",
+        Heading::Reduced => b"reduced fit\n",
+    }
+}
+
 // Writes the document that says yes, with the place of each box.
-fn write_yes<K: Sink>(sink: &mut K, instance: &Instance, places: &[u32]) -> Written
+fn write_yes<K: Sink>(
+    sink: &mut K,
+    heading: Heading,
+    instance: &Instance,
+    places: &[u32],
+) -> Written
     requires limits { IsInstance instance.now }
     requires one_each { length places.now ≡ box_count instance.now * dims instance.now }
     ensures { Writes (K.written sink.old) (K.written sink.new) (K.faults sink.old)
         (K.faults sink.new)
-        (answer_text instance.now (Claimed Fitting places.now [])) result }
+        (fit_text heading instance.now (Claimed Fitting places.now [])) result }
 {
-    let named = write_on(sink, Ok(()), b"answer fit\n");
+    let named = write_on(sink, Ok(()), first_line(heading));
     let shown = write_instance_on(sink, named, instance);
     let said = write_on(sink, shown, b"result yes\n");
     let placed = write_places(sink, said, instance, places);
@@ -115,13 +132,18 @@ fn write_yes<K: Sink>(sink: &mut K, instance: &Instance, places: &[u32]) -> Writ
 }
 
 // Writes the document that says no, with a refutation.
-fn write_no<K: Sink>(sink: &mut K, instance: &Instance, tokens: &[Token]) -> Written
+fn write_no<K: Sink>(
+    sink: &mut K,
+    heading: Heading,
+    instance: &Instance,
+    tokens: &[Token],
+) -> Written
     requires { IsInstance instance.now }
     ensures { Writes (K.written sink.old) (K.written sink.new) (K.faults sink.old)
         (K.faults sink.new)
-        (answer_text instance.now (Claimed NotFitting [] (plain_tokens tokens.now))) result }
+        (fit_text heading instance.now (Claimed NotFitting [] (plain_tokens tokens.now))) result }
 {
-    let named = write_on(sink, Ok(()), b"answer fit\n");
+    let named = write_on(sink, Ok(()), first_line(heading));
     let shown = write_instance_on(sink, named, instance);
     let said = write_on(sink, shown, b"result no\n");
     let refuted = write_tokens_on(sink, said, tokens);
@@ -129,29 +151,34 @@ fn write_no<K: Sink>(sink: &mut K, instance: &Instance, tokens: &[Token]) -> Wri
 }
 
 // Writes the document that says that the budget was spent.
-fn write_undecided<K: Sink>(sink: &mut K, instance: &Instance) -> Written
+fn write_undecided<K: Sink>(sink: &mut K, heading: Heading, instance: &Instance) -> Written
     requires { IsInstance instance.now }
     ensures { Writes (K.written sink.old) (K.written sink.new) (K.faults sink.old)
         (K.faults sink.new)
-        (answer_text instance.now Undecided) result }
+        (fit_text heading instance.now Undecided) result }
 {
-    let named = write_on(sink, Ok(()), b"answer fit\n");
+    let named = write_on(sink, Ok(()), first_line(heading));
     let shown = write_instance_on(sink, named, instance);
     write_on(sink, shown, b"result undecided\nend\n")
 }
 
-/// Writes the document of an answer of `fit`: a yes with the place of each box, a no with its
-/// refutation, or undecided.
-pub fn write_fit<K: Sink>(sink: &mut K, instance: &Instance, outcome: &Outcome) -> Written
+/// Writes the document of an answer of `fit`, or of `reduced`: a yes with the place of each box, a
+/// no with its refutation, or undecided.
+pub fn write_fit<K: Sink>(
+    sink: &mut K,
+    heading: Heading,
+    instance: &Instance,
+    outcome: &Outcome,
+) -> Written
     requires limits { IsInstance instance.now }
     requires placed { IsPlaced instance.now (plain_outcome outcome.now) }
     ensures { Writes (K.written sink.old) (K.written sink.new) (K.faults sink.old)
         (K.faults sink.new)
-        (answer_text instance.now (fit_answer (plain_outcome outcome.now))) result }
+        (fit_text heading instance.now (fit_answer (plain_outcome outcome.now))) result }
 {
     match outcome {
-        Outcome::Yes { numbers, count: _ } => write_yes(sink, instance, numbers),
-        Outcome::No { tokens, count: _ } => write_no(sink, instance, tokens),
-        Outcome::Past => write_undecided(sink, instance),
+        Outcome::Yes { numbers, count: _ } => write_yes(sink, heading, instance, numbers),
+        Outcome::No { tokens, count: _ } => write_no(sink, heading, instance, tokens),
+        Outcome::Past => write_undecided(sink, heading, instance),
     }
 }

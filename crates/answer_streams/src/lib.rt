@@ -1,5 +1,5 @@
-//! What the program writes: the documents of answers, the line of a check and the summary of
-//! `make`, each streamed to a sink through one block.
+//! What the program writes: the documents of answers, the line of a check or an audit and the
+//! summary of `make`, each streamed to a sink through one block.
 #![tactic(auto)]
 
 mod bins_documents;
@@ -18,4 +18,4 @@ pub use documents::Written;
 pub use solution::{Solution, fit_status};
 pub use streaming::{AnswerDocument, Streamed, stream};
 pub use summary::Made;
-pub use verdict::Verdict;
+pub use verdict::{ReducedVerdict, Verdict};

@@ -1,4 +1,4 @@
-//! What a solving job finds for an instance.
+//! What a job finds for an instance.
 ghost use Rattle.std.specs.Prelude.{◌≡◌};
 ghost use Rattle.answer_terms.specs.Answers.{status_of};
 ghost use Rattle.answer_streams.specs.Solutions.{answer_found};
@@ -7,13 +7,14 @@ use bin_knapsack::{Bins, Choice};
 use proof_tree::Outcome;
 use strip_solver::Strip;
 
-/// What a solving job found.
+/// What a job that answers with a document found.
 #[derive(Drop)]
 pub enum Solution {
     Fit(Outcome),
     Strip(Strip),
     Bins(Bins),
     Knapsack(Choice),
+    Reduced(Outcome),
 }
 
 impl Solution {
@@ -27,6 +28,7 @@ impl Solution {
             Solution::Strip(strip) => strip_status(strip),
             Solution::Bins(bins) => bins_status(bins),
             Solution::Knapsack(choice) => choice_status(choice),
+            Solution::Reduced(outcome) => fit_status(outcome),
         }
     }
 }

@@ -2,8 +2,7 @@
 ghost use Rattle.std.specs.Prelude.{◌≡◌, ℕ, List};
 ghost use Rattle.packing_terms.specs.Limits.{IsInstance};
 ghost use Rattle.pack_streams.specs.Writing.{Writes};
-ghost use Rattle.answer_terms.specs.Answers.{answer_text};
-ghost use Rattle.answer_streams.specs.Solutions.{answer_found, IsPlacedSolution};
+ghost use Rattle.answer_streams.specs.Solutions.{solution_text, IsPlacedSolution};
 
 use crate::bins_documents::write_bins;
 use crate::documents::{Written, write_fit};
@@ -14,6 +13,7 @@ use crate::strip_documents::write_strip;
 use box_instances::Instance;
 use pack_streams::Sink;
 use std::marker::Brand;
+use verdict_terms::Heading;
 
 /// What is written as one text.
 pub trait Streamed {
@@ -38,17 +38,20 @@ pub struct AnswerDocument<'a> {
 }
 
 impl<'a> Streamed for AnswerDocument<'a> {
-    ghost text = { λ d. answer_text d.instance.now (answer_found d.solution.now) };
+    ghost text = { λ d. solution_text d.instance.now d.solution.now };
 
     ghost IsReady = { λ d. IsInstance d.instance.now
         × IsPlacedSolution d.instance.now d.solution.now };
 
     fn write_to<K: Sink>(&self, sink: &mut K) -> Written {
         match self.solution {
-            Solution::Fit(outcome) => write_fit(sink, self.instance, outcome),
+            Solution::Fit(outcome) => write_fit(sink, Heading::Answer, self.instance, outcome),
             Solution::Strip(strip) => write_strip(sink, self.instance, strip),
             Solution::Bins(bins) => write_bins(sink, self.instance, bins),
             Solution::Knapsack(choice) => write_choice(sink, self.instance, choice),
+            Solution::Reduced(outcome) => {
+                write_fit(sink, Heading::Reduced, self.instance, outcome)
+            }
         }
     }
 }

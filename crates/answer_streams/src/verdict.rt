@@ -3,7 +3,7 @@ ghost use Rattle.std.specs.Prelude.{◌≡◌, ◌++◌, ◌∷◌, []};
 ghost use Rattle.std.specs.Fmt.{decimal};
 ghost use Rattle.pack_streams.specs.Writing.{Continues, Writes};
 ghost use Rattle.verdict_terms.specs.declared.reason.Reason.{Reason as PlainReason};
-ghost use Rattle.verdict_terms.specs.Documents.{verdict_line};
+ghost use Rattle.verdict_terms.specs.Documents.{verdict_line, reduced_verdict_line};
 ghost use Rattle.answer_streams.specs.Verdicts.{plain_verdict, verdict_status};
 ghost use Rattle.answer_streams.specs.Lines.{number_line, pair_line, claim_text, reason_end, code_end};
 
@@ -63,45 +63,62 @@ fn write_paired<K: Sink>(
     write_numbered(sink, told, b" ", second)
 }
 
-// Writes the line of a claim.
-fn write_claim<K: Sink>(sink: &mut K, claim: Claim) -> Written
-    ensures { Writes (K.written sink.old) (K.written sink.new) (K.faults sink.old)
+// Writes the line of a claim from its job on.
+fn write_claim<K: Sink>(sink: &mut K, first: Written, claim: Claim) -> Written
+    ensures { Continues (K.written sink.old) (K.written sink.new) (K.faults sink.old)
         (K.faults sink.new)
-        (claim_text claim) result }
+        (claim_text claim) first result }
 {
-    let first = Ok(());
     match claim {
-        Claim::Fitting => write_on(sink, first, b"verified fit yes\n"),
-        Claim::NotFitting => write_on(sink, first, b"verified fit no\n"),
+        Claim::Fitting => write_on(sink, first, b"fit yes\n"),
+        Claim::NotFitting => write_on(sink, first, b"fit no\n"),
         Claim::LeastHeight { height } => {
-            write_numbered(sink, first, b"verified strip least ", height as u64)
+            write_numbered(sink, first, b"strip least ", height as u64)
         }
         Claim::HeightBetween { refuted, placed } => write_paired(
             sink,
             first,
-            b"verified strip between ",
+            b"strip between ",
             refuted as u64,
             placed as u64,
         ),
-        Claim::NoHeight => write_on(sink, first, b"verified strip none\n"),
-        Claim::LeastBins { bins } => {
-            write_numbered(sink, first, b"verified bins least ", bins as u64)
-        }
+        Claim::NoHeight => write_on(sink, first, b"strip none\n"),
+        Claim::LeastBins { bins } => { write_numbered(sink, first, b"bins least ", bins as u64) }
         Claim::BinsBetween { refuted, placed } => write_paired(
             sink,
             first,
-            b"verified bins between ",
+            b"bins between ",
             refuted as u64,
             placed as u64,
         ),
-        Claim::NoBins => write_on(sink, first, b"verified bins none\n"),
+        Claim::NoBins => write_on(sink, first, b"bins none\n"),
         Claim::GreatestValue { value } => {
-            write_numbered(sink, first, b"verified knapsack greatest ", value)
+            write_numbered(sink, first, b"knapsack greatest ", value)
         }
         Claim::ValueBetween { placed, refuted } => {
-            write_paired(sink, first, b"verified knapsack between ", placed, refuted)
+            write_paired(sink, first, b"knapsack between ", placed, refuted)
         }
     }
+}
+
+// Writes the line of an answer that is verified.
+fn write_verified<K: Sink>(sink: &mut K, claim: Claim) -> Written
+    ensures { Writes (K.written sink.old) (K.written sink.new) (K.faults sink.old)
+        (K.faults sink.new)
+        (verdict_line (Ok claim)) result }
+{
+    let named = write_on(sink, Ok(()), b"verified ");
+    write_claim(sink, named, claim)
+}
+
+// Writes the line of a reduced document that is verified.
+fn write_reduced<K: Sink>(sink: &mut K, claim: Claim) -> Written
+    ensures { Writes (K.written sink.old) (K.written sink.new) (K.faults sink.old)
+        (K.faults sink.new)
+        (reduced_verdict_line (Ok claim)) result }
+{
+    let named = write_on(sink, Ok(()), b"verified reduced ");
+    write_claim(sink, named, claim)
 }
 
 // The end of the line that tells a code, from the space on.
@@ -162,7 +179,28 @@ impl Streamed for Verdict {
 
     fn write_to<K: Sink>(&self, sink: &mut K) -> Written {
         match *self {
-            Verdict::Verified(claim) => write_claim(sink, claim),
+            Verdict::Verified(claim) => write_verified(sink, claim),
+            Verdict::Refused { line, reason } => write_refusal(sink, line, reason),
+        }
+    }
+}
+
+/// The verdict on a reduced document.
+#[derive(Clone, Copy, Debug, PartialEq, Eq)]
+pub struct ReducedVerdict {
+    pub verdict: Verdict,
+}
+
+// The line of a verdict on a reduced document: `verified reduced` with the job and the words of the
+// result line, or `refused` with the number of the line and the reason.
+impl Streamed for ReducedVerdict {
+    ghost text = { λ v. reduced_verdict_line (plain_verdict v.verdict) };
+
+    ghost IsReady = { λ _. Unit {0} };
+
+    fn write_to<K: Sink>(&self, sink: &mut K) -> Written {
+        match self.verdict {
+            Verdict::Verified(claim) => write_reduced(sink, claim),
             Verdict::Refused { line, reason } => write_refusal(sink, line, reason),
         }
     }

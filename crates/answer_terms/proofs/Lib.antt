@@ -1,3 +1,4 @@
 pub mod Shown
 pub mod True
 pub mod Rows
+pub mod Reduced

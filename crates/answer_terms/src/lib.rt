@@ -1,7 +1,12 @@
-//! The answers of the solving jobs: which status and which document an instance has under a job and
-//! its settings.
+//! The answers of the solving jobs and of `reduced`: which status and which document an instance has
+//! under a job and its settings.
 #![tactic(auto)]
 
+mod job;
 mod laws;
 
-pub use laws::{answers_are_shown, answers_are_true, undecided_exactly_past};
+pub use job::DocumentJob;
+pub use laws::{
+    answers_are_shown, answers_are_true, reduced_answers_are_shown, reduced_answers_are_true,
+    reduced_undecided_exactly_past, undecided_exactly_past,
+};

@@ -1,13 +1,20 @@
 -- The trees of checkers to which no token was fed, and the stages of phases.
-use Rattle.std.proofs.Common.{◌≡◌, ◌∙◌, refl, sym, ap, subst, [], get_or, Option, Some}
+use Rattle.std.proofs.Common.{◌≡◌, ◌∙◌, refl, sym, ap, subst, List, [], ◌∷◌, get_or, Option, Some}
 use Rattle.std.proofs.lemmas.List.FromFn.{fill_by_all}
+use Rattle.packing_terms.specs.declared.Exclusion.{Exclusion}
+use Rattle.packing_terms.specs.Exclusions.{AreAtEdges}
+use Rattle.packing_terms.specs.Limits.{IsInternalInstance}
+use Rattle.packing_terms.proofs.Internal.{some_dimension}
+use Rattle.symmetry_terms.proofs.Members.{facts_at_edges}
 use Rattle.packing_terms.specs.Packing.{PlainInstance, no_box, box_count}
 use Rattle.packing_terms.specs.Goals.{subset}
 use Rattle.box_instances.specs.Sets.{all_boxes}
 use Rattle.check_terms.specs.Checking.{starting}
 use Rattle.refutation_check.specs.Refuters.{PlainRefuter}
-use Rattle.verdict_terms.specs.Stages.{Stage}
-use Rattle.verdict_terms.specs.Trees.{ToFit, begun}
+use Rattle.verdict_terms.specs.declared.heading.Heading.{Heading}
+use Rattle.verdict_terms.specs.declared.heading.Heading.TheVariants.{Answer, Reduced}
+use Rattle.verdict_terms.specs.Stages.{Stage, start_exclusions}
+use Rattle.verdict_terms.specs.Trees.Tree.{InnerTree}
 use Rattle.document_lines.specs.Reading.{IsAt}
 use Rattle.document_lines.specs.Checkers.{shown_inner_tree}
 
@@ -17,9 +24,14 @@ whole_set instance =
     ap (λ bs. record instance { boxes = bs })
     (sym (fill_by_all (λ v. get_or instance.boxes v no_box) instance.boxes (box_count instance) no_box refl (λ k l. refl)))
 
-pub inner_begun : (r : PlainRefuter) (instance : PlainInstance) → r ≡ record { instance = instance; keep = all_boxes instance; checked = starting [] }
-    → shown_inner_tree r ≡ begun (ToFit instance)
-inner_begun r instance e = ap shown_inner_tree e ∙ ap (λ i. begun (ToFit i)) (whole_set instance)
+pub inner_begun : (r : PlainRefuter) (instance : PlainInstance) (es : List Exclusion) → r ≡ record { instance = instance; keep = all_boxes instance; checked = starting es }
+    → shown_inner_tree r ≡ InnerTree instance (es ∷ [])
+inner_begun r instance es e = ap shown_inner_tree e ∙ ap (λ i. InnerTree i (es ∷ [])) (whole_set instance)
+
+-- what the tree of a no begins with is at edges that are there
+pub start_edges : (heading : Heading) (instance : PlainInstance) → IsInternalInstance instance → AreAtEdges instance (start_exclusions heading instance)
+start_edges Answer instance limits = tt
+start_edges Reduced instance limits = facts_at_edges instance (some_dimension instance limits)
 
 -- where the document stands behind the lines of a judge
 pub at_behind : (behind : Option Stage) (stage next : Stage) → IsAt behind stage → behind ≡ Some next → stage ≡ next

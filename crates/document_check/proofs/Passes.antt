@@ -4,6 +4,7 @@ use Rattle.text_terms.specs.Feeding.{Lexer, new_lexer}
 use Rattle.document_terms.specs.declared.claim.Claim.{Claim}
 use Rattle.verdict_terms.specs.declared.reason.Reason.{Reason}
 use Rattle.verdict_terms.specs.declared.reason.Reason.TheVariants.{TooShort}
+use Rattle.verdict_terms.specs.declared.heading.Heading.{Heading}
 use Rattle.verdict_terms.specs.Stages.{Stage}
 use Rattle.verdict_terms.specs.Stages.Stage.{Beginning, Reading, Placing, Sharing, Taking, Proving, Refuting, Exceeding, Ending, Ended}
 use Rattle.verdict_terms.specs.Documents.{Refusal, document_at_end}
@@ -12,7 +13,7 @@ use Rattle.document_check.specs.declared.check.CheckEnd.TheVariants.{Refused, To
 use Rattle.document_lines.specs.declared.judge.ReadEnd.{ReadEnd}
 use Rattle.document_lines.specs.declared.judge.ReadEnd.TheVariants.{End, Paused, Refused as ReadRefused, TooLong as ReadTooLong, ReadFault as ReadFailed, NoMemory as ReadNoMemory}
 use Rattle.document_check.specs.declared.position.Position.{Position}
-use Rattle.document_check.specs.Checked.{most_document_bytes, IsChecked}
+use Rattle.document_check.specs.Checked.{most_document_bytes, IsCheckedUnder}
 use Rattle.document_lines.specs.Reading.{PlainJudge, IsAt, IsRead, IsReadBehind, ended_claim}
 use Rattle.document_check.specs.Passes.{end_of, IsCheckedFrom, IsReadOn, Goes}
 use Rattle.document_check.proofs.Beginnings.{at_behind}
@@ -24,8 +25,8 @@ verdict_of (Some claim) n = Ok claim
 verdict_of None n = Err (record { line = n + 1; reason = TooShort })
 
 at_end_is : (stage : Stage) (n : ℕ) → document_at_end stage n ≡ verdict_of (ended_claim stage) n
-at_end_is Beginning n = refl
-at_end_is (Reading job parts) n = refl
+at_end_is (Beginning heading) n = refl
+at_end_is (Reading heading job parts) n = refl
 at_end_is (Placing instance claim refuted places) n = refl
 at_end_is (Sharing instance claim k bins places) n = refl
 at_end_is (Taking instance claim value taken places) n = refl
@@ -39,15 +40,15 @@ module _ (old left : Option (List ℕ)) (before now : ℕ) (at : Position) (stag
   abbrev pub Behind : ReadEnd → Type 0
   Behind end = IsReadBehind most_document_bytes old left before now at.lexer stage at.count next behind count end
 
-  ended : (first : Option (List ℕ)) (claim : Option Claim) → IsRead most_document_bytes first left before now next behind count End → ended_claim behind ≡ claim
-      → IsChecked first left before now (end_of claim next.number)
-  ended first (Some claim) r e = record {
+  ended : (heading : Heading) (first : Option (List ℕ)) (claim : Option Claim) → IsRead heading most_document_bytes first left before now next behind count End → ended_claim behind ≡ claim
+      → IsCheckedUnder heading first left before now (end_of claim next.number)
+  ended heading first (Some claim) r e = record {
     taken = r.taken;
     gives = r.gives;
     faults = r.faults;
     comes = (r.ends.2 ∙ (at_end_is behind next.number ∙ ap (λ c. verdict_of c next.number) e), r.ends.1, r.ends.0);
   }
-  ended first None r e = record {
+  ended heading first None r e = record {
     taken = r.taken;
     gives = r.gives;
     faults = r.faults;
@@ -55,56 +56,56 @@ module _ (old left : Option (List ℕ)) (before now : ℕ) (at : Position) (stag
   }
 
   pub end_from : Behind End → (claim : Option Claim) → ended_claim behind ≡ claim → IsCheckedFrom old left before now at stage (end_of claim next.number)
-  end_from read claim e first taking = ended first claim (read first taking) e
+  end_from read claim e heading first taking = ended heading first claim (read heading first taking) e
 
   pub refused_from : (reason : Reason) → Behind (ReadRefused reason) → IsCheckedFrom old left before now at stage (Refused next.number reason)
-  refused_from reason read first taking =
-      let r = read first taking in
+  refused_from reason read heading first taking =
+      let r = read heading first taking in
       record { taken = r.taken; gives = r.gives; faults = r.faults; comes = r.ends }
 
   pub long_from : Behind ReadTooLong → IsCheckedFrom old left before now at stage TooLong
-  long_from read first taking =
-      let r = read first taking in
+  long_from read heading first taking =
+      let r = read heading first taking in
       record { taken = r.taken; gives = r.gives; faults = r.faults; comes = r.ends }
 
   pub fault_from : Behind ReadFailed → IsCheckedFrom old left before now at stage ReadFault
-  fault_from read first taking =
-      let r = read first taking in
+  fault_from read heading first taking =
+      let r = read heading first taking in
       record { taken = r.taken; gives = r.gives; faults = r.faults; comes = r.ends }
 
   pub memory_from : Behind ReadNoMemory → IsCheckedFrom old left before now at stage NoMemory
-  memory_from read first taking =
-      let r = read first taking in
+  memory_from read heading first taking =
+      let r = read heading first taking in
       record { taken = r.taken; gives = r.gives; faults = r.faults; comes = r.ends }
 
   pub paused_from : Behind Paused → IsReadOn old left before now at stage (record { lexer = next; count = count }) behind
-  paused_from read first taking =
-      let r = read first taking in
+  paused_from read heading first taking =
+      let r = read heading first taking in
       (r.faults, record { taken = r.taken; gives = r.gives; counted = r.ends.0; so_far = r.ends.1 })
 
 -- memory was refused between two lines
 pub memory_here : (old : Option (List ℕ)) (faults : ℕ) (at : Position) (stage : Stage) → at.count ≤ most_document_bytes → IsCheckedFrom old old faults faults at stage NoMemory
-memory_here old faults at stage few first taking = record {
+memory_here old faults at stage few heading first taking = record {
   taken = taking.taken;
   gives = taking.gives;
   faults = refl;
-  comes = ((let c = taking.counted in omega (arith, c, few)), none_before at.lexer stage taking.taken taking.so_far);
+  comes = ((let c = taking.counted in omega (arith, c, few)), none_before heading at.lexer stage taking.taken taking.so_far);
 }
 
 -- one phase, and then what is left
 module _ (old mid left : Option (List ℕ)) (before between now : ℕ) (at next : Position) (stage behind : Stage) (result : CheckEnd) where
   pub then_from : IsReadOn old mid before between at stage next behind → (rest : Stage) → behind ≡ rest → IsCheckedFrom mid left between now next rest result
       → IsCheckedFrom old left before now at stage result
-  then_from on rest same more first taking =
-      let go = on first taking in
-      subst (λ n. IsChecked first left n now result) go.0
-      (subst (λ s. IsCheckedFrom mid left between now next s result) (sym same) more first go.1)
+  then_from on rest same more heading first taking =
+      let go = on heading first taking in
+      subst (λ n. IsCheckedUnder heading first left n now result) go.0
+      (subst (λ s. IsCheckedFrom mid left between now next s result) (sym same) more heading first go.1)
 
 -- from the first byte on
-pub from_start : (old left : Option (List ℕ)) (before now : ℕ) (result : CheckEnd) → IsCheckedFrom old left before now (record { lexer = new_lexer; count = 0 }) Beginning result
-    → IsChecked old left before now result
-from_start old left before now result from =
-    from old (record { taken = []; gives = gives_none old; counted = refl; so_far = so_far_start })
+pub from_start : (heading : Heading) (old left : Option (List ℕ)) (before now : ℕ) (result : CheckEnd) → IsCheckedFrom old left before now (record { lexer = new_lexer; count = 0 }) (Beginning heading) result
+    → IsCheckedUnder heading old left before now result
+from_start heading old left before now result from =
+    from heading old (record { taken = []; gives = gives_none old; counted = refl; so_far = so_far_start heading })
 
 -- lines of a judge that tells where the document stands behind them
 pub goes_known : (old left : Option (List ℕ)) (before now : ℕ) (at next : Position) (judge : PlainJudge) (stage behind known : Stage) (result : Option CheckEnd)

@@ -3,9 +3,11 @@ use Rattle.std.specs.Prelude.{ℕ, ◌+◌, ◌≤◌, ◌≡◌, List, length, 
 use Rattle.std.specs.Io.KnownBytes.{IsAtEnd}
 use Rattle.pack_streams.specs.Faults.{FailedOnce}
 use Rattle.pack_streams.specs.Moves.{Gives}
-use Rattle.verdict_terms.specs.Documents.{document_verdict}
-use Rattle.verdict_terms.specs.Fed.{NoneRefused}
-use Rattle.document_lines.specs.Reading.{AreBytesEnough, NoneRefusedBefore}
+use Rattle.verdict_terms.specs.declared.heading.Heading.{Heading}
+use Rattle.verdict_terms.specs.declared.heading.Heading.TheVariants.{Answer}
+use Rattle.verdict_terms.specs.Documents.{headed_verdict}
+use Rattle.verdict_terms.specs.Fed.{NoneRefusedUnder}
+use Rattle.document_lines.specs.Reading.{AreEnoughUnder, NoneBeforeUnder}
 use Rattle.document_check.specs.declared.check.CheckEnd.{CheckEnd}
 use Rattle.document_check.specs.declared.check.CheckEnd.TheVariants.{Verified, Refused, TooLong, ReadFault, NoMemory}
 
@@ -16,14 +18,14 @@ most_document_bytes = 1099511627776
 -- Verified: the whole input is a document of the claim. Refused: by the bytes taken, of which none
 -- stands behind the refused line. Too long, by one byte, or a read fault: no line that was whole
 -- before is refused. Want of memory is the one free answer, and no line is refused before it.
-abbrev pub Comes : Option (List ℕ) → List ℕ → CheckEnd → Type 0
-Comes left taken (Verified claim) = (document_verdict taken ≡ Ok claim) × (length taken ≤ most_document_bytes) × IsAtEnd left
-Comes left taken (Refused line reason) =
-    (document_verdict taken ≡ Err (record { line = line; reason = reason })) × (length taken ≤ most_document_bytes)
-    × AreBytesEnough left taken (record { line = line; reason = reason })
-Comes left taken TooLong = (length taken ≡ most_document_bytes + 1) × NoneRefused (take most_document_bytes taken)
-Comes left taken ReadFault = (length taken ≤ most_document_bytes) × NoneRefused taken
-Comes left taken NoMemory = (length taken ≤ most_document_bytes) × NoneRefusedBefore taken
+abbrev pub Comes : Heading → Option (List ℕ) → List ℕ → CheckEnd → Type 0
+Comes heading left taken (Verified claim) = (headed_verdict heading taken ≡ Ok claim) × (length taken ≤ most_document_bytes) × IsAtEnd left
+Comes heading left taken (Refused line reason) =
+    (headed_verdict heading taken ≡ Err (record { line = line; reason = reason })) × (length taken ≤ most_document_bytes)
+    × AreEnoughUnder heading left taken (record { line = line; reason = reason })
+Comes heading left taken TooLong = (length taken ≡ most_document_bytes + 1) × NoneRefusedUnder heading (take most_document_bytes taken)
+Comes heading left taken ReadFault = (length taken ≤ most_document_bytes) × NoneRefusedUnder heading taken
+Comes heading left taken NoMemory = (length taken ≤ most_document_bytes) × NoneBeforeUnder heading taken
 
 -- the count of faults of the source: the first read that fails is the last
 abbrev pub CountsCheck : ℕ → ℕ → CheckEnd → Type 0
@@ -33,9 +35,13 @@ CountsCheck before now (Refused line reason) = now ≡ before
 CountsCheck before now TooLong = now ≡ before
 CountsCheck before now NoMemory = now ≡ before
 
--- what a check takes from a source, and what it comes to
-pub record IsChecked (old left : Option (List ℕ)) (before now : ℕ) (result : CheckEnd) : Type 0 where
+-- what the check of a document with this heading takes from a source, and what it comes to
+pub record IsCheckedUnder (heading : Heading) (old left : Option (List ℕ)) (before now : ℕ) (result : CheckEnd) : Type 0 where
   pub taken : List ℕ
   pub gives : Gives old left taken
   pub faults : CountsCheck before now result
-  pub comes : Comes left taken result
+  pub comes : Comes heading left taken result
+
+-- the same of an answer
+abbrev pub IsChecked : Option (List ℕ) → Option (List ℕ) → ℕ → ℕ → CheckEnd → Type 0
+IsChecked old left before now result = IsCheckedUnder Answer old left before now result

@@ -1,7 +1,7 @@
 //! The check of a document.
 ghost use Rattle.std.specs.Prelude.{◌≡◌};
-ghost use Rattle.verdict_terms.specs.Stages.{claimed};
-ghost use Rattle.document_check.specs.Checked.{IsChecked};
+ghost use Rattle.verdict_terms.specs.Stages.{claimed_under};
+ghost use Rattle.document_check.specs.Checked.{IsCheckedUnder};
 ghost use Rattle.document_check.specs.Passes.{IsPosition, IsCheckedFrom};
 ghost use Rattle.document_lines.specs.Ranges.{IsRanged};
 
@@ -14,7 +14,7 @@ use document_lines::Claimed;
 use document_terms::Claim;
 use pack_streams::Source;
 use std::alloc::Global;
-use verdict_terms::Reason;
+use verdict_terms::{Heading, Reason};
 
 /// What the check of a document came to.
 #[derive(Clone, Copy, Debug, PartialEq, Eq)]
@@ -42,13 +42,13 @@ fn check_claimed<S: Source>(
     requires ranged { IsRanged head.now.instance head.now.claim }
     ensures { IsCheckedFrom (S.left input.old) (S.left input.new) (S.faults input.old)
         (S.faults input.new)
-        at.old (claimed head.now.instance head.now.claim) result }
+        at.old (claimed_under head.now.heading head.now.instance head.now.claim) result }
 {
     let instance = &head.instance;
     let claim = head.claim;
     match claim {
         Claim::Fitting => check_fitting(alloc, input, at, instance),
-        Claim::NotFitting => check_not_fitting(alloc, input, at, instance),
+        Claim::NotFitting => check_not_fitting(alloc, input, at, head.heading, instance),
         Claim::LeastHeight { height } => {
             check_heights(alloc, input, at, instance, claim, height, height - 1)
         }
@@ -74,19 +74,19 @@ fn check_claimed<S: Source>(
     }
 }
 
-/// Reads a document to its end or to the line feed of its first refused line, and no further, in
+/// Reads a document that has to begin with this heading, to its end or to the line feed of its first refused line, and no further, in
 /// one pass.
 ///
 /// `TooLong`, `ReadFault` and `NoMemory` come only where no line that was whole before is refused.
 /// The first read that fails is the last, and `TooLong` takes one byte more than the limit. It
 /// holds the instance, the places of its boxes, the open nodes of one tree and the words of one
 /// line.
-pub fn check_document<S: Source>(alloc: Global, input: &mut S) -> CheckEnd
-    ensures { IsChecked (S.left input.old) (S.left input.new) (S.faults input.old)
+pub fn check_document<S: Source>(alloc: Global, heading: Heading, input: &mut S) -> CheckEnd
+    ensures { IsCheckedUnder heading (S.left input.old) (S.left input.new) (S.faults input.old)
         (S.faults input.new) result }
 {
     let mut at = Position::start();
-    match read_head(alloc, input, &mut at) {
+    match read_head(alloc, input, &mut at, heading) {
         Ok(head) => check_claimed(alloc, input, &mut at, &head),
         Err(end) => end,
     }

@@ -1,11 +1,12 @@
 //! The rest of a document behind its result line, phase by phase.
-ghost use Rattle.std.specs.Prelude.{◌≡◌, ◌≤◌, true, Some, []};
+ghost use Rattle.std.specs.Prelude.{◌≡◌, ◌≤◌, true, Some, [], ◌∷◌, IfOk};
 ghost use Rattle.packing_terms.specs.Packing.{dims, box_count};
 ghost use Rattle.packing_terms.specs.Limits.{most_height};
 ghost use Rattle.packing_terms.specs.Goals.{with_last_side};
 ghost use Rattle.packing_terms.specs.Scales.{SidesFit};
-ghost use Rattle.verdict_terms.specs.Stages.{placed, to_refute};
+ghost use Rattle.verdict_terms.specs.Stages.{placed, to_refute, start_exclusions};
 ghost use Rattle.verdict_terms.specs.Stages.Stage.{Placing, Sharing, Taking, Proving, Refuting, Exceeding, Ending};
+ghost use Rattle.verdict_terms.specs.Trees.Tree.{InnerTree};
 ghost use Rattle.verdict_terms.specs.Trees.{begun, refuted_by, tree_dims, ToFit, ToFitIn, ToReach};
 ghost use Rattle.document_lines.specs.Endings.{AreDims};
 ghost use Rattle.document_check.specs.Passes.{IsPosition, IsCheckedFrom};
@@ -13,13 +14,16 @@ ghost use Rattle.document_check.specs.Passes.{IsPosition, IsCheckedFrom};
 use crate::check::CheckEnd;
 use crate::position::{Position, give_lines};
 use crate::showing::{read_exceeding, read_places, read_shares, read_taken};
-use box_instances::Instance;
+use box_instances::{Instance, NoMemory};
 use document_lines::{EndReader, LineJudge, TreeChecker, TreeReader};
 use document_terms::Claim;
+use edge_state::Exclusion;
 use outer_check::{Goal, OuterRefuter};
 use pack_streams::Source;
 use refutation_check::Refuter;
 use std::alloc::Global;
+use symmetry_list::facts;
+use verdict_terms::Heading;
 
 // `end`, behind places or behind the tree of an instance of so many dimensions.
 fn check_end<S: Source>(
@@ -198,20 +202,40 @@ pub fn check_fitting<S: Source>(
     }
 }
 
-/// A tree that refutes that the instance fits, and `end`.
+// What the tree of a no begins with.
+fn start_exclusions(
+    alloc: Global,
+    heading: Heading,
+    instance: &Instance,
+) -> Result<Vec<Exclusion>, NoMemory>
+    ensures { IfOk result (λ es. es.items ≡ start_exclusions heading instance.now) }
+{
+    match heading {
+        Heading::Answer => Ok(Vec::new(alloc)),
+        Heading::Reduced => facts(alloc, instance),
+    }
+}
+
+/// A tree that refutes that the instance fits, and `end`. In a reduced document it refutes that
+/// under the symmetry facts.
 pub fn check_not_fitting<S: Source>(
     alloc: Global,
     input: &mut S,
     at: &mut Position,
+    heading: Heading,
     instance: &Instance,
 ) -> CheckEnd
     requires { IsPosition at.old }
     ensures { IsCheckedFrom (S.left input.old) (S.left input.new) (S.faults input.old)
         (S.faults input.new)
-        at.old (Refuting Claim.NotFitting (begun (ToFit instance.now))) result }
+        at.old (Refuting Claim.NotFitting
+        (InnerTree instance.now (start_exclusions heading instance.now ∷ []))) result }
 {
     let dims = instance.dims();
-    match Refuter::new(alloc, instance) {
+    let Ok(start) = start_exclusions(alloc, heading, instance) else {
+        return CheckEnd::NoMemory;
+    };
+    match Refuter::starting(alloc, instance, start.as_slice()) {
         Ok(refuter) => check_tokens(alloc, input, at, Claim::NotFitting, dims, refuter),
         Err(_) => CheckEnd::NoMemory,
     }

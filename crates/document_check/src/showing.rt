@@ -1,7 +1,7 @@
 //! What shows that a claim is reached: places, bins, taken boxes, a box that exceeds the container.
 ghost use Rattle.std.specs.Prelude.{◌≡◌, ◌≤◌, None, Some, [], IfOk};
 ghost use Rattle.packing_terms.specs.Packing.{dims};
-ghost use Rattle.verdict_terms.specs.Stages.{claimed, placed, to_refute};
+ghost use Rattle.verdict_terms.specs.Stages.{placed, to_refute};
 ghost use Rattle.verdict_terms.specs.Stages.Stage.{Beginning, Placing, Sharing, Taking, Refuting, Exceeding, Ending};
 ghost use Rattle.verdict_terms.specs.Trees.{begun};
 ghost use Rattle.document_check.specs.Passes.{IsPosition, Goes, GoesBehind};
@@ -15,20 +15,22 @@ use document_lines::{Claimed, ExceedingReader, HeadReader, PlaceReader, ShareRea
 use document_terms::Claim;
 use pack_streams::Source;
 use std::alloc::Global;
+use verdict_terms::Heading;
 
-/// The lines up to the result line.
+/// The lines up to the result line of a document that has to begin with this heading.
 pub fn read_head<S: Source>(
     alloc: Global,
     input: &mut S,
     at: &mut Position,
+    heading: Heading,
 ) -> Result<Claimed, CheckEnd>
     requires { IsPosition at.old }
     ensures at { IfOk result (λ c. IsPosition at.new) }
     ensures ranged { IfOk result (λ c. IsRanged c.instance c.claim) }
-    ensures goes { GoesBehind (S.left input.old) (S.left input.new) (S.faults input.old)
+    ensures goes { GoesBehind heading (S.left input.old) (S.left input.new) (S.faults input.old)
         (S.faults input.new) at.old at.new result }
 {
-    let mut head = HeadReader::new(alloc);
+    let mut head = HeadReader::new(alloc, heading);
     if let Some(end) = give_lines(input, at, &mut head) {
         return Err(end);
     }

@@ -11,10 +11,11 @@ use Rattle.packing_terms.specs.Results.{◌>>=◌}
 use Rattle.text_terms.specs.Feeding.{Lexer, new_lexer, end_line as end_line_step, add_byte, held_of, feed, finish, ended_line}
 use Rattle.document_terms.specs.declared.claim.Claim.{Claim}
 use Rattle.verdict_terms.specs.declared.reason.Reason.{Reason}
+use Rattle.verdict_terms.specs.declared.heading.Heading.{Heading}
 use Rattle.verdict_terms.specs.Stages.{Stage, stage_after}
 use Rattle.verdict_terms.specs.Stages.Stage.{Beginning}
-use Rattle.verdict_terms.specs.Documents.{Refusal, document_at_line, document_at_end, document_verdict}
-use Rattle.verdict_terms.specs.Fed.{taken_line, fed_verdict, NoneRefused, EndsRefused}
+use Rattle.verdict_terms.specs.Documents.{Refusal, document_at_line, document_at_end, headed_verdict}
+use Rattle.verdict_terms.specs.Fed.{taken_line, fed_verdict, NoneRefusedUnder, EndsRefused}
 use Rattle.verdict_terms.proofs.FedGiven.{documents_are_fed}
 use Rattle.verdict_terms.proofs.Stays.{refusals_stay, split_feed, end_append, end_line}
 use Rattle.pack_streams.specs.Faults.{FailedOnce}
@@ -25,7 +26,7 @@ use Rattle.document_lines.specs.declared.judge.LineStop.{LineStop}
 use Rattle.document_lines.specs.declared.judge.LineStop.TheVariants.{Refused as LineRefused}
 use Rattle.document_lines.specs.declared.judge.ReadEnd.{ReadEnd}
 use Rattle.document_lines.specs.declared.judge.ReadEnd.TheVariants.{End, Paused, Refused, TooLong, ReadFault, NoMemory}
-use Rattle.document_lines.specs.Reading.{IsSoFar, IsTaking, TakesByte, TakesEnd, NoneRefusedBefore, IsRead}
+use Rattle.document_lines.specs.Reading.{IsSoFar, IsTaking, TakesByte, TakesEnd, NoneBeforeUnder, IsRead}
 
 -- ---- bytes of a source
 
@@ -67,14 +68,14 @@ same_number s b f = ap (λ t. (cond t (end_line_step s) (record { number = s.num
 
 -- ---- steps
 
-pub so_far_start : IsSoFar new_lexer Beginning []
-so_far_start = record { goes = λ rest. documents_are_fed rest; number = refl }
+pub so_far_start : (heading : Heading) → IsSoFar heading new_lexer (Beginning heading) []
+so_far_start heading = record { goes = λ rest. documents_are_fed heading rest; number = refl }
 
 -- a byte more
-pub so_far_more : (s : Lexer) (stage next : Stage) (taken : List ℕ) (b : ℕ) → IsSoFar s stage taken → ((rest : List ℕ) → fed_verdict s stage (b ∷ rest) ≡ fed_verdict (feed b s) next rest)
-    → IsSoFar (feed b s) next (taken ++ b ∷ [])
-so_far_more s stage next taken b h step = record {
-  goes = λ rest. sym (step rest) ∙ h.goes (b ∷ rest) ∙ ap document_verdict (sym (append_assoc taken (b ∷ []) rest));
+pub so_far_more : (heading : Heading) (s : Lexer) (stage next : Stage) (taken : List ℕ) (b : ℕ) → IsSoFar heading s stage taken → ((rest : List ℕ) → fed_verdict s stage (b ∷ rest) ≡ fed_verdict (feed b s) next rest)
+    → IsSoFar heading (feed b s) next (taken ++ b ∷ [])
+so_far_more heading s stage next taken b h step = record {
+  goes = λ rest. sym (step rest) ∙ h.goes (b ∷ rest) ∙ ap (headed_verdict heading) (sym (append_assoc taken (b ∷ []) rest));
   number = go (is_line_feed b) refl;
 }
   where
@@ -90,11 +91,11 @@ so_far_more s stage next taken b h step = record {
     go false f = let e = split_push taken b f in let n = h.number in let m = same_number s b f in omega (arith, e, n, m)
 
 -- a refused line
-pub refused_here : (s : Lexer) (stage : Stage) (taken : List ℕ) (b : ℕ) (reason : Reason) → IsSoFar s stage taken → is_line_feed b ≡ true
+pub refused_here : (heading : Heading) (s : Lexer) (stage : Stage) (taken : List ℕ) (b : ℕ) (reason : Reason) → IsSoFar heading s stage taken → is_line_feed b ≡ true
     → ((rest : List ℕ) → fed_verdict s stage (b ∷ rest) ≡ Err (record { line = (feed b s).number; reason = reason }))
-    → (document_verdict (taken ++ b ∷ []) ≡ Err (record { line = (feed b s).number; reason = reason }))
+    → (headed_verdict heading (taken ++ b ∷ []) ≡ Err (record { line = (feed b s).number; reason = reason }))
     × EndsRefused (taken ++ b ∷ []) (record { line = (feed b s).number; reason = reason })
-refused_here s stage taken b reason h f step = (
+refused_here heading s stage taken b reason h f step = (
   sym (h.goes (b ∷ [])) ∙ step [],
   record {
     front = taken;
@@ -133,10 +134,10 @@ late s stage (b ∷ rest) r e = go (is_line_feed b) refl e (λ next f. late (fee
     go false f g later = let l = later stage g in let n = same_number s b f in omega (arith, l, n)
 
 -- no line that was whole is refused
-pub none_refused : (s : Lexer) (stage : Stage) (taken : List ℕ) → IsSoFar s stage taken → NoneRefused taken
-none_refused s stage taken h front rest refusal e ends v =
+pub none_refused : (heading : Heading) (s : Lexer) (stage : Stage) (taken : List ℕ) → IsSoFar heading s stage taken → NoneRefusedUnder heading taken
+none_refused heading s stage taken h front rest refusal e ends v =
     let whole : taken ++ [] ≡ front ++ rest = append-nil taken ∙ e in
-    let last : fed_verdict s stage [] ≡ Err refusal = h.goes [] ∙ ap document_verdict whole ∙ refusals_stay front rest refusal v ends in
+    let last : fed_verdict s stage [] ≡ Err refusal = h.goes [] ∙ ap (headed_verdict heading) whole ∙ refusals_stay heading front rest refusal v ends in
     let l = late s stage [] refusal last in
     let here : refusal.line ≡ length (slice_split is_line_feed ends.front) = ends.is_last ∙ ap (λ x. length (text_lines x)) ends.are ∙ ended_lines ends.front in
     let parts : taken ≡ ends.front ++ 10 ∷ rest = e ∙ ap (λ x. x ++ rest) ends.are ∙ append_assoc ends.front (10 ∷ []) rest in
@@ -148,20 +149,20 @@ none_refused s stage taken h front rest refusal e ends v =
     absurd (omega (arith, l, here, count, a, b, n))
 
 -- fewer bytes have no refused line either
-fewer_refused : (n : ℕ) (bytes : List ℕ) → NoneRefused bytes → NoneRefused (take n bytes)
-fewer_refused n bytes none front rest refusal e =
+fewer_refused : (heading : Heading) (n : ℕ) (bytes : List ℕ) → NoneRefusedUnder heading bytes → NoneRefusedUnder heading (take n bytes)
+fewer_refused heading n bytes none front rest refusal e =
     none front (rest ++ drop n bytes) refusal (sym (take-append-drop n bytes) ∙ ap (λ xs. xs ++ drop n bytes) e ∙ append_assoc front rest (drop n bytes))
 
 -- bytes that leave a stage have no refused line, also before the last of them
-pub none_before : (s : Lexer) (stage : Stage) (taken : List ℕ) → IsSoFar s stage taken → NoneRefusedBefore taken
-none_before s stage taken h = fewer_refused (pred (length taken)) taken (none_refused s stage taken h)
+pub none_before : (heading : Heading) (s : Lexer) (stage : Stage) (taken : List ℕ) → IsSoFar heading s stage taken → NoneBeforeUnder heading taken
+none_before heading s stage taken h = fewer_refused heading (pred (length taken)) taken (none_refused heading s stage taken h)
 
 -- nor have they before one byte more
-none_before_one : (s : Lexer) (stage : Stage) (taken : List ℕ) (b : ℕ) → IsSoFar s stage taken → NoneRefusedBefore (taken ++ b ∷ [])
-none_before_one s stage taken b h =
+none_before_one : (heading : Heading) (s : Lexer) (stage : Stage) (taken : List ℕ) (b : ℕ) → IsSoFar heading s stage taken → NoneBeforeUnder heading (taken ++ b ∷ [])
+none_before_one heading s stage taken b h =
     let l = length-append taken (b ∷ []) in
     let last : length taken ≡ pred (length (taken ++ b ∷ [])) = omega (arith, l) in
-    subst NoneRefused (sym (take_at taken (b ∷ []) (pred (length (taken ++ b ∷ []))) last)) (none_refused s stage taken h)
+    subst (NoneRefusedUnder heading) (sym (take_at taken (b ∷ []) (pred (length (taken ++ b ∷ []))) last)) (none_refused heading s stage taken h)
 
 -- ---- how the reading ends
 
@@ -176,11 +177,11 @@ single (x ∷ []) e = refl
 single (x ∷ y ∷ xs) e = absurd (omega (arith, e))
 
 -- so many bytes were taken, and then a read that didn't fail
-module _ (limit m : ℕ) (old mid now : Option (List ℕ)) (before after : ℕ) (s : Lexer) (stage : Stage) (n : ℕ) (so_far : IsTaking old mid s stage n)
+module _ (heading : Heading) (limit m : ℕ) (old mid now : Option (List ℕ)) (before after : ℕ) (s : Lexer) (stage : Stage) (n : ℕ) (so_far : IsTaking heading old mid s stage n)
     (same : after ≡ before) where
   -- the end of the source
   pub ends_here : (piece : List ℕ) (new : Lexer) (next : Stage) (result : ReadEnd) → n ≤ limit → ReadsPiece mid now SourceEnd piece → TakesEnd s stage new next result
-      → IsRead limit old now before after new next m result
+      → IsRead heading limit old now before after new next m result
   ends_here piece new next End few reads ends = record {
     taken = so_far.taken;
     gives = subst (λ x. Gives old x so_far.taken) (sym reads.1) so_far.gives;
@@ -188,8 +189,8 @@ module _ (limit m : ℕ) (old mid now : Option (List ℕ)) (before after : ℕ) 
     ends = (
       subst IsAtEnd (sym reads.1) reads.0,
       (let c = so_far.counted in omega (arith, c, few)),
-      ap document_verdict (sym (append-nil so_far.taken)) ∙ sym (so_far.so_far.goes []) ∙ ends,
-      none_refused s stage so_far.taken so_far.so_far,
+      ap (headed_verdict heading) (sym (append-nil so_far.taken)) ∙ sym (so_far.so_far.goes []) ∙ ends,
+      none_refused heading s stage so_far.taken so_far.so_far,
     );
   }
   ends_here piece new next (Refused reason) few reads ends = record {
@@ -197,9 +198,9 @@ module _ (limit m : ℕ) (old mid now : Option (List ℕ)) (before after : ℕ) 
     gives = subst (λ x. Gives old x so_far.taken) (sym reads.1) so_far.gives;
     faults = same;
     ends = (
-      ap document_verdict (sym (append-nil so_far.taken)) ∙ sym (so_far.so_far.goes []) ∙ ends,
+      ap (headed_verdict heading) (sym (append-nil so_far.taken)) ∙ sym (so_far.so_far.goes []) ∙ ends,
       (let c = so_far.counted in omega (arith, c, few)),
-      inr (subst IsAtEnd (sym reads.1) reads.0, none_refused s stage so_far.taken so_far.so_far),
+      inr (subst IsAtEnd (sym reads.1) reads.0, none_refused heading s stage so_far.taken so_far.so_far),
     );
   }
   ends_here piece new next Paused few reads ends = absurd ends
@@ -209,7 +210,7 @@ module _ (limit m : ℕ) (old mid now : Option (List ℕ)) (before after : ℕ) 
     taken = so_far.taken;
     gives = subst (λ x. Gives old x so_far.taken) (sym reads.1) so_far.gives;
     faults = same;
-    ends = ((let c = so_far.counted in omega (arith, c, few)), none_before s stage so_far.taken so_far.so_far);
+    ends = ((let c = so_far.counted in omega (arith, c, few)), none_before heading s stage so_far.taken so_far.so_far);
   }
 
   -- a byte, in a piece of one byte
@@ -224,28 +225,28 @@ module _ (limit m : ℕ) (old mid now : Option (List ℕ)) (before after : ℕ) 
 
   -- what is held behind it
   pub taking_more : (k : ℕ) (piece : List ℕ) (next : Stage) (new : Lexer) → length piece ≡ 1 → ReadsPiece mid now (Got k) piece
-      → TakesByte s stage (get_or piece 0 0) new next (Ok tt) → IsTaking old now new next (n + 1)
+      → TakesByte s stage (get_or piece 0 0) new next (Ok tt) → IsTaking heading old now new next (n + 1)
   taking_more k piece next new e reads step =
-      subst (λ x. IsTaking old now x next (n + 1)) (sym step.0) (record {
+      subst (λ x. IsTaking heading old now x next (n + 1)) (sym step.0) (record {
         taken = so_far.taken ++ get_or piece 0 0 ∷ [];
         gives = gives_one k piece e reads;
         counted = one_more_byte (get_or piece 0 0);
-        so_far = so_far_more s stage next so_far.taken (get_or piece 0 0) so_far.so_far (λ rest. step.1 rest ∙ ap (λ x. fed_verdict x next rest) step.0);
+        so_far = so_far_more heading s stage next so_far.taken (get_or piece 0 0) so_far.so_far (λ rest. step.1 rest ∙ ap (λ x. fed_verdict x next rest) step.0);
       })
 
   -- it ends the refused line
   pub refused_at : (k : ℕ) (piece : List ℕ) (next : Stage) (new : Lexer) → n < limit → length piece ≡ 1 → ReadsPiece mid now (Got k) piece
-      → (code : LineStop) (reason : Reason) → code ≡ LineRefused reason → TakesByte s stage (get_or piece 0 0) new next (Err code) → IsRead limit old now before after new next m (Refused reason)
+      → (code : LineStop) (reason : Reason) → code ≡ LineRefused reason → TakesByte s stage (get_or piece 0 0) new next (Err code) → IsRead heading limit old now before after new next m (Refused reason)
   refused_at k piece next new room e reads code reason is step =
       let b : ℕ = get_or piece 0 0 in
       let refused : TakesByte s stage b new next (Err (LineRefused reason)) = subst (λ x. TakesByte s stage b new next (Err x)) is step in
-      let h = refused_here s stage so_far.taken b reason so_far.so_far refused.1 (λ rest. refused.2 rest ∙ ap (λ (x : Lexer). Err (record { line = x.number; reason = reason })) refused.0) in
+      let h = refused_here heading s stage so_far.taken b reason so_far.so_far refused.1 (λ rest. refused.2 rest ∙ ap (λ (x : Lexer). Err (record { line = x.number; reason = reason })) refused.0) in
       let line : (feed b s).number ≡ new.number = ap (λ (x : Lexer). x.number) (sym refused.0) in record {
         taken = so_far.taken ++ b ∷ [];
         gives = gives_one k piece e reads;
         faults = same;
         ends = (
-          subst (λ l. document_verdict (so_far.taken ++ b ∷ []) ≡ Err (record { line = l; reason = reason })) line h.0,
+          subst (λ l. headed_verdict heading (so_far.taken ++ b ∷ []) ≡ Err (record { line = l; reason = reason })) line h.0,
           (let l = one_more_byte b in omega (arith, l, room)),
           inl (subst (λ l. EndsRefused (so_far.taken ++ b ∷ []) (record { line = l; reason = reason })) line h.1),
         );
@@ -253,19 +254,19 @@ module _ (limit m : ℕ) (old mid now : Option (List ℕ)) (before after : ℕ) 
 
   -- memory was refused for the line that it ends
   pub no_memory_at : (k : ℕ) (piece : List ℕ) (next : Stage) (new : Lexer) → n < limit → length piece ≡ 1 → ReadsPiece mid now (Got k) piece
-      → IsRead limit old now before after new next m NoMemory
+      → IsRead heading limit old now before after new next m NoMemory
   no_memory_at k piece next new room e reads = record {
     taken = so_far.taken ++ get_or piece 0 0 ∷ [];
     gives = gives_one k piece e reads;
     faults = same;
     ends = (
       (let l = one_more_byte (get_or piece 0 0) in omega (arith, l, room)),
-      none_before_one s stage so_far.taken (get_or piece 0 0) so_far.so_far,
+      none_before_one heading s stage so_far.taken (get_or piece 0 0) so_far.so_far,
     );
   }
 
   -- it is one byte too many
-  pub long_here : (k : ℕ) (piece : List ℕ) → n ≡ limit → length piece ≡ 1 → ReadsPiece mid now (Got k) piece → IsRead limit old now before after s stage m TooLong
+  pub long_here : (k : ℕ) (piece : List ℕ) → n ≡ limit → length piece ≡ 1 → ReadsPiece mid now (Got k) piece → IsRead heading limit old now before after s stage m TooLong
   long_here k piece full e reads =
       let b : ℕ = get_or piece 0 0 in record {
         taken = so_far.taken ++ b ∷ [];
@@ -273,13 +274,13 @@ module _ (limit m : ℕ) (old mid now : Option (List ℕ)) (before after : ℕ) 
         faults = same;
         ends = (
           one_more_byte b ∙ ap (λ x. x + 1) full,
-          subst NoneRefused (sym (take_at so_far.taken (b ∷ []) limit (so_far.counted ∙ full))) (none_refused s stage so_far.taken so_far.so_far),
+          subst (NoneRefusedUnder heading) (sym (take_at so_far.taken (b ∷ []) limit (so_far.counted ∙ full))) (none_refused heading s stage so_far.taken so_far.so_far),
         );
       }
 
   -- the judge has taken its last line
   pub paused_at : (k : ℕ) (piece : List ℕ) (next : Stage) (new : Lexer) → length piece ≡ 1 → ReadsPiece mid now (Got k) piece
-      → TakesByte s stage (get_or piece 0 0) new next (Ok tt) → m ≡ n + 1 → IsRead limit old now before after new next m Paused
+      → TakesByte s stage (get_or piece 0 0) new next (Ok tt) → m ≡ n + 1 → IsRead heading limit old now before after new next m Paused
   paused_at k piece next new e reads step counted =
       let l = taking_more k piece next new e reads step in record {
         taken = l.taken;
@@ -289,20 +290,20 @@ module _ (limit m : ℕ) (old mid now : Option (List ℕ)) (before after : ℕ) 
       }
 
 -- so many bytes were taken, and then a read failed
-pub fails_here : (limit m : ℕ) (old mid now : Option (List ℕ)) (before after : ℕ) (s : Lexer) (stage : Stage) (n : ℕ) → IsTaking old mid s stage n → FailedOnce before after
-    → n ≤ limit → now ≡ mid → IsRead limit old now before after s stage m ReadFault
-fails_here limit m old mid now before after s stage n so_far once few same = record {
+pub fails_here : (heading : Heading) (limit m : ℕ) (old mid now : Option (List ℕ)) (before after : ℕ) (s : Lexer) (stage : Stage) (n : ℕ) → IsTaking heading old mid s stage n → FailedOnce before after
+    → n ≤ limit → now ≡ mid → IsRead heading limit old now before after s stage m ReadFault
+fails_here heading limit m old mid now before after s stage n so_far once few same = record {
   taken = so_far.taken;
   gives = subst (λ x. Gives old x so_far.taken) (sym same) so_far.gives;
   faults = once;
-  ends = ((let c = so_far.counted in omega (arith, c, few)), none_refused s stage so_far.taken so_far.so_far);
+  ends = ((let c = so_far.counted in omega (arith, c, few)), none_refused heading s stage so_far.taken so_far.so_far);
 }
 
 -- ---- the loop
 
 -- what holds in the loop, behind any bytes that were taken before
 pub record IsReading (old now : Option (List ℕ)) (before after : ℕ) (s0 : Lexer) (stage0 : Stage) (n0 : ℕ) (s : Lexer) (stage : Stage) (n : ℕ) (takes : Bool) (piece : List ℕ) : Type 0 where
-  pub taking : (first : Option (List ℕ)) → IsTaking first old s0 stage0 n0 → IsTaking first now s stage n
+  pub taking : (heading : Heading) (first : Option (List ℕ)) → IsTaking heading first old s0 stage0 n0 → IsTaking heading first now s stage n
   pub one : length piece ≡ 1
   pub number : s.number ≤ n
   pub few : n ≤ 1099511627776

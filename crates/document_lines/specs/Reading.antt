@@ -7,10 +7,12 @@ use Rattle.pack_streams.specs.Moves.{Gives}
 use Rattle.text_terms.specs.Lines.{is_line_feed}
 use Rattle.text_terms.specs.Feeding.{Lexer, ended_line, feed}
 use Rattle.document_terms.specs.declared.claim.Claim.{Claim}
+use Rattle.verdict_terms.specs.declared.heading.Heading.{Heading}
+use Rattle.verdict_terms.specs.declared.heading.Heading.TheVariants.{Answer}
 use Rattle.verdict_terms.specs.Stages.{Stage, stage_after}
 use Rattle.verdict_terms.specs.Stages.Stage.{Ended}
-use Rattle.verdict_terms.specs.Documents.{Refusal, document_at_end, document_verdict}
-use Rattle.verdict_terms.specs.Fed.{fed_verdict, NoneRefused, EndsRefused}
+use Rattle.verdict_terms.specs.Documents.{Refusal, document_at_end, headed_verdict}
+use Rattle.verdict_terms.specs.Fed.{fed_verdict, NoneRefusedUnder, EndsRefused}
 use Rattle.document_lines.specs.declared.judge.LineStop.{LineStop}
 use Rattle.document_lines.specs.declared.judge.LineStop.TheVariants.{Refused as LineRefused, NoMemory as LineNoMemory}
 use Rattle.document_lines.specs.declared.judge.ReadEnd.{ReadEnd}
@@ -33,39 +35,47 @@ Judges old line new (Ok u) = stage_after old (ended_line line.held) ≡ Ok new
 Judges old line new (Err (LineRefused reason)) = stage_after old (ended_line line.held) ≡ Err reason
 Judges old line new (Err LineNoMemory) = Unit {0}
 
--- what these bytes leave: whatever follows gives the verdict of the whole, and as many lines have
--- ended as there are line feeds
-pub record IsSoFar (s : Lexer) (stage : Stage) (taken : List ℕ) : Type 0 where
-  pub goes : (rest : List ℕ) → fed_verdict s stage rest ≡ document_verdict (taken ++ rest)
+-- what these bytes leave: whatever follows gives the verdict of the whole under this heading, and as
+-- many lines have ended as there are line feeds
+pub record IsSoFar (heading : Heading) (s : Lexer) (stage : Stage) (taken : List ℕ) : Type 0 where
+  pub goes : (rest : List ℕ) → fed_verdict s stage rest ≡ headed_verdict heading (taken ++ rest)
   pub number : s.number + 1 ≡ length (slice_split is_line_feed taken)
 
 -- so many bytes were taken
-pub record IsTaking (old now : Option (List ℕ)) (s : Lexer) (stage : Stage) (count : ℕ) : Type 0 where
+pub record IsTaking (heading : Heading) (old now : Option (List ℕ)) (s : Lexer) (stage : Stage) (count : ℕ) : Type 0 where
   pub taken : List ℕ
   pub gives : Gives old now taken
   pub counted : length taken ≡ count
-  pub so_far : IsSoFar s stage taken
+  pub so_far : IsSoFar heading s stage taken
 
 -- the bytes taken are enough for a refusal: they end in the line feed of the refused line, or they
 -- are the whole input and no line of them that a line feed ends is refused
+abbrev pub AreEnoughUnder : Heading → Option (List ℕ) → List ℕ → Refusal → Type 0
+AreEnoughUnder heading left taken refusal = EndsRefused taken refusal ⊎ (IsAtEnd left × NoneRefusedUnder heading taken)
+
+-- the same of an answer
 abbrev pub AreBytesEnough : Option (List ℕ) → List ℕ → Refusal → Type 0
-AreBytesEnough left taken refusal = EndsRefused taken refusal ⊎ (IsAtEnd left × NoneRefused taken)
+AreBytesEnough left taken refusal = AreEnoughUnder Answer left taken refusal
 
 -- no line that was whole before the last of these bytes is refused
+abbrev pub NoneBeforeUnder : Heading → List ℕ → Type 0
+NoneBeforeUnder heading bytes = NoneRefusedUnder heading (take (pred (length bytes)) bytes)
+
+-- the same of an answer
 abbrev pub NoneRefusedBefore : List ℕ → Type 0
-NoneRefusedBefore bytes = NoneRefused (take (pred (length bytes)) bytes)
+NoneRefusedBefore bytes = NoneBeforeUnder Answer bytes
 
 -- what the reading came to, by the bytes taken
-abbrev pub EndsAs : ℕ → Option (List ℕ) → List ℕ → Lexer → Stage → ℕ → ReadEnd → Type 0
-EndsAs limit left taken s stage count End =
-    IsAtEnd left × (length taken ≤ limit) × (document_verdict taken ≡ document_at_end stage s.number) × NoneRefused taken
-EndsAs limit left taken s stage count Paused = (length taken ≡ count) × IsSoFar s stage taken
-EndsAs limit left taken s stage count (Refused reason) =
-    (document_verdict taken ≡ Err (record { line = s.number; reason = reason })) × (length taken ≤ limit)
-    × AreBytesEnough left taken (record { line = s.number; reason = reason })
-EndsAs limit left taken s stage count TooLong = (length taken ≡ limit + 1) × NoneRefused (take limit taken)
-EndsAs limit left taken s stage count ReadFault = (length taken ≤ limit) × NoneRefused taken
-EndsAs limit left taken s stage count NoMemory = (length taken ≤ limit) × NoneRefusedBefore taken
+abbrev pub EndsAs : Heading → ℕ → Option (List ℕ) → List ℕ → Lexer → Stage → ℕ → ReadEnd → Type 0
+EndsAs heading limit left taken s stage count End =
+    IsAtEnd left × (length taken ≤ limit) × (headed_verdict heading taken ≡ document_at_end stage s.number) × NoneRefusedUnder heading taken
+EndsAs heading limit left taken s stage count Paused = (length taken ≡ count) × IsSoFar heading s stage taken
+EndsAs heading limit left taken s stage count (Refused reason) =
+    (headed_verdict heading taken ≡ Err (record { line = s.number; reason = reason })) × (length taken ≤ limit)
+    × AreEnoughUnder heading left taken (record { line = s.number; reason = reason })
+EndsAs heading limit left taken s stage count TooLong = (length taken ≡ limit + 1) × NoneRefusedUnder heading (take limit taken)
+EndsAs heading limit left taken s stage count ReadFault = (length taken ≤ limit) × NoneRefusedUnder heading taken
+EndsAs heading limit left taken s stage count NoMemory = (length taken ≤ limit) × NoneBeforeUnder heading taken
 
 -- the count of faults of the source: the first read that fails is the last
 abbrev pub CountsLines : ℕ → ℕ → ReadEnd → Type 0
@@ -76,17 +86,17 @@ CountsLines before now (Refused reason) = now ≡ before
 CountsLines before now TooLong = now ≡ before
 CountsLines before now NoMemory = now ≡ before
 
-pub record IsRead (limit : ℕ) (old left : Option (List ℕ)) (before now : ℕ) (s : Lexer) (stage : Stage) (count : ℕ) (result : ReadEnd) : Type 0 where
+pub record IsRead (heading : Heading) (limit : ℕ) (old left : Option (List ℕ)) (before now : ℕ) (s : Lexer) (stage : Stage) (count : ℕ) (result : ReadEnd) : Type 0 where
   pub taken : List ℕ
   pub gives : Gives old left taken
   pub faults : CountsLines before now result
-  pub ends : EndsAs limit left taken s stage count result
+  pub ends : EndsAs heading limit left taken s stage count result
 
--- What a reading does, behind any bytes that were taken before: `first` is what the source told
--- before the first of them.
+-- What a reading does under any heading, behind any bytes that were taken before: `first` is what
+-- the source told before the first of them.
 abbrev pub IsReadBehind : ℕ → Option (List ℕ) → Option (List ℕ) → ℕ → ℕ → Lexer → Stage → ℕ → Lexer → Stage → ℕ → ReadEnd → Type 0
 IsReadBehind limit old left before now s stage n new next count result =
-    (first : Option (List ℕ)) → IsTaking first old s stage n → IsRead limit first left before now new next count result
+    (heading : Heading) (first : Option (List ℕ)) → IsTaking heading first old s stage n → IsRead heading limit first left before now new next count result
 
 -- a byte that was taken: whatever follows, the verdict goes on from what is held now; or the byte
 -- ends a line that is refused

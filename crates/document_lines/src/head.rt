@@ -1,8 +1,9 @@
 //! The lines of a document up to its result line.
 ghost use Rattle.std.specs.Prelude.{◌≡◌, ◌≤◌, ◌<◌, length, not, Ok, None, true, IsTrue, IfOk};
+ghost use Rattle.text_terms.specs.Lines.{same_bytes};
 ghost use Rattle.text_terms.specs.Texts.{no_parts};
 ghost use Rattle.text_terms.specs.Feeding.{ended_line};
-ghost use Rattle.verdict_terms.specs.Stages.{claimed, job_named, filled_line, is_result, rest_of, result_line};
+ghost use Rattle.verdict_terms.specs.Stages.{claimed_under, heading_word, job_named, job_headed, filled_line, is_result, rest_of, result_line};
 ghost use Rattle.verdict_terms.specs.Stages.Stage.{Beginning, Reading};
 ghost use Rattle.verdict_terms.specs.Trees.{map_ok};
 ghost use Rattle.document_lines.specs.Reading.{Judges, IsAt, ended_claim};
@@ -18,11 +19,12 @@ use instance_text::{InstanceReader, LineLexer, ReadTextError};
 use std::alloc::Global;
 use std::marker::Model;
 use std::mem;
-use verdict_terms::Reason;
+use verdict_terms::{Heading, Reason};
 
-/// An instance, and what a document claims of it.
+/// An instance, and what a document claims of it under its heading.
 #[derive(Drop)]
 pub struct Claimed {
+    pub heading: Heading,
     pub instance: Instance,
     pub claim: Claim,
 }
@@ -46,10 +48,36 @@ fn job_named(word: &[u8]) -> Result<SolvingJob, Reason>
     Err(FORM)
 }
 
+// The job that a word names behind the first word of a heading.
+fn job_headed(heading: Heading, word: &[u8]) -> Result<SolvingJob, Reason>
+    ensures { result ≡ job_headed heading word.now }
+{
+    match heading {
+        Heading::Answer => job_named(word),
+        Heading::Reduced => {
+            if is_same(word, b"fit") {
+                Ok(SolvingJob::Fit)
+            } else {
+                Err(FORM)
+            }
+        }
+    }
+}
+
+// Whether the word is the first word of a heading.
+fn is_heading(heading: Heading, word: &[u8]) -> bool
+    ensures { result ≡ same_bytes word.now (heading_word heading) }
+{
+    match heading {
+        Heading::Answer => is_same(word, b"answer"),
+        Heading::Reduced => is_same(word, b"reduced"),
+    }
+}
+
 // The job of the first line.
-fn read_job(line: &LineLexer) -> Result<SolvingJob, Reason>
-    ensures { map_ok (λ job. Reading job no_parts) result
-        ≡ filled_line Beginning (ended_line line.now.held) }
+fn read_job(heading: Heading, line: &LineLexer) -> Result<SolvingJob, Reason>
+    ensures { map_ok (λ job. Reading heading job no_parts) result
+        ≡ filled_line (Beginning heading) (ended_line line.now.held) }
 {
     if line.bad_byte() {
         return Err(FORM);
@@ -57,18 +85,24 @@ fn read_job(line: &LineLexer) -> Result<SolvingJob, Reason>
     if line.word_count() != 2 {
         return Err(FORM);
     }
-    if !is_same(line.word(0), b"answer") {
+    if !is_heading(heading, line.word(0)) {
         return Err(FORM);
     }
-    job_named(line.word(1))
+    job_headed(heading, line.word(1))
 }
 
 // The instance that was read, with the claim of the result line.
-fn read_result(job: SolvingJob, reader: InstanceReader, line: &LineLexer) -> Result<Claimed, Reason>
+fn read_result(
+    heading: Heading,
+    job: SolvingJob,
+    reader: InstanceReader,
+    line: &LineLexer,
+) -> Result<Claimed, Reason>
     requires held { IsHeldHead reader }
     requires some { 1 ≤ length line.now.held.words }
-    ensures claimed { map_ok (λ (c : Claimed). claimed c.instance c.claim) result
-        ≡ result_line job (held_parts reader) (rest_of line.now.held.words) }
+    ensures heading { IfOk result (λ c. c.heading ≡ heading) }
+    ensures claimed { map_ok (λ (c : Claimed). claimed_under heading c.instance c.claim) result
+        ≡ result_line heading job (held_parts reader) (rest_of line.now.held.words) }
     ensures ranged { IfOk result (λ c. IsRanged c.instance c.claim) }
 {
     let instance = match reader.finish(0) {
@@ -77,7 +111,11 @@ fn read_result(job: SolvingJob, reader: InstanceReader, line: &LineLexer) -> Res
         Err(ReadTextError::NoMemory) => unreachable!(),
     };
     let claim = read_claim(job, &instance, line)?;
-    Ok(Claimed { instance, claim })
+    Ok(Claimed {
+        heading,
+        instance,
+        claim,
+    })
 }
 
 // Takes a line of the instance text. A reader that can't go on is replaced by a new one.
@@ -96,12 +134,14 @@ fn take_text(alloc: Global, reader: &mut InstanceReader, line: &LineLexer) -> Re
     Err(stop)
 }
 
-/// Takes the lines of a document up to its result line: the job, the instance text, the claim.
+/// Takes the lines of a document up to its result line: the heading with the job, the instance text,
+/// the claim.
 ///
 /// It takes lines up to the result line.
 #[derive(Drop)]
 pub struct HeadReader {
     alloc: Global,
+    heading: Heading,
     job: Option<SolvingJob>,
     reader: InstanceReader,
     claimed: Option<Claimed>,
@@ -111,26 +151,28 @@ impl Model for HeadReader {
     ghost use Rattle.std.specs.Prelude.{None};
     ghost use Rattle.document_lines.specs.Reading.{PlainJudge};
     ghost use Rattle.document_lines.specs.Ranges.{IsRanged};
-    ghost use Rattle.document_lines.specs.Heads.{head_stage, is_open, IsHeldBehind, IsRangedClaim};
+    ghost use Rattle.document_lines.specs.Heads.{head_stage, is_open, IsHeldBehind, IsRangedClaim, IsClaimedUnder};
 
     ghost Value = { PlainJudge };
 
     ghost view = { λ h. record {
-      stage = head_stage h.job h.reader h.claimed;
+      stage = head_stage h.heading h.job h.reader h.claimed;
       takes = is_open h.claimed;
       behind = None;
     } };
 
-    ghost invariant = { λ h. IsHeldBehind h.job h.reader × IsRangedClaim h.claimed };
+    ghost invariant = { λ h. IsHeldBehind h.job h.reader × IsRangedClaim h.claimed
+        × IsClaimedUnder h.heading h.claimed };
 }
 
 impl HeadReader {
-    /// No line was taken.
-    pub fn new(alloc: Global) -> HeadReader
-        ensures { result ≡ record { stage = Beginning; takes = true; behind = None } }
+    /// No line was taken of a document that has to begin with this heading.
+    pub fn new(alloc: Global, heading: Heading) -> HeadReader
+        ensures { result ≡ record { stage = Beginning heading; takes = true; behind = None } }
     {
         HeadReader {
             alloc,
+            heading,
             job: None,
             reader: InstanceReader::new(alloc),
             claimed: None,
@@ -163,7 +205,7 @@ impl LineJudge for HeadReader {
             return Ok(());
         }
         let Some(job) = self.job else {
-            return match read_job(line) {
+            return match read_job(self.heading, line) {
                 Ok(job) => {
                     self.job = Some(job);
                     Ok(())
@@ -175,7 +217,7 @@ impl LineJudge for HeadReader {
             return take_text(self.alloc, &mut self.reader, line);
         }
         let reader = mem::replace(&mut self.reader, InstanceReader::new(self.alloc));
-        match read_result(job, reader, line) {
+        match read_result(self.heading, job, reader, line) {
             Ok(claimed) => {
                 self.claimed = Some(claimed);
                 Ok(())

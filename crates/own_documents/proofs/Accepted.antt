@@ -22,6 +22,7 @@ use Rattle.document_terms.specs.declared.claim.Claim.{Claim}
 use Rattle.document_terms.specs.Claims.{job_of, job_word, result_words}
 use Rattle.document_terms.specs.declared.claim.Claim.TheVariants.{Fitting, NotFitting, LeastHeight, HeightBetween, NoHeight, LeastBins, BinsBetween, NoBins, GreatestValue, ValueBetween}
 use Rattle.verdict_terms.specs.Trees.{ToFit, ToFitIn, ToReach}
+use Rattle.verdict_terms.specs.declared.heading.Heading.TheVariants.{Answer}
 use Rattle.verdict_terms.specs.Form.{IsResult, Backs, AreProved, AreRefuting, ArePlaced, AreShared, AreTaken, IsExceedingLine}
 use Rattle.answer_terms.specs.Answers.{Lines, answer_text, answer_lines, document_lines, backing_lines, place_lines, bin_lines, take_lines, token_lines, proved_lines}
 use Rattle.answer_terms.specs.Answers.Answer.{Claimed}
@@ -398,5 +399,5 @@ own_verified job budget scales instance claim numbers tokens limits e =
     record {
       of_job = shown.of_job;
       is = is;
-      verified = (documents_have_form (answer_text instance (Claimed claim numbers tokens)) claim).1 is.document;
+      verified = (documents_have_form Answer (answer_text instance (Claimed claim numbers tokens)) claim).1 is.document;
     }

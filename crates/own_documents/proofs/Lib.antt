@@ -5,3 +5,4 @@ pub mod OuterWritten
 pub mod Numbered
 pub mod Accepted
 pub mod Undecided
+pub mod Reduced

@@ -6,14 +6,17 @@ use Rattle.text_terms.specs.Form.{HasForm, AreBoxLines, IsKerfPart}
 use Rattle.document_terms.specs.declared.claim.Claim.{Claim}
 use Rattle.document_terms.specs.declared.claim.SolvingJob.TheVariants.{Fit, Strip, Bins, Knapsack}
 use Rattle.document_terms.specs.declared.claim.Claim.TheVariants.{Fitting, NotFitting, LeastHeight, HeightBetween, NoHeight, LeastBins, BinsBetween, NoBins, GreatestValue, ValueBetween}
-use Rattle.verdict_terms.specs.Form.{IsDocument, IsResult}
+use Rattle.verdict_terms.specs.declared.heading.Heading.TheVariants.{Answer, Reduced}
+use Rattle.verdict_terms.specs.Form.{IsReducedDocument, IsDocument, IsResult}
 use Rattle.verdict_terms.proofs.FormGiven.{documents_have_form}
 use Rattle.answer_terms.specs.Answers.{Lines, answer_text, answer_lines}
 use Rattle.answer_terms.specs.Answers.Answer.{Undecided}
 use Rattle.answer_terms.specs.Solved.{solved, strip_answer, bins_answer}
 use Rattle.tree_terms.specs.ClassTree.{first_too_large_box, first_too_wide}
 use Rattle.tree_terms.specs.Levels.{height_run, bin_run}
-use Rattle.own_documents.specs.Own.{OnlyFitIsUndecided, UndecidedIsRefused}
+use Rattle.own_documents.specs.Own.{OnlyFitIsUndecided, UndecidedIsRefused, ReducedUndecidedIsRefused}
+use Rattle.answer_terms.specs.Reduced.{reduced_text, reduced_answer_lines}
+use Rattle.own_documents.proofs.Reduced.{filled_reduced}
 use Rattle.own_documents.proofs.Filled.{filled_text, instance_form}
 use Rattle.own_documents.proofs.Accepted.{filled_document}
 
@@ -81,7 +84,7 @@ no_claim instance (ValueBetween a b) words e h = absurd (let f : 1 ≡ 3 = ap le
 pub undecided_refused : UndecidedIsRefused
 unfolding answer_text
 undecided_refused instance claim limits e =
-    let d : IsDocument (lines_text (answer_lines instance Undecided)) claim = (documents_have_form (lines_text (answer_lines instance Undecided)) claim).0 e in
+    let d : IsDocument (lines_text (answer_lines instance Undecided)) claim = (documents_have_form Answer (lines_text (answer_lines instance Undecided)) claim).0 e in
     let lines = sym (filled_text (answer_lines instance Undecided) (filled_document instance Fit (codes "undecided" ∷ []) [] limits (omega arith, refl, tt) tt)) ∙ d.are in
     let rest : instance_words instance ++ (codes "result" ∷ codes "undecided" ∷ []) ∷ (codes "end" ∷ []) ∷ []
     ≡ d.written ++ (codes "result" ∷ d.result) ∷ (d.backing ++ (codes "end" ∷ []) ∷ []) = cc (lines) in
@@ -105,3 +108,15 @@ only_fit Bins budget scales instance e = absurd (by_large (first_too_large_box i
     by_large (Some p) f = absurd (cc (f))
     by_large None f = absurd (cc (f))
 only_fit Knapsack budget scales instance e = absurd (cc (e))
+
+pub reduced_undecided_refused : ReducedUndecidedIsRefused
+unfolding reduced_text
+reduced_undecided_refused instance claim limits e =
+    let d : IsReducedDocument (lines_text (reduced_answer_lines instance Undecided)) claim = (documents_have_form Reduced (lines_text (reduced_answer_lines instance Undecided)) claim).0 e in
+    let lines = sym (filled_text (reduced_answer_lines instance Undecided) (filled_reduced instance (codes "undecided" ∷ []) [] limits (omega arith, refl, tt) tt)) ∙ d.are in
+    let rest : instance_words instance ++ (codes "result" ∷ codes "undecided" ∷ []) ∷ (codes "end" ∷ []) ∷ []
+    ≡ d.written ++ (codes "result" ∷ d.result) ∷ (d.backing ++ (codes "end" ∷ []) ∷ []) = cc (lines) in
+    let same : codes "undecided" ∷ [] ≡ d.result =
+    same_result (instance_words instance) d.written (codes "undecided" ∷ []) d.result ((codes "end" ∷ []) ∷ []) (d.backing ++ (codes "end" ∷ []) ∷ [])
+    (form_no_result (instance_words instance) instance (instance_form instance limits)) (form_no_result d.written d.instance d.is_instance) rest in
+    no_claim d.instance claim d.result same d.is_result

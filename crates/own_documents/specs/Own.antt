@@ -6,10 +6,11 @@ use Rattle.packing_terms.specs.Limits.{IsInstance}
 use Rattle.packing_terms.specs.Tokens.{PlainToken}
 use Rattle.document_terms.specs.declared.claim.SolvingJob.{SolvingJob}
 use Rattle.document_terms.specs.declared.claim.Claim.{Claim}
-use Rattle.verdict_terms.specs.Documents.{document_verdict}
-use Rattle.verdict_terms.specs.Form.{IsDocument}
+use Rattle.verdict_terms.specs.Documents.{document_verdict, reduced_verdict}
+use Rattle.verdict_terms.specs.Form.{IsDocument, IsReducedDocument}
 use Rattle.answer_terms.specs.Answers.{answer_text}
 use Rattle.answer_terms.specs.Answers.Answer.{Undecided, Claimed}
+use Rattle.answer_terms.specs.Reduced.{reduced_solved, reduced_text}
 use Rattle.answer_terms.specs.Solved.{solved}
 use Rattle.answer_terms.specs.Shown.{Shows}
 use Rattle.document_terms.specs.Claims.{job_of}
@@ -44,3 +45,20 @@ OnlyFitIsUndecided = (job : SolvingJob) (budget : ℕ) (scales : Bool) (instance
 -- the document that says undecided is verified with no claim
 abbrev pub UndecidedIsRefused : Type 0
 UndecidedIsRefused = (instance : PlainInstance) (claim : Claim) → IsInstance instance → ¬ (document_verdict (answer_text instance Undecided) ≡ Ok claim)
+
+-- the text is a reduced document of the claim, verified with it, and the instance in it is this one
+pub record IsReducedFor (instance : PlainInstance) (text : List ℕ) (claim : Claim) : Type 0 where
+  pub document : IsReducedDocument text claim
+  pub about : document.instance ≡ instance
+  pub verified : reduced_verdict text ≡ Ok claim
+
+-- the document with which `reduced` claims something is verified with it, and about the asked
+-- instance
+abbrev pub OwnReducedDocumentsAreVerified : Type 0
+OwnReducedDocumentsAreVerified = (budget : ℕ) (scales : Bool) (instance : PlainInstance) (claim : Claim) (numbers : List ℕ) (tokens : List PlainToken)
+    → IsInstance instance → reduced_solved budget scales instance ≡ Claimed claim numbers tokens
+    → IsReducedFor instance (reduced_text instance (Claimed claim numbers tokens)) claim
+
+-- where it says undecided, it is verified with no claim
+abbrev pub ReducedUndecidedIsRefused : Type 0
+ReducedUndecidedIsRefused = (instance : PlainInstance) (claim : Claim) → IsInstance instance → ¬ (reduced_verdict (reduced_text instance Undecided) ≡ Ok claim)

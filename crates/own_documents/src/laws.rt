@@ -1,5 +1,5 @@
 //! What the definitions promise, each the contract of a function with an empty body.
-ghost use Rattle.own_documents.specs.Own.{ShownClaimsHaveDocuments, OwnDocumentsAreVerified, OnlyFitIsUndecided, UndecidedIsRefused};
+ghost use Rattle.own_documents.specs.Own.{ShownClaimsHaveDocuments, OwnDocumentsAreVerified, OnlyFitIsUndecided, UndecidedIsRefused, OwnReducedDocumentsAreVerified, ReducedUndecidedIsRefused};
 
 /// Where numbers and tokens show a claim about an instance, the text with them is a document of the
 /// claim, and the instance in it is that one, whoever found them.
@@ -21,4 +21,15 @@ pub fn only_fit_is_undecided()
 /// The document that says undecided is verified with no claim.
 pub fn undecided_is_refused()
     ensures { UndecidedIsRefused }
+{}
+
+/// A document with which `reduced` claims something is verified with that claim, and the instance in
+/// it is the asked one.
+pub fn own_reduced_documents_are_verified()
+    ensures { OwnReducedDocumentsAreVerified }
+{}
+
+/// The document with which `reduced` says undecided is verified with no claim.
+pub fn reduced_undecided_is_refused()
+    ensures { ReducedUndecidedIsRefused }
 {}

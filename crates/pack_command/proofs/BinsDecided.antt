@@ -7,6 +7,7 @@ use Rattle.tree_terms.specs.ClassTree.{first_too_large_box}
 use Rattle.tree_terms.specs.Levels.{PlainReached, bin_run}
 use Rattle.tree_terms.proofs.FirstFound.{first_large_is}
 use Rattle.tree_terms.proofs.SpentRuns.{bins_spent}
+use Rattle.answer_terms.specs.declared.job.DocumentJob.TheVariants.{Solving as Solves}
 use Rattle.document_terms.specs.declared.claim.SolvingJob.TheVariants.{Bins}
 use Rattle.document_terms.specs.declared.claim.Claim.TheVariants.{LeastBins, BinsBetween, NoBins}
 use Rattle.answer_terms.specs.Answers.{answer_text, status_of}
@@ -85,6 +86,6 @@ module _ (settings : Settings) (instance : PlainInstance) (limits : IsInstance i
   by_first None e g = reached run.spent e refl g
 
   -- the answer of `bins` is the least number of bins, two numbers between which it lies, or none
-  pub bins_decided : Gains old new (answer_for Bins settings instance).text → AreBinsDecided instance settings old new (answer_for Bins settings instance).status
+  pub bins_decided : Gains old new (answer_for (Solves Bins) settings instance).text → AreBinsDecided instance settings old new (answer_for (Solves Bins) settings instance).status
   unfolding solved
   bins_decided g = by_first (first_too_large_box instance) refl g

@@ -4,13 +4,13 @@ use Rattle.packing_terms.specs.Packing.{PlainInstance}
 use Rattle.text_terms.specs.Texts.{text_instance}
 use Rattle.text_terms.specs.declared.fault.TextFault.{TextFault}
 use Rattle.text_terms.specs.declared.settings.Settings.{Settings}
-use Rattle.document_terms.specs.declared.claim.SolvingJob.{SolvingJob}
+use Rattle.answer_terms.specs.declared.job.DocumentJob.{DocumentJob}
 use Rattle.document_terms.specs.declared.claim.Claim.{Claim}
 use Rattle.verdict_terms.specs.Documents.{Refusal}
 use Rattle.pack_streams.specs.Faults.{FailedOnce}
 use Rattle.pack_streams.specs.Moves.{Gives}
 use Rattle.pack_command.specs.Answered.{IsAnswerStatus}
-use Rattle.pack_command.specs.Asked.{AsksToSolve, AsksCheck, AsksToMake, AsksNothing, IsSolving, IsChecking, HasAnswer, ReadsNothing, IsLongInstance, IsLongDocument, IsFaultyText, IsRefusable}
+use Rattle.pack_command.specs.Asked.{AsksToSolve, AsksCheck, AsksToMake, AsksNothing, IsSolving, IsChecking, IsAuditing, HasAnswer, ReadsNothing, IsLongInstance, IsLongDocument, IsLongAudit, IsFaultyText, IsRefusable}
 use Rattle.pack_command.specs.Checks.{IsVerdictWritten, IsVerdictStatus, IsWithoutVerdict, IsPastLimit}
 use Rattle.pack_command.specs.Counts.{CountsReads, CountsWrites, CountsStatus, IsFaultStatus}
 use Rattle.pack_command.specs.Ends.{IsDone, IsUndone}
@@ -22,7 +22,10 @@ use Rattle.answer_streams.specs.Verdicts.{verdict_status}
 use Rattle.pack_command.proofs.Written.{taken_all, taken_within}
 use Rattle.pack_command.proofs.Stopped.{never_stops}
 use Rattle.pack_command.proofs.Checked.{one_job, solved_done, solved_undone, found_within}
-use Rattle.pack_command.proofs.Generating.{no_check, never_unmade, never_broken_off}
+use Rattle.pack_command.specs.Audits.{IsWholeAudit, IsWithoutAudit}
+use Rattle.pack_command.specs.Inputs.{most_audit_bytes}
+use Rattle.pack_command.proofs.Audited.{audited_done, audited_undone, long_audited}
+use Rattle.pack_command.proofs.Generating.{no_check, audit_checks, never_unmade, never_broken_off}
 
 -- ---- statuses
 
@@ -119,7 +122,7 @@ module _ (words : List (String Global)) (old new sunk_old sunk_new : Option (Lis
       none : AsksNothing words → ⊥
       none n = let i = asks.is in absurd (cc (n, i))
 
-      solves : ((job : SolvingJob) × (settings : Settings) × AsksToSolve words job settings) → ⊥
+      solves : ((job : DocumentJob) × (settings : Settings) × AsksToSolve words job settings) → ⊥
       solves a = one_job words a.0 a.1 a.2 asks
 
       go : (stop : Stop) → IsStopped words old new sunk_old sunk_new stop → IsWithoutVerdict old new sunk_old sunk_new stop ⊎ (stop ≡ NoMemory)
@@ -130,7 +133,8 @@ module _ (words : List (String Global)) (old new sunk_old sunk_new : Option (Lis
       go WriteFault s = absurd (one_job words s.answered.job s.answered.settings s.answered.asked asks)
       go NoMemory s = inr refl
   judged_undone stop asks (inr (inl c)) = inl c.1
-  judged_undone stop asks (inr (inr m)) = absurd (no_check words m.number m.settings m.asked asks)
+  judged_undone stop asks (inr (inr (inl m))) = absurd (no_check words m.number m.settings m.asked asks)
+  judged_undone stop asks (inr (inr (inr a))) = absurd (audit_checks words asks a.0)
 
   -- ---- words and an input that have an answer
 
@@ -160,7 +164,7 @@ module _ (words : List (String Global)) (old new sunk_old sunk_new : Option (Lis
   by_cases WriteFault none = tt
   by_cases NoMemory none = tt
 
-  solving_stops : (job : SolvingJob) (settings : Settings) (instance : PlainInstance) → IsSolving words old job settings instance → (stop : Stop)
+  solving_stops : (job : DocumentJob) (settings : Settings) (instance : PlainInstance) → IsSolving words old job settings instance → (stop : Stop)
       → IsUndone words old new sunk_old sunk_new stop → IsFault stop
   solving_stops job settings instance s stop undone =
       by_cases stop (never_stops words old new sunk_old sunk_new job settings s.bytes instance s.asks s.told s.within s.read stop
@@ -182,10 +186,27 @@ module _ (words : List (String Global)) (old new sunk_old sunk_new : Option (Lis
   making_stops number settings asks stop undone =
       by_cases stop (λ r w m. never_unmade words old new sunk_old sunk_new number settings asks stop undone w m)
 
+  auditing_stops : (bytes : List ℕ) → IsAuditing words old bytes → (stop : Stop) → IsUndone words old new sunk_old sunk_new stop → IsFault stop
+  auditing_stops bytes s stop undone = go stop (audited_undone words old new sunk_old sunk_new stop s.asks undone)
+    where
+      go : (stop : Stop) → IsWithoutAudit old new sunk_old sunk_new stop ⊎ (stop ≡ NoMemory) → IsFault stop
+      go stop (inr e) = subst IsFault (sym e) tt
+      go Words (inl w) = absurd w
+      go TooLong (inl w) =
+          let (taken, gives, past, most) = w.0 in
+          let l = taken_within old new taken bytes s.told gives in
+          let few = s.within in
+          absurd (omega (arith, l, past, few))
+      go (Text fault) (inl w) = absurd w
+      go ReadFault (inl w) = tt
+      go WriteFault (inl w) = tt
+      go NoMemory (inl w) = tt
+
   pub completes : HasAnswer words old → (stop : Stop) (status : ℕ) → status ≡ stop_status stop → IsUndone words old new sunk_old sunk_new stop → IsFaultStatus status
   completes (inl s) stop status e undone = fault_status stop status (solving_stops s.0 s.1 s.2 s.3 stop undone) e
   completes (inr (inl s)) stop status e undone = fault_status stop status (checking_stops s.0 s.1 stop undone) e
-  completes (inr (inr s)) stop status e undone = fault_status stop status (making_stops s.0 s.1 s.2 stop undone) e
+  completes (inr (inr (inl s))) stop status e undone = fault_status stop status (making_stops s.0 s.1 s.2 stop undone) e
+  completes (inr (inr (inr s))) stop status e undone = fault_status stop status (auditing_stops s.0 s.1 stop undone) e
 
   -- ---- words and an input that are to be refused
 
@@ -210,12 +231,15 @@ module _ (words : List (String Global)) (old new sunk_old sunk_new : Option (Lis
   pub refusable_done : (stop : Stop) → IsRefusable words old stop → (status : ℕ) → IsDone words old new sunk_old sunk_new status → ⊥
   refusable_done Words none status (inl w) = nothing_answered none status w.document w.answered
   refusable_done Words none status (inr (inl c)) = let i = c.0.is in absurd (cc (none, i))
-  refusable_done Words none status (inr (inr m)) = let i = (m.asked).is in absurd (cc (none, i))
+  refusable_done Words none status (inr (inr (inl m))) = let i = (m.asked).is in absurd (cc (none, i))
+  refusable_done Words none status (inr (inr (inr a))) = let i = a.0.is in absurd (cc (none, i))
   refusable_done TooLong (inl l) status done =
       let w = solved_done words old new sunk_old sunk_new status l.job l.settings l.asks done in long_answered l status w.document w.answered
-  refusable_done TooLong (inr l) status (inl w) = one_job words w.answered.job w.answered.settings w.answered.asked l.asks
-  refusable_done TooLong (inr l) status (inr (inl c)) = found_within old new l.bytes l.told l.past l.none c.1.verdict c.1.found
-  refusable_done TooLong (inr l) status (inr (inr m)) = no_check words m.number m.settings m.asked l.asks
+  refusable_done TooLong (inr (inr l)) status done = let a = audited_done words old new sunk_old sunk_new status l.asks done in long_audited words old new sunk_old sunk_new status l a
+  refusable_done TooLong (inr (inl l)) status (inl w) = one_job words w.answered.job w.answered.settings w.answered.asked l.asks
+  refusable_done TooLong (inr (inl l)) status (inr (inl c)) = found_within old new l.bytes l.told l.past l.none c.1.verdict c.1.found
+  refusable_done TooLong (inr (inl l)) status (inr (inr (inl m))) = no_check words m.number m.settings m.asked l.asks
+  refusable_done TooLong (inr (inl l)) status (inr (inr (inr a))) = audit_checks words l.asks a.0
   refusable_done (Text fault) l status done =
       let w = solved_done words old new sunk_old sunk_new status l.job l.settings l.asks done in faulty_answered fault l status w.document w.answered
   refusable_done ReadFault l status done = l
@@ -229,7 +253,7 @@ module _ (words : List (String Global)) (old new sunk_old sunk_new : Option (Lis
   nothing_ends : AsksNothing words → (end : Stop) → IsUndone words old new sunk_old sunk_new end → EndsFor Words end
   nothing_ends none end (inl s) = go end s
     where
-      solves : ((job : SolvingJob) × (settings : Settings) × AsksToSolve words job settings) → ⊥
+      solves : ((job : DocumentJob) × (settings : Settings) × AsksToSolve words job settings) → ⊥
       solves a = let i = a.2.is in absurd (cc (none, i))
 
       go : (end : Stop) → IsStopped words old new sunk_old sunk_new end → EndsFor Words end
@@ -240,7 +264,8 @@ module _ (words : List (String Global)) (old new sunk_old sunk_new : Option (Lis
       go WriteFault s = absurd (nothing_answered none s.status s.document s.answered)
       go NoMemory s = inr (inr refl)
   nothing_ends none end (inr (inl c)) = let i = c.0.is in absurd (cc (none, i))
-  nothing_ends none end (inr (inr m)) = let i = (m.asked).is in absurd (cc (none, i))
+  nothing_ends none end (inr (inr (inl m))) = let i = (m.asked).is in absurd (cc (none, i))
+  nothing_ends none end (inr (inr (inr a))) = let i = a.0.is in absurd (cc (none, i))
 
   long_ends : IsLongInstance words old → (end : Stop) → IsStopped words old new sunk_old sunk_new end → EndsFor TooLong end
   long_ends l Words s = let i = (l.asks).is in absurd (cc (s.0, i))
@@ -264,6 +289,21 @@ module _ (words : List (String Global)) (old new sunk_old sunk_new : Option (Lis
   long_document_ends l WriteFault (inl w) = absurd (found_within old new l.bytes l.told l.past l.none w.verdict w.found)
   long_document_ends l NoMemory (inl w) = inr (inr refl)
 
+  long_audit_ends : IsLongAudit words old → (end : Stop) → IsWithoutAudit old new sunk_old sunk_new end ⊎ (end ≡ NoMemory) → EndsFor TooLong end
+  long_audit_ends l end (inr e) = inr (inr e)
+  long_audit_ends l Words (inl w) = absurd w
+  long_audit_ends l TooLong (inl w) = inl refl
+  long_audit_ends l (Text fault) (inl w) = absurd w
+  long_audit_ends l ReadFault (inl w) = inr (inl refl)
+  long_audit_ends l WriteFault (inl w) = absurd (audit_within l.bytes l.told l.past w.bytes w.input)
+    where
+      audit_within : (told : List ℕ) → old ≡ Some told → most_audit_bytes < length told → (bytes : List ℕ) → IsWholeAudit old new bytes → ⊥
+      audit_within told is past bytes input =
+          let same : bytes ≡ told = taken_all old new bytes told is input.taken input.ended in
+          let few = input.within in
+          omega (arith, ap length same, few, past)
+  long_audit_ends l NoMemory (inl w) = inr (inr refl)
+
   faulty_ends : (fault : TextFault) → IsFaultyText words old fault → (end : Stop) → IsStopped words old new sunk_old sunk_new end → EndsFor (Text fault) end
   faulty_ends fault l Words s = let i = (l.asks).is in absurd (cc (s.0, i))
   faulty_ends fault l TooLong s =
@@ -284,7 +324,8 @@ module _ (words : List (String Global)) (old new sunk_old sunk_new : Option (Lis
   refusable_ends : (stop : Stop) → IsRefusable words old stop → (end : Stop) → IsUndone words old new sunk_old sunk_new end → EndsFor stop end
   refusable_ends Words none end undone = nothing_ends none end undone
   refusable_ends TooLong (inl l) end undone = long_ends l end (solved_undone words old new sunk_old sunk_new end l.job l.settings l.asks undone)
-  refusable_ends TooLong (inr l) end undone = long_document_ends l end (judged_undone end l.asks undone)
+  refusable_ends TooLong (inr (inl l)) end undone = long_document_ends l end (judged_undone end l.asks undone)
+  refusable_ends TooLong (inr (inr l)) end undone = long_audit_ends l end (audited_undone words old new sunk_old sunk_new end l.asks undone)
   refusable_ends (Text fault) l end undone = faulty_ends fault l end (solved_undone words old new sunk_old sunk_new end l.job l.settings l.asks undone)
   refusable_ends ReadFault l end undone = absurd l
   refusable_ends WriteFault l end undone = absurd l
@@ -312,7 +353,8 @@ module _ (words : List (String Global)) (old new sunk_old sunk_new : Option (Lis
   nothing_broken : AsksNothing words → IsUndone words old new sunk_old sunk_new ReadFault → ⊥
   nothing_broken none (inl s) = let i = s.0.2.is in absurd (cc (none, i))
   nothing_broken none (inr (inl c)) = let i = c.0.is in absurd (cc (none, i))
-  nothing_broken none (inr (inr m)) = m.cut
+  nothing_broken none (inr (inr (inl m))) = m.cut
+  nothing_broken none (inr (inr (inr a))) = let i = a.0.is in absurd (cc (none, i))
 
   pub never_read : ReadsNothing words → (end : Stop) (status : ℕ) → status ≡ stop_status end → IsUndone words old new sunk_old sunk_new end → ¬ (status ≡ 4)
   never_read (inl none) end status is undone four = go (nothing_ends none end undone)

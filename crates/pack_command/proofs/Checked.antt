@@ -3,10 +3,11 @@ use Rattle.std.proofs.Common.{◌≡◌, ℕ, ◌<◌, ◌≤◌, ◌+◌, ◌-�
 use Rattle.std.proofs.Math.Seq.{take-append-add}
 use Rattle.document_terms.specs.declared.claim.Claim.{Claim}
 use Rattle.pack_streams.specs.Moves.{Gives, Gains}
-use Rattle.document_terms.specs.declared.claim.SolvingJob.{SolvingJob}
+use Rattle.answer_terms.specs.declared.job.DocumentJob.{DocumentJob}
 use Rattle.pack_words.specs.declared.job.JobWords.{JobWords}
 use Rattle.pack_words.proofs.Walking.{some_inj}
 use Rattle.text_terms.specs.declared.settings.Settings.{Settings}
+use Rattle.verdict_terms.specs.declared.heading.Heading.TheVariants.{Answer}
 use Rattle.verdict_terms.specs.Documents.{Refusal, document_verdict, verdict_line}
 use Rattle.verdict_terms.specs.Form.{IsDocument}
 use Rattle.verdict_terms.proofs.Stays.{refusals_stay}
@@ -16,39 +17,42 @@ use Rattle.verdict_terms.specs.Fed.{NoneRefused}
 use Rattle.document_lines.specs.Reading.{AreBytesEnough}
 use Rattle.document_check.specs.Checked.{most_document_bytes}
 use Rattle.pack_command.specs.declared.stop.Stop.{Stop}
-use Rattle.pack_command.specs.Asked.{solving_job, AsksToSolve, AsksCheck}
+use Rattle.pack_command.specs.Asked.{document_job, AsksToSolve, AsksCheck}
 use Rattle.answer_streams.specs.Verdicts.{verdict_status}
 use Rattle.pack_command.specs.Checks.{HasVerdict, IsVerdictFound, IsVerdictWritten, IsExactly, IsClaimed}
 use Rattle.pack_command.specs.Ends.{IsDone, IsUndone}
 use Rattle.pack_command.specs.Run.{IsWritten, IsStopped}
 use Rattle.pack_command.proofs.Written.{taken_all}
-use Rattle.pack_command.proofs.Generating.{no_solve, no_check}
+use Rattle.pack_command.proofs.Generating.{no_solve, no_check, audit_solves, audit_checks}
 
 -- no words ask for a solving job and for a check
-pub one_job : (words : List (String Global)) (job : SolvingJob) (settings : Settings) → AsksToSolve words job settings → AsksCheck words → ⊥
+pub one_job : (words : List (String Global)) (job : DocumentJob) (settings : Settings) → AsksToSolve words job settings → AsksCheck words → ⊥
 one_job words job settings solve check =
     let same : solve.asked ≡ check.asked = some_inj (sym solve.is ∙ check.is) in
-    let none : None ≡ Some job = sym (ap (λ (w : JobWords). solving_job w.job) same ∙ ap solving_job check.job) ∙ solve.job_is in
+    let none : None ≡ Some job = sym (ap (λ (w : JobWords). document_job w.job) same ∙ ap document_job check.job) ∙ solve.job_is in
     absurd (cc (none))
 
 -- what was done for a solving job is a written answer, and for a check a written verdict
-pub solved_done : (words : List (String Global)) (old new sunk_old sunk_new : Option (List ℕ)) (status : ℕ) (job : SolvingJob) (settings : Settings)
+pub solved_done : (words : List (String Global)) (old new sunk_old sunk_new : Option (List ℕ)) (status : ℕ) (job : DocumentJob) (settings : Settings)
     → AsksToSolve words job settings → IsDone words old new sunk_old sunk_new status → IsWritten words old new sunk_old sunk_new status
 solved_done words old new sunk_old sunk_new status job settings asks (inl w) = w
 solved_done words old new sunk_old sunk_new status job settings asks (inr (inl c)) = absurd (one_job words job settings asks c.0)
-solved_done words old new sunk_old sunk_new status job settings asks (inr (inr m)) = absurd (no_solve words m.number m.settings job settings m.asked asks)
+solved_done words old new sunk_old sunk_new status job settings asks (inr (inr (inl m))) = absurd (no_solve words m.number m.settings job settings m.asked asks)
+solved_done words old new sunk_old sunk_new status job settings asks (inr (inr (inr a))) = absurd (audit_solves words job settings asks a.0)
 
-pub solved_undone : (words : List (String Global)) (old new sunk_old sunk_new : Option (List ℕ)) (stop : Stop) (job : SolvingJob) (settings : Settings)
+pub solved_undone : (words : List (String Global)) (old new sunk_old sunk_new : Option (List ℕ)) (stop : Stop) (job : DocumentJob) (settings : Settings)
     → AsksToSolve words job settings → IsUndone words old new sunk_old sunk_new stop → IsStopped words old new sunk_old sunk_new stop
 solved_undone words old new sunk_old sunk_new stop job settings asks (inl s) = s
 solved_undone words old new sunk_old sunk_new stop job settings asks (inr (inl c)) = absurd (one_job words job settings asks c.0)
-solved_undone words old new sunk_old sunk_new stop job settings asks (inr (inr u)) = absurd (no_solve words u.number u.settings job settings u.asked asks)
+solved_undone words old new sunk_old sunk_new stop job settings asks (inr (inr (inl u))) = absurd (no_solve words u.number u.settings job settings u.asked asks)
+solved_undone words old new sunk_old sunk_new stop job settings asks (inr (inr (inr a))) = absurd (audit_solves words job settings asks a.0)
 
 pub judged_done : (words : List (String Global)) (old new sunk_old sunk_new : Option (List ℕ)) (status : ℕ) → AsksCheck words
     → IsDone words old new sunk_old sunk_new status → IsVerdictWritten old new sunk_old sunk_new status
 judged_done words old new sunk_old sunk_new status asks (inl w) = absurd (one_job words w.answered.job w.answered.settings w.answered.asked asks)
 judged_done words old new sunk_old sunk_new status asks (inr (inl c)) = c.1
-judged_done words old new sunk_old sunk_new status asks (inr (inr m)) = absurd (no_check words m.number m.settings m.asked asks)
+judged_done words old new sunk_old sunk_new status asks (inr (inr (inl m))) = absurd (no_check words m.number m.settings m.asked asks)
+judged_done words old new sunk_old sunk_new status asks (inr (inr (inr a))) = absurd (audit_checks words asks a.0)
 
 -- what was taken, and the rest of the bytes
 told_rest : (old left : Option (List ℕ)) (taken bytes : List ℕ) → old ≡ Some bytes → Gives old left taken → (rest : List ℕ) × (bytes ≡ taken ++ rest)
@@ -65,7 +69,7 @@ reached_verdict old left taken bytes (Err refusal) is gives reached = by_enough 
     by_enough : AreBytesEnough left taken refusal → document_verdict bytes ≡ Err refusal
     by_enough (inl ends) =
         let rest = told_rest old left taken bytes is gives in
-        ap document_verdict rest.1 ∙ refusals_stay taken rest.0 refusal reached.0 ends
+        ap document_verdict rest.1 ∙ refusals_stay Answer taken rest.0 refusal reached.0 ends
     by_enough (inr whole) = ap document_verdict (sym (taken_all old left taken bytes is gives whole.0)) ∙ reached.0
 
 pub judged_exactly : (old new sunk_old sunk_new : Option (List ℕ)) (status : ℕ) (bytes : List ℕ) → old ≡ Some bytes
@@ -108,14 +112,14 @@ judged_claimed old new sunk_old sunk_new status zero judged = go judged.verdict 
     go : (verdict : Result Claim Refusal) → IsVerdictFound old new verdict → verdict_status verdict ≡ 0 → Gains sunk_old sunk_new (verdict_line verdict)
         → IsClaimed old new sunk_old sunk_new
     go (Ok claim) found ok line =
-        let document : IsDocument found.taken claim = (documents_have_form found.taken claim).0 found.reached.0 in
+        let document : IsDocument found.taken claim = (documents_have_form Answer found.taken claim).0 found.reached.0 in
         record {
           bytes = found.taken;
           taken = found.gives;
           ended = found.reached.2;
           claim = claim;
           document = document;
-          holds = documents_are_true found.taken claim document;
+          holds = documents_are_true Answer found.taken claim document;
           line = line;
         }
     go (Err refusal) found bad line = absurd (cc (bad))

@@ -11,6 +11,7 @@ use Rattle.tree_terms.specs.Trees.{Verdict, Yes, No, Decided, Past, outcome, cou
 use Rattle.tree_terms.specs.ClassTree.{class_tree}
 use Rattle.tree_terms.specs.Search.{IsRightUnder}
 use Rattle.tree_terms.proofs.Decisions.{class_tree_right}
+use Rattle.answer_terms.specs.declared.job.DocumentJob.TheVariants.{Solving as Solves}
 use Rattle.document_terms.specs.declared.claim.SolvingJob.TheVariants.{Fit}
 use Rattle.answer_terms.specs.Answers.{answer_text, status_of}
 use Rattle.answer_terms.specs.Solved.{solved, fit_answer}
@@ -20,7 +21,7 @@ use Rattle.pack_command.specs.Answered.{answer_for, branchings, IsDecided}
 
 -- the answer of `fit` is yes with a packing, no with a refutation, or undecided
 pub fit_decided : (settings : Settings) (instance : PlainInstance) → IsInstance instance → (old new : Option (List ℕ))
-    → Gains old new (answer_for Fit settings instance).text → IsDecided instance settings old new (answer_for Fit settings instance).status
+    → Gains old new (answer_for (Solves Fit) settings instance).text → IsDecided instance settings old new (answer_for (Solves Fit) settings instance).status
 unfolding solved
 fit_decided settings instance limits old new gains =
     go (ltb settings.budget (branchings settings instance)) (outcome (class_tree instance [] settings.scales)) refl refl

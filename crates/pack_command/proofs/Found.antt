@@ -1,13 +1,18 @@
 -- What a job finds is the answer of the definition.
-use Rattle.std.proofs.Common.{ℕ, ◌≡◌, ◌-◌, ◌*◌, arith, sym, ap, subst, ◌∙◌, Bool, [], length, None, Option}
+use Rattle.std.proofs.Common.{ℕ, ◌≡◌, ◌-◌, ◌*◌, arith, sym, ap, subst, ◌∙◌, Bool, List, [], length, None, Option}
 use Rattle.std.proofs.Math.ListN.{length-set}
+use Rattle.packing_terms.specs.declared.Exclusion.{Exclusion}
+use Rattle.symmetry_terms.specs.Facts.{symmetry_facts}
 use Rattle.packing_terms.specs.Packing.{PlainInstance, dims, box_count}
 use Rattle.packing_terms.specs.Goals.{with_last_side}
 use Rattle.tree_terms.specs.Trees.{PlainOutcome, Decided, Past, Yes, No, outcome, told}
 use Rattle.tree_terms.specs.ClassTree.{class_tree, first_too_large_box, first_too_wide}
 use Rattle.tree_terms.specs.Levels.{PlainReached, height_run, bin_run, value_run}
 use Rattle.tree_terms.proofs.FirstFound.{first_large_is, none_large_is, first_too_wide_is, none_too_wide_is}
+use Rattle.answer_terms.specs.declared.job.DocumentJob.TheVariants.{Solving as Solves, Reduced as Reduces}
 use Rattle.document_terms.specs.declared.claim.SolvingJob.TheVariants.{Fit as SolvesFit, Strip as SolvesStrip, Bins as SolvesBins, Knapsack as SolvesKnapsack}
+use Rattle.answer_terms.specs.Answers.{Answer, answer_text, status_of}
+use Rattle.answer_terms.specs.Reduced.{reduced_solved, reduced_text}
 use Rattle.answer_terms.specs.Solved.{solved, fit_answer, strip_answer, bins_answer, knapsack_answer}
 use Rattle.proof_tree.specs.declared.outcome.Outcome.{Outcome}
 use Rattle.work_share.specs.Outcomes.{plain_outcome}
@@ -23,18 +28,32 @@ use Rattle.bin_knapsack.specs.BinAnswers.{IsAnswer as IsBinsAnswer, AreTrueBins}
 use Rattle.bin_knapsack.specs.Choices.{IsAnswer as IsChoiceAnswer}
 use Rattle.text_terms.specs.declared.settings.Settings.{Settings}
 use Rattle.answer_streams.specs.Placed.{IsPlaced}
-use Rattle.answer_streams.specs.declared.solution.Solution.TheVariants.{Fit, Strip, Bins, Knapsack}
+use Rattle.answer_streams.specs.declared.solution.Solution.TheVariants.{Fit, Strip, Bins, Knapsack, Reduced}
 use Rattle.answer_streams.specs.Solutions.{strip_found, bins_found, choice_found, IsPlacedStrip, ArePlacedBins, IsSolution}
 
-right_placed : (instance : PlainInstance) (o : PlainOutcome) → IsRight instance [] o → IsPlaced instance o
-right_placed instance (Decided (Yes numbers count)) h = h.count
-right_placed instance (Decided (No tokens count)) h = tt
-right_placed instance Past h = tt
+right_placed : (instance : PlainInstance) (es : List Exclusion) (o : PlainOutcome) → IsRight instance es o → IsPlaced instance o
+right_placed instance es (Decided (Yes numbers count)) h = h.count
+right_placed instance es (Decided (No tokens count)) h = tt
+right_placed instance es Past h = tt
 
 pub fit_solution : (settings : Settings) (instance : PlainInstance) (o : Outcome) → plain_outcome o ≡ told settings.budget (outcome (class_tree instance [] settings.scales))
-    → IsRight instance [] (plain_outcome o) → IsSolution SolvesFit settings instance (Fit o)
+    → IsRight instance [] (plain_outcome o) → IsSolution (Solves SolvesFit) settings instance (Fit o)
 unfolding solved
-fit_solution settings instance o e right = record { answer = ap fit_answer e; placed = right_placed instance (plain_outcome o) right }
+fit_solution settings instance o e right = record {
+  status = ap (λ (x : PlainOutcome). status_of (fit_answer x)) e;
+  text = ap (λ (x : PlainOutcome). answer_text instance (fit_answer x)) e;
+  placed = right_placed instance [] (plain_outcome o) right;
+}
+
+pub reduced_solution : (settings : Settings) (instance : PlainInstance) (o : Outcome)
+    → plain_outcome o ≡ told settings.budget (outcome (class_tree instance (symmetry_facts instance) settings.scales))
+    → IsRight instance (symmetry_facts instance) (plain_outcome o) → IsSolution Reduces settings instance (Reduced o)
+unfolding reduced_solved
+reduced_solution settings instance o e right = record {
+  status = ap (λ (x : PlainOutcome). status_of (fit_answer x)) e;
+  text = ap (λ (x : PlainOutcome). reduced_text instance (fit_answer x)) e;
+  placed = right_placed instance (symmetry_facts instance) (plain_outcome o) right;
+}
 
 module _ (instance : PlainInstance) where
   strip_placed : (strip : FoundStrip) (budget : ℕ) (scales : Bool) → IsAnswer instance budget scales strip → IsTrueStrip instance strip → IsPlacedStrip instance strip
@@ -58,10 +77,11 @@ module _ (instance : PlainInstance) where
       sym (ap (λ (p : Option (ℕ × ℕ)). strip_answer p (height_run instance budget scales)) ((first_too_wide_is instance v i).1 a))
 
 pub strip_solution : (settings : Settings) (instance : PlainInstance) (strip : FoundStrip) → IsAnswer instance settings.budget settings.scales strip
-    → IsTrueStrip instance strip → IsSolution SolvesStrip settings instance (Strip strip)
+    → IsTrueStrip instance strip → IsSolution (Solves SolvesStrip) settings instance (Strip strip)
 unfolding solved
 strip_solution settings instance strip a t = record {
-  answer = strip_answered instance strip settings.budget settings.scales a;
+  status = ap status_of (strip_answered instance strip settings.budget settings.scales a);
+  text = ap (λ (x : Answer). answer_text instance x) (strip_answered instance strip settings.budget settings.scales a);
   placed = strip_placed instance strip settings.budget settings.scales a t;
 }
 
@@ -83,10 +103,11 @@ module _ (instance : PlainInstance) where
       sym (ap (λ (p : Option (ℕ × ℕ)). bins_answer p (bin_run instance budget scales)) ((first_large_is instance v i).1 a))
 
 pub bins_solution : (settings : Settings) (instance : PlainInstance) (bins : FoundBins) → IsBinsAnswer instance settings.budget settings.scales bins
-    → AreTrueBins instance bins → IsSolution SolvesBins settings instance (Bins bins)
+    → AreTrueBins instance bins → IsSolution (Solves SolvesBins) settings instance (Bins bins)
 unfolding solved
 bins_solution settings instance bins a t = record {
-  answer = bins_answered instance bins settings.budget settings.scales a;
+  status = ap status_of (bins_answered instance bins settings.budget settings.scales a);
+  text = ap (λ (x : Answer). answer_text instance x) (bins_answered instance bins settings.budget settings.scales a);
   placed = bins_placed instance bins settings.budget settings.scales a t;
 }
 
@@ -96,6 +117,10 @@ choice_answered instance (Greatest value numbers tokens) budget scales a = sym (
 choice_answered instance (WorthBetween placed numbers refuted tokens) budget scales a = sym (ap knapsack_answer a)
 
 pub choice_solution : (settings : Settings) (instance : PlainInstance) (choice : FoundChoice) → IsChoiceAnswer instance settings.budget settings.scales choice
-    → IsSolution SolvesKnapsack settings instance (Knapsack choice)
+    → IsSolution (Solves SolvesKnapsack) settings instance (Knapsack choice)
 unfolding solved
-choice_solution settings instance choice a = record { answer = choice_answered instance choice settings.budget settings.scales a; placed = tt }
+choice_solution settings instance choice a = record {
+  status = ap status_of (choice_answered instance choice settings.budget settings.scales a);
+  text = ap (λ (x : Answer). answer_text instance x) (choice_answered instance choice settings.budget settings.scales a);
+  placed = tt;
+}

@@ -6,16 +6,17 @@ use Rattle.packing_terms.specs.Generator.{made_instance}
 use Rattle.packing_terms.proofs.Internal.{written_internal, some_dimension}
 use Rattle.packing_terms.proofs.Made.{made_within}
 use Rattle.tree_terms.proofs.Counts.{class_count}
-use Rattle.document_terms.specs.declared.claim.SolvingJob.{SolvingJob}
+use Rattle.answer_terms.specs.declared.job.DocumentJob.{DocumentJob}
+use Rattle.answer_terms.specs.declared.job.DocumentJob.TheVariants.{Solving as Solves}
 use Rattle.document_terms.specs.declared.claim.SolvingJob.TheVariants.{Fit}
 use Rattle.answer_terms.specs.Solved.{JobAnswer, solved}
 use Rattle.pack_streams.specs.Moves.{Gains}
-use Rattle.pack_words.specs.declared.job.Job.TheVariants.{Check, Make}
+use Rattle.pack_words.specs.declared.job.Job.TheVariants.{Check, Make, Audit}
 use Rattle.pack_words.specs.declared.job.JobWords.{JobWords}
 use Rattle.pack_words.proofs.Walking.{some_inj}
 use Rattle.text_terms.specs.declared.settings.Settings.{Settings}
 use Rattle.pack_command.specs.Answered.{answer_for, branchings, class_bound, IsAnswerStatus, IsDecided}
-use Rattle.pack_command.specs.Asked.{solving_job, AsksToSolve, AsksCheck, AsksToMake}
+use Rattle.pack_command.specs.Asked.{document_job, AsksToSolve, AsksCheck, AsksAudit, AsksToMake}
 use Rattle.pack_command.specs.Ends.{IsDone, IsUndone}
 use Rattle.pack_command.specs.Generated.{made_for, IsMade, IsMadeCut, IsExactlyMade}
 use Rattle.pack_command.specs.Run.{Asks, IsStopped}
@@ -25,17 +26,36 @@ use Rattle.pack_command.specs.declared.stop.Stop.TheVariants.{Words, TooLong, Te
 use Rattle.pack_command.proofs.Decided.{fit_decided}
 
 -- no words ask for `make` and for another job
-pub no_solve : (words : List (String Global)) (number : ℕ) (settings : Settings) (job : SolvingJob) (others : Settings)
+pub no_solve : (words : List (String Global)) (number : ℕ) (settings : Settings) (job : DocumentJob) (others : Settings)
     → AsksToMake words number settings → AsksToSolve words job others → ⊥
 no_solve words number settings job others make solve =
     let same : make.asked ≡ solve.asked = some_inj (sym make.is ∙ solve.is) in
-    let none : None ≡ Some job = sym (sym (ap (λ (w : JobWords). solving_job w.job) same) ∙ ap solving_job make.job) ∙ solve.job_is in
+    let none : None ≡ Some job = sym (sym (ap (λ (w : JobWords). document_job w.job) same) ∙ ap document_job make.job) ∙ solve.job_is in
     absurd (cc (none))
 
 pub no_check : (words : List (String Global)) (number : ℕ) (settings : Settings) → AsksToMake words number settings → AsksCheck words → ⊥
 no_check words number settings make check =
     let same : make.asked ≡ check.asked = some_inj (sym make.is ∙ check.is) in
     let both : Make ≡ Check = sym make.job ∙ (ap (λ (w : JobWords). w.job) same ∙ check.job) in
+    absurd (cc (both))
+
+pub no_audit : (words : List (String Global)) (number : ℕ) (settings : Settings) → AsksToMake words number settings → AsksAudit words → ⊥
+no_audit words number settings make audit =
+    let same : make.asked ≡ audit.asked = some_inj (sym make.is ∙ audit.is) in
+    let both : Make ≡ Audit = sym make.job ∙ (ap (λ (w : JobWords). w.job) same ∙ audit.job) in
+    absurd (cc (both))
+
+-- no words ask for `audit` and for another job
+pub audit_solves : (words : List (String Global)) (job : DocumentJob) (settings : Settings) → AsksToSolve words job settings → AsksAudit words → ⊥
+audit_solves words job settings solve audit =
+    let same : solve.asked ≡ audit.asked = some_inj (sym solve.is ∙ audit.is) in
+    let none : None ≡ Some job = sym (ap (λ (w : JobWords). document_job w.job) same ∙ ap document_job audit.job) ∙ solve.job_is in
+    absurd (cc (none))
+
+pub audit_checks : (words : List (String Global)) → AsksCheck words → AsksAudit words → ⊥
+audit_checks words check audit =
+    let same : check.asked ≡ audit.asked = some_inj (sym check.is ∙ audit.is) in
+    let both : Check ≡ Audit = sym check.job ∙ (ap (λ (w : JobWords). w.job) same ∙ audit.job) in
     absurd (cc (both))
 
 number_same : (words : List (String Global)) (n m : ℕ) (a b : Settings) → AsksToMake words n a → AsksToMake words m b → n ≡ m
@@ -82,10 +102,10 @@ told_by instance settings old new status (inr (inr u)) =
       undecided = ((λ three. u.past), (λ past. s));
     }
 
-fit_told : (instance : PlainInstance) (settings : Settings) → IsInstance instance → IsToldBy instance settings (answer_for Fit settings instance).status
+fit_told : (instance : PlainInstance) (settings : Settings) → IsInstance instance → IsToldBy instance settings (answer_for (Solves Fit) settings instance).status
 fit_told instance settings limits = told_by instance settings None None _ (fit_decided settings instance limits None None refl)
 
-made_status : (number : ℕ) (settings : Settings) → (answer_for Fit settings (made_instance number)).status ≡ (made_for number settings).status
+made_status : (number : ℕ) (settings : Settings) → (answer_for (Solves Fit) settings (made_instance number)).status ≡ (made_for number settings).status
 unfolding solved
 made_status number settings = refl
 
@@ -107,7 +127,8 @@ module _ (words : List (String Global)) (old new sunk_old sunk_new : Option (Lis
   pub made_done : (status : ℕ) → IsDone words old new sunk_old sunk_new status → IsMade words old new sunk_old sunk_new status
   made_done status (inl w) = absurd (no_solve words number settings w.answered.job w.answered.settings asks w.answered.asked)
   made_done status (inr (inl c)) = absurd (no_check words number settings asks c.0)
-  made_done status (inr (inr m)) = m
+  made_done status (inr (inr (inl m))) = m
+  made_done status (inr (inr (inr a))) = absurd (no_audit words number settings asks a.0)
 
   same_made : (m : ℕ) (others : Settings) → AsksToMake words m others → made_for m others ≡ made_for number settings
   same_made m others asked =
@@ -151,7 +172,8 @@ module _ (words : List (String Global)) (old new sunk_old sunk_new : Option (Lis
   pub never_unmade : (stop : Stop) → IsUndone words old new sunk_old sunk_new stop → ¬ (stop ≡ WriteFault) → ¬ (stop ≡ NoMemory) → ⊥
   never_unmade stop (inl s) = stopped stop s
   never_unmade stop (inr (inl c)) = λ w m. absurd (no_check words number settings asks c.0)
-  never_unmade stop (inr (inr u)) = cut stop u.number u.settings u.cut
+  never_unmade stop (inr (inr (inl u))) = cut stop u.number u.settings u.cut
+  never_unmade stop (inr (inr (inr a))) = λ w m. absurd (no_audit words number settings asks a.0)
 
   -- in particular by no failed read
   pub never_broken_off : (stop : Stop) → IsUndone words old new sunk_old sunk_new stop → ¬ (stop_status stop ≡ 4)

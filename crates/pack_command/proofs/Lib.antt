@@ -10,3 +10,5 @@ pub mod Written
 pub mod Stopped
 pub mod OwnWritten
 pub mod Generating
+pub mod ReducedDecided
+pub mod Audited

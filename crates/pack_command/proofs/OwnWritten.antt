@@ -1,14 +1,19 @@
 -- The documents that are written are verified, and about the instance that was asked.
-use Rattle.std.proofs.Common.{ℕ, ◌≡◌, ◌⊎◌, inl, inr, refl, List, Option, Ok, Some, String, Global}
+use Rattle.std.proofs.Common.{ℕ, ◌≡◌, ◌⊎◌, inl, inr, refl, sym, subst, List, Option, Ok, Some, String, Global}
 use Rattle.packing_terms.specs.Packing.{PlainInstance}
 use Rattle.packing_terms.specs.Limits.{IsInstance}
 use Rattle.text_terms.specs.Texts.{text_instance}
 use Rattle.document_terms.specs.declared.claim.SolvingJob.{SolvingJob}
+use Rattle.answer_terms.specs.declared.job.DocumentJob.{DocumentJob}
+use Rattle.answer_terms.specs.declared.job.DocumentJob.TheVariants.{Solving as Solves, Reduced as Reduces}
 use Rattle.answer_terms.specs.Answers.{Answer, answer_text, status_of}
 use Rattle.answer_terms.specs.Answers.Answer.{Undecided, Claimed}
 use Rattle.answer_terms.specs.Solved.{solved}
 use Rattle.own_documents.proofs.Accepted.{own_verified}
-use Rattle.own_documents.proofs.Undecided.{only_fit, undecided_refused}
+use Rattle.own_documents.proofs.Undecided.{only_fit, undecided_refused, reduced_undecided_refused}
+use Rattle.own_documents.proofs.Reduced.{own_reduced}
+use Rattle.answer_terms.specs.Reduced.{reduced_solved, reduced_text}
+use Rattle.pack_command.specs.Decides.{AsksWhetherFits}
 use Rattle.text_terms.specs.declared.settings.Settings.{Settings}
 use Rattle.pack_streams.specs.Moves.{Gains}
 use Rattle.pack_command.specs.Answered.{answer_for}
@@ -19,9 +24,10 @@ use Rattle.pack_command.proofs.Written.{written_answers, written_limits}
 
 own_answer : (job : SolvingJob) (settings : Settings) (instance : PlainInstance) → IsInstance instance → (a : Answer)
     → solved job settings.budget settings.scales instance ≡ a
-    → IsVerified job instance (answer_text instance a) (status_of a) ⊎ IsUnverified job (answer_text instance a) (status_of a)
+    → IsVerified (Solves job) instance (answer_text instance a) (status_of a) ⊎ IsUnverified (Solves job) (answer_text instance a) (status_of a)
 own_answer job settings instance limits Undecided e =
-    inr (record { asked = only_fit job settings.budget settings.scales instance e; undecided = refl; refused = (λ claim v. undecided_refused instance claim limits v) })
+    let fit = only_fit job settings.budget settings.scales instance e in
+    inr (record { asked = subst (λ j. AsksWhetherFits (Solves j)) (sym fit) tt; undecided = refl; refused = (λ claim v. undecided_refused instance claim limits v) })
 own_answer job settings instance limits (Claimed claim numbers tokens) e =
     inl (record {
       claim = claim;
@@ -29,17 +35,33 @@ own_answer job settings instance limits (Claimed claim numbers tokens) e =
       status_is = refl;
     })
 
+reduced_answer : (settings : Settings) (instance : PlainInstance) → IsInstance instance → (a : Answer) → reduced_solved settings.budget settings.scales instance ≡ a
+    → IsVerified Reduces instance (reduced_text instance a) (status_of a) ⊎ IsUnverified Reduces (reduced_text instance a) (status_of a)
+reduced_answer settings instance limits Undecided e =
+    inr (record { asked = tt; undecided = refl; refused = (λ claim v. reduced_undecided_refused instance claim limits v) })
+reduced_answer settings instance limits (Claimed claim numbers tokens) e =
+    inl (record {
+      claim = claim;
+      verified = own_reduced settings.budget settings.scales instance claim numbers tokens limits e;
+      status_is = refl;
+    })
+
 -- the document of the definition
-own_text : (job : SolvingJob) (settings : Settings) (instance : PlainInstance) → IsInstance instance → (sunk_old sunk_new : Option (List ℕ))
+own_text : (job : DocumentJob) (settings : Settings) (instance : PlainInstance) → IsInstance instance → (sunk_old sunk_new : Option (List ℕ))
     → Gains sunk_old sunk_new (answer_for job settings instance).text → IsOwnDocument job instance sunk_old sunk_new (answer_for job settings instance).status
-own_text job settings instance limits sunk_old sunk_new gains = record {
-  document = (answer_for job settings instance).text;
+own_text (Solves job) settings instance limits sunk_old sunk_new gains = record {
+  document = (answer_for (Solves job) settings instance).text;
   written = gains;
   own = own_answer job settings instance limits (solved job settings.budget settings.scales instance) refl;
 }
+own_text Reduces settings instance limits sunk_old sunk_new gains = record {
+  document = (answer_for Reduces settings instance).text;
+  written = gains;
+  own = reduced_answer settings instance limits (reduced_solved settings.budget settings.scales instance) refl;
+}
 
 pub own_written : (words : List (String Global)) (old new sunk_old sunk_new : Option (List ℕ)) (status : ℕ) (settings : Settings) (told : List ℕ) (instance : PlainInstance)
-    → IsWritten words old new sunk_old sunk_new status → old ≡ Some told → text_instance told ≡ Ok instance → (job : SolvingJob) → AsksToSolve words job settings
+    → IsWritten words old new sunk_old sunk_new status → old ≡ Some told → text_instance told ≡ Ok instance → (job : DocumentJob) → AsksToSolve words job settings
     → IsOwnDocument job instance sunk_old sunk_new status
 own_written words old new sunk_old sunk_new status settings told instance w is read job asks =
     let a = written_answers words old new sunk_old sunk_new status settings told instance w is read job asks in

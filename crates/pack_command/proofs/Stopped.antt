@@ -2,7 +2,7 @@
 use Rattle.std.proofs.Common.{ℕ, ◌≡◌, ◌≤◌, List, length, arith, refl, Option, Some, Ok, String, Global}
 use Rattle.packing_terms.specs.Packing.{PlainInstance}
 use Rattle.text_terms.specs.Texts.{text_instance}
-use Rattle.document_terms.specs.declared.claim.SolvingJob.{SolvingJob}
+use Rattle.answer_terms.specs.declared.job.DocumentJob.{DocumentJob}
 use Rattle.text_terms.specs.declared.settings.Settings.{Settings}
 use Rattle.pack_command.specs.Asked.{AsksToSolve}
 use Rattle.pack_command.specs.Run.{IsStopped}
@@ -10,7 +10,7 @@ use Rattle.pack_command.specs.declared.stop.Stop.{Stop}
 use Rattle.pack_command.specs.declared.stop.Stop.TheVariants.{Words, TooLong, Text, ReadFault, WriteFault, NoMemory}
 use Rattle.pack_command.proofs.Written.{taken_all, taken_within}
 
-module _ (words : List (String Global)) (old new sunk_old sunk_new : Option (List ℕ)) (job : SolvingJob) (settings : Settings) (told : List ℕ)
+module _ (words : List (String Global)) (old new sunk_old sunk_new : Option (List ℕ)) (job : DocumentJob) (settings : Settings) (told : List ℕ)
     (instance : PlainInstance) (asks : AsksToSolve words job settings) (is : old ≡ Some told) (few : length told ≤ 1048576) (read : text_instance told ≡ Ok instance) where
   pub never_stops : (stop : Stop) → IsStopped words old new sunk_old sunk_new stop → ¬ (stop ≡ ReadFault) → ¬ (stop ≡ WriteFault) → ¬ (stop ≡ NoMemory) → ⊥
   never_stops Words s r w m = absurd (cc (s.0, asks.is))

@@ -7,6 +7,7 @@ use Rattle.tree_terms.specs.ClassTree.{first_too_wide}
 use Rattle.tree_terms.specs.Levels.{PlainReached, height_run}
 use Rattle.tree_terms.proofs.FirstFound.{first_too_wide_is}
 use Rattle.tree_terms.proofs.SpentRuns.{height_spent}
+use Rattle.answer_terms.specs.declared.job.DocumentJob.TheVariants.{Solving as Solves}
 use Rattle.document_terms.specs.declared.claim.SolvingJob.TheVariants.{Strip}
 use Rattle.document_terms.specs.declared.claim.Claim.TheVariants.{LeastHeight, HeightBetween, NoHeight}
 use Rattle.answer_terms.specs.Answers.{answer_text, status_of}
@@ -85,6 +86,6 @@ module _ (settings : Settings) (instance : PlainInstance) (limits : IsInstance i
   by_first None e g = reached run.spent e refl g
 
   -- the answer of `strip` is the least height, two heights between which it lies, or none
-  pub strip_decided : Gains old new (answer_for Strip settings instance).text → IsStripDecided instance settings old new (answer_for Strip settings instance).status
+  pub strip_decided : Gains old new (answer_for (Solves Strip) settings instance).text → IsStripDecided instance settings old new (answer_for (Solves Strip) settings instance).status
   unfolding solved
   strip_decided g = by_first (first_too_wide instance) refl g

@@ -5,6 +5,7 @@ use Rattle.packing_terms.specs.Packing.{PlainInstance}
 use Rattle.packing_terms.specs.Limits.{IsInstance}
 use Rattle.tree_terms.specs.Levels.{PlainReached, value_run}
 use Rattle.tree_terms.proofs.SpentRuns.{value_spent}
+use Rattle.answer_terms.specs.declared.job.DocumentJob.TheVariants.{Solving as Solves}
 use Rattle.document_terms.specs.declared.claim.SolvingJob.TheVariants.{Knapsack}
 use Rattle.document_terms.specs.declared.claim.Claim.TheVariants.{GreatestValue, ValueBetween}
 use Rattle.answer_terms.specs.Answers.{answer_text, status_of}
@@ -65,6 +66,6 @@ module _ (settings : Settings) (instance : PlainInstance) (limits : IsInstance i
       })
 
   -- the answer of `knapsack` is the greatest value, or two values between which it lies
-  pub value_decided : Gains old new (answer_for Knapsack settings instance).text → IsValueDecided instance settings old new (answer_for Knapsack settings instance).status
+  pub value_decided : Gains old new (answer_for (Solves Knapsack) settings instance).text → IsValueDecided instance settings old new (answer_for (Solves Knapsack) settings instance).status
   unfolding solved
   value_decided g = reached run.spent refl g

@@ -8,21 +8,25 @@ use Rattle.packing_terms.proofs.Internal.{written_internal, some_dimension}
 use Rattle.tree_terms.proofs.Counts.{class_count}
 use Rattle.tree_terms.proofs.SpentRuns.{height_spent, height_enough, bins_spent, bins_enough, value_spent, value_enough}
 use Rattle.text_terms.specs.Texts.{text_instance}
-use Rattle.document_terms.specs.declared.claim.SolvingJob.{SolvingJob}
+use Rattle.answer_terms.specs.declared.job.DocumentJob.{DocumentJob}
+use Rattle.answer_terms.specs.declared.job.DocumentJob.TheVariants.{Solving as Solves, Reduced as Reduces}
 use Rattle.document_terms.specs.declared.claim.SolvingJob.TheVariants.{Fit, Strip, Bins, Knapsack}
 use Rattle.answer_terms.specs.Solved.{JobAnswer}
 use Rattle.pack_streams.specs.Moves.{Gives, Gains}
 use Rattle.pack_words.specs.declared.job.JobWords.{JobWords}
 use Rattle.pack_words.proofs.Walking.{some_inj}
 use Rattle.text_terms.specs.declared.settings.Settings.{Settings}
-use Rattle.pack_command.specs.Asked.{solving_job, AsksToSolve}
+use Rattle.pack_command.specs.Asked.{document_job, AsksToSolve}
 use Rattle.pack_command.specs.Answered.{answer_for, class_bound, IsDecided, IsEnough}
-use Rattle.pack_command.specs.Decides.{IsJobDecided, IsExactlyFit}
+use Rattle.symmetry_terms.specs.Facts.{symmetry_facts}
+use Rattle.pack_command.specs.Decides.{IsJobDecided, AsksWhetherFits, IsExactlyFit}
+use Rattle.pack_command.specs.Reductions.{IsReducedDecided}
 use Rattle.pack_command.specs.Strips.{IsStripDecided}
 use Rattle.pack_command.specs.FewestBins.{AreBinsDecided}
 use Rattle.pack_command.specs.GreatestValues.{IsValueDecided}
 use Rattle.pack_command.specs.Run.{IsWritten}
 use Rattle.pack_command.proofs.Decided.{fit_decided}
+use Rattle.pack_command.proofs.ReducedDecided.{reduced_decided}
 use Rattle.pack_command.proofs.StripDecided.{strip_decided}
 use Rattle.pack_command.proofs.BinsDecided.{bins_decided}
 use Rattle.pack_command.proofs.ValueDecided.{value_decided}
@@ -46,13 +50,13 @@ taken_within old (Some rest) bytes told is gives =
     omega (arith, ap length whole, length-append bytes rest)
 
 -- the words ask for one job
-job_same : (words : List (String Global)) (j k : SolvingJob) (a b : Settings) → AsksToSolve words j a → AsksToSolve words k b → j ≡ k
+job_same : (words : List (String Global)) (j k : DocumentJob) (a b : Settings) → AsksToSolve words j a → AsksToSolve words k b → j ≡ k
 job_same words j k a b x y =
     let same : x.asked ≡ y.asked = some_inj (sym x.is ∙ y.is) in
-    some_inj (sym x.job_is ∙ (ap (λ (w : JobWords). solving_job w.job) same ∙ y.job_is))
+    some_inj (sym x.job_is ∙ (ap (λ (w : JobWords). document_job w.job) same ∙ y.job_is))
 
 -- with one list of settings
-settings_same : (words : List (String Global)) (j k : SolvingJob) (a b : Settings) → AsksToSolve words j a → AsksToSolve words k b → a ≡ b
+settings_same : (words : List (String Global)) (j k : DocumentJob) (a b : Settings) → AsksToSolve words j a → AsksToSolve words k b → a ≡ b
 settings_same words j k a b x y =
     let same : x.asked ≡ y.asked = some_inj (sym x.is ∙ y.is) in
     sym x.with_settings ∙ ap (λ (w : JobWords). w.settings) same ∙ y.with_settings
@@ -66,15 +70,15 @@ module _ (words : List (String Global)) (old new sunk_old sunk_new : Option (Lis
       let read_told : text_instance told ≡ Ok a.instance = subst (λ b. text_instance b ≡ Ok a.instance) bytes_are a.read in
       ok_same _ _ _ read_told read
 
-  same_answer : (job : SolvingJob) → AsksToSolve words job settings → answer_for (w.answered).job (w.answered).settings (w.answered).instance ≡ answer_for job settings instance
+  same_answer : (job : DocumentJob) → AsksToSolve words job settings → answer_for (w.answered).job (w.answered).settings (w.answered).instance ≡ answer_for job settings instance
   same_answer job asks =
       let a = w.answered in
       ap (λ i. answer_for a.job a.settings i) same_instance
       ∙ (ap (λ (x : Settings). answer_for a.job x instance) (settings_same words _ _ _ _ a.asked asks)
-      ∙ ap (λ (j : SolvingJob). answer_for j settings instance) (job_same words _ _ _ _ a.asked asks))
+      ∙ ap (λ (j : DocumentJob). answer_for j settings instance) (job_same words _ _ _ _ a.asked asks))
 
   -- the answer that was written is that of the instance that the source told
-  pub written_answers : (job : SolvingJob) → AsksToSolve words job settings
+  pub written_answers : (job : DocumentJob) → AsksToSolve words job settings
       → (status ≡ (answer_for job settings instance).status) × Gains sunk_old sunk_new (answer_for job settings instance).text
   written_answers job asks =
       let a = w.answered in
@@ -86,31 +90,37 @@ module _ (words : List (String Global)) (old new sunk_old sunk_new : Option (Lis
   written_limits = subst IsInstance same_instance (w.answered).limits
 
   -- and it decides
-  pub written_decides : AsksToSolve words Fit settings → IsDecided instance settings sunk_old sunk_new status
+  pub written_decides : AsksToSolve words (Solves Fit) settings → IsDecided instance settings sunk_old sunk_new status
   written_decides asks =
-      let a = written_answers Fit asks in
+      let a = written_answers (Solves Fit) asks in
       subst (λ s. IsDecided instance settings sunk_old sunk_new s) (sym a.0) (fit_decided settings instance written_limits sunk_old sunk_new a.1)
 
-  pub written_least : AsksToSolve words Strip settings → IsStripDecided instance settings sunk_old sunk_new status
+  pub written_least : AsksToSolve words (Solves Strip) settings → IsStripDecided instance settings sunk_old sunk_new status
   written_least asks =
-      let a = written_answers Strip asks in
+      let a = written_answers (Solves Strip) asks in
       subst (λ s. IsStripDecided instance settings sunk_old sunk_new s) (sym a.0) (strip_decided settings instance written_limits sunk_old sunk_new a.1)
 
-  pub written_fewest : AsksToSolve words Bins settings → AreBinsDecided instance settings sunk_old sunk_new status
+  pub written_fewest : AsksToSolve words (Solves Bins) settings → AreBinsDecided instance settings sunk_old sunk_new status
   written_fewest asks =
-      let a = written_answers Bins asks in
+      let a = written_answers (Solves Bins) asks in
       subst (λ s. AreBinsDecided instance settings sunk_old sunk_new s) (sym a.0) (bins_decided settings instance written_limits sunk_old sunk_new a.1)
 
-  pub written_greatest : AsksToSolve words Knapsack settings → IsValueDecided instance settings sunk_old sunk_new status
+  pub written_greatest : AsksToSolve words (Solves Knapsack) settings → IsValueDecided instance settings sunk_old sunk_new status
   written_greatest asks =
-      let a = written_answers Knapsack asks in
+      let a = written_answers (Solves Knapsack) asks in
       subst (λ s. IsValueDecided instance settings sunk_old sunk_new s) (sym a.0) (value_decided settings instance written_limits sunk_old sunk_new a.1)
 
-  pub written_job : (job : SolvingJob) → AsksToSolve words job settings → IsJobDecided job instance settings sunk_old sunk_new status
-  written_job Fit asks = written_decides asks
-  written_job Strip asks = written_least asks
-  written_job Bins asks = written_fewest asks
-  written_job Knapsack asks = written_greatest asks
+  pub written_reduced : AsksToSolve words Reduces settings → IsReducedDecided instance settings sunk_old sunk_new status
+  written_reduced asks =
+      let a = written_answers Reduces asks in
+      subst (λ s. IsReducedDecided instance settings sunk_old sunk_new s) (sym a.0) (reduced_decided settings instance written_limits sunk_old sunk_new a.1)
+
+  pub written_job : (job : DocumentJob) → AsksToSolve words job settings → IsJobDecided job instance settings sunk_old sunk_new status
+  written_job (Solves Fit) asks = written_decides asks
+  written_job (Solves Strip) asks = written_least asks
+  written_job (Solves Bins) asks = written_fewest asks
+  written_job (Solves Knapsack) asks = written_greatest asks
+  written_job Reduces asks = written_reduced asks
 
   -- with a budget that is enough the status of `fit` says exactly whether the instance fits
   fit_exactly : class_bound instance ≤ settings.budget + 1 → IsDecided instance settings sunk_old sunk_new status → IsExactlyFit instance status
@@ -131,10 +141,32 @@ module _ (words : List (String Global)) (old new sunk_old sunk_new : Option (Lis
       let b = class_count instance (some_dimension instance (written_internal instance written_limits)) [] settings.scales in
       absurd (omega (arith, p, b, enough))
 
-  pub written_fits : AsksToSolve words Fit settings → class_bound instance ≤ settings.budget + 1 → IsExactlyFit instance status
-  written_fits asks enough = fit_exactly enough (written_decides asks)
+  reduced_exactly : class_bound instance ≤ settings.budget + 1 → IsReducedDecided instance settings sunk_old sunk_new status → IsExactlyFit instance status
+  reduced_exactly enough (inl y) =
+      let e = y.status_is in
+      record {
+        yes = ((λ zero. (y.places, y.packing)), (λ fits. e));
+        no = ((λ one. absurd (omega (arith, e, one))), (λ none. absurd (none (y.places, y.packing))));
+      }
+  reduced_exactly enough (inr (inl n)) =
+      let e = n.status_is in
+      record {
+        yes = ((λ zero. absurd (omega (arith, e, zero))), (λ fits. absurd (n.none fits)));
+        no = ((λ one. n.none), (λ none. e));
+      }
+  reduced_exactly enough (inr (inr u)) =
+      let p = u.past in
+      let b = class_count instance (some_dimension instance (written_internal instance written_limits)) (symmetry_facts instance) settings.scales in
+      absurd (omega (arith, p, b, enough))
 
-  fit_enough : IsEnough Fit instance settings.budget → IsDecided instance settings sunk_old sunk_new status → ¬ (status ≡ 3)
+  pub written_fits : (job : DocumentJob) → AsksWhetherFits job → AsksToSolve words job settings → class_bound instance ≤ settings.budget + 1 → IsExactlyFit instance status
+  written_fits (Solves Fit) fits asks enough = fit_exactly enough (written_decides asks)
+  written_fits (Solves Strip) fits asks enough = absurd fits
+  written_fits (Solves Bins) fits asks enough = absurd fits
+  written_fits (Solves Knapsack) fits asks enough = absurd fits
+  written_fits Reduces fits asks enough = reduced_exactly enough (written_reduced asks)
+
+  fit_enough : IsEnough (Solves Fit) instance settings.budget → IsDecided instance settings sunk_old sunk_new status → ¬ (status ≡ 3)
   fit_enough enough (inl y) three = let e = y.status_is in omega (arith, e, three)
   fit_enough enough (inr (inl n)) three = let e = n.status_is in omega (arith, e, three)
   fit_enough enough (inr (inr u)) three =
@@ -142,29 +174,38 @@ module _ (words : List (String Global)) (old new sunk_old sunk_new : Option (Lis
       let b = class_count instance (some_dimension instance (written_internal instance written_limits)) [] settings.scales in
       omega (arith, p, b, enough)
 
-  strip_enough : IsEnough Strip instance settings.budget → IsStripDecided instance settings sunk_old sunk_new status → ¬ (status ≡ 3)
+  reduced_enough : IsEnough Reduces instance settings.budget → IsReducedDecided instance settings sunk_old sunk_new status → ¬ (status ≡ 3)
+  reduced_enough enough (inl y) three = let e = y.status_is in omega (arith, e, three)
+  reduced_enough enough (inr (inl n)) three = let e = n.status_is in omega (arith, e, three)
+  reduced_enough enough (inr (inr u)) three =
+      let p = u.past in
+      let b = class_count instance (some_dimension instance (written_internal instance written_limits)) (symmetry_facts instance) settings.scales in
+      omega (arith, p, b, enough)
+
+  strip_enough : IsEnough (Solves Strip) instance settings.budget → IsStripDecided instance settings sunk_old sunk_new status → ¬ (status ≡ 3)
   strip_enough enough (inl l) three = let e = l.status_is in omega (arith, e, three)
   strip_enough enough (inr (inl b)) three =
       true≢false (sym ((height_spent instance settings.budget settings.scales).1 b.past)
       ∙ height_enough instance (written_internal instance written_limits) settings.budget settings.scales enough)
   strip_enough enough (inr (inr n)) three = let e = n.status_is in omega (arith, e, three)
 
-  fewest_enough : IsEnough Bins instance settings.budget → AreBinsDecided instance settings sunk_old sunk_new status → ¬ (status ≡ 3)
+  fewest_enough : IsEnough (Solves Bins) instance settings.budget → AreBinsDecided instance settings sunk_old sunk_new status → ¬ (status ≡ 3)
   fewest_enough enough (inl l) three = let e = l.status_is in omega (arith, e, three)
   fewest_enough enough (inr (inl b)) three =
       true≢false (sym ((bins_spent instance settings.budget settings.scales).1 b.past)
       ∙ bins_enough instance (written_internal instance written_limits) settings.budget settings.scales enough)
   fewest_enough enough (inr (inr n)) three = let e = n.status_is in omega (arith, e, three)
 
-  greatest_enough : IsEnough Knapsack instance settings.budget → IsValueDecided instance settings sunk_old sunk_new status → ¬ (status ≡ 3)
+  greatest_enough : IsEnough (Solves Knapsack) instance settings.budget → IsValueDecided instance settings sunk_old sunk_new status → ¬ (status ≡ 3)
   greatest_enough enough (inl l) three = let e = l.status_is in omega (arith, e, three)
   greatest_enough enough (inr b) three =
       true≢false (sym ((value_spent instance settings.budget settings.scales).1 b.past)
       ∙ value_enough instance (written_internal instance written_limits) settings.budget settings.scales enough)
 
   -- a budget that bounds every count is enough
-  pub written_enough : (job : SolvingJob) → AsksToSolve words job settings → IsEnough job instance settings.budget → ¬ (status ≡ 3)
-  written_enough Fit asks enough = fit_enough enough (written_decides asks)
-  written_enough Strip asks enough = strip_enough enough (written_least asks)
-  written_enough Bins asks enough = fewest_enough enough (written_fewest asks)
-  written_enough Knapsack asks enough = greatest_enough enough (written_greatest asks)
+  pub written_enough : (job : DocumentJob) → AsksToSolve words job settings → IsEnough job instance settings.budget → ¬ (status ≡ 3)
+  written_enough (Solves Fit) asks enough = fit_enough enough (written_decides asks)
+  written_enough (Solves Strip) asks enough = strip_enough enough (written_least asks)
+  written_enough (Solves Bins) asks enough = fewest_enough enough (written_fewest asks)
+  written_enough (Solves Knapsack) asks enough = greatest_enough enough (written_greatest asks)
+  written_enough Reduces asks enough = reduced_enough enough (written_reduced asks)

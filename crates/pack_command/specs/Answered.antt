@@ -9,18 +9,21 @@ use Rattle.packing_terms.specs.Refutation.{Refutes}
 use Rattle.tree_terms.specs.Trees.{outcome, count_of}
 use Rattle.tree_terms.specs.ClassTree.{class_tree}
 use Rattle.document_terms.specs.declared.claim.SolvingJob.{SolvingJob}
+use Rattle.answer_terms.specs.declared.job.DocumentJob.{DocumentJob}
+use Rattle.answer_terms.specs.declared.job.DocumentJob.TheVariants.{Solving as Solves, Reduced as Reduces}
 use Rattle.document_terms.specs.declared.claim.SolvingJob.TheVariants.{Fit, Strip, Bins, Knapsack}
 use Rattle.document_terms.specs.declared.claim.Claim.TheVariants.{Fitting, NotFitting}
 use Rattle.answer_terms.specs.Answers.{answer_text}
 use Rattle.answer_terms.specs.Answers.Answer.{Undecided, Claimed}
-use Rattle.answer_terms.specs.Solved.{JobAnswer, answer_of}
+use Rattle.answer_terms.specs.Solved.{JobAnswer}
+use Rattle.answer_terms.specs.Reduced.{document_answer}
 use Rattle.pack_streams.specs.Moves.{Gains}
 use Rattle.text_terms.specs.declared.settings.Settings.{Settings}
 
 -- the answer that the job has for the instance, its status and its document; the number of workers
 -- has no part
-abbrev pub answer_for : SolvingJob → Settings → PlainInstance → JobAnswer
-answer_for job settings instance = answer_of job settings.budget settings.scales instance
+abbrev pub answer_for : DocumentJob → Settings → PlainInstance → JobAnswer
+answer_for job settings instance = document_answer job settings.budget settings.scales instance
 
 -- the count of branchings of the instance's class tree
 abbrev pub branchings : Settings → PlainInstance → ℕ
@@ -64,12 +67,13 @@ IsDecided instance settings sunk_old sunk_new status =
 abbrev pub class_bound : PlainInstance → ℕ
 class_bound instance = 3 ^ (dims instance * box_count instance * (box_count instance - 1) / 2)
 
--- A budget that is enough for every tree that the job decides for the instance: for `fit` and each
--- height of a strip its class tree, for each number of bins its bin tree, for each value its choice
+-- A budget that is enough for every tree that the job decides for the instance: for `fit`, `reduced`
+-- and each height of a strip its class tree, for each number of bins its bin tree, for each value its choice
 -- tree.
-abbrev pub IsEnough : SolvingJob → PlainInstance → ℕ → Type 0
-IsEnough Fit instance budget = class_bound instance ≤ budget + 1
-IsEnough Strip instance budget = class_bound instance ≤ budget + 1
-IsEnough Bins instance budget =
+abbrev pub IsEnough : DocumentJob → PlainInstance → ℕ → Type 0
+IsEnough (Solves Fit) instance budget = class_bound instance ≤ budget + 1
+IsEnough Reduces instance budget = class_bound instance ≤ budget + 1
+IsEnough (Solves Strip) instance budget = class_bound instance ≤ budget + 1
+IsEnough (Solves Bins) instance budget =
     class_bound instance * sum_below (box_count instance) (λ j. (box_count instance - 1) ^ (j + 1)) ≤ budget
-IsEnough Knapsack instance budget = class_bound instance * (2 ^ (box_count instance + 1) - 2) ≤ budget
+IsEnough (Solves Knapsack) instance budget = class_bound instance * (2 ^ (box_count instance + 1) - 2) ≤ budget

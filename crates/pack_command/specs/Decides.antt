@@ -1,23 +1,34 @@
--- What the answer of each solving job says of the instance, over all packings.
+-- What the answer of each job that answers with a document says of the instance, over all packings.
 use Rattle.std.specs.Prelude.{ℕ, ◌+◌, ◌≡◌, ◌≤◌, ◌↔◌, List}
 use Rattle.std.specs.declared.option.Option.{Option}
 use Rattle.packing_terms.specs.Packing.{PlainInstance, Fits}
-use Rattle.document_terms.specs.declared.claim.SolvingJob.{SolvingJob}
+use Rattle.answer_terms.specs.declared.job.DocumentJob.{DocumentJob}
+use Rattle.answer_terms.specs.declared.job.DocumentJob.TheVariants.{Solving as Solves, Reduced as Reduces}
 use Rattle.document_terms.specs.declared.claim.SolvingJob.TheVariants.{Fit, Strip, Bins, Knapsack}
 use Rattle.text_terms.specs.declared.settings.Settings.{Settings}
 use Rattle.pack_command.specs.Answered.{class_bound, IsDecided}
+use Rattle.pack_command.specs.Reductions.{IsReducedDecided}
 use Rattle.pack_command.specs.Strips.{IsStripDecided}
 use Rattle.pack_command.specs.FewestBins.{AreBinsDecided}
 use Rattle.pack_command.specs.GreatestValues.{IsValueDecided}
 
--- `fit`: yes with a packing, no with a refutation, or undecided; `strip`, `bins`, `knapsack`: the
+-- `fit`, `reduced`: yes with a packing, no with a refutation, or undecided; `strip`, `bins`, `knapsack`: the
 -- least height, the least number of bins or the greatest value, none, or two levels between which
 -- it lies, each with both certificates
-abbrev pub IsJobDecided : SolvingJob → PlainInstance → Settings → (sunk_old sunk_new : Option (List ℕ)) → ℕ → Type 0
-IsJobDecided Fit = IsDecided
-IsJobDecided Strip = IsStripDecided
-IsJobDecided Bins = AreBinsDecided
-IsJobDecided Knapsack = IsValueDecided
+abbrev pub IsJobDecided : DocumentJob → PlainInstance → Settings → (sunk_old sunk_new : Option (List ℕ)) → ℕ → Type 0
+IsJobDecided (Solves Fit) = IsDecided
+IsJobDecided Reduces = IsReducedDecided
+IsJobDecided (Solves Strip) = IsStripDecided
+IsJobDecided (Solves Bins) = AreBinsDecided
+IsJobDecided (Solves Knapsack) = IsValueDecided
+
+-- the job asks whether the instance fits
+abbrev pub AsksWhetherFits : DocumentJob → Type 0
+AsksWhetherFits (Solves Fit) = Unit {0}
+AsksWhetherFits Reduces = Unit {0}
+AsksWhetherFits (Solves Strip) = ⊥
+AsksWhetherFits (Solves Bins) = ⊥
+AsksWhetherFits (Solves Knapsack) = ⊥
 
 -- the status says exactly whether the instance fits
 pub record IsExactlyFit (instance : PlainInstance) (status : ℕ) : Type 0 where

@@ -13,6 +13,10 @@ use Rattle.pack_command.specs.declared.stop.Stop.TheVariants.{Words, TooLong, Te
 abbrev pub most_instance_bytes : ℕ
 most_instance_bytes = 1048576
 
+-- the most bytes that `audit` reads: 2 ^ 24
+abbrev pub most_audit_bytes : ℕ
+most_audit_bytes = 16777216
+
 -- these bytes are all that the source had to give, and not too many
 pub record IsWholeInput (old new : Option (List ℕ)) (bytes : List ℕ) : Type 0 where
   pub taken : Gives old new bytes

@@ -12,3 +12,5 @@ pub mod Decides
 pub mod Generated
 pub mod Ends
 pub mod Own
+pub mod Reductions
+pub mod Audits

@@ -8,7 +8,7 @@ use Rattle.text_terms.specs.Texts.{text_instance}
 use Rattle.pack_streams.specs.Moves.{Gains}
 use Rattle.pack_streams.specs.Writing.{GainsPart, Writes}
 use Rattle.text_terms.specs.declared.settings.Settings.{Settings}
-use Rattle.document_terms.specs.declared.claim.SolvingJob.{SolvingJob}
+use Rattle.answer_terms.specs.declared.job.DocumentJob.{DocumentJob}
 use Rattle.pack_command.specs.Answered.{answer_for}
 use Rattle.pack_command.specs.Asked.{AsksToSolve, AsksNothing}
 use Rattle.pack_command.specs.Inputs.{IsWholeInput, IsPartTaken, IsInputRead}
@@ -19,7 +19,7 @@ use Rattle.pack_command.specs.declared.stop.Stop.TheVariants.{Words, TooLong, Te
 -- the words ask for a solving job, the whole input is the text of an instance, and these are its
 -- status and its document
 pub record IsAnswered (words : List (String Global)) (old new : Option (List ℕ)) (status : ℕ) (document : List ℕ) : Type 0 where
-  pub job : SolvingJob
+  pub job : DocumentJob
   pub settings : Settings
   pub bytes : List ℕ
   pub instance : PlainInstance
@@ -39,7 +39,7 @@ pub record IsCutShort (words : List (String Global)) (old new sunk_old sunk_new 
 
 -- the words ask for a solving job
 abbrev pub Asks : List (String Global) → Type 0
-Asks words = (job : SolvingJob) × (settings : Settings) × AsksToSolve words job settings
+Asks words = (job : DocumentJob) × (settings : Settings) × AsksToSolve words job settings
 
 -- why a job ended without an answer, and what it took from the source and gave to the sink
 abbrev pub IsStopped : List (String Global) → (old new sunk_old sunk_new : Option (List ℕ)) → Stop → Type 0

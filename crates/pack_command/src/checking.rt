@@ -12,13 +12,14 @@ use answer_streams::{Verdict, stream};
 use document_check::{CheckEnd, check_document};
 use pack_streams::{Sink, Source};
 use std::alloc::Global;
+use verdict_terms::Heading;
 
 // The verdict on the document that a source gives.
 fn read_verdict<S: Source>(alloc: Global, input: &mut S) -> Result<Verdict, Stop>
     ensures is { IsVerdict (S.left input.old) (S.left input.new) result }
     ensures reads { CountsReads (S.faults input.old) (S.faults input.new) result }
 {
-    match check_document(alloc, input) {
+    match check_document(alloc, Heading::Answer, input) {
         CheckEnd::Verified(claim) => Ok(Verdict::Verified(claim)),
         CheckEnd::Refused { line, reason } => Ok(Verdict::Refused { line, reason }),
         CheckEnd::TooLong => Err(Stop::TooLong),

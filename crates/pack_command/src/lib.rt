@@ -1,6 +1,7 @@
 //! The jobs of `pack`, from bytes to bytes.
 #![tactic(auto)]
 
+mod auditing;
 mod checking;
 mod input;
 mod making;

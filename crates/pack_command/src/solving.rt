@@ -4,6 +4,7 @@ ghost use Rattle.packing_terms.specs.Limits.{IsInstance};
 ghost use Rattle.answer_streams.specs.Solutions.{IsSolution};
 
 use answer_streams::Solution;
+use answer_terms::DocumentJob;
 use bin_knapsack::{greatest_value, least_bins};
 use box_instances::{Instance, NoMemory};
 use class_search::decide;
@@ -12,10 +13,11 @@ use std::alloc::Global;
 use std::sync::Wait;
 use std::thread::Threads;
 use strip_solver::least_height;
+use symmetry_facts::decide_reduced;
 use work_share::{Gate, Settings};
 
-/// What a job finds for an instance under these settings.
-pub fn solve<R: Threads + Wait + Sync, G: Gate + Sync>(
+// What a solving job finds for an instance under these settings.
+fn solve_plain<R: Threads + Wait + Sync, G: Gate + Sync>(
     rt: &R,
     alloc: Global,
     instance: &Instance,
@@ -24,7 +26,7 @@ pub fn solve<R: Threads + Wait + Sync, G: Gate + Sync>(
     gate: &G,
 ) -> Result<Solution, NoMemory>
     requires limits { IsInstance instance.now }
-    ensures { IfOk result (λ s. IsSolution job settings instance.now s) }
+    ensures { IfOk result (λ s. IsSolution (DocumentJob.Solving job) settings instance.now s) }
 {
     match job {
         SolvingJob::Fit => {
@@ -42,6 +44,27 @@ pub fn solve<R: Threads + Wait + Sync, G: Gate + Sync>(
         SolvingJob::Knapsack => {
             let choice = greatest_value(rt, alloc, instance, &settings, gate)?;
             Ok(Solution::Knapsack(choice))
+        }
+    }
+}
+
+/// What a job that answers with a document finds for an instance under these settings.
+pub fn solve<R: Threads + Wait + Sync, G: Gate + Sync>(
+    rt: &R,
+    alloc: Global,
+    instance: &Instance,
+    job: DocumentJob,
+    settings: Settings,
+    gate: &G,
+) -> Result<Solution, NoMemory>
+    requires limits { IsInstance instance.now }
+    ensures { IfOk result (λ s. IsSolution job settings instance.now s) }
+{
+    match job {
+        DocumentJob::Solving(job) => solve_plain(rt, alloc, instance, job, settings, gate),
+        DocumentJob::Reduced => {
+            let outcome = decide_reduced(rt, alloc, instance, &settings, gate)?;
+            Ok(Solution::Reduced(outcome))
         }
     }
 }

@@ -3,13 +3,13 @@ ghost use Rattle.std.specs.Prelude.{◌≡◌, ◌≢◌, ◌≤◌, ◌+◌, �
 ghost use Rattle.std.specs.declared.alloc.Global.{Global as PlainGlobal};
 ghost use Rattle.packing_terms.specs.Packing.{PlainInstance};
 ghost use Rattle.pack_streams.specs.Moves.{Gains};
-ghost use Rattle.document_terms.specs.declared.claim.SolvingJob.{SolvingJob as PlainJob};
-ghost use Rattle.document_terms.specs.declared.claim.SolvingJob.TheVariants.{Fit};
+ghost use Rattle.answer_terms.specs.declared.job.DocumentJob.{DocumentJob as PlainJob};
 ghost use Rattle.pack_command.specs.Answered.{answer_for, class_bound, IsAnswerStatus, IsEnough};
-ghost use Rattle.pack_command.specs.Asked.{AsksToSolve, AsksCheck, AsksToMake, IsSolving, IsChecking, HasAnswer, ReadsNothing, IsRefusable};
+ghost use Rattle.pack_command.specs.Asked.{AsksToSolve, AsksCheck, AsksToMake, AsksAudit, IsSolving, IsChecking, IsAuditing, HasAnswer, ReadsNothing, IsRefusable};
+ghost use Rattle.pack_command.specs.Audits.{IsExactlyAudited, IsAuditClaimed};
 ghost use Rattle.pack_command.specs.Checks.{IsExactly, IsClaimed};
 ghost use Rattle.pack_command.specs.Counts.{CountsReads, CountsWrites, CountsStatus, IsFaultStatus};
-ghost use Rattle.pack_command.specs.Decides.{IsJobDecided, IsExactlyFit};
+ghost use Rattle.pack_command.specs.Decides.{IsJobDecided, AsksWhetherFits, IsExactlyFit};
 ghost use Rattle.pack_command.specs.Ends.{IsDone, IsUndone};
 ghost use Rattle.pack_command.specs.Generated.{IsExactlyMade};
 ghost use Rattle.pack_command.specs.Own.{IsOwnDocument};
@@ -18,6 +18,7 @@ ghost use Rattle.pack_command.specs.Run.{IsWritten, IsStopped, IsTold};
 ghost use Rattle.pack_command.specs.declared.stop.Stop.{Stop as PlainStop};
 ghost use Rattle.text_terms.specs.declared.settings.Settings.{Settings as PlainSettings};
 
+use crate::auditing::audit;
 use crate::checking::check;
 use crate::input::read_input;
 use crate::making::make_and_tell;
@@ -25,7 +26,7 @@ use crate::solving::solve;
 use crate::stop::Stop;
 use crate::words::{Asked, read_job};
 use answer_streams::{AnswerDocument, stream};
-use document_terms::SolvingJob;
+use answer_terms::DocumentJob;
 use pack_streams::{Sink, Source};
 use std::alloc::Global;
 use std::sync::Wait;
@@ -36,7 +37,7 @@ use work_share::{Gate, Settings};
 ///
 /// Status 0 is yes, least, greatest or verified, 1 is no, none or refused, and 3 is undecided or
 /// between: the answer is whole before its first byte goes to `out`, the document, the one line of
-/// `check` or the three lines of `make` are written whole in pieces of 4,096 bytes, and nothing to
+/// `check` or `audit` or the three lines of `make` are written whole in pieces of 4,096 bytes, and nothing to
 /// `err`. With every other status one line on `err` names the cause: 2 the words, the length or the
 /// text of the input; 4 a failed read; 5 a failed write, after a part at the front of what was to
 /// be written; 6 want of memory. With 2, 4 and 6 nothing was written to `out`.
@@ -52,9 +53,10 @@ pub fn run<R: Threads + Wait + Sync, S: Source, K: Sink, E: Sink, G: Gate + Sync
     err: &mut E,
     gate: &G,
 ) -> u8
-    // The answer of a solving job is true of the instance that the input is the text of: `fit` is yes
-    // with a packing or no with a refutation, exactly as a packing exists, or undecided exactly where
-    // the tree has more branchings than the budget; the others are least or greatest over all
+    // The answer of a solving job, or of `reduced`, is true of the instance that the input is the text
+    // of: `fit` and `reduced` are yes with a packing or no with a refutation, of `reduced` under the
+    // symmetry facts, exactly as a packing exists, or undecided exactly where the tree has more
+    // branchings than the budget; the others are least or greatest over all
     // packings, none exactly where there is none, or between two levels exactly where the tree of a
     // level that is decided has more branchings than the budget, with both certificates.
     ensures decides { (job : PlainJob) (settings : PlainSettings) (instance : PlainInstance)
@@ -68,16 +70,16 @@ pub fn run<R: Threads + Wait + Sync, S: Source, K: Sink, E: Sink, G: Gate + Sync
         × Gains (K.written out.old) (K.written out.new) (answer_for job settings instance).text }
 
     // None is undecided or between where the budget is enough for every tree of the job: then the
-    // status of `fit` says exactly whether the instance fits.
+    // status of `fit` or `reduced` says exactly whether the instance fits.
     ensures enough { (job : PlainJob) (settings : PlainSettings) (instance : PlainInstance)
         → IsSolving words.now (S.left input.old) job settings instance
         → IsEnough job instance settings.budget → result ≢ 3 }
-    ensures fits { (settings : PlainSettings) (instance : PlainInstance)
-        → IsSolving words.now (S.left input.old) Fit settings instance → IsAnswerStatus result
-        → class_bound instance ≤ settings.budget + 1 → IsExactlyFit instance result }
+    ensures fits { (job : PlainJob) (settings : PlainSettings) (instance : PlainInstance)
+        → IsSolving words.now (S.left input.old) job settings instance → AsksWhetherFits job
+        → IsAnswerStatus result → class_bound instance ≤ settings.budget + 1 → IsExactlyFit instance result }
 
-    // The document is verified with a claim of the job about that instance, or it says undecided,
-    // for `fit` alone, and is verified with none.
+    // The document is verified with a claim of the job about that instance, that of `reduced` as a
+    // reduced one, or it says undecided, for `fit` and `reduced` alone, and is verified with none.
     ensures verified { (job : PlainJob) (settings : PlainSettings) (instance : PlainInstance)
         → IsSolving words.now (S.left input.old) job settings instance → IsAnswerStatus result
         → IsOwnDocument job instance (K.written out.old) (K.written out.new) result }
@@ -88,6 +90,15 @@ pub fn run<R: Threads + Wait + Sync, S: Source, K: Sink, E: Sink, G: Gate + Sync
         → IsAnswerStatus result → IsExactly bytes (K.written out.old) (K.written out.new) result }
     ensures claimed { AsksCheck words.now → result ≡ 0
         → IsClaimed (S.left input.old) (S.left input.new) (K.written out.old) (K.written out.new) }
+
+    // `audit` writes exactly the line of the verdict on the input as a reduced document, with its
+    // status, and what it verifies is true of the instance in the document, whoever wrote it.
+    ensures audits { (bytes : List ℕ) → IsAuditing words.now (S.left input.old) bytes
+        → IsAnswerStatus result
+        → IsExactlyAudited bytes (K.written out.old) (K.written out.new) result }
+    ensures attests { AsksAudit words.now → result ≡ 0
+        → IsAuditClaimed (S.left input.old) (S.left input.new) (K.written out.old)
+        (K.written out.new) }
 
     // `make` writes exactly the summary of the number, with the status of its decision: yes only
     // where the generated instance fits, no only where it doesn't, and undecided exactly where its
@@ -142,7 +153,7 @@ pub fn run<R: Threads + Wait + Sync, S: Source, K: Sink, E: Sink, G: Gate + Sync
 fn answer<R: Threads + Wait + Sync, S: Source, K: Sink, G: Gate + Sync>(
     rt: &R,
     alloc: Global,
-    job: SolvingJob,
+    job: DocumentJob,
     settings: Settings,
     input: &mut S,
     out: &mut K,
@@ -199,6 +210,7 @@ fn job<R: Threads + Wait + Sync, S: Source, K: Sink, G: Gate + Sync>(
     match asked {
         Asked::Solving { job, settings } => answer(rt, alloc, job, settings, input, out, gate),
         Asked::Checking => check(alloc, input, out),
+        Asked::Auditing => audit(alloc, input, out),
         Asked::Making { number, settings } => {
             make_and_tell(rt, alloc, number, &settings, out, gate)
         }

@@ -2,6 +2,7 @@
 ghost use Rattle.pack_command.specs.Asked.{IsAsked};
 
 use crate::stop::Stop;
+use answer_terms::DocumentJob;
 use document_terms::SolvingJob;
 use pack_words::{Job, WordsError, read_words};
 use std::alloc::Global;
@@ -10,12 +11,20 @@ use work_share::Settings;
 /// What the words ask for.
 #[derive(Clone, Copy, Debug, PartialEq, Eq)]
 pub enum Asked {
-    /// A solving job, and how it is to be run.
-    Solving { job: SolvingJob, settings: Settings },
+    /// A job that answers with a document, and how it is to be run.
+    Solving {
+        job: DocumentJob,
+        settings: Settings,
+    },
     /// `check`.
     Checking,
+    /// `audit`.
+    Auditing,
     /// `make`, the number that it generates from, and how the instance is to be decided.
-    Making { number: u32, settings: Settings },
+    Making {
+        number: u32,
+        settings: Settings,
+    },
 }
 
 /// What the words ask for.
@@ -29,11 +38,13 @@ pub fn read_job(alloc: Global, words: &[String]) -> Result<Asked, Stop>
     };
     let settings = asked.settings;
     let job = match asked.job {
-        Job::Fit => SolvingJob::Fit,
-        Job::Strip => SolvingJob::Strip,
-        Job::Bins => SolvingJob::Bins,
-        Job::Knapsack => SolvingJob::Knapsack,
+        Job::Fit => DocumentJob::Solving(SolvingJob::Fit),
+        Job::Strip => DocumentJob::Solving(SolvingJob::Strip),
+        Job::Bins => DocumentJob::Solving(SolvingJob::Bins),
+        Job::Knapsack => DocumentJob::Solving(SolvingJob::Knapsack),
+        Job::Reduced => DocumentJob::Reduced,
         Job::Check => return Ok(Asked::Checking),
+        Job::Audit => return Ok(Asked::Auditing),
         Job::Make => {
             return Ok(Asked::Making {
                 number: asked.number,

@@ -1,7 +1,7 @@
 -- Command lines with their jobs.
 use Rattle.std.proofs.Common.{◌≡◌, [], ◌∷◌, Some, None, refl, codes, true, false}
 use Rattle.text_terms.specs.Lines.{number_of}
-use Rattle.pack_words.specs.declared.job.Job.TheVariants.{Fit, Make}
+use Rattle.pack_words.specs.declared.job.Job.TheVariants.{Fit, Make, Audit, Reduced}
 use Rattle.pack_words.specs.Job.{job_of_words}
 
 eight_workers : job_of_words (codes "fit" ∷ codes "--workers=08" ∷ [])
@@ -61,3 +61,20 @@ no_value = refl
 hyphen_alone : job_of_words (codes "fit" ∷ codes "--budget" ∷ codes "-" ∷ []) ≡ None
 unfolding job_of_words number_of
 hyphen_alone = refl
+
+reduced_with_options : job_of_words (codes "reduced" ∷ codes "--scales=no" ∷ codes "--budget" ∷ codes "0" ∷ [])
+    ≡ Some (record { job = Reduced; settings = record { workers = 1; budget = 0; scales = false }; number = 0 })
+unfolding job_of_words number_of
+reduced_with_options = refl
+
+reduced_with_number : job_of_words (codes "reduced" ∷ codes "--number" ∷ codes "3" ∷ []) ≡ None
+unfolding job_of_words number_of
+reduced_with_number = refl
+
+audit_alone : job_of_words (codes "audit" ∷ []) ≡ Some (record { job = Audit; settings = record { workers = 1; budget = 1000000; scales = true }; number = 0 })
+unfolding job_of_words number_of
+audit_alone = refl
+
+audit_with_options : job_of_words (codes "audit" ∷ codes "--workers=2" ∷ []) ≡ None
+unfolding job_of_words number_of
+audit_with_options = refl

@@ -18,6 +18,10 @@ pub enum Job {
     Check,
     /// Whether a generated instance fits.
     Make,
+    /// Whether a reduced document is right.
+    Audit,
+    /// Whether the boxes fit the container, decided from symmetry facts.
+    Reduced,
 }
 
 /// A job with its settings, and the number that `make` generates from. Where the words don't give

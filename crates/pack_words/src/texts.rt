@@ -17,6 +17,8 @@ fn job_of_name(word: &str) -> Option<Job>
         "knapsack" => Some(Job::Knapsack),
         "check" => Some(Job::Check),
         "make" => Some(Job::Make),
+        "audit" => Some(Job::Audit),
+        "reduced" => Some(Job::Reduced),
         _ => None,
     }
 }
@@ -27,7 +29,7 @@ fn are_taken(job: Job, found: Found<'_>) -> bool
 {
     let has_settings = found.workers.is_some() | found.budget.is_some() | found.scales.is_some();
     match job {
-        Job::Check => !has_settings & found.number.is_none(),
+        Job::Check | Job::Audit => !has_settings & found.number.is_none(),
         Job::Make => true,
         _ => found.number.is_none(),
     }

@@ -18,6 +18,8 @@ mod limits;
 #[cfg(test)]
 mod makes;
 #[cfg(test)]
+mod reductions;
+#[cfg(test)]
 mod refusals;
 #[cfg(test)]
 mod refused_claims;

@@ -10,13 +10,15 @@ use Rattle.document_terms.specs.declared.claim.SolvingJob.{SolvingJob}
 use Rattle.document_terms.specs.declared.claim.Claim.{Claim}
 use Rattle.document_terms.specs.declared.claim.SolvingJob.TheVariants.{Fit, Strip, Bins, Knapsack}
 use Rattle.document_terms.specs.declared.claim.Claim.TheVariants.{NoHeight, NoBins, LeastHeight, HeightBetween, LeastBins, BinsBetween, GreatestValue, ValueBetween}
+use Rattle.verdict_terms.specs.declared.heading.Heading.{Heading}
+use Rattle.verdict_terms.specs.declared.heading.Heading.TheVariants.{Answer, Reduced}
 use Rattle.verdict_terms.specs.Reasons.{form}
 use Rattle.packing_terms.specs.Limits.{most_height}
 use Rattle.document_terms.specs.Claims.{most_worth}
 use Rattle.verdict_terms.specs.Numbers.{wanted_by, wanted, all_wanted, numbers_line}
 use Rattle.document_terms.proofs.Cuts.{cut_by, cut_rest}
 use Rattle.verdict_terms.specs.Results.{none_claim, one_claim, two_claim, claim_of}
-use Rattle.verdict_terms.specs.Stages.{is_word, job_named, answer_line}
+use Rattle.verdict_terms.specs.Stages.{is_word, job_named, heading_line}
 
 -- ---- numbers
 
@@ -45,10 +47,11 @@ job_front : (word : List ℕ) → job_named (take 21 word) ≡ job_named word
 job_front word =
     rw (same_front 21 word (codes "fit") (omega arith), same_front 21 word (codes "strip") (omega arith), same_front 21 word (codes "bins") (omega arith), same_front 21 word (codes "knapsack") (omega arith)) refl
 
-pub answer_cut : (word : List ℕ) (words : List (List ℕ)) → answer_line (take 21 word ∷ cut_rest words) ≡ answer_line (word ∷ words)
-answer_cut word [] = refl
-answer_cut word (job ∷ []) = rw (same_front 21 word (codes "answer") (omega arith), job_front job) refl
-answer_cut word (job ∷ other ∷ words) = refl
+pub heading_cut : (heading : Heading) (word : List ℕ) (words : List (List ℕ)) → heading_line heading (take 21 word ∷ cut_rest words) ≡ heading_line heading (word ∷ words)
+heading_cut heading word [] = refl
+heading_cut Answer word (job ∷ []) = rw (same_front 21 word (codes "answer") (omega arith), job_front job) refl
+heading_cut Reduced word (job ∷ []) = rw (same_front 21 word (codes "reduced") (omega arith), same_front 21 job (codes "fit") (omega arith)) refl
+heading_cut heading word (job ∷ other ∷ words) = refl
 
 none_front : (claim : Claim) (word : List ℕ) → none_claim claim (take 21 word) ≡ none_claim claim word
 none_front claim word = rw (same_front 21 word (codes "none") (omega arith)) refl

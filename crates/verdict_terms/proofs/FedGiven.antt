@@ -19,6 +19,8 @@ use Rattle.check_terms.specs.Judging.{names_box}
 use Rattle.document_terms.specs.declared.claim.SolvingJob.{SolvingJob}
 use Rattle.document_terms.specs.declared.claim.Claim.{Claim}
 use Rattle.document_terms.specs.declared.claim.Claim.TheVariants.{Fitting, NotFitting, LeastHeight, HeightBetween, NoHeight, LeastBins, BinsBetween, NoBins, GreatestValue, ValueBetween}
+use Rattle.verdict_terms.specs.declared.heading.Heading.{Heading}
+use Rattle.verdict_terms.specs.declared.heading.Heading.TheVariants.{Answer, Reduced}
 use Rattle.verdict_terms.specs.declared.reason.Reason.{Reason}
 use Rattle.verdict_terms.specs.Reasons.{form, range}
 use Rattle.verdict_terms.specs.Numbers.{require, numbers_line, coordinates}
@@ -26,20 +28,20 @@ use Rattle.document_terms.specs.TokenLines.{token_of}
 use Rattle.document_terms.proofs.Cuts.{token_cut, cut_rest}
 use Rattle.verdict_terms.specs.Trees.{Refuted, Tree, begun, is_whole, tree_dims, tree_after, refuted_by}
 use Rattle.verdict_terms.specs.Results.{claim_of}
-use Rattle.verdict_terms.specs.Stages.{Stage, text_fault, end_of_parts, is_result, reading_line, rest_of, words_line, share_line, take_box_line, exceeding_token, refused_by, places_reason, bins_reason, taken_reason, to_refute, is_word, tree_token, coded, late_line, late_by, grown_tree, placed, claimed, filled_line, stage_after, is_blank}
+use Rattle.verdict_terms.specs.Stages.{Stage, text_fault, end_of_parts, is_result, reading_line, rest_of, words_line, share_line, take_box_line, exceeding_token, refused_by, places_reason, bins_reason, taken_reason, to_refute, is_word, tree_token, coded, late_line, late_by, grown_tree, placed, claimed, claimed_under, filled_line, stage_after, is_blank}
 use Rattle.verdict_terms.specs.Stages.Stage.{Beginning, Reading, Placing, Sharing, Taking, Proving, Refuting, Exceeding, Ending, Ended}
-use Rattle.verdict_terms.specs.Documents.{Refusal, document_at_line, document_at_end, read_document_lines, document_verdict}
+use Rattle.verdict_terms.specs.Documents.{Refusal, document_at_line, document_at_end, read_document_lines, headed_verdict}
 use Rattle.verdict_terms.specs.Fed.{taken_line, fed_verdict, DocumentsAreFed}
 use Rattle.verdict_terms.proofs.Passed.{require_ok, refused_ok, ok_is}
-use Rattle.verdict_terms.proofs.Cuts.{numbers_cut, is_word_cut, answer_cut, claim_cut}
-use Rattle.verdict_terms.proofs.FormTold.{answer_ok, end_ok, fault_ok}
+use Rattle.verdict_terms.proofs.Cuts.{numbers_cut, is_word_cut, heading_cut, claim_cut}
+use Rattle.verdict_terms.proofs.FormTold.{heading_ok, end_ok, fault_ok}
 use Rattle.verdict_terms.proofs.TreesTold.{refuted_same, refuted_begun, coded_ok}
 
 -- ---- what holds of a stage: no more than four dimensions
 
 abbrev IsWell : Stage → Type 0
-IsWell Beginning = Unit {0}
-IsWell (Reading job parts) = IsWithinLimits parts
+IsWell (Beginning heading) = Unit {0}
+IsWell (Reading heading job parts) = IsWithinLimits parts
 IsWell (Placing instance claim refuted places) = (dims instance ≤ 4) × (tree_dims refuted ≤ 4)
 IsWell (Sharing instance claim k bins places) = dims instance ≤ 4
 IsWell (Taking instance claim value taken places) = dims instance ≤ 4
@@ -77,6 +79,18 @@ module _ (instance : PlainInstance) (few : dims instance ≤ 4) where
   claimed_well NoBins = few
   claimed_well (GreatestValue v) = few
   claimed_well (ValueBetween a b) = few
+
+  under_well : (heading : Heading) (claim : Claim) → IsWell (claimed_under heading instance claim)
+  under_well heading Fitting = claimed_well Fitting
+  under_well heading NotFitting = few
+  under_well heading (LeastHeight h) = claimed_well (LeastHeight h)
+  under_well heading (HeightBetween a b) = claimed_well (HeightBetween a b)
+  under_well heading NoHeight = claimed_well NoHeight
+  under_well heading (LeastBins k) = claimed_well (LeastBins k)
+  under_well heading (BinsBetween a b) = claimed_well (BinsBetween a b)
+  under_well heading NoBins = claimed_well NoBins
+  under_well heading (GreatestValue v) = claimed_well (GreatestValue v)
+  under_well heading (ValueBetween a b) = claimed_well (ValueBetween a b)
 
 placed_well : (claim : Claim) (refuted : Refuted) → tree_dims refuted ≤ 4 → IsWell (placed claim refuted)
 placed_well Fitting refuted few = tt
@@ -154,9 +168,9 @@ exceeding_well instance claim m ValueShort few next e = absurd (cc (e))
 exceeding_well instance claim m (GlobalScales fs) few next e = absurd (cc (e))
 
 words_well : (stage : Stage) (words : List (List ℕ)) → IsWell stage → GivesWell (words_line stage words)
-words_well Beginning words well next e =
-    let a = answer_ok words next e in gives_well (Reading a.job no_parts) good_start next (ap Ok a.next_is)
-words_well (Reading j p) words well next e = absurd (cc (e))
+words_well (Beginning h) words well next e =
+    let a = heading_ok h words next e in gives_well (Reading h a.job no_parts) good_start next (ap Ok a.next_is)
+words_well (Reading h j p) words well next e = absurd (cc (e))
 words_well (Placing i c r p) words well next e =
     let n = bind_ok (numbers_line (codes "place") (dims i) words) _ next e in
     let x = bind_ok (coordinates n.0) _ next n.2 in
@@ -175,19 +189,19 @@ words_well (Exceeding i c m) words well next e =
 words_well (Ending c b) words well next e = gives_well (Ended c) tt next (require_ok (is_word (codes "end") words) (late_line b words) (Ok (Ended c)) next e).1
 words_well (Ended c) words well next e = absurd (cc (e))
 
-reading_well : (b : Bool) (job : SolvingJob) (parts : Parts) (line : Line) → IsWithinLimits parts → GivesWell (reading_line b job parts line)
-reading_well true job parts line well next e =
-    let i = bind_ok (end_of_parts (end_of parts 0)) (λ instance. claim_of job instance (rest_of line.words) >>= λ claim. Ok (claimed instance claim)) next e in
-    let c = bind_ok (claim_of job i.0 (rest_of line.words)) (λ claim. Ok (claimed i.0 claim)) next i.2 in
+reading_well : (b : Bool) (heading : Heading) (job : SolvingJob) (parts : Parts) (line : Line) → IsWithinLimits parts → GivesWell (reading_line b heading job parts line)
+reading_well true heading job parts line well next e =
+    let i = bind_ok (end_of_parts (end_of parts 0)) (λ instance. claim_of job instance (rest_of line.words) >>= λ claim. Ok (claimed_under heading instance claim)) next e in
+    let c = bind_ok (claim_of job i.0 (rest_of line.words)) (λ claim. Ok (claimed_under heading i.0 claim)) next i.2 in
     let limits = parts_limits parts i.0 0 well (end_ok (end_of parts 0) i.0 i.1) in
-    gives_well (claimed i.0 c.0) (claimed_well i.0 limits.dimensions.1 c.0) next c.2
-reading_well false job parts line well next e =
-    let m = bind_ok (text_fault (add_line parts line)) (λ more. Ok (Reading job more)) next e in
-    gives_well (Reading job m.0) (line_good parts m.0 line well (fault_ok (add_line parts line) m.0 m.1)) next m.2
+    gives_well (claimed_under heading i.0 c.0) (under_well i.0 limits.dimensions.1 heading c.0) next c.2
+reading_well false heading job parts line well next e =
+    let m = bind_ok (text_fault (add_line parts line)) (λ more. Ok (Reading heading job more)) next e in
+    gives_well (Reading heading job m.0) (line_good parts m.0 line well (fault_ok (add_line parts line) m.0 m.1)) next m.2
 
 filled_well : (stage : Stage) (line : Line) → IsWell stage → GivesWell (filled_line stage line)
-filled_well Beginning line well next e = words_well Beginning line.words well next (require_ok (not line.bad) form (words_line Beginning line.words) next e).1
-filled_well (Reading j p) line well next e = reading_well (is_result line) j p line well next e
+filled_well (Beginning h) line well next e = words_well (Beginning h) line.words well next (require_ok (not line.bad) form (words_line (Beginning h) line.words) next e).1
+filled_well (Reading h j p) line well next e = reading_well (is_result line) h j p line well next e
 filled_well (Placing i c r p) line well next e = words_well (Placing i c r p) line.words well next (require_ok (not line.bad) form (words_line (Placing i c r p) line.words) next e).1
 filled_well (Sharing i c k b p) line well next e = words_well (Sharing i c k b p) line.words well next (require_ok (not line.bad) form (words_line (Sharing i c k b p) line.words) next e).1
 filled_well (Taking i c v t p) line well next e = words_well (Taking i c v t p) line.words well next (require_ok (not line.bad) form (words_line (Taking i c v t p) line.words) next e).1
@@ -224,8 +238,8 @@ behind_taking instance claim value taken places b r =
     ]
 
 words_told : (stage : Stage) (w : List ℕ) (ws : List (List ℕ)) → IsWell stage → words_line stage (take 21 w ∷ cut_rest ws) ≡ words_line stage (w ∷ ws)
-words_told Beginning w ws well = answer_cut w ws
-words_told (Reading j p) w ws well = refl
+words_told (Beginning h) w ws well = heading_cut h w ws
+words_told (Reading h j p) w ws well = refl
 words_told (Placing i c r p) w ws well =
     ap (λ x. x >>= λ ns. behind_numbers i c r p ns) (numbers_cut (codes "place") (dims i) w ws (omega arith) (let f = well.0 in omega (arith, f)))
 words_told (Sharing i c k b p) w ws well =
@@ -242,21 +256,21 @@ words_told (Ending c (Some d)) w ws well =
 words_told (Ending c None) w ws well = ap (λ b. require b form (Ok (Ended c))) (is_word_cut (codes "end") w ws (omega arith))
 words_told (Ended c) w ws well = refl
 
-reading_told_by : (job : SolvingJob) (parts : Parts) (w : List ℕ) (ws : List (List ℕ)) (n m : ℕ) → IsWithinLimits parts
-    → filled_line (Reading job parts) (record { bad = false; count = n; words = take 21 w ∷ cut_rest ws }) ≡ filled_line (Reading job parts) (record { bad = false; count = m; words = w ∷ ws })
-reading_told_by job parts w ws n m well =
-    ap (λ b. reading_line b job parts (record { bad = false; count = n; words = take 21 w ∷ cut_rest ws })) (same_front 21 w (codes "result") (omega arith))
+reading_told_by : (heading : Heading) (job : SolvingJob) (parts : Parts) (w : List ℕ) (ws : List (List ℕ)) (n m : ℕ) → IsWithinLimits parts
+    → filled_line (Reading heading job parts) (record { bad = false; count = n; words = take 21 w ∷ cut_rest ws }) ≡ filled_line (Reading heading job parts) (record { bad = false; count = m; words = w ∷ ws })
+reading_told_by heading job parts w ws n m well =
+    ap (λ b. reading_line b heading job parts (record { bad = false; count = n; words = take 21 w ∷ cut_rest ws })) (same_front 21 w (codes "result") (omega arith))
     ∙ go (same_bytes w (codes "result"))
   where
-    go : (b : Bool) → reading_line b job parts (record { bad = false; count = n; words = take 21 w ∷ cut_rest ws }) ≡ reading_line b job parts (record { bad = false; count = m; words = w ∷ ws })
-    go true = ap (λ (f : PlainInstance → Result Claim Reason). end_of_parts (end_of parts 0) >>= λ instance. f instance >>= λ claim. Ok (claimed instance claim)) (fun_ext (λ instance. claim_cut job instance ws))
-    go false = ap (λ r. text_fault (refuse false 8 r) >>= λ more. Ok (Reading job more)) (words_cut parts (w ∷ ws) well.few)
+    go : (b : Bool) → reading_line b heading job parts (record { bad = false; count = n; words = take 21 w ∷ cut_rest ws }) ≡ reading_line b heading job parts (record { bad = false; count = m; words = w ∷ ws })
+    go true = ap (λ (f : PlainInstance → Result Claim Reason). end_of_parts (end_of parts 0) >>= λ instance. f instance >>= λ claim. Ok (claimed_under heading instance claim)) (fun_ext (λ instance. claim_cut job instance ws))
+    go false = ap (λ r. text_fault (refuse false 8 r) >>= λ more. Ok (Reading heading job more)) (words_cut parts (w ∷ ws) well.few)
 
 filled_told : (stage : Stage) (bad : Bool) (w : List ℕ) (ws : List (List ℕ)) (n m : ℕ) → IsWell stage
     → filled_line stage (record { bad = bad; count = n; words = take 21 w ∷ cut_rest ws }) ≡ filled_line stage (record { bad = bad; count = m; words = w ∷ ws })
-filled_told Beginning bad w ws n m well = ap (require (not bad) form) (words_told Beginning w ws well)
-filled_told (Reading j p) true w ws n m well = refl
-filled_told (Reading j p) false w ws n m well = reading_told_by j p w ws n m well
+filled_told (Beginning h) bad w ws n m well = ap (require (not bad) form) (words_told (Beginning h) w ws well)
+filled_told (Reading h j p) true w ws n m well = refl
+filled_told (Reading h j p) false w ws n m well = reading_told_by h j p w ws n m well
 filled_told (Placing i c r p) bad w ws n m well = ap (require (not bad) form) (words_told (Placing i c r p) w ws well)
 filled_told (Sharing i c k b p) bad w ws n m well = ap (require (not bad) form) (words_told (Sharing i c k b p) w ws well)
 filled_told (Taking i c v t p) bad w ws n m well = ap (require (not bad) form) (words_told (Taking i c v t p) w ws well)
@@ -271,8 +285,8 @@ line_told : (stage : Stage) (bad : Bool) (words : List (List ℕ)) (n m : ℕ) �
 line_told stage true [] n m well = bad_same stage
   where
     bad_same : (s : Stage) → filled_line s (record { bad = true; count = n; words = [] }) ≡ filled_line s (record { bad = true; count = m; words = [] })
-    bad_same Beginning = refl
-    bad_same (Reading j p) = refl
+    bad_same (Beginning h) = refl
+    bad_same (Reading h j p) = refl
     bad_same (Placing i c r p) = refl
     bad_same (Sharing i c k b p) = refl
     bad_same (Taking i c v t p) = refl
@@ -323,6 +337,7 @@ told_is_read stage n (line ∷ lines) well =
     go (Err reason) later = refl
 
 pub documents_are_fed : DocumentsAreFed
-unfolding document_verdict
-documents_are_fed text =
-    fed_is_told new_lexer Beginning text ∙ ap (read_told Beginning 0) (texts_are_lines text) ∙ told_is_read Beginning 0 (text_lines text) tt
+unfolding headed_verdict
+documents_are_fed heading text =
+    fed_is_told new_lexer (Beginning heading) text ∙ ap (read_told (Beginning heading) 0) (texts_are_lines text)
+    ∙ told_is_read (Beginning heading) 0 (text_lines text) tt

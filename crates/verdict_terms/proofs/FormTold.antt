@@ -20,20 +20,23 @@ use Rattle.text_terms.proofs.FormNumbers.{word_is}
 use Rattle.text_terms.proofs.FormLines.{clean_from}
 use Rattle.document_terms.specs.declared.claim.SolvingJob.{SolvingJob}
 use Rattle.document_terms.specs.declared.claim.Claim.{Claim}
-use Rattle.document_terms.specs.Claims.{job_word}
+use Rattle.document_terms.specs.Claims.{job_of, job_word}
 use Rattle.document_terms.specs.declared.claim.SolvingJob.TheVariants.{Fit, Strip, Bins, Knapsack}
 use Rattle.document_terms.specs.declared.claim.Claim.TheVariants.{Fitting, NotFitting, LeastHeight, HeightBetween, NoHeight, LeastBins, BinsBetween, NoBins, GreatestValue, ValueBetween}
+use Rattle.verdict_terms.specs.declared.heading.Heading.{Heading}
+use Rattle.verdict_terms.specs.declared.heading.Heading.TheVariants.{Answer, Reduced}
 use Rattle.verdict_terms.specs.declared.reason.Reason.{Reason}
 use Rattle.verdict_terms.specs.Reasons.{form}
 use Rattle.verdict_terms.specs.Results.{claim_of}
-use Rattle.verdict_terms.specs.Stages.{Stage, claimed, job_named, answer_line, text_fault, end_of_parts, result_line, reading_line, stage_after}
+use Rattle.verdict_terms.specs.Stages.{Stage, claimed, claimed_under, job_named, heading_word, job_headed, heading_line, text_fault, end_of_parts, result_line, reading_line, stage_after}
 use Rattle.verdict_terms.specs.Stages.Stage.{Beginning, Reading}
-use Rattle.verdict_terms.specs.Documents.{read_document_lines, document_verdict}
-use Rattle.verdict_terms.specs.Form.{IsDocument}
+use Rattle.verdict_terms.specs.Documents.{read_document_lines, headed_verdict}
+use Rattle.verdict_terms.specs.Form.{BacksUnder, IsHeadedDocument}
 use Rattle.verdict_terms.proofs.Passed.{cond_ok, ok_is}
-use Rattle.verdict_terms.proofs.Walk.{IsLater, stepped, words_read}
+use Rattle.verdict_terms.proofs.Walk.{IsLater, read_words, stepped, words_read}
 use Rattle.verdict_terms.proofs.ResultsTold.{result_told}
 use Rattle.verdict_terms.proofs.Backed.{backed_told}
+use Rattle.verdict_terms.proofs.ReducedTrees.{no_told}
 
 -- ---- the first line
 
@@ -49,46 +52,67 @@ job_ok word job e =
     go false false false true p q r s f = let same : Knapsack ≡ job = cc (f) in word_is word (codes "knapsack") s ∙ ap job_word same
     go false false false false p q r s f = absurd (cc (f))
 
-pub record AnswerRead (words : List (List ℕ)) (next : Stage) : Type 0 where
-  pub job : SolvingJob
-  pub are : words ≡ codes "answer" ∷ job_word job ∷ []
-  pub next_is : Reading job no_parts ≡ next
+-- the jobs that a heading may name
+abbrev pub IsHeaded : Heading → SolvingJob → Type 0
+IsHeaded Answer job = Unit {0}
+IsHeaded Reduced job = job ≡ Fit
 
-pub answer_ok : (words : List (List ℕ)) (next : Stage) → answer_line words ≡ Ok next → AnswerRead words next
-answer_ok [] next e = absurd (cc (e))
-answer_ok (key ∷ []) next e = absurd (cc (e))
-answer_ok (key ∷ word ∷ other ∷ words) next e = absurd (cc (e))
-answer_ok (key ∷ word ∷ []) next e =
-    let c = cond_ok (same_bytes key (codes "answer")) (job_named word >>= λ job. Ok (Reading job no_parts)) form next e in
-    let j = bind_ok (job_named word) (λ job. Ok (Reading job no_parts)) next c.1 in
-    record { job = j.0; are = ap₂ (λ k w. k ∷ w ∷ []) (word_is key (codes "answer") c.0) (job_ok word j.0 j.1); next_is = ok_is (Reading j.0 no_parts) next j.2 }
+headed_ok : (heading : Heading) (word : List ℕ) (job : SolvingJob) → job_headed heading word ≡ Ok job → (word ≡ job_word job) × IsHeaded heading job
+headed_ok Answer word job e = (job_ok word job e, tt)
+headed_ok Reduced word job e =
+    let c = cond_ok (same_bytes word (codes "fit")) (Ok Fit) form job e in
+    let same = ok_is Fit job c.1 in
+    (word_is word (codes "fit") c.0 ∙ ap job_word same, sym same)
 
--- the lines behind `answer`
-pub record AnswerTold (filled : List (List (List ℕ))) (lines : List (List ℕ)) (claim : Claim) : Type 0 where
+pub record HeadingRead (heading : Heading) (words : List (List ℕ)) (next : Stage) : Type 0 where
   pub job : SolvingJob
+  pub headed : IsHeaded heading job
+  pub are : words ≡ heading_word heading ∷ job_word job ∷ []
+  pub next_is : Reading heading job no_parts ≡ next
+
+key_ok : (heading : Heading) (key : List ℕ) → same_bytes key (heading_word heading) ≡ true → key ≡ heading_word heading
+key_ok Answer key e = word_is key (codes "answer") e
+key_ok Reduced key e = word_is key (codes "reduced") e
+
+pub heading_ok : (heading : Heading) (words : List (List ℕ)) (next : Stage) → heading_line heading words ≡ Ok next → HeadingRead heading words next
+heading_ok heading [] next e = absurd (cc (e))
+heading_ok heading (key ∷ []) next e = absurd (cc (e))
+heading_ok heading (key ∷ word ∷ other ∷ words) next e = absurd (cc (e))
+heading_ok heading (key ∷ word ∷ []) next e =
+    let c = cond_ok (same_bytes key (heading_word heading)) (job_headed heading word >>= λ job. Ok (Reading heading job no_parts)) form next e in
+    let j = bind_ok (job_headed heading word) (λ job. Ok (Reading heading job no_parts)) next c.1 in
+    let h = headed_ok heading word j.0 j.1 in
+    record { job = j.0; headed = h.1; are = ap₂ (λ k w. k ∷ w ∷ []) (key_ok heading key c.0) h.0; next_is = ok_is (Reading heading j.0 no_parts) next j.2 }
+
+-- the lines behind the first
+pub record HeadingTold (heading : Heading) (filled : List (List (List ℕ))) (lines : List (List ℕ)) (claim : Claim) : Type 0 where
+  pub job : SolvingJob
+  pub headed : IsHeaded heading job
   pub rest : List (List ℕ)
   pub number : ℕ
-  pub are : filled ≡ (codes "answer" ∷ job_word job ∷ []) ∷ filled_lines rest
+  pub are : filled ≡ (heading_word heading ∷ job_word job ∷ []) ∷ filled_lines rest
   pub clean : AreClean rest → AreClean lines
-  pub reads : read_document_lines (Reading job no_parts) number rest ≡ Ok claim
+  pub reads : read_document_lines (Reading heading job no_parts) number rest ≡ Ok claim
 
-answer_told : (n : ℕ) (lines : List (List ℕ)) (claim : Claim) → read_document_lines Beginning n lines ≡ Ok claim → AnswerTold (filled_lines lines) lines claim
-answer_told n [] claim e = absurd (cc (e))
-answer_told n (line ∷ lines) claim e =
-    let s = stepped Beginning n line lines claim e in
-    by_parts s.next s.rest (list_any is_bad (content line)) (words_of (content line)) refl s.step (λ r. answer_told (n + 1) lines claim r)
+heading_told : (heading : Heading) (n : ℕ) (lines : List (List ℕ)) (claim : Claim) → read_document_lines (Beginning heading) n lines ≡ Ok claim → HeadingTold heading (filled_lines lines) lines claim
+heading_told heading n [] claim e = absurd (cc (e))
+heading_told heading n (line ∷ lines) claim e =
+    let s = stepped (Beginning heading) n line lines claim e in
+    by_parts s.next s.rest (list_any is_bad (content line)) (words_of (content line)) refl s.step (λ r. heading_told heading (n + 1) lines claim r)
   where
     by_parts : (next : Stage) → read_document_lines next (n + 1) lines ≡ Ok claim → (b : Bool) (words : List (List ℕ)) → list_any is_bad (content line) ≡ b
-        → stage_after Beginning (record { bad = b; count = length words; words = words }) ≡ Ok next
-        → (read_document_lines Beginning (n + 1) lines ≡ Ok claim → AnswerTold (filled_lines lines) lines claim) → AnswerTold (filled_with words lines) (line ∷ lines) claim
+        → stage_after (Beginning heading) (record { bad = b; count = length words; words = words }) ≡ Ok next
+        → (read_document_lines (Beginning heading) (n + 1) lines ≡ Ok claim → HeadingTold heading (filled_lines lines) lines claim)
+        → HeadingTold heading (filled_with words lines) (line ∷ lines) claim
     by_parts next rest true [] bad step go = absurd (cc (step))
     by_parts next rest true (w ∷ ws) bad step go = absurd (cc (step))
     by_parts next rest false [] bad step go =
-        let t = go (subst (λ s. read_document_lines s (n + 1) lines ≡ Ok claim) (sym (ok_is Beginning next step)) rest) in
-        record { job = t.job; rest = t.rest; number = t.number; are = t.are; clean = λ c. clean_from line lines bad (t.clean c); reads = t.reads }
+        let t = go (subst (λ s. read_document_lines s (n + 1) lines ≡ Ok claim) (sym (ok_is (Beginning heading) next step)) rest) in
+        record { job = t.job; headed = t.headed; rest = t.rest; number = t.number; are = t.are; clean = λ c. clean_from line lines bad (t.clean c); reads = t.reads }
     by_parts next rest false (w ∷ ws) bad step go =
-        let a = answer_ok (w ∷ ws) next step in record {
+        let a = heading_ok heading (w ∷ ws) next step in record {
           job = a.job;
+          headed = a.headed;
           rest = lines;
           number = n + 1;
           are = ap (λ ls. ls ∷ filled_lines lines) a.are;
@@ -117,7 +141,7 @@ fault_ok (Ok y) x e = ap Ok (ok_is y x e)
 fault_ok (Err code) x e = absurd (cc (e))
 
 -- the lines of the instance, the result line, and the lines behind it
-pub record ReadingTold (job : SolvingJob) (parts : Parts) (lines : List (List ℕ)) (told : Claim) : Type 0 where
+pub record ReadingTold (heading : Heading) (job : SolvingJob) (parts : Parts) (lines : List (List ℕ)) (told : Claim) : Type 0 where
   pub before : List (List ℕ)
   pub line : List ℕ
   pub after : List (List ℕ)
@@ -130,16 +154,16 @@ pub record ReadingTold (job : SolvingJob) (parts : Parts) (lines : List (List �
   pub clean_line : list_any is_bad (content line) ≡ false
   pub words_are : words_of (content line) ≡ codes "result" ∷ words
   pub says : claim_of job instance words ≡ Ok claim
-  pub rest : read_document_lines (claimed instance claim) number after ≡ Ok told
+  pub rest : read_document_lines (claimed_under heading instance claim) number after ≡ Ok told
 
-reading_told : (job : SolvingJob) (parts : Parts) (n : ℕ) (lines : List (List ℕ)) (told : Claim) → read_document_lines (Reading job parts) n lines ≡ Ok told → ReadingTold job parts lines told
-reading_told job parts n [] told e = absurd (cc (e))
-reading_told job parts n (line ∷ lines) told e =
-    let s = stepped (Reading job parts) n line lines told e in
-    by_parts s.next s.rest (list_any is_bad (content line)) (words_of (content line)) refl refl s.step (λ more r. reading_told job more (n + 1) lines told r)
+reading_told : (heading : Heading) (job : SolvingJob) (parts : Parts) (n : ℕ) (lines : List (List ℕ)) (told : Claim) → read_document_lines (Reading heading job parts) n lines ≡ Ok told → ReadingTold heading job parts lines told
+reading_told heading job parts n [] told e = absurd (cc (e))
+reading_told heading job parts n (line ∷ lines) told e =
+    let s = stepped (Reading heading job parts) n line lines told e in
+    by_parts s.next s.rest (list_any is_bad (content line)) (words_of (content line)) refl refl s.step (λ more r. reading_told heading job more (n + 1) lines told r)
   where
     -- an instance line
-    another : (more : Parts) → add_line parts (line_of line) ≡ Ok more → ReadingTold job more lines told → ReadingTold job parts (line ∷ lines) told
+    another : (more : Parts) → add_line parts (line_of line) ≡ Ok more → ReadingTold heading job more lines told → ReadingTold heading job parts (line ∷ lines) told
     another more adds t = record {
       before = line ∷ t.before;
       line = t.line;
@@ -157,10 +181,10 @@ reading_told job parts n (line ∷ lines) told e =
     }
 
     result : (w : List ℕ) (ws : List (List ℕ)) → list_any is_bad (content line) ≡ false → words_of (content line) ≡ w ∷ ws → same_bytes w (codes "result") ≡ true → (next : Stage)
-        → result_line job parts ws ≡ Ok next → read_document_lines next (n + 1) lines ≡ Ok told → ReadingTold job parts (line ∷ lines) told
+        → result_line heading job parts ws ≡ Ok next → read_document_lines next (n + 1) lines ≡ Ok told → ReadingTold heading job parts (line ∷ lines) told
     result w ws bad is key next e rest =
-        let i = bind_ok (end_of_parts (end_of parts 0)) (λ instance. claim_of job instance ws >>= λ claim. Ok (claimed instance claim)) next e in
-        let c = bind_ok (claim_of job i.0 ws) (λ claim. Ok (claimed i.0 claim)) next i.2 in record {
+        let i = bind_ok (end_of_parts (end_of parts 0)) (λ instance. claim_of job instance ws >>= λ claim. Ok (claimed_under heading instance claim)) next e in
+        let c = bind_ok (claim_of job i.0 ws) (λ claim. Ok (claimed_under heading i.0 claim)) next i.2 in record {
           before = [];
           line = line;
           after = lines;
@@ -173,26 +197,26 @@ reading_told job parts n (line ∷ lines) told e =
           clean_line = bad;
           words_are = is ∙ ap (λ x. x ∷ ws) (word_is w (codes "result") key);
           says = c.1;
-          rest = subst (λ s. read_document_lines s (n + 1) lines ≡ Ok told) (sym (ok_is (claimed i.0 c.0) next c.2)) rest;
+          rest = subst (λ s. read_document_lines s (n + 1) lines ≡ Ok told) (sym (ok_is (claimed_under heading i.0 c.0) next c.2)) rest;
         }
 
     by_parts : (next : Stage) → read_document_lines next (n + 1) lines ≡ Ok told → (b : Bool) (words : List (List ℕ)) → list_any is_bad (content line) ≡ b → words_of (content line) ≡ words
-        → stage_after (Reading job parts) (record { bad = b; count = length words; words = words }) ≡ Ok next
-        → ((more : Parts) → read_document_lines (Reading job more) (n + 1) lines ≡ Ok told → ReadingTold job more lines told) → ReadingTold job parts (line ∷ lines) told
+        → stage_after (Reading heading job parts) (record { bad = b; count = length words; words = words }) ≡ Ok next
+        → ((more : Parts) → read_document_lines (Reading heading job more) (n + 1) lines ≡ Ok told → ReadingTold heading job more lines told) → ReadingTold heading job parts (line ∷ lines) told
     by_parts next rest true [] bad is step go = absurd (cc (step))
     by_parts next rest true (w ∷ ws) bad is step go = absurd (cc (step))
     by_parts next rest false [] bad is step go =
         another parts (ap₂ (λ b ws. add_line parts (record { bad = b; count = length ws; words = ws })) bad is)
-        (go parts (subst (λ s. read_document_lines s (n + 1) lines ≡ Ok told) (sym (ok_is (Reading job parts) next step)) rest))
+        (go parts (subst (λ s. read_document_lines s (n + 1) lines ≡ Ok told) (sym (ok_is (Reading heading job parts) next step)) rest))
     by_parts next rest false (w ∷ ws) bad is step go = by_key (same_bytes w (codes "result")) refl step
       where
-        by_key : (k : Bool) → same_bytes w (codes "result") ≡ k → reading_line k job parts (record { bad = false; count = length (w ∷ ws); words = w ∷ ws }) ≡ Ok next
-            → ReadingTold job parts (line ∷ lines) told
+        by_key : (k : Bool) → same_bytes w (codes "result") ≡ k → reading_line k heading job parts (record { bad = false; count = length (w ∷ ws); words = w ∷ ws }) ≡ Ok next
+            → ReadingTold heading job parts (line ∷ lines) told
         by_key true key f = result w ws bad is key next f rest
         by_key false key f =
-            let m = bind_ok (text_fault (add_line parts (record { bad = false; count = length (w ∷ ws); words = w ∷ ws }))) (λ more. Ok (Reading job more)) next f in
+            let m = bind_ok (text_fault (add_line parts (record { bad = false; count = length (w ∷ ws); words = w ∷ ws }))) (λ more. Ok (Reading heading job more)) next f in
             another m.0 (ap₂ (λ b ws. add_line parts (record { bad = b; count = length ws; words = ws })) bad is ∙ fault_ok _ m.0 m.1)
-            (go m.0 (subst (λ s. read_document_lines s (n + 1) lines ≡ Ok told) (sym (ok_is (Reading job m.0) next m.2)) rest))
+            (go m.0 (subst (λ s. read_document_lines s (n + 1) lines ≡ Ok told) (sym (ok_is (Reading heading job m.0) next m.2)) rest))
 
 -- ---- the whole
 
@@ -208,42 +232,80 @@ filled_line_is : (line : List ℕ) (lines : List (List ℕ)) (words : List (List
     → filled_lines (line ∷ lines) ≡ (codes "result" ∷ words) ∷ filled_lines lines
 filled_line_is line lines words is = ap (λ ws. filled_with ws lines) is
 
-pub claimed_later : (instance : PlainInstance) (claim : Claim) → IsLater (claimed instance claim)
-claimed_later instance Fitting = tt
-claimed_later instance NotFitting = tt
-claimed_later instance (LeastHeight h) = tt
-claimed_later instance (HeightBetween a b) = tt
-claimed_later instance NoHeight = tt
-claimed_later instance (LeastBins k) = tt
-claimed_later instance (BinsBetween a b) = tt
-claimed_later instance NoBins = tt
-claimed_later instance (GreatestValue v) = tt
-claimed_later instance (ValueBetween a b) = tt
+pub claimed_later : (heading : Heading) (instance : PlainInstance) (claim : Claim) → IsLater (claimed_under heading instance claim)
+claimed_later heading instance Fitting = tt
+claimed_later heading instance NotFitting = tt
+claimed_later heading instance (LeastHeight h) = tt
+claimed_later heading instance (HeightBetween a b) = tt
+claimed_later heading instance NoHeight = tt
+claimed_later heading instance (LeastBins k) = tt
+claimed_later heading instance (BinsBetween a b) = tt
+claimed_later heading instance NoBins = tt
+claimed_later heading instance (GreatestValue v) = tt
+claimed_later heading instance (ValueBetween a b) = tt
+
+-- under the heading of answers it is what stands behind their result line
+pub claimed_answer : (instance : PlainInstance) (claim : Claim) → claimed_under Answer instance claim ≡ claimed instance claim
+claimed_answer instance Fitting = refl
+claimed_answer instance NotFitting = refl
+claimed_answer instance (LeastHeight h) = refl
+claimed_answer instance (HeightBetween a b) = refl
+claimed_answer instance NoHeight = refl
+claimed_answer instance (LeastBins k) = refl
+claimed_answer instance (BinsBetween a b) = refl
+claimed_answer instance NoBins = refl
+claimed_answer instance (GreatestValue v) = refl
+claimed_answer instance (ValueBetween a b) = refl
+
+-- what backs the claim
+record IsBackedUnder (heading : Heading) (instance : PlainInstance) (claim told : Claim) (lines : List (List (List ℕ))) : Type 0 where
+  backing : List (List (List ℕ))
+  are : lines ≡ backing ++ (codes "end" ∷ []) ∷ []
+  backs : BacksUnder heading instance claim backing
+  same : claim ≡ told
+
+backed_under : (heading : Heading) (instance : PlainInstance) (claim told : Claim) (lines : List (List (List ℕ))) → IsHeaded heading (job_of claim)
+    → read_words (claimed_under heading instance claim) lines ≡ Ok told → IsBackedUnder heading instance claim told lines
+backed_under Answer instance claim told lines j e =
+    let b = backed_told instance claim told lines (sym (ap (λ s. read_words s lines) (claimed_answer instance claim)) ∙ e) in record { backing = b.backing; are = b.are; backs = b.backs; same = b.same }
+backed_under Reduced instance Fitting told lines j e =
+    let b = backed_told instance Fitting told lines e in record { backing = b.backing; are = b.are; backs = b.backs; same = b.same }
+backed_under Reduced instance NotFitting told lines j e =
+    let t = no_told instance told lines e in record { backing = t.body; are = t.are; backs = t.refuting; same = t.same }
+backed_under Reduced instance (LeastHeight h) told lines j e = absurd (cc (j))
+backed_under Reduced instance (HeightBetween a b) told lines j e = absurd (cc (j))
+backed_under Reduced instance NoHeight told lines j e = absurd (cc (j))
+backed_under Reduced instance (LeastBins k) told lines j e = absurd (cc (j))
+backed_under Reduced instance (BinsBetween a b) told lines j e = absurd (cc (j))
+backed_under Reduced instance NoBins told lines j e = absurd (cc (j))
+backed_under Reduced instance (GreatestValue v) told lines j e = absurd (cc (j))
+backed_under Reduced instance (ValueBetween a b) told lines j e = absurd (cc (j))
 
 -- a document of a claim that is the one told
-same_document : (text : List ℕ) (claim told : Claim) → claim ≡ told → IsDocument text claim → IsDocument text told
-same_document text claim told e d = subst (λ c. IsDocument text c) e d
+same_document : (heading : Heading) (text : List ℕ) (claim told : Claim) → claim ≡ told → IsHeadedDocument heading text claim → IsHeadedDocument heading text told
+same_document heading text claim told e d = subst (λ c. IsHeadedDocument heading text c) e d
 
-pub form_told : (text : List ℕ) (claim : Claim) → document_verdict text ≡ Ok claim → IsDocument text claim
-unfolding document_verdict
-form_told text claim e =
-    let a = answer_told 0 (text_lines text) claim e in
-    let r = reading_told a.job no_parts a.number a.rest claim a.reads in
-    let w = words_read (claimed r.instance r.claim) r.number r.after claim (claimed_later r.instance r.claim) r.rest in
-    let b = backed_told r.instance r.claim claim (filled_lines r.after) w.1 in
+pub form_told : (heading : Heading) (text : List ℕ) (claim : Claim) → headed_verdict heading text ≡ Ok claim → IsHeadedDocument heading text claim
+unfolding headed_verdict
+form_told heading text claim e =
+    let a = heading_told heading 0 (text_lines text) claim e in
+    let r = reading_told heading a.job no_parts a.number a.rest claim a.reads in
+    let later = claimed_later heading r.instance r.claim in
+    let w = words_read (claimed_under heading r.instance r.claim) r.number r.after claim later r.rest in
     let l = result_told r.instance r.claim a.job r.words r.says in
+    let b = backed_under heading r.instance r.claim claim (filled_lines r.after) (subst (λ j. IsHeaded heading j) (sym l.job_is) a.headed) w.1 in
     let i = (lines_have_form r.before 0 r.instance).0 (r.reads 0) in
     let clean_rest : AreClean a.rest = subst (λ ls. AreClean ls) (sym r.are) (clean_append r.before (r.line ∷ r.after) i.0 (clean_from r.line r.after r.clean_line w.0)) in
     let filled_rest : filled_lines a.rest ≡ filled_lines r.before ++ (codes "result" ∷ r.words) ∷ (b.backing ++ (codes "end" ∷ []) ∷ []) =
     ap filled_lines r.are ∙ filled_append r.before (r.line ∷ r.after)
     ∙ ap (λ ls. filled_lines r.before ++ ls) (filled_line_is r.line r.after r.words r.words_are ∙ ap (λ ls. (codes "result" ∷ r.words) ∷ ls) b.are) in
-    same_document text r.claim claim b.same (record {
+    same_document heading text r.claim claim b.same (record {
       instance = r.instance;
       written = filled_lines r.before;
       result = r.words;
       backing = b.backing;
       clean = a.clean clean_rest;
-      are = a.are ∙ ap₂ (λ j ls. (codes "answer" ∷ job_word j ∷ []) ∷ ls) (sym l.job_is) filled_rest;
+      are = a.are ∙ ap₂ (λ j ls. (heading_word heading ∷ job_word j ∷ []) ∷ ls) (sym l.job_is) filled_rest;
       is_instance = i.1;
       is_result = l.is;
       backed = b.backs;

@@ -17,3 +17,5 @@ pub mod FormGiven
 pub mod Stays
 pub mod Cuts
 pub mod FedGiven
+pub mod ReducedTrees
+pub mod RowsReduced

@@ -9,7 +9,7 @@ use Rattle.verdict_terms.specs.declared.reason.Reason.{Reason}
 use Rattle.verdict_terms.specs.declared.reason.Reason.TheVariants.{TooShort}
 use Rattle.verdict_terms.specs.Stages.{Stage, stage_after}
 use Rattle.verdict_terms.specs.Stages.Stage.{Beginning, Reading, Placing, Sharing, Taking, Proving, Refuting, Exceeding, Ending, Ended}
-use Rattle.verdict_terms.specs.Documents.{Refusal, document_at_line, document_at_end, read_document_lines, document_verdict}
+use Rattle.verdict_terms.specs.Documents.{Refusal, document_at_line, document_at_end, read_document_lines, headed_verdict}
 use Rattle.verdict_terms.specs.Fed.{RefusalsStay}
 
 -- ---- lines
@@ -47,8 +47,8 @@ lines_more front more =
 
 pub end_line : (stage : Stage) (n : ℕ) (r : Refusal) → document_at_end stage n ≡ Err r → r.line ≡ n + 1
 end_line (Ended c) n r e = absurd (cc (e))
-end_line Beginning n r e = let same : record { line = n + 1; reason = TooShort } ≡ r = cc (e) in ap (λ x. x.line) (sym same)
-end_line (Reading j p) n r e = let same : record { line = n + 1; reason = TooShort } ≡ r = cc (e) in ap (λ x. x.line) (sym same)
+end_line (Beginning h) n r e = let same : record { line = n + 1; reason = TooShort } ≡ r = cc (e) in ap (λ x. x.line) (sym same)
+end_line (Reading h j p) n r e = let same : record { line = n + 1; reason = TooShort } ≡ r = cc (e) in ap (λ x. x.line) (sym same)
 end_line (Placing i c f p) n r e = let same : record { line = n + 1; reason = TooShort } ≡ r = cc (e) in ap (λ x. x.line) (sym same)
 end_line (Sharing i c k b p) n r e = let same : record { line = n + 1; reason = TooShort } ≡ r = cc (e) in ap (λ x. x.line) (sym same)
 end_line (Taking i c v t p) n r e = let same : record { line = n + 1; reason = TooShort } ≡ r = cc (e) in ap (λ x. x.line) (sym same)
@@ -68,11 +68,11 @@ stays stage n (x ∷ xs) ys r e l = go (stage_after stage (line_of x)) e (λ nex
     go (Err reason) e later = e
 
 pub refusals_stay : RefusalsStay
-unfolding document_verdict
-refusals_stay bytes more refusal e ends =
-    let here : read_document_lines Beginning 0 (text_lines (ends.front ++ 10 ∷ [])) ≡ Err refusal = ap (λ b. read_document_lines Beginning 0 (text_lines b)) (sym ends.are) ∙ e in
+unfolding headed_verdict
+refusals_stay heading bytes more refusal e ends =
+    let here : read_document_lines (Beginning heading) 0 (text_lines (ends.front ++ 10 ∷ [])) ≡ Err refusal = ap (λ b. read_document_lines (Beginning heading) 0 (text_lines b)) (sym ends.are) ∙ e in
     let last : refusal.line ≡ length (text_lines (ends.front ++ 10 ∷ [])) = ends.is_last ∙ ap (λ b. length (text_lines b)) ends.are in
-    ap (λ b. read_document_lines Beginning 0 (text_lines (b ++ more))) ends.are
-    ∙ ap (λ b. read_document_lines Beginning 0 (text_lines b)) (append_assoc ends.front (10 ∷ []) more)
-    ∙ ap (read_document_lines Beginning 0) (lines_more ends.front more)
-    ∙ stays Beginning 0 (text_lines (ends.front ++ 10 ∷ [])) (text_lines more) refusal here (omega (arith, last))
+    ap (λ b. read_document_lines (Beginning heading) 0 (text_lines (b ++ more))) ends.are
+    ∙ ap (λ b. read_document_lines (Beginning heading) 0 (text_lines b)) (append_assoc ends.front (10 ∷ []) more)
+    ∙ ap (read_document_lines (Beginning heading) 0) (lines_more ends.front more)
+    ∙ stays (Beginning heading) 0 (text_lines (ends.front ++ 10 ∷ [])) (text_lines more) refusal here (omega (arith, last))

@@ -56,8 +56,8 @@ numbers_line_is key count numbers ns e f =
 
 at_end_is : (stage : Stage) (n : ℕ) (claim : Claim) → claim_read stage ≡ Ok claim → document_at_end stage n ≡ Ok claim
 at_end_is (Ended c) n claim e = let same : c ≡ claim = cc (e) in ap Ok same
-at_end_is Beginning n claim e = absurd (cc (e))
-at_end_is (Reading j p) n claim e = absurd (cc (e))
+at_end_is (Beginning h) n claim e = absurd (cc (e))
+at_end_is (Reading h j p) n claim e = absurd (cc (e))
 at_end_is (Placing i c r p) n claim e = absurd (cc (e))
 at_end_is (Sharing i c k b p) n claim e = absurd (cc (e))
 at_end_is (Taking i c v t p) n claim e = absurd (cc (e))
@@ -69,8 +69,8 @@ at_end_is (Ending c b) n claim e = absurd (cc (e))
 -- a line of a later stage without a bad byte that isn't blank is taken by its words
 filled_is : (stage next : Stage) (c : ℕ) (words : List (List ℕ)) → IsLater stage → words_line stage words ≡ Ok next
     → filled_line stage (record { bad = false; count = c; words = words }) ≡ Ok next
-filled_is Beginning next c words later e = absurd later
-filled_is (Reading j p) next c words later e = absurd later
+filled_is (Beginning h) next c words later e = absurd later
+filled_is (Reading h j p) next c words later e = absurd later
 filled_is (Ended x) next c words later e = absurd (cc (e))
 filled_is (Placing i x r p) next c words later e = e
 filled_is (Sharing i x k s p) next c words later e = e

@@ -5,18 +5,22 @@ use Rattle.std.proofs.lemmas.Bool.{cases_lt}
 use Rattle.packing_terms.specs.Packing.{PlainInstance, HasPositiveSides, dims, box_count}
 use Rattle.packing_terms.specs.Goals.{with_last_side, HasTooWideBox, HasTooLargeBox, ReachesValue}
 use Rattle.packing_terms.specs.Refutation.{IsTooLarge}
-use Rattle.packing_terms.proofs.Internal.{internal_sides, written_internal}
+use Rattle.packing_terms.specs.Limits.{IsInternalInstance}
+use Rattle.packing_terms.proofs.Internal.{internal_sides, written_internal, some_dimension}
 use Rattle.packing_terms.proofs.Neighbours.{fits_higher, fits_in_more, reaches_lower, least_height, least_bins, greatest_value}
 use Rattle.packing_terms.proofs.TooLarge.{too_wide, too_large}
-use Rattle.packing_terms.proofs.Refuted.{none_fits}
+use Rattle.packing_terms.proofs.Refuted.{none_fits, refutes_sound}
 use Rattle.packing_terms.proofs.BinsRefuted.{none_fits_bins}
 use Rattle.packing_terms.proofs.ValueRefuted.{none_reaches}
 use Rattle.scale_terms.proofs.Excess.{excess_law}
 use Rattle.document_terms.specs.declared.claim.Claim.{Claim}
 use Rattle.document_terms.specs.Claims.{IsTrueOf}
 use Rattle.document_terms.specs.declared.claim.Claim.TheVariants.{Fitting, NotFitting, LeastHeight, HeightBetween, NoHeight, LeastBins, BinsBetween, NoBins, GreatestValue, ValueBetween}
+use Rattle.verdict_terms.specs.declared.heading.Heading.{Heading}
+use Rattle.verdict_terms.specs.declared.heading.Heading.TheVariants.{Answer, Reduced}
+use Rattle.symmetry_terms.proofs.Respected.{some_packing_respects}
 use Rattle.verdict_terms.proofs.FormGiven.{document_limits}
-use Rattle.verdict_terms.specs.Form.{IsResult, AreTaken, Backs, DocumentsAreTrue}
+use Rattle.verdict_terms.specs.Form.{IsResult, AreTaken, Backs, BacksUnder, DocumentsAreTrue}
 
 module _ (instance : PlainInstance) (sides : HasPositiveSides instance) where
   higher_sides : (h : ℕ) → HasPositiveSides (with_last_side instance h)
@@ -87,7 +91,25 @@ module _ (instance : PlainInstance) (sides : HasPositiveSides instance) where
       go t f (inl l) = l
       go t f (inr l) = absurd (none_reaches excess_law instance sides y b.is_back.tokens b.is_back.refute (reaches_lower instance y t l f))
 
+-- the same under a heading
+module _ (instance : PlainInstance) (limits : IsInternalInstance instance) where
+  headed_true : (heading : Heading) (claim : Claim) (words : List (List ℕ)) (lines : List (List (List ℕ))) → IsResult instance claim words → BacksUnder heading instance claim lines
+      → IsTrueOf instance claim
+  headed_true Answer claim words lines r b = backed_true instance (internal_sides instance limits) claim words lines r b
+  headed_true Reduced Fitting words lines r b = (b.places, b.packing)
+  headed_true Reduced NotFitting words lines r b =
+      λ fits. (let k = some_packing_respects instance (internal_sides instance limits) (some_dimension instance limits) fits.0 fits.1 in
+      refutes_sound excess_law instance (internal_sides instance limits) k.0 k.1 b.refute k.2)
+  headed_true Reduced (LeastHeight h) words lines r b = absurd b
+  headed_true Reduced (HeightBetween x y) words lines r b = absurd b
+  headed_true Reduced NoHeight words lines r b = absurd b
+  headed_true Reduced (LeastBins k) words lines r b = absurd b
+  headed_true Reduced (BinsBetween x y) words lines r b = absurd b
+  headed_true Reduced NoBins words lines r b = absurd b
+  headed_true Reduced (GreatestValue v) words lines r b = absurd b
+  headed_true Reduced (ValueBetween x y) words lines r b = absurd b
+
 pub documents_are_true : DocumentsAreTrue
-documents_are_true text claim document =
-    backed_true document.instance (internal_sides document.instance (written_internal document.instance (document_limits text claim document)))
-    claim document.result document.backing document.is_result document.backed
+documents_are_true heading text claim document =
+    headed_true document.instance (written_internal document.instance (document_limits heading text claim document))
+    heading claim document.result document.backing document.is_result document.backed

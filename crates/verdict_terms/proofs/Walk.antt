@@ -28,8 +28,8 @@ use Rattle.verdict_terms.proofs.Passed.{require_ok, refused_ok, ok_is}
 
 -- behind the result line
 abbrev pub IsLater : Stage → Type 0
-IsLater Beginning = ⊥
-IsLater (Reading job parts) = ⊥
+IsLater (Beginning heading) = ⊥
+IsLater (Reading heading job parts) = ⊥
 IsLater _ = Unit {0}
 
 -- the claim, where `end` was read
@@ -44,8 +44,8 @@ read_words stage (words ∷ lines) = words_line stage words >>= λ next. read_wo
 
 pub end_read : (stage : Stage) (n : ℕ) (claim : Claim) → document_at_end stage n ≡ Ok claim → claim_read stage ≡ Ok claim
 end_read (Ended c) n claim e = let same : c ≡ claim = cc (e) in ap Ok same
-end_read Beginning n claim e = absurd (cc (e))
-end_read (Reading j p) n claim e = absurd (cc (e))
+end_read (Beginning h) n claim e = absurd (cc (e))
+end_read (Reading h j p) n claim e = absurd (cc (e))
 end_read (Placing i c r p) n claim e = absurd (cc (e))
 end_read (Sharing i c k b p) n claim e = absurd (cc (e))
 end_read (Taking i c v t p) n claim e = absurd (cc (e))
@@ -72,8 +72,8 @@ stepped stage n line lines claim e =
 -- a line of a later stage that isn't blank has no bad byte, and its words are taken
 filled_ok : (stage next : Stage) (b : Bool) (c : ℕ) (words : List (List ℕ)) → IsLater stage → filled_line stage (record { bad = b; count = c; words = words }) ≡ Ok next
     → (b ≡ false) × (words_line stage words ≡ Ok next)
-filled_ok Beginning next b c words later e = absurd later
-filled_ok (Reading j p) next b c words later e = absurd later
+filled_ok (Beginning h) next b c words later e = absurd later
+filled_ok (Reading h j p) next b c words later e = absurd later
 filled_ok (Ended x) next b c words later e = absurd (cc (e))
 filled_ok (Placing i x r p) next false c words later e = (refl, e)
 filled_ok (Sharing i x k s p) next false c words later e = (refl, e)
@@ -166,8 +166,8 @@ exceeding_later instance claim m ValueShort next e = refuses form next e
 exceeding_later instance claim m (GlobalScales fs) next e = refuses form next e
 
 pub words_later : (stage : Stage) (words : List (List ℕ)) → IsLater stage → GivesLater (words_line stage words)
-words_later Beginning words later next e = absurd later
-words_later (Reading j p) words later next e = absurd later
+words_later (Beginning h) words later next e = absurd later
+words_later (Reading h j p) words later next e = absurd later
 words_later (Placing i c r p) words later next e =
     let n = bind_ok (numbers_line (codes "place") (dims i) words) _ next e in
     let x = bind_ok (coordinates n.0) _ next n.2 in

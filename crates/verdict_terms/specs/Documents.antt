@@ -7,6 +7,8 @@ use Rattle.packing_terms.specs.Results.{◌>>=◌}
 use Rattle.text_terms.specs.Spelling.{spaced}
 use Rattle.document_terms.specs.declared.claim.Claim.{Claim}
 use Rattle.document_terms.specs.Claims.{job_of, job_word, result_words}
+use Rattle.verdict_terms.specs.declared.heading.Heading.{Heading}
+use Rattle.verdict_terms.specs.declared.heading.Heading.TheVariants.{Answer, Reduced}
 use Rattle.verdict_terms.specs.declared.reason.Reason.{Reason}
 use Rattle.verdict_terms.specs.Reasons.{reason_words}
 use Rattle.verdict_terms.specs.declared.reason.Reason.TheVariants.{TooShort}
@@ -32,9 +34,16 @@ abbrev pub read_document_lines : Stage → ℕ → List (List ℕ) → Result Cl
 read_document_lines stage n [] = document_at_end stage n
 read_document_lines stage n (line ∷ lines) = document_at_line (n + 1) (stage_after stage (line_of line)) >>= λ next. read_document_lines next (n + 1) lines
 
--- the claim that is verified, or the first refusal
-unfoldable pub document_verdict : List ℕ → Result Claim Refusal
-document_verdict text = read_document_lines Beginning 0 (text_lines text)
+-- the claim that is verified of a text that has to begin with this heading, or the first refusal
+unfoldable pub headed_verdict : Heading → List ℕ → Result Claim Refusal
+headed_verdict heading text = read_document_lines (Beginning heading) 0 (text_lines text)
+
+-- that of an answer, and that of a reduced document
+abbrev pub document_verdict : List ℕ → Result Claim Refusal
+document_verdict text = headed_verdict Answer text
+
+abbrev pub reduced_verdict : List ℕ → Result Claim Refusal
+reduced_verdict text = headed_verdict Reduced text
 
 -- the words of the one line that is written
 abbrev pub verdict_words : Result Claim Refusal → List (List ℕ)
@@ -44,3 +53,11 @@ verdict_words (Err refusal) = codes "refused" ∷ decimal refusal.line ∷ reaso
 -- the line, which a line feed ends
 abbrev pub verdict_line : Result Claim Refusal → List ℕ
 verdict_line verdict = spaced (verdict_words verdict) ++ 10 ∷ []
+
+-- the same of a reduced document
+abbrev pub reduced_verdict_words : Result Claim Refusal → List (List ℕ)
+reduced_verdict_words (Ok claim) = codes "verified" ∷ codes "reduced" ∷ job_word (job_of claim) ∷ result_words claim
+reduced_verdict_words (Err refusal) = verdict_words (Err refusal)
+
+abbrev pub reduced_verdict_line : Result Claim Refusal → List ℕ
+reduced_verdict_line verdict = spaced (reduced_verdict_words verdict) ++ 10 ∷ []

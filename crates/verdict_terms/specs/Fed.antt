@@ -5,9 +5,11 @@ use Rattle.text_terms.specs.Lines.{text_lines, is_line_feed}
 use Rattle.packing_terms.specs.Results.{◌>>=◌}
 use Rattle.text_terms.specs.Feeding.{Lexer, new_lexer, ended_line, feed, finish}
 use Rattle.document_terms.specs.declared.claim.Claim.{Claim}
+use Rattle.verdict_terms.specs.declared.heading.Heading.{Heading}
+use Rattle.verdict_terms.specs.declared.heading.Heading.TheVariants.{Answer, Reduced}
 use Rattle.verdict_terms.specs.Stages.{Stage, stage_after}
 use Rattle.verdict_terms.specs.Stages.Stage.{Beginning}
-use Rattle.verdict_terms.specs.Documents.{Refusal, document_at_line, document_at_end, document_verdict}
+use Rattle.verdict_terms.specs.Documents.{Refusal, document_at_line, document_at_end, headed_verdict}
 
 -- what the line that ended last makes of the stage
 abbrev pub taken_line : Stage → Lexer → Result Stage Refusal
@@ -21,7 +23,7 @@ fed_verdict s stage (b ∷ bytes) =
 
 -- the bytes of a document, fed from its start with each line taken as it ends, give its verdict
 abbrev pub DocumentsAreFed : Type 0
-DocumentsAreFed = (text : List ℕ) → fed_verdict new_lexer Beginning text ≡ document_verdict text
+DocumentsAreFed = (heading : Heading) (text : List ℕ) → fed_verdict new_lexer (Beginning heading) text ≡ headed_verdict heading text
 
 -- The refused line is the last of the bytes, and a line feed ends it: nothing behind it is there.
 pub record EndsRefused (bytes : List ℕ) (refusal : Refusal) : Type 0 where
@@ -31,10 +33,14 @@ pub record EndsRefused (bytes : List ℕ) (refusal : Refusal) : Type 0 where
 
 -- no line of the bytes that a line feed ends is refused: no front of them ends in the line feed of
 -- a refused line
+abbrev pub NoneRefusedUnder : Heading → List ℕ → Type 0
+NoneRefusedUnder heading bytes = (front rest : List ℕ) (refusal : Refusal) → bytes ≡ front ++ rest → EndsRefused front refusal → headed_verdict heading front ≡ Err refusal → ⊥
+
+-- the same of an answer
 abbrev pub NoneRefused : List ℕ → Type 0
-NoneRefused bytes = (front rest : List ℕ) (refusal : Refusal) → bytes ≡ front ++ rest → EndsRefused front refusal → document_verdict front ≡ Err refusal → ⊥
+NoneRefused bytes = NoneRefusedUnder Answer bytes
 
 -- a refusal of bytes that its line ends is the refusal of every text that begins with them
 abbrev pub RefusalsStay : Type 0
-RefusalsStay = (bytes more : List ℕ) (refusal : Refusal) → document_verdict bytes ≡ Err refusal → EndsRefused bytes refusal
-    → document_verdict (bytes ++ more) ≡ Err refusal
+RefusalsStay = (heading : Heading) (bytes more : List ℕ) (refusal : Refusal) → headed_verdict heading bytes ≡ Err refusal → EndsRefused bytes refusal
+    → headed_verdict heading (bytes ++ more) ≡ Err refusal

@@ -8,7 +8,8 @@ use Rattle.packing_terms.specs.Packing.{PlainInstance, dims, box_count, IsPackin
 use Rattle.packing_terms.specs.Goals.{with_last_side, subset, IsBinPacking, IsBoxSet, worth}
 use Rattle.packing_terms.specs.Tokens.{PlainToken}
 use Rattle.packing_terms.specs.Tokens.PlainToken.{TooLarge}
-use Rattle.packing_terms.specs.Refutation.{IsTooLarge}
+use Rattle.packing_terms.specs.Refutation.{Refutes, IsTooLarge}
+use Rattle.symmetry_terms.specs.Facts.{symmetry_facts}
 use Rattle.text_terms.specs.Lines.{text_lines, number_of}
 use Rattle.text_terms.specs.Form.{AreClean, filled_lines, IsNumber, HasForm}
 use Rattle.document_terms.specs.declared.claim.Claim.{Claim}
@@ -19,7 +20,10 @@ use Rattle.document_terms.specs.Claims.{most_worth}
 use Rattle.verdict_terms.specs.Numbers.{most_coordinate}
 use Rattle.document_terms.specs.TokenLines.{token_of}
 use Rattle.verdict_terms.specs.Trees.{Refuted, ToFit, ToFitIn, ToReach, tree_dims, AreRefutation}
-use Rattle.verdict_terms.specs.Documents.{document_verdict}
+use Rattle.verdict_terms.specs.declared.heading.Heading.{Heading}
+use Rattle.verdict_terms.specs.declared.heading.Heading.TheVariants.{Answer, Reduced}
+use Rattle.verdict_terms.specs.Stages.{heading_word}
+use Rattle.verdict_terms.specs.Documents.{headed_verdict}
 
 -- ---- the result line
 
@@ -164,27 +168,47 @@ Backs instance NoBins lines = IsExceedingLine instance (dims instance) lines
 Backs instance (GreatestValue v) lines = AreProved (AreTaken instance v) (AreRefuting (ToReach instance (suc v))) lines
 Backs instance (ValueBetween a b) lines = AreProved (AreTaken instance a) (AreRefuting (ToReach instance b)) lines
 
--- The text is a document of the claim: no line has a bad byte, and the lines that aren't blank are,
--- in this order, `answer JOB`, the lines of an instance, the result line, what backs the claim, and
--- `end`.
-pub record IsDocument (text : List ℕ) (claim : Claim) : Type 0 where
+-- token lines of a refutation of the instance under its symmetry facts
+pub record AreRefutingReduced (instance : PlainInstance) (lines : List (List (List ℕ))) : Type 0 where
+  pub tokens : List PlainToken
+  pub are_lines : AreTokenLines (dims instance) lines tokens
+  pub refute : Refutes instance (symmetry_facts instance) tokens
+
+-- the same under a heading: a reduced document claims yes or no, and backs a no by such a tree
+abbrev pub BacksUnder : Heading → PlainInstance → Claim → List (List (List ℕ)) → Type 0
+BacksUnder Answer instance claim lines = Backs instance claim lines
+BacksUnder Reduced instance Fitting lines = ArePlaced instance lines
+BacksUnder Reduced instance NotFitting lines = AreRefutingReduced instance lines
+BacksUnder Reduced instance _ lines = ⊥
+
+-- The text is a document of the claim under this heading: no line has a bad byte, and the lines
+-- that aren't blank are, in this order, the heading's word and the claim's job, the lines of an
+-- instance, the result line, what backs the claim, and `end`.
+pub record IsHeadedDocument (heading : Heading) (text : List ℕ) (claim : Claim) : Type 0 where
   pub instance : PlainInstance
   pub written : List (List (List ℕ))
   pub result : List (List ℕ)
   pub backing : List (List (List ℕ))
   pub clean : AreClean (text_lines text)
   pub are : filled_lines (text_lines text)
-      ≡ (codes "answer" ∷ job_word (job_of claim) ∷ []) ∷ (written ++ (codes "result" ∷ result) ∷ (backing ++ (codes "end" ∷ []) ∷ []))
+      ≡ (heading_word heading ∷ job_word (job_of claim) ∷ []) ∷ (written ++ (codes "result" ∷ result) ∷ (backing ++ (codes "end" ∷ []) ∷ []))
   pub is_instance : HasForm written instance
   pub is_result : IsResult instance claim result
-  pub backed : Backs instance claim backing
+  pub backed : BacksUnder heading instance claim backing
+
+-- a document that begins with `answer`, and one that begins with `reduced`
+abbrev pub IsDocument : List ℕ → Claim → Type 0
+IsDocument text claim = IsHeadedDocument Answer text claim
+
+abbrev pub IsReducedDocument : List ℕ → Claim → Type 0
+IsReducedDocument text claim = IsHeadedDocument Reduced text claim
 
 -- ---- the laws
 
--- a text is verified with a claim exactly where it is a document of it
+-- a text is verified with a claim under a heading exactly where it is such a document of it
 abbrev pub DocumentsHaveForm : Type 0
-DocumentsHaveForm = (text : List ℕ) (claim : Claim) → (document_verdict text ≡ Ok claim) ↔ IsDocument text claim
+DocumentsHaveForm = (heading : Heading) (text : List ℕ) (claim : Claim) → (headed_verdict heading text ≡ Ok claim) ↔ IsHeadedDocument heading text claim
 
 -- the claim of a document is true of the instance in it
 abbrev pub DocumentsAreTrue : Type 0
-DocumentsAreTrue = (text : List ℕ) (claim : Claim) (document : IsDocument text claim) → IsTrueOf document.instance claim
+DocumentsAreTrue = (heading : Heading) (text : List ℕ) (claim : Claim) (document : IsHeadedDocument heading text claim) → IsTrueOf document.instance claim

@@ -1,8 +1,8 @@
 -- How the lines of a document are taken one by one: where a document stands between two lines, and
 -- what the next line makes of that.
 --
---     answer JOB        Beginning
---     format ..         Reading: the parts of the instance so far
+--     answer JOB        Beginning: the heading that is wanted
+--     format ..         Reading: the parts of the instance so far, under the heading
 --     result ..
 --     place ..          Placing, Sharing (bins) or Taking (knapsacks): the coordinates so far, and what is to be refuted behind them
 --     proof             Proving: `proof` is wanted
@@ -11,9 +11,11 @@
 --                       Ended
 use Rattle.std.specs.Prelude.{ℕ, pred, suc, ◌*◌, ◌-◌, ◌&&◌, ◌==◌, not, cond, Bool, true, false, List, [], ◌∷◌, ◌++◌, length, map, Option, Some, None, Result, Ok, Err, nat_le, nat_lt, slice_index, codes}
 use Rattle.std.specs.List.{list_all, range_with_len}
+use Rattle.packing_terms.specs.declared.Exclusion.{Exclusion}
 use Rattle.packing_terms.specs.Packing.{PlainInstance, dims, box_count, container_side, side}
 use Rattle.packing_terms.specs.Goals.{with_last_side, subset, in_bin, places_of, worth}
 use Rattle.packing_terms.specs.Tokens.{PlainToken}
+use Rattle.symmetry_terms.specs.Facts.{symmetry_facts}
 use Rattle.packing_terms.specs.Tokens.PlainToken.{TooLarge}
 use Rattle.text_terms.specs.declared.fault.TextFault.{TextFault}
 use Rattle.text_terms.specs.Lines.{Line, same_bytes}
@@ -29,17 +31,19 @@ use Rattle.document_terms.specs.declared.claim.SolvingJob.{SolvingJob}
 use Rattle.document_terms.specs.declared.claim.Claim.{Claim}
 use Rattle.document_terms.specs.declared.claim.SolvingJob.TheVariants.{Fit, Strip, Bins, Knapsack}
 use Rattle.document_terms.specs.declared.claim.Claim.TheVariants.{Fitting, NotFitting, LeastHeight, HeightBetween, NoHeight, LeastBins, BinsBetween, NoBins, GreatestValue, ValueBetween}
+use Rattle.verdict_terms.specs.declared.heading.Heading.{Heading}
+use Rattle.verdict_terms.specs.declared.heading.Heading.TheVariants.{Answer, Reduced}
 use Rattle.verdict_terms.specs.declared.reason.Reason.{Reason}
 use Rattle.verdict_terms.specs.Reasons.{form, range, after}
 use Rattle.verdict_terms.specs.declared.reason.Reason.TheVariants.{Text, Token, OutsideAt, OverlapAt, TooLittle, TooShort}
 use Rattle.verdict_terms.specs.Numbers.{require, numbers_line, coordinates}
 use Rattle.document_terms.specs.TokenLines.{token_of}
-use Rattle.verdict_terms.specs.Trees.{Refuted, ToFit, ToFitIn, ToReach, Tree, begun, refuted_by, tree_dims, tree_after, is_whole}
+use Rattle.verdict_terms.specs.Trees.{Refuted, ToFit, ToFitIn, ToReach, Tree, InnerTree, begun, refuted_by, tree_dims, tree_after, is_whole}
 use Rattle.verdict_terms.specs.Results.{claim_of}
 
 pub data Stage : Type 0 where
-  Beginning : Stage
-  Reading : (job : SolvingJob) (parts : Parts) → Stage
+  Beginning : (heading : Heading) → Stage
+  Reading : (heading : Heading) (job : SolvingJob) (parts : Parts) → Stage
   Placing : (instance : PlainInstance) (claim : Claim) (refuted : Refuted) (places : List ℕ) → Stage
   Sharing : (instance : PlainInstance) (claim : Claim) (count : ℕ) (bins places : List ℕ) → Stage
   Taking : (instance : PlainInstance) (claim : Claim) (value : ℕ) (taken places : List ℕ) → Stage
@@ -110,7 +114,7 @@ to_refute instance (GreatestValue v) = ToReach instance (suc v)
 to_refute instance (ValueBetween a b) = ToReach instance b
 to_refute instance _ = ToFit instance
 
--- behind the result line
+-- behind the result line of an answer
 abbrev pub claimed : PlainInstance → Claim → Stage
 claimed instance Fitting = Placing instance Fitting (to_refute instance Fitting) []
 claimed instance NotFitting = Refuting NotFitting (begun (ToFit instance))
@@ -123,12 +127,22 @@ claimed instance NoBins = Exceeding instance NoBins (dims instance)
 claimed instance (GreatestValue v) = Taking instance (GreatestValue v) v [] []
 claimed instance (ValueBetween a b) = Taking instance (ValueBetween a b) a [] []
 
+-- what the tree of a no begins with: in a reduced document the symmetry facts
+abbrev pub start_exclusions : Heading → PlainInstance → List Exclusion
+start_exclusions Answer instance = []
+start_exclusions Reduced instance = symmetry_facts instance
+
+-- behind the result line
+abbrev pub claimed_under : Heading → PlainInstance → Claim → Stage
+claimed_under heading instance NotFitting = Refuting NotFitting (InnerTree instance (start_exclusions heading instance ∷ []))
+claimed_under heading instance claim = claimed instance claim
+
 -- the line is this one word
 abbrev pub is_word : List ℕ → List (List ℕ) → Bool
 is_word key (word ∷ []) = same_bytes word key
 is_word key _ = false
 
--- the first line: `answer JOB`
+-- a word that names a solving job
 abbrev pub job_named : List ℕ → Result SolvingJob Reason
 job_named word =
     cond (same_bytes word (codes "fit")) (Ok Fit) (
@@ -136,9 +150,20 @@ job_named word =
     cond (same_bytes word (codes "bins")) (Ok Bins) (
     cond (same_bytes word (codes "knapsack")) (Ok Knapsack) (Err form))))
 
-abbrev pub answer_line : List (List ℕ) → Result Stage Reason
-answer_line (key ∷ word ∷ []) = cond (same_bytes key (codes "answer")) (job_named word >>= λ job. Ok (Reading job no_parts)) (Err form)
-answer_line _ = Err form
+-- the first word of a document
+abbrev pub heading_word : Heading → List ℕ
+heading_word Answer = codes "answer"
+heading_word Reduced = codes "reduced"
+
+-- the job behind it: of reduced documents there is only that of `fit`
+abbrev pub job_headed : Heading → List ℕ → Result SolvingJob Reason
+job_headed Answer word = job_named word
+job_headed Reduced word = cond (same_bytes word (codes "fit")) (Ok Fit) (Err form)
+
+-- the first line: `answer JOB`, or `reduced fit`
+abbrev pub heading_line : Heading → List (List ℕ) → Result Stage Reason
+heading_line heading (key ∷ word ∷ []) = cond (same_bytes key (heading_word heading)) (job_headed heading word >>= λ job. Ok (Reading heading job no_parts)) (Err form)
+heading_line heading _ = Err form
 
 -- a fault of an instance text is told by its code
 abbrev pub text_fault : {A : Type 0} → Result A ℕ → Result A Reason
@@ -150,9 +175,9 @@ abbrev pub end_of_parts : Result PlainInstance TextFault → Result PlainInstanc
 end_of_parts (Ok instance) = Ok instance
 end_of_parts (Err fault) = Err (Text fault.code)
 
-abbrev pub result_line : SolvingJob → Parts → List (List ℕ) → Result Stage Reason
-result_line job parts words =
-    end_of_parts (at_end parts 0) >>= λ instance. claim_of job instance words >>= λ claim. Ok (claimed instance claim)
+abbrev pub result_line : Heading → SolvingJob → Parts → List (List ℕ) → Result Stage Reason
+result_line heading job parts words =
+    end_of_parts (at_end parts 0) >>= λ instance. claim_of job instance words >>= λ claim. Ok (claimed_under heading instance claim)
 
 -- whether the line is a result line: its first word is `result`
 abbrev pub is_result : Line → Bool
@@ -162,10 +187,10 @@ abbrev pub rest_of : List (List ℕ) → List (List ℕ)
 rest_of [] = []
 rest_of (word ∷ words) = words
 
--- a line behind `answer`, up to the result line
-abbrev pub reading_line : Bool → SolvingJob → Parts → Line → Result Stage Reason
-reading_line true job parts line = result_line job parts (rest_of line.words)
-reading_line false job parts line = text_fault (add_line parts line) >>= λ more. Ok (Reading job more)
+-- a line behind the first, up to the result line
+abbrev pub reading_line : Bool → Heading → SolvingJob → Parts → Line → Result Stage Reason
+reading_line true heading job parts line = result_line heading job parts (rest_of line.words)
+reading_line false heading job parts line = text_fault (add_line parts line) >>= λ more. Ok (Reading heading job more)
 
 -- behind all places: `end` for `fit`, else `proof`
 abbrev pub placed : Claim → Refuted → Stage
@@ -240,8 +265,8 @@ late_line None words = form
 
 -- a line without a bad byte that isn't blank, by its words; the instance lines aren't among these
 abbrev pub words_line : Stage → List (List ℕ) → Result Stage Reason
-words_line Beginning words = answer_line words
-words_line (Reading job parts) words = Err form
+words_line (Beginning heading) words = heading_line heading words
+words_line (Reading heading job parts) words = Err form
 words_line (Placing instance claim refuted places) words = place_line instance claim refuted places words
 words_line (Sharing instance claim k bins places) words =
     numbers_line (codes "place") (suc (dims instance)) words >>= λ ns. share_line instance claim k bins places ns
@@ -258,7 +283,7 @@ words_line (Ended claim) words = Err after
 
 -- a line that isn't blank. A bad byte is refused as the place where it stands says.
 abbrev pub filled_line : Stage → Line → Result Stage Reason
-filled_line (Reading job parts) line = reading_line (is_result line) job parts line
+filled_line (Reading heading job parts) line = reading_line (is_result line) heading job parts line
 filled_line (Ended claim) line = Err after
 filled_line stage line = require (not line.bad) form (words_line stage line.words)
 

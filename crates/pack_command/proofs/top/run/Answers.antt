@@ -1,10 +1,10 @@
 use Rattle.std.proofs.Common.{◌∙◌, ap, arith, inl, inr, List, ℕ}
-use Rattle.document_terms.specs.declared.claim.SolvingJob.TheVariants.{Fit}
 use Rattle.pack_command.specs.Run.{IsTold}
 use Rattle.pack_command.specs.Stops.{stop_status}
 use Rattle.pack_command.proofs.OwnWritten.{own_written}
 use Rattle.pack_command.proofs.Generating.{made_exactly, never_four}
 use Rattle.pack_command.proofs.Written.{written_answers, written_job, written_fits, written_enough}
+use Rattle.pack_command.proofs.Audited.{audited_done, audited_exactly, audited_claimed}
 use Rattle.pack_command.proofs.Checked.{solved_done, judged_done, judged_exactly, judged_claimed}
 use Rattle.pack_command.proofs.Causes.{answer_counts, completes, never_read, refusable_done, refuses, stop_reads, stop_unanswered, stop_writes}
 use Rattle.pack_command.proofs.top.run.Goals as goal
@@ -22,8 +22,8 @@ returns-in-Ok-clause-enough g c = λ job settings instance asked enough.
     written_enough _ _ _ _ _ _ settings asked.bytes instance (solved_done _ _ _ _ _ _ job settings asked.asks c.in-Ok.ensures.answered) asked.told asked.read job asked.asks enough
 
 pub returns-in-Ok-clause-fits : goal.returns-in-Ok-clause-fits
-returns-in-Ok-clause-fits g c = λ settings instance asked answer enough.
-    written_fits _ _ _ _ _ _ settings asked.bytes instance (solved_done _ _ _ _ _ _ Fit settings asked.asks c.in-Ok.ensures.answered) asked.told asked.read asked.asks enough
+returns-in-Ok-clause-fits g c = λ job settings instance asked fits answer enough.
+    written_fits _ _ _ _ _ _ settings asked.bytes instance (solved_done _ _ _ _ _ _ job settings asked.asks c.in-Ok.ensures.answered) asked.told asked.read job fits asked.asks enough
 
 pub returns-in-Ok-clause-verified : goal.returns-in-Ok-clause-verified
 returns-in-Ok-clause-verified g c = λ job settings instance asked answer.
@@ -34,6 +34,12 @@ returns-in-Ok-clause-checks g c = λ bytes asked answer. judged_exactly _ _ _ _ 
 
 pub returns-in-Ok-clause-claimed : goal.returns-in-Ok-clause-claimed
 returns-in-Ok-clause-claimed g c = λ asks zero. judged_claimed _ _ _ _ _ zero (judged_done _ _ _ _ _ _ asks c.in-Ok.ensures.answered)
+
+pub returns-in-Ok-clause-audits : goal.returns-in-Ok-clause-audits
+returns-in-Ok-clause-audits g c = λ bytes asked answer. audited_exactly _ _ _ _ _ bytes asked.told (audited_done _ _ _ _ _ _ asked.asks c.in-Ok.ensures.answered)
+
+pub returns-in-Ok-clause-attests : goal.returns-in-Ok-clause-attests
+returns-in-Ok-clause-attests g c = λ asks zero. audited_claimed _ _ _ _ _ zero (audited_done _ _ _ _ _ _ asks c.in-Ok.ensures.answered)
 
 pub returns-in-Ok-clause-makes : goal.returns-in-Ok-clause-makes
 returns-in-Ok-clause-makes g c = λ number settings asks answer. made_exactly _ _ _ _ _ number settings asks _ c.in-Ok.ensures.answered
@@ -63,13 +69,16 @@ pub returns-in-Err-clause-answers : goal.returns-in-Err-clause-answers
 returns-in-Err-clause-answers g c = λ job settings instance asked answer. absurd (stop_unanswered c.in-Err.stop _ c.status.ensures answer)
 
 pub returns-in-Err-clause-fits : goal.returns-in-Err-clause-fits
-returns-in-Err-clause-fits g c = λ settings instance asked answer enough. absurd (stop_unanswered c.in-Err.stop _ c.status.ensures answer)
+returns-in-Err-clause-fits g c = λ job settings instance asked fits answer enough. absurd (stop_unanswered c.in-Err.stop _ c.status.ensures answer)
 
 pub returns-in-Err-clause-verified : goal.returns-in-Err-clause-verified
 returns-in-Err-clause-verified g c = λ job settings instance asked answer. absurd (stop_unanswered c.in-Err.stop _ c.status.ensures answer)
 
 pub returns-in-Err-clause-checks : goal.returns-in-Err-clause-checks
 returns-in-Err-clause-checks g c = λ bytes asked answer. absurd (stop_unanswered c.in-Err.stop _ c.status.ensures answer)
+
+pub returns-in-Err-clause-audits : goal.returns-in-Err-clause-audits
+returns-in-Err-clause-audits g c = λ bytes asked answer. absurd (stop_unanswered c.in-Err.stop _ c.status.ensures answer)
 
 pub returns-in-Err-clause-makes : goal.returns-in-Err-clause-makes
 returns-in-Err-clause-makes g c = λ number settings asks answer. absurd (stop_unanswered c.in-Err.stop _ c.status.ensures answer)

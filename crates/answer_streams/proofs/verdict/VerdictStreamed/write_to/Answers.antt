@@ -1,10 +1,8 @@
-use Rattle.std.proofs.Common.{sym, ap, ◌∙◌}
+use Rattle.std.proofs.Common.{sym, ap}
 use Rattle.pack_streams.proofs.Writers.{wrote_same}
 use Rattle.verdict_terms.specs.Documents.{verdict_line}
 use Rattle.answer_streams.specs.Verdicts.{plain_verdict}
-use Rattle.answer_streams.proofs.Lined.{claim_line}
 use Rattle.answer_streams.proofs.verdict.VerdictStreamed.write_to.Goals as goal
 
 pub returns-in-Verified : goal.returns-in-Verified
-returns-in-Verified g c =
-    wrote_same _ _ _ _ _ _ _ (claim_line c.in-Verified.claim ∙ ap (λ v. verdict_line (plain_verdict v)) (sym c.in-Verified.is)) c.write_claim.ensures
+returns-in-Verified g c = wrote_same _ _ _ _ _ _ _ (ap (λ v. verdict_line (plain_verdict v)) (sym c.in-Verified.is)) c.write_verified.ensures

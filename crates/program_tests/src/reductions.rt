@@ -1,0 +1,137 @@
+//! Instances that are decided from their symmetry facts on, and the documents that are audited.
+use crate::rows::{Solved, is_solved};
+use crate::runs::{told_of, told_read_to, told_written_to};
+use crate::texts::{EIGHT_IN_A_ROW, TWO_BOXES, UNIT};
+use std::test::Fail;
+
+const FOUR_IN_A_ROW: &[u8] = b"format 1\ncontainer 10 10\nbox 3 6\nbox 3 6\nbox 3 6\nbox 3 6\n";
+
+const TWO_HALVES: &[u8] = b"format 1\ncontainer 4 4\nbox 2 1\nbox 2 1\n";
+
+const PLAIN: &[&str] = &["reduced", "--scales", "no", "--budget", "0"];
+
+const SHARED: &[&str] = &["reduced", "--scales=no", "--budget=0", "--workers=2"];
+
+const ONE_LEAF: &[u8] = b"result no\nx\nend\n";
+
+const UPRIGHT: &[u8] = b"result yes\nplace 0 0\nplace 0 4\nend\n";
+
+const ROWS: [Solved; 9] = [
+    (PLAIN, FOUR_IN_A_ROW, 1, ONE_LEAF),
+    (SHARED, FOUR_IN_A_ROW, 1, ONE_LEAF),
+    (PLAIN, EIGHT_IN_A_ROW, 1, ONE_LEAF),
+    (SHARED, EIGHT_IN_A_ROW, 1, ONE_LEAF),
+    (&["reduced", "--budget", "0"], TWO_BOXES, 0, UPRIGHT),
+    (
+        &["reduced", "--budget", "0", "--workers", "2"],
+        TWO_BOXES,
+        0,
+        UPRIGHT,
+    ),
+    (&["reduced"], UNIT, 0, b"result yes\nplace 0 0\nend\n"),
+    (PLAIN, TWO_HALVES, 3, b"result undecided\nend\n"),
+    (
+        &["reduced", "--budget", "1"],
+        TWO_HALVES,
+        0,
+        b"result yes\nplace 0 0\nplace 2 0\nend\n",
+    ),
+];
+
+#[test]
+fn reduced_has_the_documents_of_the_rows(rt: HostRuntime) -> Result<(), Fail> {
+    for row in &ROWS {
+        assert!(rt; is_solved(&rt, b"reduced fit\n", row)?);
+    }
+    Ok(())
+}
+
+const FOUR_REFUTED: &[u8] =
+    b"reduced fit\nformat 1\ncontainer 10 10\nbox 3 6\nbox 3 6\nbox 3 6\nbox 3 6\nresult no\nx\nend\n";
+
+const AUDIT: &[&str] = &["audit"];
+
+// Documents, the status of their audit and its line.
+const AUDITED: [(&[u8], u8, &str); 8] = [
+    (FOUR_REFUTED, 0, "verified reduced fit no\n"),
+    (
+        b"reduced fit\nformat 1\ncontainer 10 10\nbox 6 4\nbox 6 6\nresult yes\nplace 0 0\nplace 0 4\nend\n",
+        0,
+        "verified reduced fit yes\n",
+    ),
+    (
+        b"answer fit\nformat 1\ncontainer 1 1\nbox 1 1\nresult yes\nplace 0 0\nend\n",
+        1,
+        "refused 1 form\n",
+    ),
+    (b"reduced strip\n", 1, "refused 1 form\n"),
+    (b"", 1, "refused 1 short\n"),
+    (
+        b"reduced fit\nformat 1\ncontainer 10 10\nbox 3 6\nbox 3 6\nbox 3 6\nresult no\nx\nend\n",
+        1,
+        "refused 8 conflict\n",
+    ),
+    (
+        b"reduced fit\nformat 1\ncontainer 10 10\nbox 6 4\nbox 6 6\nresult yes\nplace 0 0\nplace 0 3\nend\n",
+        1,
+        "refused 8 overlap 1 2\n",
+    ),
+    (
+        b"reduced fit\nformat 1\ncontainer 4 4\nbox 2 1\nbox 2 1\nresult undecided\nend\n",
+        1,
+        "refused 6 claim\n",
+    ),
+];
+
+#[test]
+fn audits_write_one_line(rt: HostRuntime) -> Result<(), Fail> {
+    for (document, status, line) in AUDITED {
+        let told = told_of(&rt, AUDIT, document)?;
+        assert!(rt; told.is_line(status, line), "{line}");
+        assert!(rt; told.left.is_empty());
+    }
+    Ok(())
+}
+
+#[test]
+fn check_refuses_a_reduced_document_at_its_first_line(rt: HostRuntime) -> Result<(), Fail> {
+    let told = told_of(&rt, &["check"], FOUR_REFUTED)?;
+    assert!(rt; told.is_line(1, "refused 1 form\n"));
+    Ok(())
+}
+
+// The whole input is read before a line is refused.
+#[test]
+fn a_read_that_fails_at_each_byte_of_an_audit_is_a_read_fault(rt: HostRuntime) -> Result<(), Fail> {
+    for count in 0..16 {
+        let told = told_read_to(&rt, AUDIT, b"answer pile\nend\n", count)?;
+        assert!(rt; told.is_stop(4, "pack: read fault\n", b""), "{count}");
+    }
+    Ok(())
+}
+
+#[test]
+fn a_write_that_fails_at_each_byte_of_an_audit_leaves_those_before(
+    rt: HostRuntime,
+) -> Result<(), Fail> {
+    let line = b"verified reduced fit no\n";
+    for count in 0..line.len() {
+        let told = told_written_to(&rt, AUDIT, FOUR_REFUTED, count)?;
+        assert!(rt;
+            told.is_stop(5, "pack: write fault\n", &line[..count]),
+            "{count}"
+        );
+    }
+    Ok(())
+}
+
+#[test]
+fn reduced_refuses_what_fit_refuses(rt: HostRuntime) -> Result<(), Fail> {
+    let told = told_of(&rt, &["reduced"], b"format 1\ncontainer 5 5\nbox 0 1\n")?;
+    assert!(rt; told.is_stop(2, "pack: line 3: code 4\n", b""));
+    let told = told_of(&rt, &["reduced", "--number", "3"], UNIT)?;
+    assert_eq!(rt; told.status, 2);
+    let told = told_of(&rt, &["audit", "--budget", "3"], UNIT)?;
+    assert_eq!(rt; told.status, 2);
+    Ok(())
+}

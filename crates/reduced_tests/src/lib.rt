@@ -1,0 +1,7 @@
+//! Tests of symmetry facts, of the decisions that begin with them and of reduced documents.
+#![tactic(auto)]
+
+#[cfg(test)]
+mod audits;
+#[cfg(test)]
+mod decisions;

@@ -1,0 +1,56 @@
+-- Reduced documents and the verdict on each, computed from the definitions.
+use Rattle.std.proofs.Common.{◌≡◌, refl, codes, Ok, Err}
+use Rattle.text_terms.specs.Lines.{number_of, same_bytes}
+use Rattle.check_terms.specs.declared.answers.RefuseCode.TheVariants.{Choice, Conflict}
+use Rattle.document_terms.specs.declared.claim.Claim.TheVariants.{Fitting, NotFitting}
+use Rattle.document_terms.specs.TokenLines.{token_of}
+use Rattle.verdict_terms.specs.Reasons.{form}
+use Rattle.verdict_terms.specs.declared.reason.Reason.TheVariants.{Token, NoClaim, OverlapAt, TooShort}
+use Rattle.verdict_terms.specs.Results.{claim_of}
+use Rattle.verdict_terms.specs.Documents.{headed_verdict, document_verdict, reduced_verdict, reduced_verdict_line}
+
+four_written : reduced_verdict (codes "reduced fit\nformat 1\ncontainer 10 10\nbox 3 6\nbox 3 6\nbox 3 6\nbox 3 6\nresult no\nx\nend\n") ≡ Ok NotFitting
+unfolding headed_verdict number_of same_bytes token_of claim_of
+four_written = refl
+
+four_line : reduced_verdict_line (reduced_verdict (codes "reduced fit\nformat 1\ncontainer 10 10\nbox 3 6\nbox 3 6\nbox 3 6\nbox 3 6\nresult no\nx\nend\n")) ≡ codes "verified reduced fit no\n"
+unfolding headed_verdict number_of same_bytes token_of claim_of
+four_line = refl
+
+-- `check` reads no such document, and no document of `fit` is a reduced one
+four_checked : document_verdict (codes "reduced fit\nformat 1\ncontainer 10 10\nbox 3 6\nbox 3 6\nbox 3 6\nbox 3 6\nresult no\nx\nend\n") ≡ Err (record { line = 1; reason = form })
+unfolding headed_verdict number_of same_bytes token_of claim_of
+four_checked = refl
+
+four_plain : reduced_verdict (codes "answer fit\nformat 1\ncontainer 10 10\nbox 3 6\nbox 3 6\nbox 3 6\nbox 3 6\nresult no\nv id step 1\nend\n") ≡ Err (record { line = 1; reason = form })
+unfolding headed_verdict number_of same_bytes token_of claim_of
+four_plain = refl
+
+-- the split of the tree without facts isn't open under them
+four_choice : reduced_verdict (codes "reduced fit\nformat 1\ncontainer 10 10\nbox 3 6\nbox 3 6\nbox 3 6\nbox 3 6\nresult no\nd 1 1 2\nx\nx\nend\n") ≡ Err (record { line = 9; reason = Token Choice })
+unfolding headed_verdict number_of same_bytes token_of claim_of
+four_choice = refl
+
+three_conflict : reduced_verdict (codes "reduced fit\nformat 1\ncontainer 10 10\nbox 3 6\nbox 3 6\nbox 3 6\nresult no\nx\nend\n") ≡ Err (record { line = 8; reason = Token Conflict })
+unfolding headed_verdict number_of same_bytes token_of claim_of
+three_conflict = refl
+
+two_yes : reduced_verdict (codes "reduced fit\n\nformat 1\ncontainer 10 10\nbox 6 4\nbox 6 6\nresult yes\nplace 0 0\nplace 0 4\nend\n") ≡ Ok Fitting
+unfolding headed_verdict number_of same_bytes token_of claim_of
+two_yes = refl
+
+two_overlap : reduced_verdict (codes "reduced fit\nformat 1\ncontainer 10 10\nbox 6 4\nbox 6 6\nresult yes\nplace 0 0\nplace 0 3\nend\n") ≡ Err (record { line = 8; reason = OverlapAt 1 2 })
+unfolding headed_verdict number_of same_bytes token_of claim_of
+two_overlap = refl
+
+undecided : reduced_verdict (codes "reduced fit\nformat 1\ncontainer 10 10\nbox 6 4\nbox 6 6\nresult undecided\nend\n") ≡ Err (record { line = 6; reason = NoClaim })
+unfolding headed_verdict number_of same_bytes token_of claim_of
+undecided = refl
+
+short : reduced_verdict (codes "reduced fit\nformat 1\ncontainer 10 10\nbox 3 6\nresult no\n") ≡ Err (record { line = 6; reason = TooShort })
+unfolding headed_verdict number_of same_bytes token_of claim_of
+short = refl
+
+strip : reduced_verdict (codes "reduced strip\nformat 1\ncontainer 10 10\nbox 3 6\nresult least 6\n") ≡ Err (record { line = 1; reason = form })
+unfolding headed_verdict number_of same_bytes token_of claim_of
+strip = refl
