@@ -1,4 +1,5 @@
-//! The documents that answer `fit` and `reduced`, in their one written spelling. Writing takes no memory.
+//! The documents that answer `fit` and `reduced`, in their one written spelling. Writing takes no
+//! memory.
 ghost use Rattle.std.specs.Prelude.{◌≡◌, ◌<◌, ◌*◌, ◌∷◌, [], map, length};
 ghost use Rattle.std.specs.Fmt.{decimal};
 ghost use Rattle.packing_terms.specs.Packing.{dims, box_count, place};

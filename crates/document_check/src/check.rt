@@ -74,8 +74,8 @@ fn check_claimed<S: Source>(
     }
 }
 
-/// Reads a document that has to begin with this heading, to its end or to the line feed of its first refused line, and no further, in
-/// one pass.
+/// Reads a document that has to begin with this heading, to its end or to the line feed of its
+/// first refused line, and no further, in one pass.
 ///
 /// `TooLong`, `ReadFault` and `NoMemory` come only where no line that was whole before is refused.
 /// The first read that fails is the last, and `TooLong` takes one byte more than the limit. It

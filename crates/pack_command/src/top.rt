@@ -37,10 +37,10 @@ use work_share::{Gate, Settings};
 ///
 /// Status 0 is yes, least, greatest or verified, 1 is no, none or refused, and 3 is undecided or
 /// between: the answer is whole before its first byte goes to `out`, the document, the one line of
-/// `check` or `audit` or the three lines of `make` are written whole in pieces of 4,096 bytes, and nothing to
-/// `err`. With every other status one line on `err` names the cause: 2 the words, the length or the
-/// text of the input; 4 a failed read; 5 a failed write, after a part at the front of what was to
-/// be written; 6 want of memory. With 2, 4 and 6 nothing was written to `out`.
+/// `check` or `audit` or the three lines of `make` are written whole in pieces of 4,096 bytes, and
+/// nothing to `err`. With every other status one line on `err` names the cause: 2 the words, the
+/// length or the text of the input; 4 a failed read; 5 a failed write, after a part at the front of
+/// what was to be written; 6 want of memory. With 2, 4 and 6 nothing was written to `out`.
 ///
 /// Several workers share each search tree. Nothing that is written depends on their number, or on
 /// the gate, which they call around the exploring of each task.
@@ -76,7 +76,8 @@ pub fn run<R: Threads + Wait + Sync, S: Source, K: Sink, E: Sink, G: Gate + Sync
         → IsEnough job instance settings.budget → result ≢ 3 }
     ensures fits { (job : PlainJob) (settings : PlainSettings) (instance : PlainInstance)
         → IsSolving words.now (S.left input.old) job settings instance → AsksWhetherFits job
-        → IsAnswerStatus result → class_bound instance ≤ settings.budget + 1 → IsExactlyFit instance result }
+        → IsAnswerStatus result → class_bound instance ≤ settings.budget + 1
+        → IsExactlyFit instance result }
 
     // The document is verified with a claim of the job about that instance, that of `reduced` as a
     // reduced one, or it says undecided, for `fit` and `reduced` alone, and is verified with none.
