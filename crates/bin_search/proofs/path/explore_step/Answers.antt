@@ -51,7 +51,7 @@ returns-in_ok-push_refuted-in-Refuted c =
     let t : PlainBinTree = record { instance = c.args.instance.now; bins = c.args.most; scales = c.args.search.now.scales } in
     let h = rw (c.requires.search, c.requires.order, c.deref.ensures.value, c.in-Refuted.is) at c.in_ok-grow_bin.ensures.child in
     let number : c.args.step.child + 1 ≡ suc c.args.step.child = omega arith in
-    let e = c.in_ok-push_refuted-in-Refuted.ensures ∙ (ap (λ (l : List _). map plain_token l ++ SetRefuted (Some (c.args.step.child + 1)) ∷ map plain_token c.in-Refuted.inner.items) c.new-tokens.ensures.items
+    let e = c.in_ok-push_refuted-in-Refuted.ensures.appends ∙ (ap (λ (l : List _). map plain_token l ++ SetRefuted (Some (c.args.step.child + 1)) ∷ map plain_token c.in-Refuted.inner.items) c.new-tokens.ensures.items
     ∙ ap (λ n. SetRefuted (Some n) ∷ map plain_token c.in-Refuted.inner.items) number) in
     ap (λ (l : List PlainToken). Decided (No l c.in-Refuted.own)) e
     ∙ step_refuted t c.requires.limits c.args.step.placed (lists_of c.args.step.bins.items) c.requires.above c.args.step.child c.requires.near c.args.cap (map plain_token c.in-Refuted.inner.items) h.cost c.in-Refuted.own h.is h.counted h.within

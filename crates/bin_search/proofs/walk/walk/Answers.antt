@@ -22,7 +22,7 @@ use Rattle.bin_search.proofs.walk.walk.Goals as goal
 pub loop-node-init : goal.loop-node-init
 loop-node-init c =
     let t : PlainBinTree = record { instance = c.args.instance.now; bins = c.args.most; scales = c.args.search.now.scales } in
-    let e = c.in_ok-push_token.ensures ∙ (ap (λ (l : List _). map plain_token l ++ plain_token c.assign.result ∷ []) c.new-tokens.ensures.items ∙ ap (λ (x : PlainToken). x ∷ []) c.assign.ensures) in
+    let e = c.in_ok-push_token.ensures.appends ∙ (ap (λ (l : List _). map plain_token l ++ plain_token c.assign.result ∷ []) c.new-tokens.ensures.items ∙ ap (λ (x : PlainToken). x ∷ []) c.assign.ensures) in
     let m = ap length c.requires.order in
     rw (e, c.new-stack.ensures.items) (record {
       left = starts t c.args.node c.args.own (omega (arith, m, c.requires.there)) c.requires.fresh c.requires.node;
@@ -118,7 +118,7 @@ loop-node-preserved-in-Refuted c =
     let h = rw (c.loop-node.invariant.same, c.requires.search, c.in-Refuted.is) at c.in_ok-open_next.ensures.opened in
     let number : c.loop-node.node.visited + 1 ≡ suc c.loop-node.node.visited = omega arith in
     let tokens : map plain_token c.push_refuted.new.tokens.items ≡ map plain_token c.loop-node.tokens.items ++ SetRefuted (Some (suc c.loop-node.node.visited)) ∷ map plain_token c.in-Refuted.inner.items
-    = c.in_ok-push_refuted-in-Refuted.ensures ∙ ap (λ n. map plain_token c.loop-node.tokens.items ++ SetRefuted (Some n) ∷ map plain_token c.in-Refuted.inner.items) number in
+    = c.in_ok-push_refuted-in-Refuted.ensures.appends ∙ ap (λ n. map plain_token c.loop-node.tokens.items ++ SetRefuted (Some n) ∷ map plain_token c.in-Refuted.inner.items) number in
     rw tokens (record {
       left = refuted_next t whole (map plain_token c.loop-node.tokens.items) c.loop-node.count c.loop-node.node (reverse c.loop-node.stack.items) left more _ (map plain_token c.in-Refuted.inner.items) c.in-Refuted.own h;
       within = (let l = h.within in omega (arith, l, c.loop-node.invariant.within));
@@ -169,7 +169,7 @@ loop-node-preserved c =
     let q = p.there in
     let m = ap length c.requires.order in
     let tokens : map plain_token c.push_token-in-Entered.new.tokens.items ≡ map plain_token c.loop-node.tokens.items ++ Assign (suc (box_of c.args.instance.now c.in-Entered.child)) ∷ []
-    = c.in_ok-push_token-in-Entered.ensures ∙ ap (λ (x : PlainToken). map plain_token c.loop-node.tokens.items ++ x ∷ []) c.assign-in-Entered.ensures in
+    = c.in_ok-push_token-in-Entered.ensures.appends ∙ ap (λ (x : PlainToken). map plain_token c.loop-node.tokens.items ++ x ∷ []) c.assign-in-Entered.ensures in
     let waiting : reverse c.push.new.self.items ≡ record c.loop-node.node { visited = c.loop-node.node.visited + 1 } ∷ reverse c.loop-node.stack.items
     = ap reverse c.in-Ok.ensures.items ∙ (reverse_last c.loop-node.stack.items c.replace.result ∙ ap (λ (x : Placed). x ∷ reverse c.loop-node.stack.items) c.replace.ensures.value) in
     rw (tokens, waiting, c.replace.ensures.after) (record {

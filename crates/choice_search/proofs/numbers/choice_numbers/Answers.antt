@@ -6,7 +6,7 @@ use Rattle.choice_search.proofs.numbers.choice_numbers.Goals as goal
 
 pub loop-k-preserved : goal.loop-k-preserved
 loop-k-preserved c =
-    c.in_ok-push_coordinates.ensures
+    c.in_ok-push_coordinates.ensures.appends
     ∙ (ap (λ (l : List _). l ++ coordinates_at (dims c.args.instance.now) c.args.numbers.now c.loop-k.k)
     (c.in-Ok.ensures.items ∙ ap (λ (l : List _). l ++ get_or c.args.taken.now c.loop-k.k 0 ∷ []) c.loop-k.invariant)
     ∙ (append_assoc _ (get_or c.args.taken.now c.loop-k.k 0 ∷ []) _

@@ -24,7 +24,7 @@ pub returns-in-Refuted : goal.returns-in-Refuted
 returns-in-Refuted c =
     let t : PlainChoiceTree = record { instance = c.args.instance.now; goal = c.args.value; scales = c.args.search.now.scales } in
     let h = rw (c.requires.search, c.requires.order, c.deref.ensures.value, c.in-Refuted.is) at c.in_ok-grow.ensures.child in
-    let e = c.in_ok-push_refuted-in-Refuted.ensures ∙ ap (λ (l : List _). map plain_token l ++ SetRefuted None ∷ map plain_token c.in-Refuted.inner.items) c.new-tokens.ensures.items in
+    let e = c.in_ok-push_refuted-in-Refuted.ensures.appends ∙ ap (λ (l : List _). map plain_token l ++ SetRefuted None ∷ map plain_token c.in-Refuted.inner.items) c.new-tokens.ensures.items in
     ap (λ (l : List PlainToken). Decided (No l c.in-Refuted.own)) e
     ∙ first_refuted t c.args.above.decided c.args.above.taken.items c.requires.above c.args.cap (map plain_token c.in-Refuted.inner.items) h.cost c.in-Refuted.own h.is h.counted h.within
 

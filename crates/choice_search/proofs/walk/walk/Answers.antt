@@ -37,7 +37,7 @@ returns-in_default-clause-outcome c =
     let met : IsMet c.args.instance.now c.args.value c.loop-node.node.decided c.loop-node.node.taken.items Short
     = subst (λ us. IsMet c.args.instance.now c.args.value c.loop-node.node.decided us Short) c.deref.ensures.value c.in-Short.ensures in
     let e = reverse_none c.loop-node.stack.items (omega (arith, c.loop-node.stack.ok.0, c.in_default.ensures.cases.0)) in
-    ap (λ (l : List PlainToken). Decided (No l c.loop-node.count)) c.in_ok-push_token-in-Short.ensures
+    ap (λ (l : List PlainToken). Decided (No l c.loop-node.count)) c.in_ok-push_token-in-Short.ensures.appends
     ∙ finished c.args.cap _ whole (short_last t whole (map plain_token c.loop-node.tokens.items) c.loop-node.count c.loop-node.node met.0 met.1 (rw e at c.loop-node.invariant.left)) c.loop-node.invariant.within
 
 pub returns-then-count-cap-clause-outcome : goal.returns-then-count-cap-clause-outcome
@@ -57,7 +57,7 @@ loop-node-preserved-in-Short c =
     let met : IsMet c.args.instance.now c.args.value c.loop-node.node.decided c.loop-node.node.taken.items Short
     = subst (λ us. IsMet c.args.instance.now c.args.value c.loop-node.node.decided us Short) c.deref.ensures.value c.in-Short.ensures in
     let e = ap reverse c.in-Some.ensures.items ∙ reverse_last c.pop.new.self.items c.in-Some.waiting in
-    rw c.in_ok-push_token-in-Short.ensures (record {
+    rw c.in_ok-push_token-in-Short.ensures.appends (record {
       left = short_next t whole (map plain_token c.loop-node.tokens.items) c.loop-node.count c.loop-node.node met.0 met.1 c.in-Some.waiting (reverse c.pop.new.self.items) (rw e at c.loop-node.invariant.left);
       within = omega (arith, c.loop-node.invariant.within, c.if-count-cap.false);
       same = c.loop-node.invariant.same;
@@ -89,8 +89,8 @@ loop-node-preserved-in-Refuted c =
     let h = rw (c.loop-node.invariant.same, c.requires.search, c.in-Refuted.is) at c.in_ok-open_first-in-Divided.ensures.opened in
     let number : c.in-Divided.v + 1 ≡ suc c.in-Divided.v = omega arith in
     let tokens : map plain_token c.push_refuted.new.tokens.items ≡ (map plain_token c.loop-node.tokens.items ++ Choose (suc c.in-Divided.v) ∷ []) ++ SetRefuted None ∷ map plain_token c.in-Refuted.inner.items
-    = c.in_ok-push_refuted-in-Refuted.ensures ∙ ap (λ (l : List PlainToken). l ++ SetRefuted None ∷ map plain_token c.in-Refuted.inner.items)
-    (c.in_ok-push_token-in-Divided.ensures ∙ ap (λ n. map plain_token c.loop-node.tokens.items ++ Choose n ∷ []) number) in
+    = c.in_ok-push_refuted-in-Refuted.ensures.appends ∙ ap (λ (l : List PlainToken). l ++ SetRefuted None ∷ map plain_token c.in-Refuted.inner.items)
+    (c.in_ok-push_token-in-Divided.ensures.appends ∙ ap (λ n. map plain_token c.loop-node.tokens.items ++ Choose n ∷ []) number) in
     let k = h.counted in
     let count : c.loop-node.count + c.in-Refuted.own ≡ c.loop-node.count + (1 + h.cost) + 1 = omega (arith, k) in
     rw (tokens, count) (record {
@@ -109,7 +109,7 @@ loop-node-preserved c =
     let f = h.fits in
     let number : c.in-Divided.v + 1 ≡ suc c.in-Divided.v = omega arith in
     let tokens : map plain_token c.push_token-in-Divided.new.tokens.items ≡ map plain_token c.loop-node.tokens.items ++ Choose (suc c.in-Divided.v) ∷ []
-    = c.in_ok-push_token-in-Divided.ensures ∙ ap (λ n. map plain_token c.loop-node.tokens.items ++ Choose n ∷ []) number in
+    = c.in_ok-push_token-in-Divided.ensures.appends ∙ ap (λ n. map plain_token c.loop-node.tokens.items ++ Choose n ∷ []) number in
     let waiting : reverse c.push.new.self.items ≡ record c.loop-node.node { decided = c.loop-node.node.decided + 1 } ∷ reverse c.loop-node.stack.items
     = ap reverse c.in-Ok.ensures.items ∙ (reverse_last c.loop-node.stack.items c.replace.result ∙ ap (λ (x : Chosen). x ∷ reverse c.loop-node.stack.items) c.replace.ensures.value) in
     rw (tokens, waiting, f.counted) (record {
