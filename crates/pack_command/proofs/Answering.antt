@@ -1,5 +1,5 @@
 -- What was read and found is an answer of the instance.
-use Rattle.std.proofs.Common.{ℕ, ◌≡◌, List, Ok, String, Global}
+use Rattle.std.proofs.Common.{ℕ, List, Ok, String, Global}
 use Rattle.std.specs.declared.option.Option.{Option}
 use Rattle.packing_terms.specs.Packing.{PlainInstance}
 use Rattle.packing_terms.specs.Limits.{IsInstance}

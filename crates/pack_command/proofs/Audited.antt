@@ -1,10 +1,9 @@
 -- What an audit that ended in a line says of all bytes, and of the instance in them.
-use Rattle.std.proofs.Common.{◌≡◌, ℕ, ◌<◌, ◌≤◌, ◌⊎◌, inl, inr, refl, sym, ap, subst, ◌∙◌, List, length, arith, Option, Some, None, Result, Ok, Err, String, Global}
-use Rattle.std.specs.Io.KnownBytes.{IsAtEnd}
+use Rattle.std.proofs.Common.{◌≡◌, ℕ, ◌⊎◌, inl, inr, refl, sym, ap, subst, ◌∙◌, List, length, arith, Option, Some, Result, Ok, Err, String, Global}
 use Rattle.document_terms.specs.declared.claim.Claim.{Claim}
 use Rattle.answer_terms.specs.declared.job.DocumentJob.{DocumentJob}
 use Rattle.text_terms.specs.declared.settings.Settings.{Settings}
-use Rattle.pack_streams.specs.Moves.{Gives, Gains}
+use Rattle.pack_streams.specs.Moves.{Gains}
 use Rattle.verdict_terms.specs.declared.heading.Heading.TheVariants.{Reduced}
 use Rattle.verdict_terms.specs.Documents.{Refusal, reduced_verdict, reduced_verdict_line}
 use Rattle.verdict_terms.specs.Form.{IsReducedDocument}
@@ -12,8 +11,7 @@ use Rattle.verdict_terms.proofs.FormGiven.{documents_have_form}
 use Rattle.verdict_terms.proofs.True.{documents_are_true}
 use Rattle.answer_streams.specs.Verdicts.{verdict_status}
 use Rattle.pack_command.specs.Asked.{AsksToSolve, AsksAudit, AsksNothing, IsLongAudit}
-use Rattle.pack_command.specs.Audits.{IsWholeAudit, IsAuditWritten, IsWithoutAudit, IsExactlyAudited, IsAuditClaimed}
-use Rattle.pack_command.specs.Inputs.{most_audit_bytes}
+use Rattle.pack_command.specs.Audits.{IsAuditWritten, IsWithoutAudit, IsExactlyAudited, IsAuditClaimed}
 use Rattle.pack_command.specs.Ends.{IsDone, IsUndone}
 use Rattle.pack_command.specs.Run.{IsStopped}
 use Rattle.pack_command.specs.declared.stop.Stop.{Stop}

@@ -1,20 +1,18 @@
 -- Which words and which input end with an answer, and which with what cause.
-use Rattle.std.proofs.Common.{ℕ, ◌≡◌, ◌≢◌, ◌≤◌, ◌<◌, ◌+◌, ◌⊎◌, inl, inr, arith, refl, sym, ap, ◌∙◌, subst, List, length, Option, Some, None, Result, Ok, Err, String, Global}
+use Rattle.std.proofs.Common.{ℕ, ◌≡◌, ◌≢◌, ◌≤◌, ◌<◌, ◌⊎◌, inl, inr, arith, refl, sym, ap, ◌∙◌, subst, List, length, Option, Some, Result, Ok, Err, String, Global}
 use Rattle.packing_terms.specs.Packing.{PlainInstance}
-use Rattle.text_terms.specs.Texts.{text_instance}
 use Rattle.text_terms.specs.declared.fault.TextFault.{TextFault}
 use Rattle.text_terms.specs.declared.settings.Settings.{Settings}
 use Rattle.answer_terms.specs.declared.job.DocumentJob.{DocumentJob}
 use Rattle.document_terms.specs.declared.claim.Claim.{Claim}
 use Rattle.verdict_terms.specs.Documents.{Refusal}
 use Rattle.pack_streams.specs.Faults.{FailedOnce}
-use Rattle.pack_streams.specs.Moves.{Gives}
 use Rattle.pack_command.specs.Answered.{IsAnswerStatus}
 use Rattle.pack_command.specs.Asked.{AsksToSolve, AsksCheck, AsksToMake, AsksNothing, IsSolving, IsChecking, IsAuditing, HasAnswer, ReadsNothing, IsLongInstance, IsLongDocument, IsLongAudit, IsFaultyText, IsRefusable}
-use Rattle.pack_command.specs.Checks.{IsVerdictWritten, IsVerdictStatus, IsWithoutVerdict, IsPastLimit}
+use Rattle.pack_command.specs.Checks.{IsVerdictStatus, IsWithoutVerdict, IsPastLimit}
 use Rattle.pack_command.specs.Counts.{CountsReads, CountsWrites, CountsStatus, IsFaultStatus}
 use Rattle.pack_command.specs.Ends.{IsDone, IsUndone}
-use Rattle.pack_command.specs.Run.{IsAnswered, IsStopped, IsTold}
+use Rattle.pack_command.specs.Run.{IsAnswered, IsStopped}
 use Rattle.pack_command.specs.Stops.{stop_status, message_of}
 use Rattle.pack_command.specs.declared.stop.Stop.{Stop}
 use Rattle.pack_command.specs.declared.stop.Stop.TheVariants.{Words, TooLong, Text, ReadFault, WriteFault, NoMemory}

@@ -1,5 +1,5 @@
 -- Within the limits, and without a fault, the answer that was written is the one that the instance has, and it decides.
-use Rattle.std.proofs.Common.{ℕ, ◌≡◌, ◌+◌, ◌≤◌, ◌↔◌, inl, inr, List, [], ◌++◌, length, length-append, append-nil, arith, sym, ap, ◌∙◌, subst, Option, Some, None, Ok, String, Global, Result}
+use Rattle.std.proofs.Common.{ℕ, ◌≡◌, ◌+◌, ◌≤◌, inl, inr, List, [], ◌++◌, length, length-append, append-nil, arith, sym, ap, ◌∙◌, subst, Option, Some, None, Ok, String, Global, Result}
 use Rattle.std.proofs.lemmas.Bool.{true≢false}
 use Rattle.std.specs.Io.KnownBytes.{IsAtEnd}
 use Rattle.packing_terms.specs.Packing.{PlainInstance}

@@ -1,12 +1,12 @@
 -- What the answer of each job that answers with a document says of the instance, over all packings.
-use Rattle.std.specs.Prelude.{ℕ, ◌+◌, ◌≡◌, ◌≤◌, ◌↔◌, List}
+use Rattle.std.specs.Prelude.{ℕ, ◌≡◌, ◌↔◌, List}
 use Rattle.std.specs.declared.option.Option.{Option}
 use Rattle.packing_terms.specs.Packing.{PlainInstance, Fits}
 use Rattle.answer_terms.specs.declared.job.DocumentJob.{DocumentJob}
 use Rattle.answer_terms.specs.declared.job.DocumentJob.TheVariants.{Solving as Solves, Reduced as Reduces}
 use Rattle.document_terms.specs.declared.claim.SolvingJob.TheVariants.{Fit, Strip, Bins, Knapsack}
 use Rattle.text_terms.specs.declared.settings.Settings.{Settings}
-use Rattle.pack_command.specs.Answered.{class_bound, IsDecided}
+use Rattle.pack_command.specs.Answered.{IsDecided}
 use Rattle.pack_command.specs.Reductions.{IsReducedDecided}
 use Rattle.pack_command.specs.Strips.{IsStripDecided}
 use Rattle.pack_command.specs.FewestBins.{AreBinsDecided}

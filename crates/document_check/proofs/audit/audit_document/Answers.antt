@@ -1,5 +1,4 @@
-use Rattle.std.proofs.Common.{◌≡◌, ℕ, subst, List, Some}
-use Rattle.document_check.specs.declared.check.CheckEnd.{CheckEnd}
+use Rattle.std.proofs.Common.{ℕ, subst, List, Some}
 use Rattle.document_check.specs.declared.check.CheckEnd.TheVariants.{Verified, Refused}
 use Rattle.document_check.specs.Checked.{IsCheckedUnder}
 use Rattle.document_check.proofs.Audits.{audited, verified_is_true}

@@ -2,7 +2,7 @@ use Rattle.std.proofs.Common.{◌∙◌, sym, ap, subst, List, [], ◌∷◌}
 use Rattle.packing_terms.specs.declared.Exclusion.{Exclusion}
 use Rattle.packing_terms.specs.Exclusions.{AreAtEdges}
 use Rattle.document_terms.specs.declared.claim.Claim.TheVariants.{NotFitting}
-use Rattle.verdict_terms.specs.Stages.{Stage, start_exclusions}
+use Rattle.verdict_terms.specs.Stages.{Stage}
 use Rattle.verdict_terms.specs.Stages.Stage.{Refuting}
 use Rattle.verdict_terms.specs.Trees.Tree.{InnerTree}
 use Rattle.document_check.specs.Passes.{IsCheckedFrom}

@@ -1,4 +1,4 @@
-use Rattle.std.proofs.Common.{◌≤◌, ◌<◌, length, arith, ap, sym, Some}
+use Rattle.std.proofs.Common.{◌<◌, length, arith, ap, sym, Some}
 use Rattle.std.proofs.Math.ListN.{length-set}
 use Rattle.document_check.proofs.Audits.{one_given}
 use Rattle.document_check.proofs.audit.BytesSourceSource.read.Goals as goal
