@@ -217,9 +217,9 @@ struct CountingSource {
 }
 
 impl Source for CountingSource {
-    ghost use Rattle.std.specs.Prelude.{None};
+    ghost use Rattle.std.specs.Prelude.{Some};
 
-    ghost left = { λ _. None };
+    ghost left = { λ s. Some s.source.left };
 
     ghost faults = { λ s. s.source.faults };
 
