@@ -6,8 +6,14 @@ use std::alloc::Global;
 use std::test::Fail;
 use verdict_terms::{Heading, Reason};
 
+// The most bytes that an audit takes.
+const MOST_BYTES: usize = 1_099_511_627_776;
+
 // Whether the audit refuses the document at this line with this code.
 fn refuses(alloc: Global, document: &[u8], at: u64, why: RefuseCode) -> bool {
+    if document.len() > MOST_BYTES {
+        return false;
+    }
     match audit_document(alloc, Heading::Reduced, document) {
         Audit::Refused {
             line,
@@ -17,7 +23,11 @@ fn refuses(alloc: Global, document: &[u8], at: u64, why: RefuseCode) -> bool {
     }
 }
 
+// Whether the audit verifies the document, with this claim.
 fn is_verified(alloc: Global, document: &[u8], claim: Claim) -> bool {
+    if document.len() > MOST_BYTES {
+        return false;
+    }
     audit_document(alloc, Heading::Reduced, document) == Audit::Verified(claim)
 }
 
