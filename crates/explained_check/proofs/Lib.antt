@@ -1,0 +1,2 @@
+pub mod WordCounts
+pub mod Verdicts

@@ -1,0 +1,4 @@
+pub mod Lines
+pub mod Audits
+pub mod Heads
+pub mod Trees

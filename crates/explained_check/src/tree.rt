@@ -1,0 +1,126 @@
+//! The lines of an explained tree, and the line behind it.
+ghost use Rattle.std.specs.Prelude.{◌≡◌, ◌≤◌, None};
+ghost use Rattle.packing_terms.specs.Packing.{PlainInstance, dims as dim_count};
+ghost use Rattle.text_terms.specs.Feeding.{ended_line};
+ghost use Rattle.explained_documents.specs.Stages.{Explaining, Ending, Ended, filled_line};
+ghost use Rattle.explained_check.specs.Lines.{IsAmong};
+ghost use Rattle.explained_check.specs.Audits.{IsVerdict, IsStopped, verdict_left};
+ghost use Rattle.explained_check.specs.Heads.{map_ok};
+ghost use Rattle.explained_check.specs.Trees.{IsGoing, IsGrown};
+
+use crate::audit::{ExplainedAudit, short};
+use crate::head::FORM;
+use crate::lines::{Position, next_filled};
+use crate::words::is_word;
+use explained_documents::ExplainedReason;
+use explained_terms::{AuditCode, AuditVerdict};
+use instance_text::LineLexer;
+use line_proofs::{Auditor, read_step};
+use std::alloc::Global;
+
+// The document was whole before the line.
+const AFTER: ExplainedReason = ExplainedReason::Line {
+    code: AuditCode::After,
+};
+
+// Gives a line to the auditor. Answers whether the tree is whole with it.
+fn take_step(
+    alloc: Global,
+    auditor: &mut Auditor,
+    dims: u32,
+    line: &LineLexer,
+) -> Result<bool, ExplainedReason>
+    requires going { IsGoing auditor.old dims }
+    ensures step { IsGrown auditor.old auditor.new dims (ended_line line.now.held) result }
+{
+    if line.bad_byte() {
+        return Err(FORM);
+    }
+    if is_word(line, b"end") {
+        return Err(ExplainedReason::TooShort);
+    }
+    let Some(step) = read_step(alloc, line, dims) else {
+        return Err(FORM);
+    };
+    match auditor.feed(&step) {
+        AuditVerdict::More => Ok(false),
+        AuditVerdict::Done => Ok(true),
+        AuditVerdict::Refused { code } => Err(ExplainedReason::Line { code }),
+    }
+}
+
+/// Reads the lines of the tree. `None` tells that it is whole.
+pub fn read_tree(
+    alloc: Global,
+    bytes: &[u8],
+    at: &mut Position,
+    auditor: &mut Auditor,
+    dims: u32,
+) -> Option<ExplainedAudit>
+    requires at { IsAmong bytes.now at.old }
+    requires going { IsGoing auditor.old dims }
+    ensures at { IsAmong bytes.now at.new }
+    ensures whole { result ≡ None
+        → verdict_left bytes.now at.old (Explaining auditor.old.instance auditor.old.audited.nodes)
+        ≡ verdict_left bytes.now at.new (Ending auditor.old.instance) }
+    ensures stopped { IsStopped (verdict_left bytes.now at.old
+        (Explaining auditor.old.instance auditor.old.audited.nodes)) result }
+{
+    loop {
+        let there = next_filled(bytes, at);
+        let line = at.line.line_number();
+        if !there {
+            return Some(short(line));
+        }
+        match take_step(alloc, auditor, dims, &at.line) {
+            Ok(true) => return None,
+            Ok(false) => {}
+            Err(reason) => return Some(ExplainedAudit::Refused { line, reason }),
+        }
+    }
+}
+
+// The line behind the tree.
+fn end_line(alloc: Global, dims: u32, line: &LineLexer) -> Result<(), ExplainedReason>
+    requires least { 2 ≤ dims }
+    requires most { dims ≤ 4 }
+    ensures { (instance : PlainInstance) → dim_count instance ≡ dims
+        → map_ok (λ u. Ended instance) result
+        ≡ filled_line (Ending instance) (ended_line line.now.held) }
+{
+    if line.bad_byte() {
+        return Err(FORM);
+    }
+    if is_word(line, b"end") {
+        return Ok(());
+    }
+    match read_step(alloc, line, dims) {
+        Some(_) => Err(AFTER),
+        None => Err(FORM),
+    }
+}
+
+/// Reads `end`, behind the tree of an instance of so many dimensions, and what is left behind it.
+pub fn read_end(alloc: Global, bytes: &[u8], at: &mut Position, dims: u32) -> ExplainedAudit
+    requires at { IsAmong bytes.now at.old }
+    requires least { 2 ≤ dims }
+    requires most { dims ≤ 4 }
+    ensures { (instance : PlainInstance) → dim_count instance ≡ dims
+        → IsVerdict (verdict_left bytes.now at.old (Ending instance)) result }
+{
+    let there = next_filled(bytes, at);
+    let line = at.line.line_number();
+    if !there {
+        return short(line);
+    }
+    if let Err(reason) = end_line(alloc, dims, &at.line) {
+        return ExplainedAudit::Refused { line, reason };
+    }
+    if next_filled(bytes, at) {
+        return ExplainedAudit::Refused {
+            line: at.line.line_number(),
+            reason: AFTER,
+        };
+    }
+    ExplainedAudit::Verified
+}

@@ -1,0 +1,6 @@
+pub mod Passed
+pub mod Limits
+pub mod Told
+pub mod Shown
+pub mod Rows
+pub mod InstanceLines

@@ -1,0 +1,29 @@
+-- The kind of a document: what its first line that isn't blank says.
+use Rattle.std.specs.Prelude.{ℕ, ◌≡◌, ◌&&◌, not, cond, true, false, List, [], ◌∷◌, codes}
+use Rattle.text_terms.specs.Lines.{Line, line_of, text_lines}
+use Rattle.text_terms.specs.Feeding.{NumberedLine, lines_fed, new_lexer}
+use Rattle.verdict_terms.specs.Stages.{is_blank}
+use Rattle.explained_documents.specs.declared.kind.DocumentKind.{DocumentKind}
+use Rattle.explained_documents.specs.declared.kind.DocumentKind.TheVariants.{Explained, Reduced}
+use Rattle.explained_documents.specs.Stages.{are_two}
+
+-- of a document with this first line
+abbrev pub kind_of_line : Line → DocumentKind
+kind_of_line line = cond (not line.bad && are_two (codes "explained") (codes "fit") line.words) Explained Reduced
+
+abbrev pub kind_of_lines : List (List ℕ) → DocumentKind
+kind_of_lines [] = Reduced
+kind_of_lines (line ∷ lines) = elim (is_blank (line_of line)) [ true ↦ kind_of_lines lines | false ↦ kind_of_line (line_of line) ]
+
+-- of a text
+abbrev pub document_kind : List ℕ → DocumentKind
+document_kind text = kind_of_lines (text_lines text)
+
+-- of lines as they are told
+abbrev pub kind_told : List NumberedLine → DocumentKind
+kind_told [] = Reduced
+kind_told (l ∷ ls) = elim (is_blank l.line) [ true ↦ kind_told ls | false ↦ kind_of_line l.line ]
+
+-- the lines that the bytes of a text tell have its kind
+abbrev pub KindsAreTold : Type 0
+KindsAreTold = (text : List ℕ) → kind_told (lines_fed new_lexer text) ≡ document_kind text

@@ -1,0 +1,10 @@
+//! The kinds of documents that are audited.
+
+/// What the first line that isn't blank says.
+#[derive(Clone, Copy, Debug, PartialEq, Eq)]
+pub enum DocumentKind {
+    /// `explained fit`.
+    Explained,
+    /// `reduced fit`, or no line of these kinds: then it is refused as a reduced document is.
+    Reduced,
+}

@@ -1,0 +1,16 @@
+//! What the definitions promise, each the contract of a function with an empty body.
+ghost use Rattle.explained_documents.specs.Documents.{DocumentsAreFed, DocumentsAreTrue};
+ghost use Rattle.explained_documents.specs.Kinds.{KindsAreTold};
+
+/// The bytes of a text, fed from its start to a lexer with each line taken as it ends, give its
+/// verdict and its kind. A line is told by its first 12 words of at most 21 bytes.
+pub fn explained_documents_are_fed()
+    ensures verdict { DocumentsAreFed }
+    ensures kind { KindsAreTold }
+{}
+
+/// The instance of a document that is verified is within the limits and has no packing, whoever
+/// wrote the document.
+pub fn explained_documents_are_true()
+    ensures { DocumentsAreTrue }
+{}

@@ -1,0 +1,11 @@
+//! Documents of explained refutations: which texts are verified, and at which line and for which
+//! reason the others are refused.
+#![tactic(auto)]
+
+mod kind;
+mod laws;
+mod reason;
+
+pub use kind::DocumentKind;
+pub use laws::{explained_documents_are_fed, explained_documents_are_true};
+pub use reason::ExplainedReason;

@@ -1,0 +1,78 @@
+-- Tests of all numbers below one, and what a tuple is refused for.
+use Rattle.std.proofs.Common.{Option, ◌≡◌, ℕ, ◌<◌, ◌≤◌, ◌⊎◌, inl, inr, refl, sym, subst, ◌+◌, ◌∙◌, arith, Bool, true, false, ◌&&◌, nat_le, List, length, Some, None, IsTrue}
+use Rattle.std.specs.Prelude.{◌==◌}
+use Rattle.std.proofs.lemmas.Bool.{true≢false, cases_Bool, cases_lt, eq-eqb, leb-true}
+use Rattle.std.specs.List.{list_all}
+use Rattle.std.specs.Prelude.{◌↔◌}
+use Rattle.packing_terms.specs.declared.ScaleFn.{ScaleFn}
+use Rattle.packing_terms.specs.Packing.{PlainInstance, dims, container_side}
+use Rattle.packing_terms.specs.Scales.{IsLegalScale, IsTuple, Exceeds, function_at}
+use Rattle.packing_terms.specs.Tuples.{has_excess}
+use Rattle.packing_terms.proofs.Members.{all_at, all_from, in_range, range_in}
+use Rattle.packing_terms.specs.Sums.{below}
+use Rattle.check_terms.specs.declared.answers.RefuseCode.TheVariants.{Kind, Range, Excess}
+use Rattle.check_terms.specs.declared.answers.RefuseCode.{RefuseCode}
+use Rattle.check_terms.specs.Judging.{unless, is_legal, are_legal, sides_fit, tuple_refusal}
+use Rattle.check_terms.proofs.Judged.{legal, legal_is, tuple_exact}
+
+unless_false : (b : Bool) (code : RefuseCode) (rest : Option RefuseCode) → b ≡ false → Some code ≡ unless b code rest
+unless_false false code rest h = refl
+unless_false true code rest h = absurd (true≢false h)
+
+unless_true : (b : Bool) (code : RefuseCode) (rest : Option RefuseCode) → b ≡ true → rest ≡ unless b code rest
+unless_true true code rest h = refl
+unless_true false code rest h = absurd (true≢false (sym h))
+
+pub all_below : (p : ℕ → Bool) (n : ℕ) → ((i : ℕ) → i < n → p i ≡ true) → true ≡ list_all p (below n)
+all_below p n h = sym (all_from p (below n) (λ i a. let q = range_in 0 n i a in h i (omega (arith, q.1))))
+
+pub not_all_below : (p : ℕ → Bool) (n i : ℕ) → i < n → p i ≡ false → false ≡ list_all p (below n)
+not_all_below p n i there no_more = go (cases_Bool (list_all p (below n)))
+  where
+    go : (list_all p (below n) ≡ true) ⊎ (list_all p (below n) ≡ false) → false ≡ list_all p (below n)
+    go (inl h) = absurd (true≢false (sym (all_at p i (below n) h (in_range 0 n i (omega arith) (omega arith))) ∙ no_more))
+    go (inr h) = sym h
+
+pub legal_told : (instance : PlainInstance) (W : ℕ) (f : ScaleFn) (b : Bool) → (IsTrue b ↔ IsLegalScale f W) → is_legal W f ≡ b
+legal_told instance W f true h = legal_is instance W f (h.0 refl)
+legal_told instance W f false h = go (cases_Bool (is_legal W f))
+  where
+    go : (is_legal W f ≡ true) ⊎ (is_legal W f ≡ false) → is_legal W f ≡ false
+    go (inl e) = absurd (true≢false (sym (h.1 (legal instance W f e))))
+    go (inr e) = e
+
+pub legal_tuple : (instance : PlainInstance) (fs : List ScaleFn) → length fs ≡ dims instance → are_legal instance fs ≡ true → IsTuple instance fs
+legal_tuple instance fs count h = record {
+  count = count;
+  legal = λ i l. legal instance (container_side instance i) (function_at fs i)
+      (all_at (λ i. is_legal (container_side instance i) (function_at fs i)) i (below (dims instance)) h (in_range 0 (dims instance) i (omega arith) (omega arith)));
+}
+
+module _ (instance : PlainInstance) (fs : List ScaleFn) (copies : ℕ) (b : Bool) (exactly : IsTrue b ↔ Exceeds instance fs copies) where
+  pub accepted : b ≡ true → None ≡ tuple_refusal instance copies fs
+  accepted h = sym ((tuple_exact instance copies fs).1 (exactly.0 h))
+
+  pub not_exceeding : b ≡ false → length fs ≡ dims instance → are_legal instance fs ≡ true → Some Excess ≡ tuple_refusal instance copies fs
+  not_exceeding h count legal = go (cases_Bool (sides_fit instance && has_excess instance copies fs))
+    where
+      to : (length fs == dims instance) ≡ true
+      to = eq-eqb (length fs) (dims instance) count
+
+      go : ((sides_fit instance && has_excess instance copies fs) ≡ true) ⊎ ((sides_fit instance && has_excess instance copies fs) ≡ false) → Some Excess ≡ tuple_refusal instance copies fs
+      go (inr e) = unless_false _ Excess None e ∙ (unless_true _ Range _ legal ∙ unless_true _ Kind _ to)
+      go (inl e) = absurd (true≢false (sym (exactly.1 ((tuple_exact instance copies fs).0
+          (sym (unless_true _ Excess None e ∙ (unless_true _ Range _ legal ∙ unless_true _ Kind _ to))))) ∙ h))
+
+pub not_le : (a b : ℕ) → b < a → nat_le a b ≡ false
+not_le a b h = go (cases_Bool (nat_le a b))
+  where
+    go : (nat_le a b ≡ true) ⊎ (nat_le a b ≡ false) → nat_le a b ≡ false
+    go (inl e) = absurd (omega (arith, leb-true a b e, h))
+    go (inr e) = e
+
+pub next_below : (p : ℕ → Bool) (n : ℕ) → ((i : ℕ) → i < n → p i ≡ true) → p n ≡ true → (i : ℕ) → i < n + 1 → p i ≡ true
+next_below p n h last i l = go (cases_lt i n)
+  where
+    go : (i < n) ⊎ (n ≤ i) → p i ≡ true
+    go (inl k) = h i k
+    go (inr k) = let e : n ≡ i = omega (arith, k, l) in subst (λ (m : ℕ). p m ≡ true) e last

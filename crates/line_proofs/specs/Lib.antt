@@ -1,0 +1,10 @@
+pub mod Plain
+pub mod Taken
+pub mod Sides
+pub mod Chains
+pub mod Waiting
+pub mod Boxed
+pub mod Lines
+pub mod Auditors
+pub mod StepTexts
+pub mod StepKinds
