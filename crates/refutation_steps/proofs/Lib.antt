@@ -1,0 +1,15 @@
+pub mod Chaining
+pub mod Heavy
+pub mod Going
+pub mod Seeking
+pub mod Replayed
+pub mod Linked
+pub mod Linking
+pub mod Emptied
+pub mod Walking
+pub mod Ended
+pub mod Drawn
+pub mod Waits
+pub mod Taken
+pub mod Whole
+pub mod Shorter

@@ -1,0 +1,107 @@
+-- Lines that are kept, and lines that an auditor accepts.
+use Rattle.std.proofs.Common.{◌≡◌, ◌≤◌, ◌<◌, ◌+◌, ℕ, zero, suc, refl, sym, ap, ◌∙◌, arith, true, Bool, List, [], ◌∷◌, ◌++◌, append-nil, length, take, drop, get_or, Some, None, Result, Ok, Err}
+use Rattle.std.proofs.lemmas.Bool.{true≢false}
+use Rattle.packing_terms.specs.Packing.{PlainInstance}
+use Rattle.packing_terms.specs.Results.{◌>>=◌}
+use Rattle.packing_terms.specs.Tokens.{PlainToken}
+use Rattle.explained_terms.specs.declared.answers.AuditCode.{AuditCode}
+use Rattle.explained_terms.specs.Steps.{PlainStep, tokens_among}
+use Rattle.explained_terms.specs.Explaining.{Explains}
+use Rattle.explained_terms.specs.Judging.{AuditNode, at_rest}
+use Rattle.explained_terms.specs.Auditing.{Audited, audited_after, audited_after_all, audited_by, audited_with, is_whole, starting}
+use Rattle.explained_terms.proofs.Stepped.{tokens_joined}
+use Rattle.explained_terms.proofs.Explained.{fed_explains}
+use Rattle.line_proofs.specs.declared.step.Step.{Step}
+use Rattle.line_proofs.specs.Plain.{plain_step}
+use Rattle.refutation_steps.specs.Goes.{plain_steps}
+use Rattle.refutation_steps.specs.Shortened.{IsNoToken}
+
+-- ---- lines, one after another
+
+next_line : (ls : List Step) (k : ℕ) (d : Step) → k < length ls → take (suc k) (plain_steps ls) ≡ take k (plain_steps ls) ++ plain_step (get_or ls k d) ∷ []
+next_line [] k d h = absurd (omega (arith, h))
+next_line (l ∷ ls) zero d h = refl
+next_line (l ∷ ls) (suc k) d h = ap (λ (m : List PlainStep). plain_step l ∷ m) (next_line ls k d (omega (arith, h)))
+
+left_line : (ls : List Step) (k : ℕ) (d : Step) → k < length ls → drop k (plain_steps ls) ≡ plain_step (get_or ls k d) ∷ drop (suc k) (plain_steps ls)
+left_line [] k d h = absurd (omega (arith, h))
+left_line (l ∷ ls) zero d h = refl
+left_line (l ∷ ls) (suc k) d h = left_line ls k d (omega (arith, h))
+
+none_left : (ls : List Step) (k : ℕ) → length ls ≤ k → drop k (plain_steps ls) ≡ []
+none_left [] zero h = refl
+none_left [] (suc k) h = refl
+none_left (l ∷ ls) zero h = absurd (omega (arith, h))
+none_left (l ∷ ls) (suc k) h = none_left ls k (omega (arith, h))
+
+pub all_taken : (ls : List Step) (k : ℕ) → length ls ≤ k → take k (plain_steps ls) ≡ plain_steps ls
+all_taken [] zero h = refl
+all_taken [] (suc k) h = refl
+all_taken (l ∷ ls) zero h = absurd (omega (arith, h))
+all_taken (l ∷ ls) (suc k) h = ap (λ (m : List PlainStep). plain_step l ∷ m) (all_taken ls k (omega (arith, h)))
+
+module _ (ls : List Step) (k : ℕ) (d l : Step) (there : k < length ls) (is : l ≡ get_or ls k d) where
+  succ : suc k ≡ k + 1
+  succ = omega arith
+
+  more : tokens_among (take (k + 1) (plain_steps ls)) ≡ tokens_among (take k (plain_steps ls)) ++ tokens_among (plain_step l ∷ [])
+  more =
+      ap (λ (n : ℕ). tokens_among (take n (plain_steps ls))) (sym succ)
+      ∙ (ap tokens_among (next_line ls k d there)
+      ∙ (tokens_joined (take k (plain_steps ls)) (plain_step (get_or ls k d) ∷ [])
+      ∙ ap (λ (m : Step). tokens_among (take k (plain_steps ls)) ++ tokens_among (plain_step m ∷ [])) (sym is)))
+
+  pub line_told : (x y : List PlainStep) → tokens_among y ≡ tokens_among x ++ tokens_among (plain_step l ∷ []) → tokens_among x ≡ tokens_among (take k (plain_steps ls))
+      → tokens_among y ≡ tokens_among (take (k + 1) (plain_steps ls))
+  line_told x y f e = f ∙ (ap (λ (m : List PlainToken). m ++ tokens_among (plain_step l ∷ [])) e ∙ sym more)
+
+pub line_dropped : (x : List PlainStep) (l : PlainStep) → IsNoToken l → tokens_among x ≡ tokens_among x ++ tokens_among (l ∷ [])
+line_dropped x l h = sym (append-nil (tokens_among x)) ∙ ap (λ (m : List PlainToken). tokens_among x ++ m) (sym h)
+
+pub line_kept : (x y : List PlainStep) (l copy : PlainStep) → copy ≡ l → y ≡ x ++ copy ∷ [] → tokens_among y ≡ tokens_among x ++ tokens_among (l ∷ [])
+line_kept x y l copy same f = ap tokens_among (f ∙ ap (λ (m : PlainStep). x ++ m ∷ []) same) ∙ tokens_joined x (l ∷ [])
+
+-- ---- an audit, line by line
+
+abbrev pub run : PlainInstance → Audited → List PlainStep → Audited
+run instance s [] = s
+run instance s (z ∷ zs) = run instance (audited_with instance s z) zs
+
+module _ (instance : PlainInstance) where
+  abbrev refusing : List AuditNode → AuditCode → Audited
+  refusing nodes code = record { nodes = nodes; refused = Some code }
+
+  abbrev going_on : List AuditNode → Audited
+  going_on nodes = record { nodes = nodes; refused = None }
+
+  refused_stays : (nodes : List AuditNode) (code : AuditCode) (zs : List PlainStep) → run instance (refusing nodes code) zs ≡ refusing nodes code
+  refused_stays nodes code [] = refl
+  refused_stays nodes code (z ∷ zs) = refused_stays nodes code zs
+
+  whole_run : (nodes : List AuditNode) (zs : List PlainStep) → is_whole (run instance (going_on nodes) zs) ≡ true → audited_after_all instance nodes zs ≡ Ok []
+  whole_run [] [] h = refl
+  whole_run (n ∷ nodes) [] h = absurd (true≢false (sym h))
+  whole_run nodes (z ∷ zs) h = go (λ left. whole_run left zs) (audited_after instance nodes z) h
+    where
+      go : ((left : List AuditNode) → is_whole (run instance (going_on left) zs) ≡ true → audited_after_all instance left zs ≡ Ok [])
+          → (r : Result (List AuditNode) AuditCode) → is_whole (run instance (audited_by nodes r) zs) ≡ true → (r >>= λ left. audited_after_all instance left zs) ≡ Ok []
+      go rest (Ok left) k = rest left k
+      go rest (Err code) k = absurd (true≢false (sym (sym (ap is_whole (refused_stays nodes code zs)) ∙ k)))
+
+  pub accepted : (zs : List PlainStep) → is_whole (run instance starting zs) ≡ true → Explains instance [] zs
+  accepted zs h = fed_explains instance [] zs (whole_run (at_rest [] ∷ []) zs h)
+
+  module _ (ls : List Step) (k : ℕ) (d l : Step) (there : k < length ls) (is : l ≡ get_or ls k d) where
+    pub run_next : (a b whole : Audited) → b ≡ audited_with instance a (plain_step l) → run instance a (drop k (plain_steps ls)) ≡ whole
+        → run instance b (drop (k + 1) (plain_steps ls)) ≡ whole
+    run_next a b whole e h =
+        let s : suc k ≡ k + 1 = omega arith in
+        ap (λ (m : Audited). run instance m (drop (k + 1) (plain_steps ls))) e
+        ∙ (ap (λ (n : ℕ). run instance (audited_with instance a (plain_step l)) (drop n (plain_steps ls))) (sym s)
+        ∙ (ap (λ (m : Step). run instance (audited_with instance a (plain_step m)) (drop (suc k) (plain_steps ls))) is
+        ∙ (sym (ap (λ (m : List PlainStep). run instance a m) (left_line ls k d there)) ∙ h)))
+
+  pub run_whole : (ls : List Step) (k : ℕ) (a : Audited) (b : Bool) → length ls ≤ k → run instance a (drop k (plain_steps ls)) ≡ run instance starting (plain_steps ls)
+      → b ≡ is_whole a → b ≡ true → Explains instance [] (plain_steps ls)
+  run_whole ls k a b h e f t =
+      accepted (plain_steps ls) (ap is_whole (sym e ∙ ap (λ (m : List PlainStep). run instance a m) (none_left ls k h)) ∙ (sym f ∙ t))

@@ -1,0 +1,9 @@
+pub mod Goes
+pub mod Places
+pub mod Replays
+pub mod Links
+pub mod Empties
+pub mod Chains
+pub mod Nodes
+pub mod Walks
+pub mod Shortened

@@ -1,0 +1,162 @@
+//! Surely before, made transitive in a dimension by COMPOSE.
+ghost use Rattle.std.specs.Prelude.{◌≡◌, ◌<◌, ℕ, [], ◌∷◌, OnOk, IfOk};
+ghost use Rattle.packing_terms.specs.Packing.{dims, box_count};
+ghost use Rattle.packing_terms.specs.Exclusions.{excludes, IsSurelyBefore};
+ghost use Rattle.rule_terms.specs.Runs.{IsTransitive};
+ghost use Rattle.closure_terms.specs.States.{IsSized};
+ghost use Rattle.refutation_steps.specs.Goes.{plain_steps};
+ghost use Rattle.refutation_steps.specs.Links.{IsLinkedAt, IsLinkTry, IsLinkedThrough};
+
+use crate::places::{are_three, leads};
+use crate::steps::step_compose;
+use box_instances::{Instance, NoMemory};
+use edge_state::EdgeState;
+use line_proofs::Step;
+
+// COMPOSE where surely before isn't transitive at three boxes. Answers whether it wasn't.
+fn link(
+    instance: &Instance,
+    state: &mut EdgeState,
+    lines: &mut Vec<Step>,
+    dim: u32,
+    u: u32,
+    v: u32,
+    x: u32,
+) -> Result<bool, NoMemory>
+    requires sizes { IsSized instance.now state.old dim }
+    requires u { u < box_count instance.now }
+    requires v { v < box_count instance.now }
+    requires x { x < box_count instance.now }
+    ensures { IfOk result (λ changed. IsLinkTry instance.now state.old state.new
+        (plain_steps lines.old.items) (plain_steps lines.new.items)
+        (IsLinkedAt (box_count instance.now) (excludes state.old.trail) dim u v x) changed) }
+{
+    if !are_three(u, v, x) {
+        return Ok(false);
+    }
+    if !state.sure_before(dim, u, v) {
+        return Ok(false);
+    }
+    if !state.sure_before(dim, v, x) {
+        return Ok(false);
+    }
+    if state.sure_before(dim, u, x) {
+        return Ok(false);
+    }
+    step_compose(instance, state, lines, dim, u, v, x)?;
+    Ok(true)
+}
+
+// The same with each third box, up to the first where it wasn't.
+fn link_row(
+    instance: &Instance,
+    state: &mut EdgeState,
+    lines: &mut Vec<Step>,
+    dim: u32,
+    u: u32,
+    v: u32,
+) -> Result<bool, NoMemory>
+    requires sizes { IsSized instance.now state.old dim }
+    requires u { u < box_count instance.now }
+    requires v { v < box_count instance.now }
+    ensures { IfOk result (λ changed. IsLinkTry instance.now state.old state.new
+        (plain_steps lines.old.items) (plain_steps lines.new.items)
+        ((x : ℕ) → x < box_count instance.now
+        → IsLinkedAt (box_count instance.now) (excludes state.old.trail) dim u v x) changed) }
+{
+    for x in 0..instance.len() {
+        let changed = link(instance, state, lines, dim, u, v, x)?;
+        if changed {
+            return Ok(true);
+        }
+    }
+    Ok(false)
+}
+
+// The same, where the first box is surely before the second.
+fn link_pair(
+    instance: &Instance,
+    state: &mut EdgeState,
+    lines: &mut Vec<Step>,
+    dim: u32,
+    u: u32,
+    v: u32,
+) -> Result<bool, NoMemory>
+    requires sizes { IsSized instance.now state.old dim }
+    requires u { u < box_count instance.now }
+    requires v { v < box_count instance.now }
+    ensures { IfOk result (λ changed. IsLinkTry instance.now state.old state.new
+        (plain_steps lines.old.items) (plain_steps lines.new.items)
+        ((x : ℕ) → x < box_count instance.now
+        → IsLinkedAt (box_count instance.now) (excludes state.old.trail) dim u v x) changed) }
+{
+    if !leads(state, dim, u, v) {
+        return Ok(false);
+    }
+    link_row(instance, state, lines, dim, u, v)
+}
+
+// The same with each second box.
+fn link_from(
+    instance: &Instance,
+    state: &mut EdgeState,
+    lines: &mut Vec<Step>,
+    dim: u32,
+    u: u32,
+) -> Result<bool, NoMemory>
+    requires sizes { IsSized instance.now state.old dim }
+    requires u { u < box_count instance.now }
+    ensures { IfOk result (λ changed. IsLinkTry instance.now state.old state.new
+        (plain_steps lines.old.items) (plain_steps lines.new.items)
+        ((v : ℕ) → v < box_count instance.now → (x : ℕ) → x < box_count instance.now
+        → IsLinkedAt (box_count instance.now) (excludes state.old.trail) dim u v x) changed) }
+{
+    for v in 0..instance.len() {
+        let changed = link_pair(instance, state, lines, dim, u, v)?;
+        if changed {
+            return Ok(true);
+        }
+    }
+    Ok(false)
+}
+
+// The same with each first box.
+fn link_any(
+    instance: &Instance,
+    state: &mut EdgeState,
+    lines: &mut Vec<Step>,
+    dim: u32,
+) -> Result<bool, NoMemory>
+    requires sizes { IsSized instance.now state.old dim }
+    ensures { IfOk result (λ changed. IsLinkTry instance.now state.old state.new
+        (plain_steps lines.old.items) (plain_steps lines.new.items)
+        ((u : ℕ) → u < box_count instance.now → (v : ℕ) → v < box_count instance.now
+        → (x : ℕ) → x < box_count instance.now
+        → IsLinkedAt (box_count instance.now) (excludes state.old.trail) dim u v x) changed) }
+{
+    for u in 0..instance.len() {
+        let changed = link_from(instance, state, lines, dim, u)?;
+        if changed {
+            return Ok(true);
+        }
+    }
+    Ok(false)
+}
+
+/// Makes surely before transitive in a dimension.
+pub fn link_through(
+    instance: &Instance,
+    state: &mut EdgeState,
+    lines: &mut Vec<Step>,
+    dim: u32,
+) -> Result<(), NoMemory>
+    requires sizes { IsSized instance.now state.old dim }
+    ensures { OnOk result (IsLinkedThrough instance.now dim state.old state.new
+        (plain_steps lines.old.items) (plain_steps lines.new.items)) }
+{
+    let mut changed = true;
+    while changed {
+        changed = link_any(instance, state, lines, dim)?;
+    }
+    Ok(())
+}
