@@ -1,0 +1,17 @@
+-- What is said of the documents of walks.
+use Rattle.std.specs.Prelude.{ℕ, ◌≡◌, Bool, List, length, Ok}
+use Rattle.packing_terms.specs.Packing.{PlainInstance, dims}
+use Rattle.packing_terms.specs.Limits.{IsInstance}
+use Rattle.front_terms.specs.Fronts.{IsClaimed}
+use Rattle.front_walks.specs.Walks.{front_walk}
+use Rattle.front_answer_terms.specs.Texts.{front_text}
+use Rattle.front_verdict_terms.specs.Verdicts.{FrontClaim, FrontRead, front_document_verdict}
+
+-- the document of a walk is verified with its claim
+abbrev pub OwnFrontsAreVerified : Type 0
+OwnFrontsAreVerified = (instance : PlainInstance) (budget : ℕ) (scales : Bool) → IsInstance instance → dims instance ≡ 2
+    → front_document_verdict (front_text instance (front_walk instance budget scales))
+    ≡ Ok (record {
+      instance = instance;
+      claim = record { complete = (front_walk instance budget scales).complete; points = length (front_walk instance budget scales).points };
+    })

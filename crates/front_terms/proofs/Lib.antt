@@ -1,0 +1,4 @@
+pub mod Sizes
+pub mod Stairs
+pub mod Judged
+pub mod Good

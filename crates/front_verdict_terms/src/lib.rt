@@ -1,0 +1,6 @@
+//! The verdict on documents of fronts, as a definition, and that what it verifies is true.
+#![tactic(auto)]
+
+mod laws;
+
+pub use laws::verified_fronts_are_true;

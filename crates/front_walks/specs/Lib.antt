@@ -1,0 +1,4 @@
+pub mod Walks
+pub mod WalkLines
+pub mod Asked
+pub mod Laws

@@ -1,0 +1,3 @@
+pub mod Deciders
+pub mod Retold
+pub mod Walked
