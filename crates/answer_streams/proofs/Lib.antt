@@ -7,3 +7,4 @@ pub mod KnapsackTexts
 pub mod Lined
 mod Blocks
 pub mod SummaryTexts
+pub mod ExplainedTexts

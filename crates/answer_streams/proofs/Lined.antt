@@ -7,6 +7,9 @@ use Rattle.document_terms.specs.declared.claim.Claim.TheVariants.{Fitting, NotFi
 use Rattle.verdict_terms.specs.declared.reason.Reason.{Reason}
 use Rattle.verdict_terms.specs.Reasons.{reason_words}
 use Rattle.verdict_terms.specs.Documents.{verdict_line, reduced_verdict_line}
+use Rattle.explained_documents.specs.declared.reason.ExplainedReason.{ExplainedReason}
+use Rattle.explained_documents.specs.Documents.{explained_line, reason_words as explained_words_of}
+use Rattle.answer_streams.specs.Audited.{explained_end}
 use Rattle.answer_streams.specs.Lines.{claim_text, reason_end}
 
 -- a text of one number more, as a line of words has it
@@ -53,3 +56,10 @@ pub refusal_line : (line : ℕ) (reason : Reason)
 refusal_line line reason =
     sym (append_assoc (codes "refused " ++ decimal line) (flat_map (λ word. 32 ∷ word) (reason_words reason)) (10 ∷ []))
     ∙ ap (λ z. z ++ 10 ∷ []) (append_assoc (codes "refused ") (decimal line) (flat_map (λ word. 32 ∷ word) (reason_words reason)))
+
+-- that of an explained document
+pub explained_refusal_line : (line : ℕ) (reason : ExplainedReason)
+    → (codes "refused " ++ decimal line) ++ explained_end reason ≡ explained_line (Err (record { line = line; reason = reason }))
+explained_refusal_line line reason =
+    sym (append_assoc (codes "refused " ++ decimal line) (flat_map (λ word. 32 ∷ word) (explained_words_of reason)) (10 ∷ []))
+    ∙ ap (λ z. z ++ 10 ∷ []) (append_assoc (codes "refused ") (decimal line) (flat_map (λ word. 32 ∷ word) (explained_words_of reason)))

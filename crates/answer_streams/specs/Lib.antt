@@ -4,3 +4,5 @@ pub mod Solutions
 pub mod Verdicts
 pub mod Lines
 pub mod Headed
+pub mod Explanations
+pub mod Audited

@@ -2,8 +2,10 @@
 //! summary of `make`, each streamed to a sink through one block.
 #![tactic(auto)]
 
+mod audited;
 mod bins_documents;
 mod documents;
+mod explained;
 mod front;
 mod knapsack_documents;
 mod numbered;
@@ -14,8 +16,10 @@ mod strip_documents;
 mod summary;
 mod verdict;
 
+pub use audited::{AuditedVerdict, ExplainedVerdict};
 pub use documents::Written;
+pub use explained::Explanation;
 pub use solution::{Solution, fit_status};
 pub use streaming::{AnswerDocument, Streamed, stream};
 pub use summary::Made;
-pub use verdict::{ReducedVerdict, Verdict};
+pub use verdict::Verdict;

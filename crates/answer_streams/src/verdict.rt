@@ -35,8 +35,8 @@ impl Verdict {
     }
 }
 
-// Writes the text, a number and a line feed.
-fn write_numbered<K: Sink>(sink: &mut K, so_far: Written, text: &[u8], number: u64) -> Written
+/// Writes the text, a number and a line feed.
+pub fn write_numbered<K: Sink>(sink: &mut K, so_far: Written, text: &[u8], number: u64) -> Written
     ensures { Continues (K.written sink.old) (K.written sink.new) (K.faults sink.old)
         (K.faults sink.new)
         (number_line text.now number) so_far result }

@@ -6,3 +6,5 @@ pub mod Numbered
 pub mod Accepted
 pub mod Undecided
 pub mod Reduced
+pub mod StepsWritten
+pub mod Explained

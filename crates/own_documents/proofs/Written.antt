@@ -42,16 +42,16 @@ functions_plain (Step k ∷ fs) h = (omega arith, refl, word_decimal k (omega (a
 functions_plain (Cut e ∷ fs) h = (omega arith, refl, word_decimal e (omega (arith, h.0)) _ (functions_plain fs h.1))
 functions_plain (Count e ∷ fs) h = (omega arith, refl, word_decimal e (omega (arith, h.0)) _ (functions_plain fs h.1))
 
-one_plain : (x : ℕ) → IsParameter x → AreWords (decimal x ∷ [])
+pub one_plain : (x : ℕ) → IsParameter x → AreWords (decimal x ∷ [])
 one_plain x h = word_decimal x (omega (arith, h)) [] tt
 
 two_plain : (x y : ℕ) → IsParameter x → IsParameter y → AreWords (decimal x ∷ decimal y ∷ [])
 two_plain x y h k = word_decimal x (omega (arith, h)) (decimal y ∷ []) (one_plain y k)
 
-three_plain : (x y z : ℕ) → IsParameter x → IsParameter y → IsParameter z → AreWords (decimal x ∷ decimal y ∷ decimal z ∷ [])
+pub three_plain : (x y z : ℕ) → IsParameter x → IsParameter y → IsParameter z → AreWords (decimal x ∷ decimal y ∷ decimal z ∷ [])
 three_plain x y z h k l = word_decimal x (omega (arith, h)) (decimal y ∷ decimal z ∷ []) (two_plain y z k l)
 
-token_plain : (d : ℕ) (t : PlainToken) → HasLine d t → AreWords (token_words t) × (is_none (token_words t) ≡ false)
+pub token_plain : (d : ℕ) (t : PlainToken) → HasLine d t → AreWords (token_words t) × (is_none (token_words t) ≡ false)
 token_plain d (Apart i u v) h = ((omega arith, refl, three_plain i u v h.0 h.1 h.2), refl)
 token_plain d (Order i u v) h = ((omega arith, refl, three_plain i u v h.0 h.1 h.2), refl)
 token_plain d Rules h = ((omega arith, refl, tt), refl)
@@ -110,7 +110,7 @@ tuple_written instance fs bounded tuple = (
       record { whole = container_side instance i; few = bounded.sides i l; legal = tuple.legal i l }),
 )
 
-named_written : (instance : PlainInstance) (i u v : ℕ) → IsBounded instance → IsNamed instance i u v → IsParameter i × IsParameter u × IsParameter v
+pub named_written : (instance : PlainInstance) (i u v : ℕ) → IsBounded instance → IsNamed instance i u v → IsParameter i × IsParameter u × IsParameter v
 named_written instance i u v b n =
     let d = b.dimensions in let m = b.boxes in let t = n.dim_to in let r = n.rising in let w = n.v_to in
     (omega (arith, d, t), omega (arith, m, r, w), omega (arith, m, w))

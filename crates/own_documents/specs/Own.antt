@@ -1,6 +1,6 @@
 -- The verdict on the documents of answers: the checker's definitions meet those of the solver here,
 -- and nowhere else.
-use Rattle.std.specs.Prelude.{ℕ, ◌≡◌, Bool, List, Ok}
+use Rattle.std.specs.Prelude.{ℕ, ◌≡◌, Bool, List, [], Ok}
 use Rattle.packing_terms.specs.Packing.{PlainInstance}
 use Rattle.packing_terms.specs.Limits.{IsInstance}
 use Rattle.packing_terms.specs.Tokens.{PlainToken}
@@ -13,6 +13,12 @@ use Rattle.answer_terms.specs.Answers.Answer.{Undecided, Claimed}
 use Rattle.answer_terms.specs.Reduced.{reduced_solved, reduced_text}
 use Rattle.answer_terms.specs.Solved.{solved}
 use Rattle.answer_terms.specs.Shown.{Shows}
+use Rattle.answer_terms.specs.Explained.{explained_text}
+use Rattle.explained_terms.specs.Steps.{PlainStep}
+use Rattle.explained_terms.specs.Explaining.{Explains}
+use Rattle.explained_documents.specs.declared.kind.DocumentKind.TheVariants.{Explained}
+use Rattle.explained_documents.specs.Kinds.{document_kind}
+use Rattle.explained_documents.specs.Documents.{explained_verdict}
 use Rattle.document_terms.specs.Claims.{job_of}
 use Rattle.document_terms.specs.declared.claim.SolvingJob.TheVariants.{Fit}
 
@@ -62,3 +68,13 @@ OwnReducedDocumentsAreVerified = (budget : ℕ) (scales : Bool) (instance : Plai
 -- where it says undecided, it is verified with no claim
 abbrev pub ReducedUndecidedIsRefused : Type 0
 ReducedUndecidedIsRefused = (instance : PlainInstance) (claim : Claim) → IsInstance instance → ¬ (reduced_verdict (reduced_text instance Undecided) ≡ Ok claim)
+
+-- the text is an explained document by its first line, verified, and about this instance
+pub record IsExplainedFor (instance : PlainInstance) (text : List ℕ) : Type 0 where
+  pub kind : document_kind text ≡ Explained
+  pub verified : explained_verdict text ≡ Ok instance
+
+-- so is the document that explains a refutation of the instance step by step
+abbrev pub OwnExplanationsAreVerified : Type 0
+OwnExplanationsAreVerified = (instance : PlainInstance) (steps : List PlainStep) → IsInstance instance → Explains instance [] steps
+    → IsExplainedFor instance (explained_text instance steps)

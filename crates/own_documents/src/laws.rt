@@ -1,5 +1,5 @@
 //! What the definitions promise, each the contract of a function with an empty body.
-ghost use Rattle.own_documents.specs.Own.{ShownClaimsHaveDocuments, OwnDocumentsAreVerified, OnlyFitIsUndecided, UndecidedIsRefused, OwnReducedDocumentsAreVerified, ReducedUndecidedIsRefused};
+ghost use Rattle.own_documents.specs.Own.{ShownClaimsHaveDocuments, OwnDocumentsAreVerified, OnlyFitIsUndecided, UndecidedIsRefused, OwnReducedDocumentsAreVerified, ReducedUndecidedIsRefused, OwnExplanationsAreVerified};
 
 /// Where numbers and tokens show a claim about an instance, the text with them is a document of the
 /// claim, and the instance in it is that one, whoever found them.
@@ -32,4 +32,10 @@ pub fn own_reduced_documents_are_verified()
 /// The document with which `reduced` says undecided is verified with no claim.
 pub fn reduced_undecided_is_refused()
     ensures { ReducedUndecidedIsRefused }
+{}
+
+/// The document that explains a refutation step by step is verified as an explained document, and
+/// the instance in it is the asked one, whoever found the steps.
+pub fn own_explanations_are_verified()
+    ensures { OwnExplanationsAreVerified }
 {}

@@ -1,5 +1,7 @@
--- What an audit that ended in a line says of all bytes, and of the instance in them.
+-- What a job that read a whole document, and ended in its text, says of all bytes; and what an audit
+-- says of the instance in them.
 use Rattle.std.proofs.Common.{◌≡◌, ℕ, ◌⊎◌, inl, inr, refl, sym, ap, subst, ◌∙◌, List, length, arith, Option, Some, Result, Ok, Err, String, Global}
+use Rattle.packing_terms.specs.Packing.{PlainInstance}
 use Rattle.document_terms.specs.declared.claim.Claim.{Claim}
 use Rattle.answer_terms.specs.declared.job.DocumentJob.{DocumentJob}
 use Rattle.text_terms.specs.declared.settings.Settings.{Settings}
@@ -9,77 +11,109 @@ use Rattle.verdict_terms.specs.Documents.{Refusal, reduced_verdict, reduced_verd
 use Rattle.verdict_terms.specs.Form.{IsReducedDocument}
 use Rattle.verdict_terms.proofs.FormGiven.{documents_have_form}
 use Rattle.verdict_terms.proofs.True.{documents_are_true}
-use Rattle.answer_streams.specs.Verdicts.{verdict_status}
-use Rattle.pack_command.specs.Asked.{AsksToSolve, AsksAudit, AsksNothing, IsLongAudit}
-use Rattle.pack_command.specs.Audits.{IsAuditWritten, IsWithoutAudit, IsExactlyAudited, IsAuditClaimed}
+use Rattle.explained_documents.specs.declared.kind.DocumentKind.{DocumentKind}
+use Rattle.explained_documents.specs.declared.kind.DocumentKind.TheVariants.{Explained as OfExplained, Reduced as OfReduced}
+use Rattle.explained_documents.specs.Kinds.{document_kind}
+use Rattle.explained_documents.specs.Documents.{ExplainedRefusal, explained_verdict, explained_line, explained_status}
+use Rattle.explained_documents.proofs.Shown.{documents_are_true as explained_are_true}
+use Rattle.answer_streams.specs.declared.verdict.Verdict.{Verdict}
+use Rattle.answer_streams.specs.declared.audited.AuditedVerdict.{AuditedVerdict}
+use Rattle.answer_streams.specs.declared.audited.AuditedVerdict.TheVariants.{Reduced as ToldReduced, Explained as ToldExplained}
+use Rattle.answer_streams.specs.declared.audited.ExplainedVerdict.{ExplainedVerdict}
+use Rattle.answer_streams.specs.declared.audited.ExplainedVerdict.TheVariants.{Verified, Refused}
+use Rattle.answer_streams.specs.Verdicts.{plain_verdict, verdict_status}
+use Rattle.answer_streams.specs.Audited.{KindVerdict, ReducedVerdictOf, ExplainedVerdictOf, verdict_of_kind, audit_verdict, audit_line, audit_status, IsTrueVerdict, IsExplainedAs, IsToldAs}
+use Rattle.pack_command.specs.Asked.{AsksToSolve, AsksTask, AsksNothing, IsLongReading}
+use Rattle.pack_command.specs.Audits.{IsAuditClaimed}
+use Rattle.pack_command.specs.Readings.{DocumentTask, Audits, ComesTo, IsReadingDone, IsWithoutReading, IsExactlyRead}
 use Rattle.pack_command.specs.Ends.{IsDone, IsUndone}
 use Rattle.pack_command.specs.Run.{IsStopped}
 use Rattle.pack_command.specs.declared.stop.Stop.{Stop}
-use Rattle.pack_command.specs.declared.stop.Stop.TheVariants.{Words, TooLong, Text, ReadFault, WriteFault, NoMemory}
+use Rattle.pack_command.specs.declared.stop.Stop.TheVariants.{Words, TooLong, Text, Dimensions, ReadFault, WriteFault, NoMemory}
 use Rattle.pack_command.proofs.Written.{taken_all}
-use Rattle.pack_command.proofs.Generating.{no_audit, audit_solves, audit_checks}
+use Rattle.pack_command.proofs.Generating.{no_task, task_solves, task_checks, same_task}
+use Rattle.pack_command.proofs.OneJob.{front_tasks}
 
 module _ (words : List (String Global)) (old new sunk_old sunk_new : Option (List ℕ)) where
-  -- what was done for `audit` is a written line
-  pub audited_done : (status : ℕ) → AsksAudit words → IsDone words old new sunk_old sunk_new status → IsAuditWritten old new sunk_old sunk_new status
-  audited_done status asks (inl w) = absurd (audit_solves words w.answered.job w.answered.settings w.answered.asked asks)
-  audited_done status asks (inr (inl c)) = absurd (audit_checks words c.0 asks)
-  audited_done status asks (inr (inr (inl m))) = absurd (no_audit words m.number m.settings m.asked asks)
-  audited_done status asks (inr (inr (inr a))) = a.1
+  -- what was done for the job is its text, written whole
+  pub reading_done : (task : DocumentTask) (status : ℕ) → AsksTask words task → IsDone words old new sunk_old sunk_new status → IsReadingDone task old new sunk_old sunk_new status
+  reading_done task status asks (inl w) = absurd (task_solves words w.answered.job w.answered.settings task w.answered.asked asks)
+  reading_done task status asks (inr (inl c)) = absurd (task_checks words task c.0 asks)
+  reading_done task status asks (inr (inr (inl m))) = absurd (no_task words m.number m.settings task m.asked asks)
+  reading_done task status asks (inr (inr (inr (inl a)))) = subst (λ t. IsReadingDone t old new sunk_old sunk_new status) (same_task words a.0 task a.1 asks) a.2
+  reading_done task status asks (inr (inr (inr (inr f)))) = absurd (front_tasks words f.settings task f.answered.asked asks)
 
-  pub audited_undone : (stop : Stop) → AsksAudit words → IsUndone words old new sunk_old sunk_new stop → IsWithoutAudit old new sunk_old sunk_new stop ⊎ (stop ≡ NoMemory)
-  audited_undone stop asks (inl s) = go stop s
+  pub reading_undone : (task : DocumentTask) (stop : Stop) → AsksTask words task → IsUndone words old new sunk_old sunk_new stop
+      → IsWithoutReading task old new sunk_old sunk_new stop ⊎ (stop ≡ NoMemory)
+  reading_undone task stop asks (inl s) = go stop s
     where
       none : AsksNothing words → ⊥
       none n = let i = asks.is in absurd (cc (n, i))
 
       solves : ((job : DocumentJob) × (settings : Settings) × AsksToSolve words job settings) → ⊥
-      solves a = audit_solves words a.0 a.1 a.2 asks
+      solves a = task_solves words a.0 a.1 task a.2 asks
 
-      go : (stop : Stop) → IsStopped words old new sunk_old sunk_new stop → IsWithoutAudit old new sunk_old sunk_new stop ⊎ (stop ≡ NoMemory)
+      go : (stop : Stop) → IsStopped words old new sunk_old sunk_new stop → IsWithoutReading task old new sunk_old sunk_new stop ⊎ (stop ≡ NoMemory)
       go Words s = absurd (none s.0)
       go TooLong s = absurd (solves s.0)
       go (Text fault) s = absurd (solves s.0)
+      go Dimensions s = absurd s
       go ReadFault s = absurd (solves s.0)
-      go WriteFault s = absurd (audit_solves words s.answered.job s.answered.settings s.answered.asked asks)
+      go WriteFault s = absurd (task_solves words s.answered.job s.answered.settings task s.answered.asked asks)
       go NoMemory s = inr refl
-  audited_undone stop asks (inr (inl c)) = absurd (audit_checks words c.0 asks)
-  audited_undone stop asks (inr (inr (inl m))) = absurd (no_audit words m.number m.settings m.asked asks)
-  audited_undone stop asks (inr (inr (inr a))) = inl a.1
+  reading_undone task stop asks (inr (inl c)) = absurd (task_checks words task c.0 asks)
+  reading_undone task stop asks (inr (inr (inl m))) = absurd (no_task words m.number m.settings task m.asked asks)
+  reading_undone task stop asks (inr (inr (inr (inl a)))) = inl (subst (λ t. IsWithoutReading t old new sunk_old sunk_new stop) (same_task words a.0 task a.1 asks) a.2)
+  reading_undone task stop asks (inr (inr (inr (inr f)))) = absurd (front_tasks words f.0.0 task f.0.1 asks)
 
-  -- more bytes than are read have no line
-  pub long_audited : (status : ℕ) → IsLongAudit words old → IsAuditWritten old new sunk_old sunk_new status → ⊥
-  long_audited status l a =
+  -- more bytes than are read have no text
+  pub long_read : (task : DocumentTask) (status : ℕ) → IsLongReading words old → IsReadingDone task old new sunk_old sunk_new status → ⊥
+  long_read task status l a =
       let same : a.bytes ≡ l.bytes = taken_all old new a.bytes l.bytes l.told (a.input).taken (a.input).ended in
       let few = (a.input).within in
       let past = l.past in
       omega (arith, ap length same, few, past)
 
-pub audited_exactly : (old new sunk_old sunk_new : Option (List ℕ)) (status : ℕ) (bytes : List ℕ) → old ≡ Some bytes
-    → IsAuditWritten old new sunk_old sunk_new status → IsExactlyAudited bytes sunk_old sunk_new status
-audited_exactly old new sunk_old sunk_new status bytes is a =
+pub exactly_read : (task : DocumentTask) (old new sunk_old sunk_new : Option (List ℕ)) (status : ℕ) (bytes : List ℕ) → old ≡ Some bytes
+    → IsReadingDone task old new sunk_old sunk_new status → IsExactlyRead task bytes sunk_old sunk_new status
+exactly_read task old new sunk_old sunk_new status bytes is a =
     let same : a.bytes ≡ bytes = taken_all old new a.bytes bytes is (a.input).taken (a.input).ended in
-    record {
-      status_is = a.status_is ∙ ap (λ b. verdict_status (reduced_verdict b)) same;
-      line = subst (λ b. Gains sunk_old sunk_new (reduced_verdict_line (reduced_verdict b))) same a.line;
-    }
+    record { text = a.text; comes = subst (λ b. ComesTo task b status a.text) same a.comes; written = a.written }
 
--- a verified document shows its claim, and that is true
-pub audited_claimed : (old new sunk_old sunk_new : Option (List ℕ)) (status : ℕ) → status ≡ 0
-    → IsAuditWritten old new sunk_old sunk_new status → IsAuditClaimed old new sunk_old sunk_new
-audited_claimed old new sunk_old sunk_new status zero a = go (reduced_verdict a.bytes) refl (sym a.status_is ∙ zero) a.line
+-- what is verified is true
+true_verdict : (bytes : List ℕ) (kind : DocumentKind) → audit_status (verdict_of_kind kind bytes) ≡ 0 → IsTrueVerdict bytes (verdict_of_kind kind bytes)
+true_verdict bytes OfReduced zero = go (reduced_verdict bytes) refl zero
   where
-    go : (verdict : Result Claim Refusal) → reduced_verdict a.bytes ≡ verdict → verdict_status verdict ≡ 0 → Gains sunk_old sunk_new (reduced_verdict_line verdict)
-        → IsAuditClaimed old new sunk_old sunk_new
-    go (Ok claim) is ok line =
-        let document : IsReducedDocument a.bytes claim = (documents_have_form Reduced a.bytes claim).0 is in
-        record {
-          bytes = a.bytes;
-          taken = (a.input).taken;
-          ended = (a.input).ended;
-          claim = claim;
-          document = document;
-          holds = documents_are_true Reduced a.bytes claim document;
-          line = line;
-        }
-    go (Err refusal) is bad line = absurd (cc (bad))
+    go : (verdict : Result Claim Refusal) → reduced_verdict bytes ≡ verdict → verdict_status verdict ≡ 0 → IsTrueVerdict bytes (ReducedVerdictOf verdict)
+    go (Ok claim) is ok =
+        let document : IsReducedDocument bytes claim = (documents_have_form Reduced bytes claim).0 is in (document, documents_are_true Reduced bytes claim document)
+    go (Err refusal) is bad = absurd (cc (bad))
+true_verdict bytes OfExplained zero = go (explained_verdict bytes) refl zero
+  where
+    go : (verdict : Result PlainInstance ExplainedRefusal) → explained_verdict bytes ≡ verdict → explained_status verdict ≡ 0 → IsTrueVerdict bytes (ExplainedVerdictOf verdict)
+    go (Ok instance) is ok = (is, explained_are_true bytes instance is)
+    go (Err refusal) is bad = absurd (cc (bad))
+
+pub audited_claimed : (old new sunk_old sunk_new : Option (List ℕ)) (status : ℕ) → status ≡ 0
+    → IsReadingDone Audits old new sunk_old sunk_new status → IsAuditClaimed old new sunk_old sunk_new
+audited_claimed old new sunk_old sunk_new status zero a = record {
+  bytes = a.bytes;
+  taken = (a.input).taken;
+  ended = (a.input).ended;
+  holds = true_verdict a.bytes (document_kind a.bytes) (sym a.comes.0 ∙ zero);
+  line = subst (λ t. Gains sunk_old sunk_new t) a.comes.1 a.written;
+}
+
+-- ---- how a verdict is told
+
+pub told_reduced : (verdict : Verdict) (is : Result Claim Refusal) → plain_verdict verdict ≡ is → IsToldAs (ReducedVerdictOf is) (ToldReduced verdict)
+told_reduced verdict is e = record { line = ap reduced_verdict_line e; status = ap verdict_status e }
+
+pub told_explained : (verdict : ExplainedVerdict) (is : Result PlainInstance ExplainedRefusal) → IsExplainedAs is verdict → IsToldAs (ExplainedVerdictOf is) (ToldExplained verdict)
+told_explained Verified is e = record { line = ap explained_line (sym e.1); status = ap explained_status (sym e.1) }
+told_explained (Refused line reason) is e = record { line = ap explained_line (sym e); status = ap explained_status (sym e) }
+
+-- a verdict of the kind of the bytes
+pub told_as : (bytes : List ℕ) (kind : DocumentKind) (told : AuditedVerdict) → kind ≡ document_kind bytes → IsToldAs (verdict_of_kind kind bytes) told
+    → IsToldAs (audit_verdict bytes) told
+told_as bytes kind told e h = subst (λ k. IsToldAs (verdict_of_kind k bytes) told) e h

@@ -8,22 +8,24 @@ use Rattle.document_terms.specs.declared.claim.Claim.{Claim}
 use Rattle.verdict_terms.specs.Documents.{Refusal}
 use Rattle.pack_streams.specs.Faults.{FailedOnce}
 use Rattle.pack_command.specs.Answered.{IsAnswerStatus}
-use Rattle.pack_command.specs.Asked.{AsksToSolve, AsksCheck, AsksToMake, AsksNothing, IsSolving, IsChecking, IsAuditing, HasAnswer, ReadsNothing, IsLongInstance, IsLongDocument, IsLongAudit, IsFaultyText, IsRefusable}
+use Rattle.pack_command.specs.Asked.{AsksToSolve, AsksCheck, AsksToMake, AsksNothing, IsSolving, IsChecking, IsReading, IsFronting, HasAnswer, ReadsNothing, IsLongInstance, IsLongDocument, IsLongReading, IsFaultyText, IsRefusable}
 use Rattle.pack_command.specs.Checks.{IsVerdictStatus, IsWithoutVerdict, IsPastLimit}
 use Rattle.pack_command.specs.Counts.{CountsReads, CountsWrites, CountsStatus, IsFaultStatus}
 use Rattle.pack_command.specs.Ends.{IsDone, IsUndone}
 use Rattle.pack_command.specs.Run.{IsAnswered, IsStopped}
 use Rattle.pack_command.specs.Stops.{stop_status, message_of}
 use Rattle.pack_command.specs.declared.stop.Stop.{Stop}
-use Rattle.pack_command.specs.declared.stop.Stop.TheVariants.{Words, TooLong, Text, ReadFault, WriteFault, NoMemory}
+use Rattle.pack_command.specs.declared.stop.Stop.TheVariants.{Words, TooLong, Text, Dimensions, ReadFault, WriteFault, NoMemory}
 use Rattle.answer_streams.specs.Verdicts.{verdict_status}
 use Rattle.pack_command.proofs.Written.{taken_all, taken_within}
 use Rattle.pack_command.proofs.Stopped.{never_stops}
 use Rattle.pack_command.proofs.Checked.{one_job, solved_done, solved_undone, found_within}
-use Rattle.pack_command.specs.Audits.{IsWholeAudit, IsWithoutAudit}
-use Rattle.pack_command.specs.Inputs.{most_audit_bytes}
-use Rattle.pack_command.proofs.Audited.{audited_done, audited_undone, long_audited}
-use Rattle.pack_command.proofs.Generating.{no_check, audit_checks, never_unmade, never_broken_off}
+use Rattle.pack_command.specs.Readings.{DocumentTask, IsWholeDocument, IsWithoutReading}
+use Rattle.pack_command.specs.Inputs.{most_read_bytes}
+use Rattle.pack_command.proofs.Audited.{reading_done, reading_undone, long_read}
+use Rattle.pack_command.proofs.OneJob.{front_checks}
+use Rattle.pack_command.proofs.Fronted.{fronted_done, fronted_undone, front_never_stops, long_fronted, faulty_fronted, other_fronted, front_long_ends, front_faulty_ends, front_other_ends}
+use Rattle.pack_command.proofs.Generating.{no_check, task_checks, never_unmade, never_broken_off}
 
 -- ---- statuses
 
@@ -39,6 +41,7 @@ stop_unanswered stop status is answer = go stop is answer
     go Words e = other 2 (omega arith) (omega arith) e
     go TooLong e = other 2 (omega arith) (omega arith) e
     go (Text fault) e = other 2 (omega arith) (omega arith) e
+    go Dimensions e = other 2 (omega arith) (omega arith) e
     go ReadFault e = other 4 (omega arith) (omega arith) e
     go WriteFault e = other 5 (omega arith) (omega arith) e
     go NoMemory e = other 6 (omega arith) (omega arith) e
@@ -72,6 +75,7 @@ pub stop_reads : (stop : Stop) (status before now : ℕ) → status ≡ stop_sta
 stop_reads Words status before now is c = stays 4 2 status before now (omega arith) is c
 stop_reads TooLong status before now is c = stays 4 2 status before now (omega arith) is c
 stop_reads (Text fault) status before now is c = stays 4 2 status before now (omega arith) is c
+stop_reads Dimensions status before now is c = stays 4 2 status before now (omega arith) is c
 stop_reads ReadFault status before now is c = rises 4 status before now is c
 stop_reads WriteFault status before now is c = stays 4 5 status before now (omega arith) is c
 stop_reads NoMemory status before now is c = stays 4 6 status before now (omega arith) is c
@@ -80,6 +84,7 @@ pub stop_writes : (stop : Stop) (status before now : ℕ) → status ≡ stop_st
 stop_writes Words status before now is c = stays 5 2 status before now (omega arith) is c
 stop_writes TooLong status before now is c = stays 5 2 status before now (omega arith) is c
 stop_writes (Text fault) status before now is c = stays 5 2 status before now (omega arith) is c
+stop_writes Dimensions status before now is c = stays 5 2 status before now (omega arith) is c
 stop_writes ReadFault status before now is c = stays 5 4 status before now (omega arith) is c
 stop_writes WriteFault status before now is c = rises 5 status before now is c
 stop_writes NoMemory status before now is c = stays 5 6 status before now (omega arith) is c
@@ -98,6 +103,7 @@ module _ (old new sunk_old sunk_new : Option (List ℕ)) (bytes : List ℕ) (is 
   unjudged_within Words status few e w = absurd w
   unjudged_within TooLong status few e w = absurd (too_many w.0 few)
   unjudged_within (Text fault) status few e w = absurd w
+  unjudged_within Dimensions status few e w = absurd w
   unjudged_within ReadFault status few e w = inl e
   unjudged_within WriteFault status few e w = inr (inl e)
   unjudged_within NoMemory status few e w = inr (inr e)
@@ -107,6 +113,7 @@ pub unjudged_past : (old new sunk_old sunk_new : Option (List ℕ)) (stop : Stop
 unjudged_past old new sunk_old sunk_new Words status e w = absurd w
 unjudged_past old new sunk_old sunk_new TooLong status e w = inl e
 unjudged_past old new sunk_old sunk_new (Text fault) status e w = absurd w
+unjudged_past old new sunk_old sunk_new Dimensions status e w = absurd w
 unjudged_past old new sunk_old sunk_new ReadFault status e w = inr (inl e)
 unjudged_past old new sunk_old sunk_new WriteFault status e w = inr (inr (inl e))
 unjudged_past old new sunk_old sunk_new NoMemory status e w = inr (inr (inr e))
@@ -127,12 +134,14 @@ module _ (words : List (String Global)) (old new sunk_old sunk_new : Option (Lis
       go Words s = absurd (none s.0)
       go TooLong s = absurd (solves s.0)
       go (Text fault) s = absurd (solves s.0)
+      go Dimensions s = absurd s
       go ReadFault s = absurd (solves s.0)
       go WriteFault s = absurd (one_job words s.answered.job s.answered.settings s.answered.asked asks)
       go NoMemory s = inr refl
   judged_undone stop asks (inr (inl c)) = inl c.1
   judged_undone stop asks (inr (inr (inl m))) = absurd (no_check words m.number m.settings m.asked asks)
-  judged_undone stop asks (inr (inr (inr a))) = absurd (audit_checks words asks a.0)
+  judged_undone stop asks (inr (inr (inr (inl a)))) = absurd (task_checks words a.0 asks a.1)
+  judged_undone stop asks (inr (inr (inr (inr f)))) = absurd (front_checks words f.0.0 f.0.1 asks)
 
   -- ---- words and an input that have an answer
 
@@ -141,6 +150,7 @@ module _ (words : List (String Global)) (old new sunk_old sunk_new : Option (Lis
   IsFault Words = ⊥
   IsFault TooLong = ⊥
   IsFault (Text fault) = ⊥
+  IsFault Dimensions = ⊥
   IsFault ReadFault = Unit {0}
   IsFault WriteFault = Unit {0}
   IsFault NoMemory = Unit {0}
@@ -149,6 +159,7 @@ module _ (words : List (String Global)) (old new sunk_old sunk_new : Option (Lis
   fault_status Words status f e = absurd f
   fault_status TooLong status f e = absurd f
   fault_status (Text fault) status f e = absurd f
+  fault_status Dimensions status f e = absurd f
   fault_status ReadFault status f e = inl e
   fault_status WriteFault status f e = inr (inl e)
   fault_status NoMemory status f e = inr (inr e)
@@ -158,6 +169,7 @@ module _ (words : List (String Global)) (old new sunk_old sunk_new : Option (Lis
   by_cases Words none = absurd (none (λ e. absurd (cc (e))) (λ e. absurd (cc (e))) (λ e. absurd (cc (e))))
   by_cases TooLong none = absurd (none (λ e. absurd (cc (e))) (λ e. absurd (cc (e))) (λ e. absurd (cc (e))))
   by_cases (Text fault) none = absurd (none (λ e. absurd (cc (e))) (λ e. absurd (cc (e))) (λ e. absurd (cc (e))))
+  by_cases Dimensions none = absurd (none (λ e. absurd (cc (e))) (λ e. absurd (cc (e))) (λ e. absurd (cc (e))))
   by_cases ReadFault none = tt
   by_cases WriteFault none = tt
   by_cases NoMemory none = tt
@@ -176,6 +188,7 @@ module _ (words : List (String Global)) (old new sunk_old sunk_new : Option (Lis
       go Words (inl w) = absurd w
       go TooLong (inl w) = absurd (too_many old new sunk_old sunk_new bytes s.told w.0 s.within)
       go (Text fault) (inl w) = absurd w
+      go Dimensions (inl w) = absurd w
       go ReadFault (inl w) = tt
       go WriteFault (inl w) = tt
       go NoMemory (inl w) = tt
@@ -184,10 +197,10 @@ module _ (words : List (String Global)) (old new sunk_old sunk_new : Option (Lis
   making_stops number settings asks stop undone =
       by_cases stop (λ r w m. never_unmade words old new sunk_old sunk_new number settings asks stop undone w m)
 
-  auditing_stops : (bytes : List ℕ) → IsAuditing words old bytes → (stop : Stop) → IsUndone words old new sunk_old sunk_new stop → IsFault stop
-  auditing_stops bytes s stop undone = go stop (audited_undone words old new sunk_old sunk_new stop s.asks undone)
+  reading_stops : (task : DocumentTask) (bytes : List ℕ) → IsReading words old task bytes → (stop : Stop) → IsUndone words old new sunk_old sunk_new stop → IsFault stop
+  reading_stops task bytes s stop undone = go stop (reading_undone words old new sunk_old sunk_new task stop s.asks undone)
     where
-      go : (stop : Stop) → IsWithoutAudit old new sunk_old sunk_new stop ⊎ (stop ≡ NoMemory) → IsFault stop
+      go : (stop : Stop) → IsWithoutReading task old new sunk_old sunk_new stop ⊎ (stop ≡ NoMemory) → IsFault stop
       go stop (inr e) = subst IsFault (sym e) tt
       go Words (inl w) = absurd w
       go TooLong (inl w) =
@@ -196,15 +209,22 @@ module _ (words : List (String Global)) (old new sunk_old sunk_new : Option (Lis
           let few = s.within in
           absurd (omega (arith, l, past, few))
       go (Text fault) (inl w) = absurd w
+      go Dimensions (inl w) = absurd w
       go ReadFault (inl w) = tt
       go WriteFault (inl w) = tt
       go NoMemory (inl w) = tt
+
+  fronting_stops : (settings : Settings) (instance : PlainInstance) → IsFronting words old settings instance → (stop : Stop)
+      → IsUndone words old new sunk_old sunk_new stop → IsFault stop
+  fronting_stops settings instance s stop undone =
+      by_cases stop (front_never_stops words old new sunk_old sunk_new settings instance s stop (fronted_undone words old new sunk_old sunk_new stop settings s.asks undone))
 
   pub completes : HasAnswer words old → (stop : Stop) (status : ℕ) → status ≡ stop_status stop → IsUndone words old new sunk_old sunk_new stop → IsFaultStatus status
   completes (inl s) stop status e undone = fault_status stop status (solving_stops s.0 s.1 s.2 s.3 stop undone) e
   completes (inr (inl s)) stop status e undone = fault_status stop status (checking_stops s.0 s.1 stop undone) e
   completes (inr (inr (inl s))) stop status e undone = fault_status stop status (making_stops s.0 s.1 s.2 stop undone) e
-  completes (inr (inr (inr s))) stop status e undone = fault_status stop status (auditing_stops s.0 s.1 stop undone) e
+  completes (inr (inr (inr (inl s)))) stop status e undone = fault_status stop status (reading_stops s.0 s.1 s.2 stop undone) e
+  completes (inr (inr (inr (inr s)))) stop status e undone = fault_status stop status (fronting_stops s.0 s.1 s.2 stop undone) e
 
   -- ---- words and an input that are to be refused
 
@@ -230,15 +250,21 @@ module _ (words : List (String Global)) (old new sunk_old sunk_new : Option (Lis
   refusable_done Words none status (inl w) = nothing_answered none status w.document w.answered
   refusable_done Words none status (inr (inl c)) = let i = c.0.is in absurd (cc (none, i))
   refusable_done Words none status (inr (inr (inl m))) = let i = (m.asked).is in absurd (cc (none, i))
-  refusable_done Words none status (inr (inr (inr a))) = let i = a.0.is in absurd (cc (none, i))
+  refusable_done Words none status (inr (inr (inr (inl a)))) = let i = a.1.is in absurd (cc (none, i))
+  refusable_done Words none status (inr (inr (inr (inr f)))) = let i = (f.answered.asked).is in absurd (cc (none, i))
   refusable_done TooLong (inl l) status done =
       let w = solved_done words old new sunk_old sunk_new status l.job l.settings l.asks done in long_answered l status w.document w.answered
-  refusable_done TooLong (inr (inr l)) status done = let a = audited_done words old new sunk_old sunk_new status l.asks done in long_audited words old new sunk_old sunk_new status l a
+  refusable_done TooLong (inr (inr (inr l))) status done = long_fronted words old new sunk_old sunk_new status l (fronted_done words old new sunk_old sunk_new status l.settings l.asks done)
+  refusable_done TooLong (inr (inr (inl l))) status done = long_read words old new sunk_old sunk_new l.task status l (reading_done words old new sunk_old sunk_new l.task status l.asks done)
   refusable_done TooLong (inr (inl l)) status (inl w) = one_job words w.answered.job w.answered.settings w.answered.asked l.asks
   refusable_done TooLong (inr (inl l)) status (inr (inl c)) = found_within old new l.bytes l.told l.past l.none c.1.verdict c.1.found
   refusable_done TooLong (inr (inl l)) status (inr (inr (inl m))) = no_check words m.number m.settings m.asked l.asks
-  refusable_done TooLong (inr (inl l)) status (inr (inr (inr a))) = audit_checks words l.asks a.0
-  refusable_done (Text fault) l status done =
+  refusable_done TooLong (inr (inl l)) status (inr (inr (inr (inl a)))) = task_checks words a.0 l.asks a.1
+  refusable_done TooLong (inr (inl l)) status (inr (inr (inr (inr f)))) = front_checks words f.settings f.answered.asked l.asks
+  refusable_done (Text fault) (inr l) status done =
+      faulty_fronted words old new sunk_old sunk_new status fault l (fronted_done words old new sunk_old sunk_new status l.settings l.asks done)
+  refusable_done Dimensions l status done = other_fronted words old new sunk_old sunk_new status l (fronted_done words old new sunk_old sunk_new status l.settings l.asks done)
+  refusable_done (Text fault) (inl l) status done =
       let w = solved_done words old new sunk_old sunk_new status l.job l.settings l.asks done in faulty_answered fault l status w.document w.answered
   refusable_done ReadFault l status done = l
   refusable_done WriteFault l status done = l
@@ -258,12 +284,14 @@ module _ (words : List (String Global)) (old new sunk_old sunk_new : Option (Lis
       go Words s = inl refl
       go TooLong s = absurd (solves s.0)
       go (Text fault) s = absurd (solves s.0)
+      go Dimensions s = absurd s
       go ReadFault s = absurd (solves s.0)
       go WriteFault s = absurd (nothing_answered none s.status s.document s.answered)
       go NoMemory s = inr (inr refl)
   nothing_ends none end (inr (inl c)) = let i = c.0.is in absurd (cc (none, i))
   nothing_ends none end (inr (inr (inl m))) = let i = (m.asked).is in absurd (cc (none, i))
-  nothing_ends none end (inr (inr (inr a))) = let i = a.0.is in absurd (cc (none, i))
+  nothing_ends none end (inr (inr (inr (inl a)))) = let i = a.1.is in absurd (cc (none, i))
+  nothing_ends none end (inr (inr (inr (inr f)))) = let i = f.0.1.is in absurd (cc (none, i))
 
   long_ends : IsLongInstance words old → (end : Stop) → IsStopped words old new sunk_old sunk_new end → EndsFor TooLong end
   long_ends l Words s = let i = (l.asks).is in absurd (cc (s.0, i))
@@ -274,6 +302,7 @@ module _ (words : List (String Global)) (old new sunk_old sunk_new : Option (Lis
       let few = input.within in
       let past = l.past in
       absurd (omega (arith, ap length same, few, past))
+  long_ends l Dimensions s = absurd s
   long_ends l ReadFault s = inr (inl refl)
   long_ends l WriteFault s = absurd (long_answered l s.status s.document s.answered)
   long_ends l NoMemory s = inr (inr refl)
@@ -283,24 +312,26 @@ module _ (words : List (String Global)) (old new sunk_old sunk_new : Option (Lis
   long_document_ends l Words (inl w) = absurd w
   long_document_ends l TooLong (inl w) = inl refl
   long_document_ends l (Text fault) (inl w) = absurd w
+  long_document_ends l Dimensions (inl w) = absurd w
   long_document_ends l ReadFault (inl w) = inr (inl refl)
   long_document_ends l WriteFault (inl w) = absurd (found_within old new l.bytes l.told l.past l.none w.verdict w.found)
   long_document_ends l NoMemory (inl w) = inr (inr refl)
 
-  long_audit_ends : IsLongAudit words old → (end : Stop) → IsWithoutAudit old new sunk_old sunk_new end ⊎ (end ≡ NoMemory) → EndsFor TooLong end
-  long_audit_ends l end (inr e) = inr (inr e)
-  long_audit_ends l Words (inl w) = absurd w
-  long_audit_ends l TooLong (inl w) = inl refl
-  long_audit_ends l (Text fault) (inl w) = absurd w
-  long_audit_ends l ReadFault (inl w) = inr (inl refl)
-  long_audit_ends l WriteFault (inl w) = absurd (audit_within l.bytes l.told l.past w.bytes w.input)
+  long_reading_ends : (task : DocumentTask) → IsLongReading words old → (end : Stop) → IsWithoutReading task old new sunk_old sunk_new end ⊎ (end ≡ NoMemory) → EndsFor TooLong end
+  long_reading_ends task l end (inr e) = inr (inr e)
+  long_reading_ends task l Words (inl w) = absurd w
+  long_reading_ends task l TooLong (inl w) = inl refl
+  long_reading_ends task l (Text fault) (inl w) = absurd w
+  long_reading_ends task l Dimensions (inl w) = absurd w
+  long_reading_ends task l ReadFault (inl w) = inr (inl refl)
+  long_reading_ends task l WriteFault (inl w) = absurd (read_within l.bytes l.told l.past w.bytes w.input)
     where
-      audit_within : (told : List ℕ) → old ≡ Some told → most_audit_bytes < length told → (bytes : List ℕ) → IsWholeAudit old new bytes → ⊥
-      audit_within told is past bytes input =
+      read_within : (told : List ℕ) → old ≡ Some told → most_read_bytes < length told → (bytes : List ℕ) → IsWholeDocument old new bytes → ⊥
+      read_within told is past bytes input =
           let same : bytes ≡ told = taken_all old new bytes told is input.taken input.ended in
           let few = input.within in
           omega (arith, ap length same, few, past)
-  long_audit_ends l NoMemory (inl w) = inr (inr refl)
+  long_reading_ends task l NoMemory (inl w) = inr (inr refl)
 
   faulty_ends : (fault : TextFault) → IsFaultyText words old fault → (end : Stop) → IsStopped words old new sunk_old sunk_new end → EndsFor (Text fault) end
   faulty_ends fault l Words s = let i = (l.asks).is in absurd (cc (s.0, i))
@@ -315,6 +346,7 @@ module _ (words : List (String Global)) (old new sunk_old sunk_new : Option (Lis
       let mine = l.wrong in
       let one : other ≡ fault = cc (same, wrong, mine) in
       inl (ap (λ f. Text f) one)
+  faulty_ends fault l Dimensions s = absurd s
   faulty_ends fault l ReadFault s = inr (inl refl)
   faulty_ends fault l WriteFault s = absurd (faulty_answered fault l s.status s.document s.answered)
   faulty_ends fault l NoMemory s = inr (inr refl)
@@ -323,8 +355,11 @@ module _ (words : List (String Global)) (old new sunk_old sunk_new : Option (Lis
   refusable_ends Words none end undone = nothing_ends none end undone
   refusable_ends TooLong (inl l) end undone = long_ends l end (solved_undone words old new sunk_old sunk_new end l.job l.settings l.asks undone)
   refusable_ends TooLong (inr (inl l)) end undone = long_document_ends l end (judged_undone end l.asks undone)
-  refusable_ends TooLong (inr (inr l)) end undone = long_audit_ends l end (audited_undone words old new sunk_old sunk_new end l.asks undone)
-  refusable_ends (Text fault) l end undone = faulty_ends fault l end (solved_undone words old new sunk_old sunk_new end l.job l.settings l.asks undone)
+  refusable_ends TooLong (inr (inr (inr l))) end undone = front_long_ends words old new sunk_old sunk_new l end (fronted_undone words old new sunk_old sunk_new end l.settings l.asks undone)
+  refusable_ends TooLong (inr (inr (inl l))) end undone = long_reading_ends l.task l end (reading_undone words old new sunk_old sunk_new l.task end l.asks undone)
+  refusable_ends (Text fault) (inr l) end undone = front_faulty_ends words old new sunk_old sunk_new fault l end (fronted_undone words old new sunk_old sunk_new end l.settings l.asks undone)
+  refusable_ends Dimensions l end undone = front_other_ends words old new sunk_old sunk_new l end (fronted_undone words old new sunk_old sunk_new end l.settings l.asks undone)
+  refusable_ends (Text fault) (inl l) end undone = faulty_ends fault l end (solved_undone words old new sunk_old sunk_new end l.job l.settings l.asks undone)
   refusable_ends ReadFault l end undone = absurd l
   refusable_ends WriteFault l end undone = absurd l
   refusable_ends NoMemory l end undone = absurd l
@@ -333,6 +368,7 @@ module _ (words : List (String Global)) (old new sunk_old sunk_new : Option (Lis
   two Words l = refl
   two TooLong l = refl
   two (Text fault) l = refl
+  two Dimensions l = refl
   two ReadFault l = absurd l
   two WriteFault l = absurd l
   two NoMemory l = absurd l
@@ -352,7 +388,8 @@ module _ (words : List (String Global)) (old new sunk_old sunk_new : Option (Lis
   nothing_broken none (inl s) = let i = s.0.2.is in absurd (cc (none, i))
   nothing_broken none (inr (inl c)) = let i = c.0.is in absurd (cc (none, i))
   nothing_broken none (inr (inr (inl m))) = m.cut
-  nothing_broken none (inr (inr (inr a))) = let i = a.0.is in absurd (cc (none, i))
+  nothing_broken none (inr (inr (inr (inl a)))) = let i = a.1.is in absurd (cc (none, i))
+  nothing_broken none (inr (inr (inr (inr f)))) = let i = f.0.1.is in absurd (cc (none, i))
 
   pub never_read : ReadsNothing words → (end : Stop) (status : ℕ) → status ≡ stop_status end → IsUndone words old new sunk_old sunk_new end → ¬ (status ≡ 4)
   never_read (inl none) end status is undone four = go (nothing_ends none end undone)

@@ -23,7 +23,8 @@ use Rattle.pack_command.specs.Checks.{HasVerdict, IsVerdictFound, IsVerdictWritt
 use Rattle.pack_command.specs.Ends.{IsDone, IsUndone}
 use Rattle.pack_command.specs.Run.{IsWritten, IsStopped}
 use Rattle.pack_command.proofs.Written.{taken_all}
-use Rattle.pack_command.proofs.Generating.{no_solve, no_check, audit_solves, audit_checks}
+use Rattle.pack_command.proofs.Generating.{no_solve, no_check, task_solves, task_checks}
+use Rattle.pack_command.proofs.OneJob.{front_solves, front_checks}
 
 -- no words ask for a solving job and for a check
 pub one_job : (words : List (String Global)) (job : DocumentJob) (settings : Settings) → AsksToSolve words job settings → AsksCheck words → ⊥
@@ -38,21 +39,24 @@ pub solved_done : (words : List (String Global)) (old new sunk_old sunk_new : Op
 solved_done words old new sunk_old sunk_new status job settings asks (inl w) = w
 solved_done words old new sunk_old sunk_new status job settings asks (inr (inl c)) = absurd (one_job words job settings asks c.0)
 solved_done words old new sunk_old sunk_new status job settings asks (inr (inr (inl m))) = absurd (no_solve words m.number m.settings job settings m.asked asks)
-solved_done words old new sunk_old sunk_new status job settings asks (inr (inr (inr a))) = absurd (audit_solves words job settings asks a.0)
+solved_done words old new sunk_old sunk_new status job settings asks (inr (inr (inr (inl a)))) = absurd (task_solves words job settings a.0 asks a.1)
+solved_done words old new sunk_old sunk_new status job settings asks (inr (inr (inr (inr f)))) = absurd (front_solves words job settings f.settings asks f.answered.asked)
 
 pub solved_undone : (words : List (String Global)) (old new sunk_old sunk_new : Option (List ℕ)) (stop : Stop) (job : DocumentJob) (settings : Settings)
     → AsksToSolve words job settings → IsUndone words old new sunk_old sunk_new stop → IsStopped words old new sunk_old sunk_new stop
 solved_undone words old new sunk_old sunk_new stop job settings asks (inl s) = s
 solved_undone words old new sunk_old sunk_new stop job settings asks (inr (inl c)) = absurd (one_job words job settings asks c.0)
 solved_undone words old new sunk_old sunk_new stop job settings asks (inr (inr (inl u))) = absurd (no_solve words u.number u.settings job settings u.asked asks)
-solved_undone words old new sunk_old sunk_new stop job settings asks (inr (inr (inr a))) = absurd (audit_solves words job settings asks a.0)
+solved_undone words old new sunk_old sunk_new stop job settings asks (inr (inr (inr (inl a)))) = absurd (task_solves words job settings a.0 asks a.1)
+solved_undone words old new sunk_old sunk_new stop job settings asks (inr (inr (inr (inr f)))) = absurd (front_solves words job settings f.0.0 asks f.0.1)
 
 pub judged_done : (words : List (String Global)) (old new sunk_old sunk_new : Option (List ℕ)) (status : ℕ) → AsksCheck words
     → IsDone words old new sunk_old sunk_new status → IsVerdictWritten old new sunk_old sunk_new status
 judged_done words old new sunk_old sunk_new status asks (inl w) = absurd (one_job words w.answered.job w.answered.settings w.answered.asked asks)
 judged_done words old new sunk_old sunk_new status asks (inr (inl c)) = c.1
 judged_done words old new sunk_old sunk_new status asks (inr (inr (inl m))) = absurd (no_check words m.number m.settings m.asked asks)
-judged_done words old new sunk_old sunk_new status asks (inr (inr (inr a))) = absurd (audit_checks words asks a.0)
+judged_done words old new sunk_old sunk_new status asks (inr (inr (inr (inl a)))) = absurd (task_checks words a.0 asks a.1)
+judged_done words old new sunk_old sunk_new status asks (inr (inr (inr (inr f)))) = absurd (front_checks words f.settings f.answered.asked asks)
 
 -- what was taken, and the rest of the bytes
 told_rest : (old left : Option (List ℕ)) (taken bytes : List ℕ) → old ≡ Some bytes → Gives old left taken → (rest : List ℕ) × (bytes ≡ taken ++ rest)

@@ -11,19 +11,21 @@ use Rattle.answer_terms.specs.declared.job.DocumentJob.TheVariants.{Solving as S
 use Rattle.document_terms.specs.declared.claim.SolvingJob.TheVariants.{Fit}
 use Rattle.answer_terms.specs.Solved.{JobAnswer, solved}
 use Rattle.pack_streams.specs.Moves.{Gains}
-use Rattle.pack_words.specs.declared.job.Job.TheVariants.{Check, Make, Audit}
+use Rattle.pack_words.specs.declared.job.Job.TheVariants.{Check, Make}
 use Rattle.pack_words.specs.declared.job.JobWords.{JobWords}
 use Rattle.pack_words.proofs.Walking.{some_inj}
 use Rattle.text_terms.specs.declared.settings.Settings.{Settings}
 use Rattle.pack_command.specs.Answered.{answer_for, branchings, class_bound, IsAnswerStatus, IsDecided}
-use Rattle.pack_command.specs.Asked.{document_job, AsksToSolve, AsksCheck, AsksAudit, AsksToMake}
+use Rattle.pack_command.specs.Asked.{document_job, task_job, AsksToSolve, AsksCheck, AsksTask, AsksToMake}
+use Rattle.pack_command.specs.Readings.{DocumentTask, Audits, Explains}
 use Rattle.pack_command.specs.Ends.{IsDone, IsUndone}
 use Rattle.pack_command.specs.Generated.{made_for, IsMade, IsMadeCut, IsExactlyMade}
 use Rattle.pack_command.specs.Run.{Asks, IsStopped}
 use Rattle.pack_command.specs.Stops.{stop_status}
 use Rattle.pack_command.specs.declared.stop.Stop.{Stop}
-use Rattle.pack_command.specs.declared.stop.Stop.TheVariants.{Words, TooLong, Text, ReadFault, WriteFault, NoMemory}
+use Rattle.pack_command.specs.declared.stop.Stop.TheVariants.{Words, TooLong, Text, Dimensions, ReadFault, WriteFault, NoMemory}
 use Rattle.pack_command.proofs.Decided.{fit_decided}
+use Rattle.pack_command.proofs.OneJob.{front_makes}
 
 -- no words ask for `make` and for another job
 pub no_solve : (words : List (String Global)) (number : ℕ) (settings : Settings) (job : DocumentJob) (others : Settings)
@@ -39,24 +41,39 @@ no_check words number settings make check =
     let both : Make ≡ Check = sym make.job ∙ (ap (λ (w : JobWords). w.job) same ∙ check.job) in
     absurd (cc (both))
 
-pub no_audit : (words : List (String Global)) (number : ℕ) (settings : Settings) → AsksToMake words number settings → AsksAudit words → ⊥
-no_audit words number settings make audit =
-    let same : make.asked ≡ audit.asked = some_inj (sym make.is ∙ audit.is) in
-    let both : Make ≡ Audit = sym make.job ∙ (ap (λ (w : JobWords). w.job) same ∙ audit.job) in
-    absurd (cc (both))
+-- no words ask for what is done with a whole document, and for another job
+pub no_task : (words : List (String Global)) (number : ℕ) (settings : Settings) (task : DocumentTask) → AsksToMake words number settings → AsksTask words task → ⊥
+no_task words number settings task make asks = go task (sym make.job ∙ (ap (λ (w : JobWords). w.job) (some_inj (sym make.is ∙ asks.is)) ∙ asks.job))
+  where
+    go : (t : DocumentTask) → Make ≡ task_job t → ⊥
+    go Audits e = absurd (cc (e))
+    go Explains e = absurd (cc (e))
 
--- no words ask for `audit` and for another job
-pub audit_solves : (words : List (String Global)) (job : DocumentJob) (settings : Settings) → AsksToSolve words job settings → AsksAudit words → ⊥
-audit_solves words job settings solve audit =
-    let same : solve.asked ≡ audit.asked = some_inj (sym solve.is ∙ audit.is) in
-    let none : None ≡ Some job = sym (ap (λ (w : JobWords). document_job w.job) same ∙ ap document_job audit.job) ∙ solve.job_is in
-    absurd (cc (none))
+pub task_solves : (words : List (String Global)) (job : DocumentJob) (settings : Settings) (task : DocumentTask) → AsksToSolve words job settings → AsksTask words task → ⊥
+task_solves words job settings task solve asks =
+    let same : solve.asked ≡ asks.asked = some_inj (sym solve.is ∙ asks.is) in
+    go task (sym (ap (λ (w : JobWords). document_job w.job) same ∙ ap document_job asks.job) ∙ solve.job_is)
+  where
+    go : (t : DocumentTask) → document_job (task_job t) ≡ Some job → ⊥
+    go Audits e = absurd (cc (e))
+    go Explains e = absurd (cc (e))
 
-pub audit_checks : (words : List (String Global)) → AsksCheck words → AsksAudit words → ⊥
-audit_checks words check audit =
-    let same : check.asked ≡ audit.asked = some_inj (sym check.is ∙ audit.is) in
-    let both : Check ≡ Audit = sym check.job ∙ (ap (λ (w : JobWords). w.job) same ∙ audit.job) in
-    absurd (cc (both))
+pub task_checks : (words : List (String Global)) (task : DocumentTask) → AsksCheck words → AsksTask words task → ⊥
+task_checks words task check asks = go task (sym check.job ∙ (ap (λ (w : JobWords). w.job) (some_inj (sym check.is ∙ asks.is)) ∙ asks.job))
+  where
+    go : (t : DocumentTask) → Check ≡ task_job t → ⊥
+    go Audits e = absurd (cc (e))
+    go Explains e = absurd (cc (e))
+
+-- the words tell what is done
+pub same_task : (words : List (String Global)) (one other : DocumentTask) → AsksTask words one → AsksTask words other → one ≡ other
+same_task words one other a b = go one other (sym a.job ∙ (ap (λ (w : JobWords). w.job) (some_inj (sym a.is ∙ b.is)) ∙ b.job))
+  where
+    go : (s t : DocumentTask) → task_job s ≡ task_job t → s ≡ t
+    go Audits Audits e = refl
+    go Explains Explains e = refl
+    go Audits Explains e = absurd (cc (e))
+    go Explains Audits e = absurd (cc (e))
 
 number_same : (words : List (String Global)) (n m : ℕ) (a b : Settings) → AsksToMake words n a → AsksToMake words m b → n ≡ m
 number_same words n m a b x y =
@@ -128,7 +145,8 @@ module _ (words : List (String Global)) (old new sunk_old sunk_new : Option (Lis
   made_done status (inl w) = absurd (no_solve words number settings w.answered.job w.answered.settings asks w.answered.asked)
   made_done status (inr (inl c)) = absurd (no_check words number settings asks c.0)
   made_done status (inr (inr (inl m))) = m
-  made_done status (inr (inr (inr a))) = absurd (no_audit words number settings asks a.0)
+  made_done status (inr (inr (inr (inl a)))) = absurd (no_task words number settings a.0 asks a.1)
+  made_done status (inr (inr (inr (inr f)))) = absurd (front_makes words number settings f.settings asks f.answered.asked)
 
   same_made : (m : ℕ) (others : Settings) → AsksToMake words m others → made_for m others ≡ made_for number settings
   same_made m others asked =
@@ -156,6 +174,7 @@ module _ (words : List (String Global)) (old new sunk_old sunk_new : Option (Lis
   stopped Words s w m = absurd (cc (s.0, asks.is))
   stopped TooLong s w m = solves s.0
   stopped (Text fault) s w m = solves s.0
+  stopped Dimensions s w m = s
   stopped ReadFault s w m = solves s.0
   stopped WriteFault s w m = w refl
   stopped NoMemory s w m = m refl
@@ -164,6 +183,7 @@ module _ (words : List (String Global)) (old new sunk_old sunk_new : Option (Lis
   cut Words n others c w m = c
   cut TooLong n others c w m = c
   cut (Text fault) n others c w m = c
+  cut Dimensions n others c w m = c
   cut ReadFault n others c w m = c
   cut WriteFault n others c w m = w refl
   cut NoMemory n others c w m = m refl
@@ -173,7 +193,8 @@ module _ (words : List (String Global)) (old new sunk_old sunk_new : Option (Lis
   never_unmade stop (inl s) = stopped stop s
   never_unmade stop (inr (inl c)) = λ w m. absurd (no_check words number settings asks c.0)
   never_unmade stop (inr (inr (inl u))) = cut stop u.number u.settings u.cut
-  never_unmade stop (inr (inr (inr a))) = λ w m. absurd (no_audit words number settings asks a.0)
+  never_unmade stop (inr (inr (inr (inl a)))) = λ w m. absurd (no_task words number settings a.0 asks a.1)
+  never_unmade stop (inr (inr (inr (inr f)))) = λ w m. absurd (front_makes words number settings f.0.0 asks f.0.1)
 
   -- in particular by no failed read
   pub never_broken_off : (stop : Stop) → IsUndone words old new sunk_old sunk_new stop → ¬ (stop_status stop ≡ 4)

@@ -12,3 +12,8 @@ pub mod OwnWritten
 pub mod Generating
 pub mod ReducedDecided
 pub mod Audited
+pub mod ExplainedAs
+pub mod OneJob
+pub mod Fronted
+pub mod Sized
+pub mod FrontAnswering

@@ -7,7 +7,7 @@ use Rattle.text_terms.specs.declared.settings.Settings.{Settings}
 use Rattle.pack_command.specs.Asked.{AsksToSolve}
 use Rattle.pack_command.specs.Run.{IsStopped}
 use Rattle.pack_command.specs.declared.stop.Stop.{Stop}
-use Rattle.pack_command.specs.declared.stop.Stop.TheVariants.{Words, TooLong, Text, ReadFault, WriteFault, NoMemory}
+use Rattle.pack_command.specs.declared.stop.Stop.TheVariants.{Words, TooLong, Text, Dimensions, ReadFault, WriteFault, NoMemory}
 use Rattle.pack_command.proofs.Written.{taken_all, taken_within}
 
 module _ (words : List (String Global)) (old new sunk_old sunk_new : Option (List ℕ)) (job : DocumentJob) (settings : Settings) (told : List ℕ)
@@ -22,6 +22,7 @@ module _ (words : List (String Global)) (old new sunk_old sunk_new : Option (Lis
       let (bytes, input, wrong) = s.1 in
       let same : bytes ≡ told = taken_all old new bytes told is input.taken input.ended in
       absurd (cc (same, wrong, read))
+  never_stops Dimensions s r w m = s
   never_stops ReadFault s r w m = r refl
   never_stops WriteFault s r w m = w refl
   never_stops NoMemory s r w m = m refl

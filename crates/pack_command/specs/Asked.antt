@@ -1,24 +1,25 @@
 -- What the words of a command line ask for.
 use Rattle.std.specs.Prelude.{ℕ, ◌≡◌, ◌<◌, ◌≤◌, ◌⊎◌, List, length, map, take, String, string_bytes, Option, Some, None, Result, Ok, Err}
 use Rattle.std.specs.declared.alloc.Global.{Global}
-use Rattle.packing_terms.specs.Packing.{PlainInstance}
+use Rattle.packing_terms.specs.Packing.{PlainInstance, dims}
 use Rattle.text_terms.specs.Texts.{text_instance}
 use Rattle.answer_terms.specs.declared.job.DocumentJob.{DocumentJob}
 use Rattle.answer_terms.specs.declared.job.DocumentJob.TheVariants.{Solving as Solves, Reduced as Reduces}
 use Rattle.document_terms.specs.declared.claim.SolvingJob.TheVariants.{Fit as SolvesFit, Strip as SolvesStrip, Bins as SolvesBins, Knapsack as SolvesKnapsack}
 use Rattle.pack_words.specs.Job.{job_of_words}
 use Rattle.pack_words.specs.declared.job.Job.{Job}
-use Rattle.pack_words.specs.declared.job.Job.TheVariants.{Fit, Strip, Bins, Knapsack, Check, Make, Audit, Reduced}
+use Rattle.pack_words.specs.declared.job.Job.TheVariants.{Fit, Strip, Bins, Knapsack, Check, Make, Audit, Explain, Reduced, Front}
 use Rattle.pack_words.specs.declared.job.JobWords.{JobWords}
 use Rattle.text_terms.specs.declared.settings.Settings.{Settings}
 use Rattle.verdict_terms.specs.Fed.{NoneRefused}
 use Rattle.document_check.specs.Checked.{most_document_bytes}
 use Rattle.text_terms.specs.declared.fault.TextFault.{TextFault}
-use Rattle.pack_command.specs.Inputs.{most_instance_bytes, most_audit_bytes}
+use Rattle.pack_command.specs.Inputs.{most_instance_bytes, most_read_bytes}
+use Rattle.pack_command.specs.Readings.{DocumentTask, Audits, Explains}
 use Rattle.pack_command.specs.declared.words.Asked.{Asked}
-use Rattle.pack_command.specs.declared.words.Asked.TheVariants.{Solving, Checking, Making, Auditing}
+use Rattle.pack_command.specs.declared.words.Asked.TheVariants.{Solving, Checking, Making, Auditing, Explaining, Fronting}
 use Rattle.pack_command.specs.declared.stop.Stop.{Stop}
-use Rattle.pack_command.specs.declared.stop.Stop.TheVariants.{Words, TooLong, Text, ReadFault, WriteFault, NoMemory}
+use Rattle.pack_command.specs.declared.stop.Stop.TheVariants.{Words, TooLong, Text, Dimensions, ReadFault, WriteFault, NoMemory}
 
 -- the jobs that answer with a document
 abbrev pub document_job : Job → Option DocumentJob
@@ -30,6 +31,8 @@ document_job Reduced = Some Reduces
 document_job Check = None
 document_job Make = None
 document_job Audit = None
+document_job Explain = None
+document_job Front = None
 
 -- the job of the words, if they are one
 abbrev pub asked_job : List (String Global) → Option JobWords
@@ -48,11 +51,30 @@ pub record AsksCheck (words : List (String Global)) : Type 0 where
   pub is : asked_job words ≡ Some asked
   pub job : asked.job ≡ Check
 
--- the words are the job `audit`
-pub record AsksAudit (words : List (String Global)) : Type 0 where
+-- the job that does this with a whole document
+abbrev pub task_job : DocumentTask → Job
+task_job Audits = Audit
+task_job Explains = Explain
+
+-- the words are this job
+pub record AsksTask (words : List (String Global)) (task : DocumentTask) : Type 0 where
   pub asked : JobWords
   pub is : asked_job words ≡ Some asked
-  pub job : asked.job ≡ Audit
+  pub job : asked.job ≡ task_job task
+
+-- the words are the job `audit`, or `explain`
+abbrev pub AsksAudit : List (String Global) → Type 0
+AsksAudit words = AsksTask words Audits
+
+abbrev pub AsksExplain : List (String Global) → Type 0
+AsksExplain words = AsksTask words Explains
+
+-- the words are the job `front` with these settings
+pub record AsksFront (words : List (String Global)) (settings : Settings) : Type 0 where
+  pub asked : JobWords
+  pub is : asked_job words ≡ Some asked
+  pub job : asked.job ≡ Front
+  pub with_settings : asked.settings ≡ settings
 
 -- the words are the job `make` with this number and these settings
 pub record AsksToMake (words : List (String Global)) (number : ℕ) (settings : Settings) : Type 0 where
@@ -70,12 +92,15 @@ AsksNothing words = asked_job words ≡ None
 abbrev pub IsAsked : List (String Global) → Result Asked Stop → Type 0
 IsAsked words (Ok (Solving job settings)) = AsksToSolve words job settings
 IsAsked words (Ok Checking) = AsksCheck words
-IsAsked words (Ok Auditing) = AsksAudit words
+IsAsked words (Ok Auditing) = AsksTask words Audits
+IsAsked words (Ok Explaining) = AsksTask words Explains
 IsAsked words (Ok (Making number settings)) = AsksToMake words number settings
+IsAsked words (Ok (Fronting settings)) = AsksFront words settings
 IsAsked words (Err Words) = AsksNothing words
 IsAsked words (Err NoMemory) = Unit {0}
 IsAsked words (Err TooLong) = ⊥
 IsAsked words (Err (Text fault)) = ⊥
+IsAsked words (Err Dimensions) = ⊥
 IsAsked words (Err ReadFault) = ⊥
 IsAsked words (Err WriteFault) = ⊥
 
@@ -94,18 +119,36 @@ pub record IsChecking (words : List (String Global)) (left : Option (List ℕ)) 
   pub told : left ≡ Some bytes
   pub within : length bytes ≤ most_document_bytes
 
--- the words ask for `audit`, and the input is these bytes
-pub record IsAuditing (words : List (String Global)) (left : Option (List ℕ)) (bytes : List ℕ) : Type 0 where
-  pub asks : AsksAudit words
+-- the words ask for this job, and the input is these bytes
+pub record IsReading (words : List (String Global)) (left : Option (List ℕ)) (task : DocumentTask) (bytes : List ℕ) : Type 0 where
+  pub asks : AsksTask words task
   pub told : left ≡ Some bytes
-  pub within : length bytes ≤ most_audit_bytes
+  pub within : length bytes ≤ most_read_bytes
+
+-- the words ask for `audit`, or for `explain`, and the input is these bytes
+abbrev pub IsAuditing : List (String Global) → Option (List ℕ) → List ℕ → Type 0
+IsAuditing words left bytes = IsReading words left Audits bytes
+
+abbrev pub IsExplaining : List (String Global) → Option (List ℕ) → List ℕ → Type 0
+IsExplaining words left bytes = IsReading words left Explains bytes
+
+-- the words ask for `front`, and the input is the text of this instance, which has two dimensions
+pub record IsFronting (words : List (String Global)) (left : Option (List ℕ)) (settings : Settings) (instance : PlainInstance) : Type 0 where
+  pub asks : AsksFront words settings
+  pub bytes : List ℕ
+  pub told : left ≡ Some bytes
+  pub within : length bytes ≤ most_instance_bytes
+  pub read : text_instance bytes ≡ Ok instance
+  pub plane : dims instance ≡ 2
 
 -- the words and the input have an answer
 abbrev pub HasAnswer : List (String Global) → Option (List ℕ) → Type 0
 HasAnswer words left =
     ((job : DocumentJob) × (settings : Settings) × (instance : PlainInstance) × IsSolving words left job settings instance)
     ⊎ (((bytes : List ℕ) × IsChecking words left bytes)
-    ⊎ (((number : ℕ) × (settings : Settings) × AsksToMake words number settings) ⊎ ((bytes : List ℕ) × IsAuditing words left bytes)))
+    ⊎ (((number : ℕ) × (settings : Settings) × AsksToMake words number settings)
+    ⊎ (((task : DocumentTask) × (bytes : List ℕ) × IsReading words left task bytes)
+    ⊎ ((settings : Settings) × (instance : PlainInstance) × IsFronting words left settings instance))))
 
 -- the words are a job that reads nothing, or none
 abbrev pub ReadsNothing : List (String Global) → Type 0
@@ -129,12 +172,13 @@ pub record IsLongDocument (words : List (String Global)) (left : Option (List �
   pub past : most_document_bytes < length bytes
   pub none : NoneRefused (take most_document_bytes bytes)
 
--- more bytes come for `audit` than it reads
-pub record IsLongAudit (words : List (String Global)) (left : Option (List ℕ)) : Type 0 where
-  pub asks : AsksAudit words
+-- more bytes come for `audit` or `explain` than it reads
+pub record IsLongReading (words : List (String Global)) (left : Option (List ℕ)) : Type 0 where
+  pub task : DocumentTask
+  pub asks : AsksTask words task
   pub bytes : List ℕ
   pub told : left ≡ Some bytes
-  pub past : most_audit_bytes < length bytes
+  pub past : most_read_bytes < length bytes
 
 -- the words ask for a solving job, and the input has this fault
 pub record IsFaultyText (words : List (String Global)) (left : Option (List ℕ)) (fault : TextFault) : Type 0 where
@@ -146,11 +190,40 @@ pub record IsFaultyText (words : List (String Global)) (left : Option (List ℕ)
   pub within : length bytes ≤ most_instance_bytes
   pub wrong : text_instance bytes ≡ Err fault
 
+-- more bytes come for `front` than an instance may have
+pub record IsLongFront (words : List (String Global)) (left : Option (List ℕ)) : Type 0 where
+  pub settings : Settings
+  pub asks : AsksFront words settings
+  pub bytes : List ℕ
+  pub told : left ≡ Some bytes
+  pub past : most_instance_bytes < length bytes
+
+-- the words ask for `front`, and the input has this fault
+pub record IsFaultyFront (words : List (String Global)) (left : Option (List ℕ)) (fault : TextFault) : Type 0 where
+  pub settings : Settings
+  pub asks : AsksFront words settings
+  pub bytes : List ℕ
+  pub told : left ≡ Some bytes
+  pub within : length bytes ≤ most_instance_bytes
+  pub wrong : text_instance bytes ≡ Err fault
+
+-- the words ask for `front`, and the input is the text of an instance that hasn't two dimensions
+pub record IsOtherFront (words : List (String Global)) (left : Option (List ℕ)) : Type 0 where
+  pub settings : Settings
+  pub asks : AsksFront words settings
+  pub bytes : List ℕ
+  pub told : left ≡ Some bytes
+  pub within : length bytes ≤ most_instance_bytes
+  pub instance : PlainInstance
+  pub read : text_instance bytes ≡ Ok instance
+  pub other : ¬ (dims instance ≡ 2)
+
 -- the words and the input are to be refused for this cause
 abbrev pub IsRefusable : List (String Global) → Option (List ℕ) → Stop → Type 0
 IsRefusable words left Words = AsksNothing words
-IsRefusable words left TooLong = IsLongInstance words left ⊎ (IsLongDocument words left ⊎ IsLongAudit words left)
-IsRefusable words left (Text fault) = IsFaultyText words left fault
+IsRefusable words left TooLong = IsLongInstance words left ⊎ (IsLongDocument words left ⊎ (IsLongReading words left ⊎ IsLongFront words left))
+IsRefusable words left (Text fault) = IsFaultyText words left fault ⊎ IsFaultyFront words left fault
+IsRefusable words left Dimensions = IsOtherFront words left
 IsRefusable words left ReadFault = ⊥
 IsRefusable words left WriteFault = ⊥
 IsRefusable words left NoMemory = ⊥

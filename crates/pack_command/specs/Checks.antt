@@ -12,7 +12,7 @@ use Rattle.verdict_terms.specs.Form.{IsDocument}
 use Rattle.document_lines.specs.Reading.{AreBytesEnough, NoneRefusedBefore}
 use Rattle.document_check.specs.Checked.{most_document_bytes}
 use Rattle.pack_command.specs.declared.stop.Stop.{Stop}
-use Rattle.pack_command.specs.declared.stop.Stop.TheVariants.{Words, TooLong, Text, ReadFault, WriteFault, NoMemory}
+use Rattle.pack_command.specs.declared.stop.Stop.TheVariants.{Words, TooLong, Text, Dimensions, ReadFault, WriteFault, NoMemory}
 use Rattle.answer_streams.specs.declared.verdict.Verdict.{Verdict}
 use Rattle.answer_streams.specs.Verdicts.{plain_verdict, verdict_status}
 
@@ -56,6 +56,7 @@ IsVerdict old new (Err ReadFault) = IsBrokenOff old new
 IsVerdict old new (Err NoMemory) = IsGivenUp old new
 IsVerdict old new (Err Words) = ⊥
 IsVerdict old new (Err (Text fault)) = ⊥
+IsVerdict old new (Err Dimensions) = ⊥
 IsVerdict old new (Err WriteFault) = ⊥
 
 -- a verdict was reached, and its whole line was written
@@ -79,6 +80,7 @@ IsWithoutVerdict old new sunk_old sunk_new WriteFault = IsLineCut old new sunk_o
 IsWithoutVerdict old new sunk_old sunk_new NoMemory = IsGivenUp old new × (sunk_new ≡ sunk_old)
 IsWithoutVerdict old new sunk_old sunk_new Words = ⊥
 IsWithoutVerdict old new sunk_old sunk_new (Text fault) = ⊥
+IsWithoutVerdict old new sunk_old sunk_new Dimensions = ⊥
 
 -- verified or refused
 abbrev pub IsVerdictStatus : ℕ → Type 0

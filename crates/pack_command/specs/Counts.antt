@@ -2,7 +2,7 @@
 use Rattle.std.specs.Prelude.{ℕ, ◌≡◌, ◌≢◌, ◌⊎◌, Result, Ok, Err}
 use Rattle.pack_streams.specs.Faults.{FailedOnce}
 use Rattle.pack_command.specs.declared.stop.Stop.{Stop}
-use Rattle.pack_command.specs.declared.stop.Stop.TheVariants.{Words, TooLong, Text, ReadFault, WriteFault, NoMemory}
+use Rattle.pack_command.specs.declared.stop.Stop.TheVariants.{Words, TooLong, Text, Dimensions, ReadFault, WriteFault, NoMemory}
 
 -- the count of the source, by how a job ended
 abbrev pub CountsReads : {A : Type 0} → ℕ → ℕ → Result A Stop → Type 0
@@ -11,6 +11,7 @@ CountsReads before now (Err ReadFault) = FailedOnce before now
 CountsReads before now (Err Words) = now ≡ before
 CountsReads before now (Err TooLong) = now ≡ before
 CountsReads before now (Err (Text fault)) = now ≡ before
+CountsReads before now (Err Dimensions) = now ≡ before
 CountsReads before now (Err WriteFault) = now ≡ before
 CountsReads before now (Err NoMemory) = now ≡ before
 
@@ -21,6 +22,7 @@ CountsWrites before now (Err WriteFault) = FailedOnce before now
 CountsWrites before now (Err Words) = now ≡ before
 CountsWrites before now (Err TooLong) = now ≡ before
 CountsWrites before now (Err (Text fault)) = now ≡ before
+CountsWrites before now (Err Dimensions) = now ≡ before
 CountsWrites before now (Err ReadFault) = now ≡ before
 CountsWrites before now (Err NoMemory) = now ≡ before
 

@@ -16,7 +16,7 @@ use Rattle.pack_command.specs.Answered.{branchings, class_bound}
 use Rattle.pack_command.specs.Asked.{AsksToMake}
 use Rattle.answer_streams.specs.declared.summary.Made.{Made}
 use Rattle.pack_command.specs.declared.stop.Stop.{Stop}
-use Rattle.pack_command.specs.declared.stop.Stop.TheVariants.{Words, TooLong, Text, ReadFault, WriteFault, NoMemory}
+use Rattle.pack_command.specs.declared.stop.Stop.TheVariants.{Words, TooLong, Text, Dimensions, ReadFault, WriteFault, NoMemory}
 
 -- the answer for a number; the number of workers has no part
 abbrev pub made_for : ℕ → Settings → JobAnswer
@@ -45,6 +45,7 @@ IsMadeCut number settings sunk_old sunk_new NoMemory = sunk_new ≡ sunk_old
 IsMadeCut number settings sunk_old sunk_new Words = ⊥
 IsMadeCut number settings sunk_old sunk_new TooLong = ⊥
 IsMadeCut number settings sunk_old sunk_new (Text fault) = ⊥
+IsMadeCut number settings sunk_old sunk_new Dimensions = ⊥
 IsMadeCut number settings sunk_old sunk_new ReadFault = ⊥
 
 -- why the job ended without its summary. Nothing was taken from the source.

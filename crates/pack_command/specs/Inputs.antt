@@ -7,15 +7,15 @@ use Rattle.text_terms.specs.Texts.{text_instance}
 use Rattle.pack_streams.specs.Moves.{Gives}
 use Rattle.pack_streams.specs.Reading.{block}
 use Rattle.pack_command.specs.declared.stop.Stop.{Stop}
-use Rattle.pack_command.specs.declared.stop.Stop.TheVariants.{Words, TooLong, Text, ReadFault, WriteFault, NoMemory}
+use Rattle.pack_command.specs.declared.stop.Stop.TheVariants.{Words, TooLong, Text, Dimensions, ReadFault, WriteFault, NoMemory}
 
 -- the most bytes that the text of an instance may have: 2 ^ 20
 abbrev pub most_instance_bytes : ℕ
 most_instance_bytes = 1048576
 
--- the most bytes that `audit` reads: 2 ^ 24
-abbrev pub most_audit_bytes : ℕ
-most_audit_bytes = 16777216
+-- the most bytes that `audit` and `explain` read: 2 ^ 24
+abbrev pub most_read_bytes : ℕ
+most_read_bytes = 16777216
 
 -- these bytes are all that the source had to give, and not too many
 pub record IsWholeInput (old new : Option (List ℕ)) (bytes : List ℕ) : Type 0 where
@@ -39,4 +39,5 @@ IsInputRead old new (Err TooLong) =
 IsInputRead old new (Err ReadFault) = (bytes : List ℕ) × Gives old new bytes × (length bytes ≤ most_instance_bytes)
 IsInputRead old new (Err NoMemory) = IsPartTaken old new
 IsInputRead old new (Err Words) = ⊥
+IsInputRead old new (Err Dimensions) = ⊥
 IsInputRead old new (Err WriteFault) = ⊥

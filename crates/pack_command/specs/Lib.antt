@@ -1,6 +1,7 @@
 pub mod Stops
 pub mod Answered
 pub mod Asked
+pub mod Fronts
 pub mod Strips
 pub mod FewestBins
 pub mod GreatestValues
@@ -14,3 +15,5 @@ pub mod Ends
 pub mod Own
 pub mod Reductions
 pub mod Audits
+pub mod Explanations
+pub mod Readings

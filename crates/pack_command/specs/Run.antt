@@ -14,7 +14,7 @@ use Rattle.pack_command.specs.Asked.{AsksToSolve, AsksNothing}
 use Rattle.pack_command.specs.Inputs.{IsWholeInput, IsPartTaken, IsInputRead}
 use Rattle.pack_streams.specs.declared.moves.WriteFault.{WriteFault as WriteFailed}
 use Rattle.pack_command.specs.declared.stop.Stop.{Stop}
-use Rattle.pack_command.specs.declared.stop.Stop.TheVariants.{Words, TooLong, Text, ReadFault, WriteFault, NoMemory}
+use Rattle.pack_command.specs.declared.stop.Stop.TheVariants.{Words, TooLong, Text, Dimensions, ReadFault, WriteFault, NoMemory}
 
 -- the words ask for a solving job, the whole input is the text of an instance, and these are its
 -- status and its document
@@ -46,6 +46,7 @@ abbrev pub IsStopped : List (String Global) → (old new sunk_old sunk_new : Opt
 IsStopped words old new sunk_old sunk_new Words = AsksNothing words × (new ≡ old) × (sunk_new ≡ sunk_old)
 IsStopped words old new sunk_old sunk_new TooLong = Asks words × IsInputRead old new (Err TooLong) × (sunk_new ≡ sunk_old)
 IsStopped words old new sunk_old sunk_new (Text fault) = Asks words × IsInputRead old new (Err (Text fault)) × (sunk_new ≡ sunk_old)
+IsStopped words old new sunk_old sunk_new Dimensions = ⊥
 IsStopped words old new sunk_old sunk_new ReadFault = Asks words × IsInputRead old new (Err ReadFault) × (sunk_new ≡ sunk_old)
 IsStopped words old new sunk_old sunk_new WriteFault = IsCutShort words old new sunk_old sunk_new
 IsStopped words old new sunk_old sunk_new NoMemory = ((new ≡ old) ⊎ (Asks words × IsPartTaken old new)) × (sunk_new ≡ sunk_old)

@@ -1,48 +1,61 @@
-//! The job `audit`: a reduced document is verified, or refused at its first faulty line.
+//! The job `audit`: a document of its kind is verified, or refused at its first faulty line.
 ghost use Rattle.std.specs.Prelude.{◌≡◌, ◌≢◌, ◌≤◌, length, IfOk, IfErr};
 ghost use Rattle.verdict_terms.specs.Documents.{reduced_verdict};
+ghost use Rattle.explained_documents.specs.Documents.{explained_verdict};
 ghost use Rattle.answer_streams.specs.Verdicts.{plain_verdict};
+ghost use Rattle.answer_streams.specs.Audited.{IsExplainedAs, IsToldAs, audit_verdict};
 ghost use Rattle.pack_command.specs.Counts.{CountsReads, CountsWrites};
-ghost use Rattle.pack_command.specs.Inputs.{most_audit_bytes};
-ghost use Rattle.pack_command.specs.Audits.{IsAuditRead, IsAuditWritten, IsWithoutAudit};
+ghost use Rattle.pack_command.specs.Inputs.{most_read_bytes};
+ghost use Rattle.pack_command.specs.Readings.{Audits, IsReadingDone, IsWithoutReading};
 
+use crate::input::read_document;
 use crate::stop::Stop;
-use answer_streams::{ReducedVerdict, Verdict, stream};
+use answer_streams::{AuditedVerdict, ExplainedVerdict, Verdict, stream};
 use box_instances::NoMemory;
 use document_check::{Audit, audit_document};
-use pack_streams::{ReadStop, Sink, Source, read_up_to};
+use explained_check::{ExplainedAudit, audit_explained, document_kind};
+use explained_documents::DocumentKind;
+use pack_streams::{Sink, Source};
 use std::alloc::Global;
 use verdict_terms::Heading;
 
-// The most bytes that are read.
-const LIMIT: usize = 16_777_216;
-
-// The bytes of the whole source.
-fn read_document<S: Source>(alloc: Global, input: &mut S) -> Result<Vec<u8>, Stop>
-    ensures moves { IsAuditRead (S.left input.old) (S.left input.new) result }
-    ensures reads { CountsReads (S.faults input.old) (S.faults input.new) result }
+// The verdict on these bytes as a reduced document.
+fn reduced_on(alloc: Global, bytes: &[u8]) -> Result<Verdict, NoMemory>
+    requires { length bytes.now ≤ most_read_bytes }
+    ensures { IfOk result (λ v. plain_verdict v ≡ reduced_verdict bytes.now) }
 {
-    match read_up_to(alloc, input, LIMIT) {
-        Ok(bytes) => Ok(bytes),
-        Err(ReadStop::TooLong) => Err(Stop::TooLong),
-        Err(ReadStop::ReadFault) => Err(Stop::ReadFault),
-        Err(ReadStop::NoMemory) => Err(Stop::NoMemory),
+    match audit_document(alloc, Heading::Reduced, bytes) {
+        Audit::Verified(claim) => Ok(Verdict::Verified(claim)),
+        Audit::Refused { line, reason } => Ok(Verdict::Refused { line, reason }),
+        Audit::NoMemory => Err(NoMemory),
     }
 }
 
-// The verdict on the document of these bytes.
-fn verdict_on(alloc: Global, bytes: &[u8]) -> Result<ReducedVerdict, NoMemory>
-    requires { length bytes.now ≤ most_audit_bytes }
-    ensures { IfOk result (λ v. plain_verdict v.verdict ≡ reduced_verdict bytes.now) }
+// The verdict on them as an explained one.
+fn explained_on(alloc: Global, bytes: &[u8]) -> Result<ExplainedVerdict, NoMemory>
+    ensures { IfOk result (IsExplainedAs (explained_verdict bytes.now)) }
 {
-    match audit_document(alloc, Heading::Reduced, bytes) {
-        Audit::Verified(claim) => Ok(ReducedVerdict {
-            verdict: Verdict::Verified(claim),
-        }),
-        Audit::Refused { line, reason } => Ok(ReducedVerdict {
-            verdict: Verdict::Refused { line, reason },
-        }),
-        Audit::NoMemory => Err(NoMemory),
+    match audit_explained(alloc, bytes) {
+        ExplainedAudit::Verified => Ok(ExplainedVerdict::Verified),
+        ExplainedAudit::Refused { line, reason } => Ok(ExplainedVerdict::Refused { line, reason }),
+        ExplainedAudit::NoMemory => Err(NoMemory),
+    }
+}
+
+// The verdict on the document of these bytes, as one of its kind.
+fn verdict_on(alloc: Global, bytes: &[u8]) -> Result<AuditedVerdict, NoMemory>
+    requires { length bytes.now ≤ most_read_bytes }
+    ensures { IfOk result (IsToldAs (audit_verdict bytes.now)) }
+{
+    match document_kind(bytes) {
+        DocumentKind::Reduced => {
+            let verdict = reduced_on(alloc, bytes)?;
+            Ok(AuditedVerdict::Reduced(verdict))
+        }
+        DocumentKind::Explained => {
+            let verdict = explained_on(alloc, bytes)?;
+            Ok(AuditedVerdict::Explained(verdict))
+        }
     }
 }
 
@@ -50,10 +63,10 @@ fn verdict_on(alloc: Global, bytes: &[u8]) -> Result<ReducedVerdict, NoMemory>
 /// why there is no whole line.
 pub fn audit<S: Source, K: Sink>(alloc: Global, input: &mut S, out: &mut K) -> Result<u8, Stop>
     ensures judged { IfOk result
-        (IsAuditWritten (S.left input.old) (S.left input.new) (K.written out.old)
+        (IsReadingDone Audits (S.left input.old) (S.left input.new) (K.written out.old)
         (K.written out.new)) }
     ensures unjudged { IfErr result
-        (IsWithoutAudit (S.left input.old) (S.left input.new) (K.written out.old)
+        (IsWithoutReading Audits (S.left input.old) (S.left input.new) (K.written out.old)
         (K.written out.new)) }
     ensures unwritten { IfErr result (λ stop. stop ≢ Stop.WriteFault → out.new ≡ out.old) }
     ensures reads { CountsReads (S.faults input.old) (S.faults input.new) result }
@@ -64,7 +77,7 @@ pub fn audit<S: Source, K: Sink>(alloc: Global, input: &mut S, out: &mut K) -> R
         return Err(Stop::NoMemory);
     };
     match stream(out, &verdict) {
-        Ok(()) => Ok(verdict.verdict.status()),
+        Ok(()) => Ok(verdict.status()),
         Err(_) => Err(Stop::WriteFault),
     }
 }

@@ -3,6 +3,8 @@
 
 mod auditing;
 mod checking;
+mod explaining;
+mod fronting;
 mod input;
 mod making;
 mod solving;

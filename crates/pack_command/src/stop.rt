@@ -15,6 +15,8 @@ pub enum Stop {
     TooLong,
     /// The input is no instance text.
     Text(TextFault),
+    /// `front` was asked of an instance that hasn't two dimensions.
+    Dimensions,
     /// The source failed.
     ReadFault,
     /// The sink failed.
@@ -29,7 +31,7 @@ impl Stop {
         ensures { result ≡ stop_status self }
     {
         match self {
-            Stop::Words | Stop::TooLong | Stop::Text(_) => 2,
+            Stop::Words | Stop::TooLong | Stop::Text(_) | Stop::Dimensions => 2,
             Stop::ReadFault => 4,
             Stop::WriteFault => 5,
             Stop::NoMemory => 6,
@@ -45,6 +47,7 @@ impl Stop {
             Stop::Words => write_on(err, Ok(()), USAGE),
             Stop::TooLong => write_on(err, Ok(()), b"pack: input too long\n"),
             Stop::Text(fault) => tell_fault(err, fault),
+            Stop::Dimensions => write_on(err, Ok(()), b"pack: front needs two dimensions\n"),
             Stop::ReadFault => write_on(err, Ok(()), b"pack: read fault\n"),
             Stop::WriteFault => write_on(err, Ok(()), b"pack: write fault\n"),
             Stop::NoMemory => write_on(err, Ok(()), b"pack: out of memory\n"),

@@ -5,12 +5,14 @@ ghost use Rattle.packing_terms.specs.Packing.{PlainInstance};
 ghost use Rattle.pack_streams.specs.Moves.{Gains};
 ghost use Rattle.answer_terms.specs.declared.job.DocumentJob.{DocumentJob as PlainJob};
 ghost use Rattle.pack_command.specs.Answered.{answer_for, class_bound, IsAnswerStatus, IsEnough};
-ghost use Rattle.pack_command.specs.Asked.{AsksToSolve, AsksCheck, AsksToMake, AsksAudit, IsSolving, IsChecking, IsAuditing, HasAnswer, ReadsNothing, IsRefusable};
-ghost use Rattle.pack_command.specs.Audits.{IsExactlyAudited, IsAuditClaimed};
+ghost use Rattle.pack_command.specs.Asked.{AsksToSolve, AsksCheck, AsksToMake, AsksAudit, IsSolving, IsChecking, IsAuditing, IsExplaining, IsFronting, HasAnswer, ReadsNothing, IsRefusable};
+ghost use Rattle.pack_command.specs.Audits.{IsAuditClaimed};
+ghost use Rattle.pack_command.specs.Readings.{Audits, Explains, IsExactlyRead};
 ghost use Rattle.pack_command.specs.Checks.{IsExactly, IsClaimed};
 ghost use Rattle.pack_command.specs.Counts.{CountsReads, CountsWrites, CountsStatus, IsFaultStatus};
 ghost use Rattle.pack_command.specs.Decides.{IsJobDecided, AsksWhetherFits, IsExactlyFit};
 ghost use Rattle.pack_command.specs.Ends.{IsDone, IsUndone};
+ghost use Rattle.pack_command.specs.Fronts.{front_for, IsFrontDecided, IsOwnFront};
 ghost use Rattle.pack_command.specs.Generated.{IsExactlyMade};
 ghost use Rattle.pack_command.specs.Own.{IsOwnDocument};
 ghost use Rattle.pack_command.specs.Stops.{stop_status, message_of};
@@ -20,6 +22,8 @@ ghost use Rattle.text_terms.specs.declared.settings.Settings.{Settings as PlainS
 
 use crate::auditing::audit;
 use crate::checking::check;
+use crate::explaining::explain;
+use crate::fronting::tell_front;
 use crate::input::read_input;
 use crate::making::make_and_tell;
 use crate::solving::solve;
@@ -35,12 +39,13 @@ use work_share::{Gate, Settings};
 
 /// Does the job that the words name, and answers the status that the program ends with.
 ///
-/// Status 0 is yes, least, greatest or verified, 1 is no, none or refused, and 3 is undecided or
-/// between: the answer is whole before its first byte goes to `out`, the document, the one line of
-/// `check` or `audit` or the three lines of `make` are written whole in pieces of 4,096 bytes, and
-/// nothing to `err`. With every other status one line on `err` names the cause: 2 the words, the
-/// length or the text of the input; 4 a failed read; 5 a failed write, after a part at the front of
-/// what was to be written; 6 want of memory. With 2, 4 and 6 nothing was written to `out`.
+/// Status 0 is yes, least, greatest, verified or a whole front, 1 is no, none, refused or an empty
+/// front, and 3 is undecided, between or a part of a front: the answer is whole before its first
+/// byte goes to `out`, the document, the one line of `check` or `audit` or the three lines of
+/// `make` are written whole in pieces of 4,096 bytes, and nothing to `err`. With every other status
+/// one line on `err` names the cause: 2 the words, the length or the text of the input, or for
+/// `front` that it hasn't two dimensions; 4 a failed read; 5 a failed write, after a part at the
+/// front of what was to be written; 6 want of memory. With 2, 4 and 6 nothing was written to `out`.
 ///
 /// Several workers share each search tree. Nothing that is written depends on their number, or on
 /// the gate, which they call around the exploring of each task.
@@ -92,14 +97,46 @@ pub fn run<R: Threads + Wait + Sync, S: Source, K: Sink, E: Sink, G: Gate + Sync
     ensures claimed { AsksCheck words.now → result ≡ 0
         → IsClaimed (S.left input.old) (S.left input.new) (K.written out.old) (K.written out.new) }
 
-    // `audit` writes exactly the line of the verdict on the input as a reduced document, with its
-    // status, and what it verifies is true of the instance in the document, whoever wrote it.
+    // `audit` writes exactly the line of the verdict on the input as a document of its kind, reduced
+    // or explained, with its status, and what it verifies is true, whoever wrote it: the claim of a
+    // reduced document of the instance in it, and that the instance of an explained one has no
+    // packing.
     ensures audits { (bytes : List ℕ) → IsAuditing words.now (S.left input.old) bytes
         → IsAnswerStatus result
-        → IsExactlyAudited bytes (K.written out.old) (K.written out.new) result }
+        → IsExactlyRead Audits bytes (K.written out.old) (K.written out.new) result }
     ensures attests { AsksAudit words.now → result ≡ 0
         → IsAuditClaimed (S.left input.old) (S.left input.new) (K.written out.old)
         (K.written out.new) }
+
+    // `explain` refuses what `check` refuses, with its line, and at the result line any claim but a
+    // no of `fit`. Of such a no it writes a document that explains the refutation in it step by step:
+    // the instance is the same, its tokens stand among the steps in order, `audit` verifies it, and
+    // the instance has no packing.
+    ensures explains { (bytes : List ℕ) → IsExplaining words.now (S.left input.old) bytes
+        → IsAnswerStatus result
+        → IsExactlyRead Explains bytes (K.written out.old) (K.written out.new) result }
+
+    // The answer of `front` is true of the instance that the input is the text of, which has two
+    // dimensions: all least widths and heights of a container in which the boxes fit, each once, by
+    // rising width, each with a packing, and refutations of what is below them; or all up to the
+    // last one exactly where a container that is decided has more branchings than the budget.
+    ensures sizes { (settings : PlainSettings) (instance : PlainInstance)
+        → IsFronting words.now (S.left input.old) settings instance → IsAnswerStatus result
+        → IsFrontDecided instance settings (K.written out.old) (K.written out.new) result }
+
+    // It is the answer of the definition, in which the number of workers has no part; it is whole
+    // where the budget is enough for each container; and its document is verified as a front of
+    // that instance.
+    ensures fronts { (settings : PlainSettings) (instance : PlainInstance)
+        → IsFronting words.now (S.left input.old) settings instance → IsAnswerStatus result
+        → (result ≡ (front_for settings instance).status)
+        × Gains (K.written out.old) (K.written out.new) (front_for settings instance).text }
+    ensures whole { (settings : PlainSettings) (instance : PlainInstance)
+        → IsFronting words.now (S.left input.old) settings instance
+        → class_bound instance ≤ settings.budget + 1 → result ≢ 3 }
+    ensures confirmed { (settings : PlainSettings) (instance : PlainInstance)
+        → IsFronting words.now (S.left input.old) settings instance → IsAnswerStatus result
+        → IsOwnFront instance (K.written out.old) (K.written out.new) result }
 
     // `make` writes exactly the summary of the number, with the status of its decision: yes only
     // where the generated instance fits, no only where it doesn't, and undecided exactly where its
@@ -212,6 +249,8 @@ fn job<R: Threads + Wait + Sync, S: Source, K: Sink, G: Gate + Sync>(
         Asked::Solving { job, settings } => answer(rt, alloc, job, settings, input, out, gate),
         Asked::Checking => check(alloc, input, out),
         Asked::Auditing => audit(alloc, input, out),
+        Asked::Explaining => explain(alloc, input, out),
+        Asked::Fronting { settings } => tell_front(rt, alloc, &settings, input, out, gate),
         Asked::Making { number, settings } => {
             make_and_tell(rt, alloc, number, &settings, out, gate)
         }

@@ -20,6 +20,12 @@ pub enum Asked {
     Checking,
     /// `audit`.
     Auditing,
+    /// `explain`.
+    Explaining,
+    /// `front`, and how the containers are to be decided.
+    Fronting {
+        settings: Settings,
+    },
     /// `make`, the number that it generates from, and how the instance is to be decided.
     Making {
         number: u32,
@@ -45,6 +51,8 @@ pub fn read_job(alloc: Global, words: &[String]) -> Result<Asked, Stop>
         Job::Reduced => DocumentJob::Reduced,
         Job::Check => return Ok(Asked::Checking),
         Job::Audit => return Ok(Asked::Auditing),
+        Job::Explain => return Ok(Asked::Explaining),
+        Job::Front => return Ok(Asked::Fronting { settings }),
         Job::Make => {
             return Ok(Asked::Making {
                 number: asked.number,

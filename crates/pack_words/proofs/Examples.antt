@@ -1,7 +1,7 @@
 -- Command lines with their jobs.
 use Rattle.std.proofs.Common.{◌≡◌, [], ◌∷◌, Some, None, refl, codes, true, false}
 use Rattle.text_terms.specs.Lines.{number_of}
-use Rattle.pack_words.specs.declared.job.Job.TheVariants.{Fit, Make, Audit, Reduced}
+use Rattle.pack_words.specs.declared.job.Job.TheVariants.{Fit, Make, Audit, Explain, Reduced, Front}
 use Rattle.pack_words.specs.Job.{job_of_words}
 
 eight_workers : job_of_words (codes "fit" ∷ codes "--workers=08" ∷ [])
@@ -78,3 +78,21 @@ audit_alone = refl
 audit_with_options : job_of_words (codes "audit" ∷ codes "--workers=2" ∷ []) ≡ None
 unfolding job_of_words number_of
 audit_with_options = refl
+
+explain_alone : job_of_words (codes "explain" ∷ [])
+    ≡ Some (record { job = Explain; settings = record { workers = 1; budget = 1000000; scales = true }; number = 0 })
+unfolding job_of_words number_of
+explain_alone = refl
+
+explain_with_options : job_of_words (codes "explain" ∷ codes "--scales" ∷ codes "no" ∷ []) ≡ None
+unfolding job_of_words number_of
+explain_with_options = refl
+
+front_with_options : job_of_words (codes "front" ∷ codes "--budget=1" ∷ codes "--workers" ∷ codes "2" ∷ [])
+    ≡ Some (record { job = Front; settings = record { workers = 2; budget = 1; scales = true }; number = 0 })
+unfolding job_of_words number_of
+front_with_options = refl
+
+front_with_number : job_of_words (codes "front" ∷ codes "--number" ∷ codes "3" ∷ []) ≡ None
+unfolding job_of_words number_of
+front_with_number = refl

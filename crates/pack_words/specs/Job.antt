@@ -4,7 +4,7 @@ use Rattle.std.specs.Str.{bytes_eq}
 use Rattle.text_terms.specs.Lines.{number_of}
 use Rattle.pack_words.specs.Items.{Text, Item, option, word, items_from}
 use Rattle.pack_words.specs.declared.job.Job.{Job}
-use Rattle.pack_words.specs.declared.job.Job.TheVariants.{Fit, Strip, Bins, Knapsack, Check, Make, Audit, Reduced}
+use Rattle.pack_words.specs.declared.job.Job.TheVariants.{Fit, Strip, Bins, Knapsack, Check, Make, Audit, Explain, Reduced, Front}
 use Rattle.pack_words.specs.declared.job.JobWords.{JobWords}
 use Rattle.pack_words.specs.declared.job.WordsError.{WordsError}
 use Rattle.pack_words.specs.declared.job.WordsError.TheVariants.{Refused, NoMemory}
@@ -58,13 +58,16 @@ job_of_name text =
     else (if bytes_eq text (codes "check") then Some Check
     else (if bytes_eq text (codes "make") then Some Make
     else (if bytes_eq text (codes "audit") then Some Audit
+    else (if bytes_eq text (codes "explain") then Some Explain
     else (if bytes_eq text (codes "reduced") then Some Reduced
-    else None)))))))
+    else (if bytes_eq text (codes "front") then Some Front
+    else None)))))))))
 
--- `check` and `audit` take no option, and `make` alone takes a number
+-- `check`, `audit` and `explain` take no option, and `make` alone takes a number
 abbrev pub takes_settings : Job → Bool
 takes_settings Check = false
 takes_settings Audit = false
+takes_settings Explain = false
 takes_settings _ = true
 
 abbrev pub takes_number : Job → Bool

@@ -18,10 +18,14 @@ pub enum Job {
     Check,
     /// Whether a generated instance fits.
     Make,
-    /// Whether a reduced document is right.
+    /// Whether a document of another kind is right.
     Audit,
+    /// The refutation in a document, explained step by step.
+    Explain,
     /// Whether the boxes fit the container, decided from symmetry facts.
     Reduced,
+    /// All least widths and heights of a container that holds the boxes.
+    Front,
 }
 
 /// A job with its settings, and the number that `make` generates from. Where the words don't give

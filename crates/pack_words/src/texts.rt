@@ -18,7 +18,9 @@ fn job_of_name(word: &str) -> Option<Job>
         "check" => Some(Job::Check),
         "make" => Some(Job::Make),
         "audit" => Some(Job::Audit),
+        "explain" => Some(Job::Explain),
         "reduced" => Some(Job::Reduced),
+        "front" => Some(Job::Front),
         _ => None,
     }
 }
@@ -29,7 +31,7 @@ fn are_taken(job: Job, found: Found<'_>) -> bool
 {
     let has_settings = found.workers.is_some() | found.budget.is_some() | found.scales.is_some();
     match job {
-        Job::Check | Job::Audit => !has_settings & found.number.is_none(),
+        Job::Check | Job::Audit | Job::Explain => !has_settings & found.number.is_none(),
         Job::Make => true,
         _ => found.number.is_none(),
     }

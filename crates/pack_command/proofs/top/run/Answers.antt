@@ -4,7 +4,9 @@ use Rattle.pack_command.specs.Stops.{stop_status}
 use Rattle.pack_command.proofs.OwnWritten.{own_written}
 use Rattle.pack_command.proofs.Generating.{made_exactly, never_four}
 use Rattle.pack_command.proofs.Written.{written_answers, written_job, written_fits, written_enough}
-use Rattle.pack_command.proofs.Audited.{audited_done, audited_exactly, audited_claimed}
+use Rattle.pack_command.proofs.Audited.{reading_done, exactly_read, audited_claimed}
+use Rattle.pack_command.proofs.Fronted.{fronted_done}
+use Rattle.pack_command.proofs.Sized.{told_decided, told_front, told_whole, told_own}
 use Rattle.pack_command.proofs.Checked.{solved_done, judged_done, judged_exactly, judged_claimed}
 use Rattle.pack_command.proofs.Causes.{answer_counts, completes, never_read, refusable_done, refuses, stop_reads, stop_unanswered, stop_writes}
 use Rattle.pack_command.proofs.top.run.Goals as goal
@@ -36,10 +38,25 @@ pub returns-in-Ok-clause-claimed : goal.returns-in-Ok-clause-claimed
 returns-in-Ok-clause-claimed g c = λ asks zero. judged_claimed _ _ _ _ _ zero (judged_done _ _ _ _ _ _ asks c.in-Ok.ensures.answered)
 
 pub returns-in-Ok-clause-audits : goal.returns-in-Ok-clause-audits
-returns-in-Ok-clause-audits g c = λ bytes asked answer. audited_exactly _ _ _ _ _ bytes asked.told (audited_done _ _ _ _ _ _ asked.asks c.in-Ok.ensures.answered)
+returns-in-Ok-clause-audits g c = λ bytes asked answer. exactly_read _ _ _ _ _ _ bytes asked.told (reading_done _ _ _ _ _ _ _ asked.asks c.in-Ok.ensures.answered)
+
+pub returns-in-Ok-clause-explains : goal.returns-in-Ok-clause-explains
+returns-in-Ok-clause-explains g c = λ bytes asked answer. exactly_read _ _ _ _ _ _ bytes asked.told (reading_done _ _ _ _ _ _ _ asked.asks c.in-Ok.ensures.answered)
 
 pub returns-in-Ok-clause-attests : goal.returns-in-Ok-clause-attests
-returns-in-Ok-clause-attests g c = λ asks zero. audited_claimed _ _ _ _ _ zero (audited_done _ _ _ _ _ _ asks c.in-Ok.ensures.answered)
+returns-in-Ok-clause-attests g c = λ asks zero. audited_claimed _ _ _ _ _ zero (reading_done _ _ _ _ _ _ _ asks c.in-Ok.ensures.answered)
+
+pub returns-in-Ok-clause-sizes : goal.returns-in-Ok-clause-sizes
+returns-in-Ok-clause-sizes g c = λ settings instance asked answer. told_decided _ _ _ _ _ _ settings instance asked (fronted_done _ _ _ _ _ _ settings asked.asks c.in-Ok.ensures.answered)
+
+pub returns-in-Ok-clause-fronts : goal.returns-in-Ok-clause-fronts
+returns-in-Ok-clause-fronts g c = λ settings instance asked answer. told_front _ _ _ _ _ _ settings instance asked (fronted_done _ _ _ _ _ _ settings asked.asks c.in-Ok.ensures.answered)
+
+pub returns-in-Ok-clause-whole : goal.returns-in-Ok-clause-whole
+returns-in-Ok-clause-whole g c = λ settings instance asked bound. told_whole _ _ _ _ _ _ settings instance asked (fronted_done _ _ _ _ _ _ settings asked.asks c.in-Ok.ensures.answered) bound
+
+pub returns-in-Ok-clause-confirmed : goal.returns-in-Ok-clause-confirmed
+returns-in-Ok-clause-confirmed g c = λ settings instance asked answer. told_own _ _ _ _ _ _ settings instance asked (fronted_done _ _ _ _ _ _ settings asked.asks c.in-Ok.ensures.answered)
 
 pub returns-in-Ok-clause-makes : goal.returns-in-Ok-clause-makes
 returns-in-Ok-clause-makes g c = λ number settings asks answer. made_exactly _ _ _ _ _ number settings asks _ c.in-Ok.ensures.answered
@@ -79,6 +96,18 @@ returns-in-Err-clause-checks g c = λ bytes asked answer. absurd (stop_unanswere
 
 pub returns-in-Err-clause-audits : goal.returns-in-Err-clause-audits
 returns-in-Err-clause-audits g c = λ bytes asked answer. absurd (stop_unanswered c.in-Err.stop _ c.status.ensures answer)
+
+pub returns-in-Err-clause-explains : goal.returns-in-Err-clause-explains
+returns-in-Err-clause-explains g c = λ bytes asked answer. absurd (stop_unanswered c.in-Err.stop _ c.status.ensures answer)
+
+pub returns-in-Err-clause-sizes : goal.returns-in-Err-clause-sizes
+returns-in-Err-clause-sizes g c = λ settings instance asked answer. absurd (stop_unanswered c.in-Err.stop _ c.status.ensures answer)
+
+pub returns-in-Err-clause-fronts : goal.returns-in-Err-clause-fronts
+returns-in-Err-clause-fronts g c = λ settings instance asked answer. absurd (stop_unanswered c.in-Err.stop _ c.status.ensures answer)
+
+pub returns-in-Err-clause-confirmed : goal.returns-in-Err-clause-confirmed
+returns-in-Err-clause-confirmed g c = λ settings instance asked answer. absurd (stop_unanswered c.in-Err.stop _ c.status.ensures answer)
 
 pub returns-in-Err-clause-makes : goal.returns-in-Err-clause-makes
 returns-in-Err-clause-makes g c = λ number settings asks answer. absurd (stop_unanswered c.in-Err.stop _ c.status.ensures answer)

@@ -1,0 +1,81 @@
+-- The verdict on a document by its kind, its line and its status.
+use Rattle.std.specs.Prelude.{ℕ, ◌≡◌, List, [], ◌∷◌, ◌++◌, Result, Ok, Err, codes}
+use Rattle.std.specs.List.{flat_map}
+use Rattle.packing_terms.specs.Packing.{PlainInstance}
+use Rattle.document_terms.specs.declared.claim.Claim.{Claim}
+use Rattle.document_terms.specs.Claims.{IsTrueOf}
+use Rattle.verdict_terms.specs.Documents.{Refusal, reduced_verdict, reduced_verdict_line}
+use Rattle.verdict_terms.specs.Form.{IsReducedDocument}
+use Rattle.explained_terms.specs.declared.answers.AuditCode.{AuditCode}
+use Rattle.explained_documents.specs.declared.kind.DocumentKind.{DocumentKind}
+use Rattle.explained_documents.specs.declared.kind.DocumentKind.TheVariants.{Explained as OfExplained, Reduced as OfReduced}
+use Rattle.explained_documents.specs.declared.reason.ExplainedReason.{ExplainedReason}
+use Rattle.explained_documents.specs.Kinds.{document_kind}
+use Rattle.explained_documents.specs.Documents.{ExplainedRefusal, explained_verdict, explained_line, explained_status, code_word, reason_words, IsShown}
+use Rattle.answer_streams.specs.Verdicts.{plain_verdict, verdict_status}
+use Rattle.answer_streams.specs.declared.audited.AuditedVerdict.{AuditedVerdict}
+use Rattle.answer_streams.specs.declared.audited.AuditedVerdict.TheVariants.{Reduced, Explained}
+use Rattle.answer_streams.specs.declared.audited.ExplainedVerdict.{ExplainedVerdict}
+use Rattle.answer_streams.specs.declared.audited.ExplainedVerdict.TheVariants.{Verified, Refused}
+
+-- a verdict, under the kind of the document
+pub data KindVerdict : Type 0 where
+  ReducedVerdictOf : (verdict : Result Claim Refusal) → KindVerdict
+  ExplainedVerdictOf : (verdict : Result PlainInstance ExplainedRefusal) → KindVerdict
+
+abbrev pub verdict_of_kind : DocumentKind → List ℕ → KindVerdict
+verdict_of_kind OfReduced text = ReducedVerdictOf (reduced_verdict text)
+verdict_of_kind OfExplained text = ExplainedVerdictOf (explained_verdict text)
+
+-- the verdict on a text, by what its first line that isn't blank says
+abbrev pub audit_verdict : List ℕ → KindVerdict
+audit_verdict text = verdict_of_kind (document_kind text) text
+
+-- the line that is written, and the status
+abbrev pub audit_line : KindVerdict → List ℕ
+audit_line (ReducedVerdictOf verdict) = reduced_verdict_line verdict
+audit_line (ExplainedVerdictOf verdict) = explained_line verdict
+
+abbrev pub audit_status : KindVerdict → ℕ
+audit_status (ReducedVerdictOf verdict) = verdict_status verdict
+audit_status (ExplainedVerdictOf verdict) = explained_status verdict
+
+-- What is verified is true: a reduced document is one of its claim, which holds of the instance in
+-- it; the instance of an explained document has no packing.
+abbrev pub IsTrueVerdict : List ℕ → KindVerdict → Type 0
+IsTrueVerdict text (ReducedVerdictOf (Ok claim)) = (document : IsReducedDocument text claim) × IsTrueOf document.instance claim
+IsTrueVerdict text (ReducedVerdictOf (Err refusal)) = ⊥
+IsTrueVerdict text (ExplainedVerdictOf (Ok instance)) = (explained_verdict text ≡ Ok instance) × IsShown instance
+IsTrueVerdict text (ExplainedVerdictOf (Err refusal)) = ⊥
+
+-- ---- what is told
+
+abbrev pub explained_text : ExplainedVerdict → List ℕ
+explained_text Verified = codes "verified explained fit no\n"
+explained_text (Refused line reason) = explained_line (Err (record { line = line; reason = reason }))
+
+abbrev pub verdict_text : AuditedVerdict → List ℕ
+verdict_text (Reduced verdict) = reduced_verdict_line (plain_verdict verdict)
+verdict_text (Explained verdict) = explained_text verdict
+
+abbrev pub told_status : AuditedVerdict → ℕ
+told_status (Reduced verdict) = verdict_status (plain_verdict verdict)
+told_status (Explained Verified) = 0
+told_status (Explained (Refused line reason)) = 1
+
+-- the verdict on an explained document
+abbrev pub IsExplainedAs : Result PlainInstance ExplainedRefusal → ExplainedVerdict → Type 0
+IsExplainedAs verdict Verified = (instance : PlainInstance) × (verdict ≡ Ok instance)
+IsExplainedAs verdict (Refused line reason) = verdict ≡ Err (record { line = line; reason = reason })
+
+-- the verdict is told by its line and its status
+pub record IsToldAs (verdict : KindVerdict) (told : AuditedVerdict) : Type 0 where
+  pub line : verdict_text told ≡ audit_line verdict
+  pub status : told_status told ≡ audit_status verdict
+
+-- the parts of the line of a refusal
+abbrev pub audit_code_end : AuditCode → List ℕ
+audit_code_end code = 32 ∷ (code_word code ++ 10 ∷ [])
+
+abbrev pub explained_end : ExplainedReason → List ℕ
+explained_end reason = flat_map (λ word. 32 ∷ word) (reason_words reason) ++ 10 ∷ []

@@ -1,0 +1,108 @@
+-- The lines of an explained refutation have lines of a text.
+use Rattle.std.proofs.Common.{◌≡◌, ℕ, suc, ◌+◌, ◌<◌, ◌≤◌, refl, sym, subst, arith, false, List, [], ◌∷◌, ◌++◌, length}
+use Rattle.std.specs.Fmt.{decimal}
+use Rattle.packing_terms.specs.declared.Exclusion.{Exclusion}
+use Rattle.packing_terms.specs.Packing.{PlainInstance, dims, box_count}
+use Rattle.packing_terms.specs.Rules.{Rule, AreBoxes, IsRuleInstance}
+use Rattle.packing_terms.specs.Rules.Rule.{Pair as PairRule, Apart as ApartRule, Triple as TripleRule, Chain as ChainRule, Compose as ComposeRule, Cycle as CycleRule, Order as OrderRule}
+use Rattle.packing_terms.specs.Tokens.{PlainToken}
+use Rattle.packing_terms.specs.Tokens.PlainToken.{Apart as ApartToken, Order as OrderToken, Rules, TooLarge, Scales, Assign, Choose, SetRefuted, ValueShort, GlobalScales}
+use Rattle.packing_terms.proofs.Boxes.{boxes_few}
+use Rattle.text_terms.specs.Texts.{is_none}
+use Rattle.text_terms.proofs.Spelled.{AreWords}
+use Rattle.text_terms.proofs.Back.{word_decimal}
+use Rattle.document_terms.specs.TokenLines.{IsParameter}
+use Rattle.explained_terms.specs.Steps.{PlainStep, box_lines, lines_of}
+use Rattle.explained_terms.specs.Steps.PlainStep.{Pair, Apart, Triple, Compose, Cycle, Order, Chain, On, Clash, Plain}
+use Rattle.explained_terms.specs.StepLines.{HasPlainLine, HasStepLine, step_words}
+use Rattle.explained_terms.specs.Explaining.{Explains, by_clash, by_side, by_scales, by_step, by_apart, by_order}
+use Rattle.answer_terms.specs.Explained.{step_lines}
+use Rattle.own_documents.proofs.Filled.{AreFilled}
+use Rattle.own_documents.proofs.Written.{IsBounded, one_plain, three_plain, token_plain, tuple_written, named_written, large_written}
+
+-- each step has a line with d dimensions
+abbrev pub HaveStepLines : ℕ → List PlainStep → Type 0
+HaveStepLines d [] = Unit {0}
+HaveStepLines d (s ∷ ss) = HasStepLine d s × HaveStepLines d ss
+
+steps_joined : (d : ℕ) (z xs ys : List PlainStep) → z ≡ xs ++ ys → HaveStepLines d xs → HaveStepLines d ys → HaveStepLines d z
+steps_joined d z xs ys e h k = subst (HaveStepLines d) (sym e) (go xs h)
+  where
+    go : (ts : List PlainStep) → HaveStepLines d ts → HaveStepLines d (ts ++ ys)
+    go [] h = k
+    go (t ∷ ts) h = (h.0, go ts h.1)
+
+-- ---- their words
+
+four_plain : (x y z u : ℕ) → IsParameter x → IsParameter y → IsParameter z → IsParameter u → AreWords (decimal x ∷ decimal y ∷ decimal z ∷ decimal u ∷ [])
+four_plain x y z u h k l m = word_decimal x (omega (arith, h)) (decimal y ∷ decimal z ∷ decimal u ∷ []) (three_plain y z u k l m)
+
+five_plain : (x y z u v : ℕ) → IsParameter x → IsParameter y → IsParameter z → IsParameter u → IsParameter v → AreWords (decimal x ∷ decimal y ∷ decimal z ∷ decimal u ∷ decimal v ∷ [])
+five_plain x y z u v h k l m n = word_decimal x (omega (arith, h)) (decimal y ∷ decimal z ∷ decimal u ∷ decimal v ∷ []) (four_plain y z u v k l m n)
+
+plain_plain : (d : ℕ) (t : PlainToken) → HasPlainLine d t → AreWords (step_words (Plain t)) × (is_none (step_words (Plain t)) ≡ false)
+plain_plain d (ApartToken i u v) h = token_plain d (ApartToken i u v) h
+plain_plain d (OrderToken i u v) h = token_plain d (OrderToken i u v) h
+plain_plain d (TooLarge v i) h = token_plain d (TooLarge v i) h
+plain_plain d (Scales fs) h = token_plain d (Scales fs) h
+plain_plain d Rules h = absurd h
+plain_plain d (Assign v) h = absurd h
+plain_plain d (Choose v) h = absurd h
+plain_plain d (SetRefuted b) h = absurd h
+plain_plain d ValueShort h = absurd h
+plain_plain d (GlobalScales fs) h = absurd h
+
+step_plain : (d : ℕ) (s : PlainStep) → HasStepLine d s → AreWords (step_words s) × (is_none (step_words s) ≡ false)
+step_plain d (Pair i u v) h = ((omega arith, refl, three_plain i u v h.0 h.1 h.2), refl)
+step_plain d (Apart i u v) h = ((omega arith, refl, three_plain i u v h.0 h.1 h.2), refl)
+step_plain d (Triple i u v x) h = ((omega arith, refl, four_plain i u v x h.0 h.1 h.2 h.3), refl)
+step_plain d (Compose i u v x) h = ((omega arith, refl, four_plain i u v x h.0 h.1 h.2 h.3), refl)
+step_plain n (Cycle i a b c d) h = ((omega arith, refl, five_plain i a b c d h.0 h.1 h.2 h.3 h.4), refl)
+step_plain n (Order i a b c d) h = ((omega arith, refl, five_plain i a b c d h.0 h.1 h.2 h.3 h.4), refl)
+step_plain d (Chain i p q) h = ((omega arith, refl, three_plain i p q h.0 h.1 h.2), refl)
+step_plain d (On v) h = ((omega arith, refl, one_plain v h), refl)
+step_plain d (Clash i u v) h = ((omega arith, refl, three_plain i u v h.0 h.1 h.2), refl)
+step_plain d (Plain token) h = plain_plain d token h
+
+pub steps_filled : (d : ℕ) (ss : List PlainStep) → HaveStepLines d ss → AreFilled (step_lines ss)
+steps_filled d [] h = tt
+steps_filled d (s ∷ ss) h = let p = step_plain d s h.0 in (p.0, p.1, steps_filled d ss h.1)
+
+-- ---- explanations
+
+module _ (instance : PlainInstance) (bounded : IsBounded instance) where
+  box_written : (v : ℕ) → v < box_count instance → IsParameter (suc v)
+  box_written v h = let m = bounded.boxes in omega (arith, m, h)
+
+  dim_written : (i : ℕ) → i < dims instance → IsParameter (suc i)
+  dim_written i h = let d = bounded.dimensions in omega (arith, d, h)
+
+  few_written : (vs : List ℕ) → AreBoxes instance vs → IsParameter (length vs)
+  few_written vs h = let m = bounded.boxes in let f = boxes_few (box_count instance) vs h in omega (arith, m, f)
+
+  boxes_written : (vs : List ℕ) → AreBoxes instance vs → HaveStepLines (dims instance) (box_lines vs)
+  boxes_written [] h = tt
+  boxes_written (v ∷ vs) h = (box_written v h.0, boxes_written vs h.2)
+
+  rule_written : (rule : Rule) → IsRuleInstance instance rule → HaveStepLines (dims instance) (lines_of rule)
+  rule_written (PairRule i u v) h = ((dim_written i h.0, box_written u h.1.0, box_written v h.1.2.0), tt)
+  rule_written (ApartRule i u v) h = ((dim_written i h.0, box_written u h.1.0, box_written v h.1.2.0), tt)
+  rule_written (TripleRule i u v x) h = ((dim_written i h.0, box_written u h.1.0, box_written v h.1.2.0, box_written x h.1.2.2.0), tt)
+  rule_written (ComposeRule i u v x) h = ((dim_written i h.0, box_written u h.1.0, box_written v h.1.2.0, box_written x h.1.2.2.0), tt)
+  rule_written (CycleRule i a b c d) h = ((dim_written i h.0, box_written a h.1.0, box_written b h.1.2.0, box_written c h.1.2.2.0, box_written d h.1.2.2.2.0), tt)
+  rule_written (OrderRule i a b c d) h = ((dim_written i h.0, box_written a h.1.0, box_written b h.1.2.0, box_written c h.1.2.2.0, box_written d h.1.2.2.2.0), tt)
+  rule_written (ChainRule i before u v after) h = (
+    (dim_written i h.0, few_written (before ++ u ∷ []) h.1, few_written (v ∷ after) h.2),
+    steps_joined (dims instance) _ (box_lines (before ++ u ∷ [])) (box_lines (v ∷ after)) refl (boxes_written (before ++ u ∷ []) h.1) (boxes_written (v ∷ after) h.2),
+  )
+
+  pub explained_written : {es : List Exclusion} {z : List PlainStep} → Explains instance es z → HaveStepLines (dims instance) z
+  explained_written (by_clash {i = i} {u = u} {v = v} c) = (named_written instance i u v bounded c.named, tt)
+  explained_written (by_side {v = v} {i = i} h) = (large_written instance v i bounded h, tt)
+  explained_written (by_scales {fs = fs} h) = (tuple_written instance fs bounded h.tuple, tt)
+  explained_written (by_step {rule = rule} {z = z} {rest = rest} h e more) =
+      steps_joined (dims instance) z (lines_of rule) rest e (rule_written rule h.is) (explained_written more)
+  explained_written (by_apart {i = i} {u = u} {v = v} {l = l} {r = r} {z = z} h e left right) =
+      (named_written instance i u v bounded h.named, steps_joined (dims instance) z l r e (explained_written left) (explained_written right))
+  explained_written (by_order {i = i} {u = u} {v = v} {l = l} {r = r} {z = z} h e left right) =
+      (named_written instance i u v bounded h.named, steps_joined (dims instance) z l r e (explained_written left) (explained_written right))
