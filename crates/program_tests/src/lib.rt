@@ -8,7 +8,11 @@ mod check_faults;
 #[cfg(test)]
 mod cut_documents;
 #[cfg(test)]
+mod explanations;
+#[cfg(test)]
 mod fits;
+#[cfg(test)]
+mod fronts;
 #[cfg(test)]
 mod gates;
 #[cfg(test)]

@@ -52,7 +52,23 @@ const FOUR_REFUTED: &[u8] =
 const AUDIT: &[&str] = &["audit"];
 
 // Documents, the status of their audit and its line.
-const AUDITED: [(&[u8], u8, &str); 8] = [
+const AUDITED: [(&[u8], u8, &str); 12] = [
+    (
+        b"explained fit\nformat 1\ncontainer 10 10\nbox 6 6\nbox 6 6\nresult no\npair 1 1 2\npair 2 1 2\napart 1 1 2\nx 1 1 2\nend\n",
+        0,
+        "verified explained fit no\n",
+    ),
+    (
+        b"\nexplained fit\nformat 1\ncontainer 10 10\nbox 6 6\nbox 6 6\nresult no\npair 1 1 2\napart 1 1 2\nx 1 1 2\nend\n",
+        1,
+        "refused 9 step\n",
+    ),
+    (
+        b"explained fit\nformat 1\ncontainer 10 10\nbox 6\nresult no\nend\n",
+        1,
+        "refused 4 text 2\n",
+    ),
+    (b"explained strip\nformat 1\n", 1, "refused 1 form\n"),
     (FOUR_REFUTED, 0, "verified reduced fit no\n"),
     (
         b"reduced fit\nformat 1\ncontainer 10 10\nbox 6 4\nbox 6 6\nresult yes\nplace 0 0\nplace 0 4\nend\n",

@@ -1,0 +1,9 @@
+//! Tests of fronts and of the verdicts on their lines, on rows worked out by hand.
+#![tactic(auto)]
+
+#[cfg(test)]
+mod audits;
+#[cfg(test)]
+mod texts;
+#[cfg(test)]
+mod walks;

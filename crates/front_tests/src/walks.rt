@@ -1,0 +1,64 @@
+//! Walks along a front, with one worker and with two.
+use crate::texts::pair;
+use size_front::{Corner, Point, least_sizes};
+use std::test::Fail;
+use work_share::{NoGate, Settings};
+
+fn settings(workers: u32, budget: u64) -> Settings {
+    Settings {
+        workers,
+        budget,
+        scales: true,
+    }
+}
+
+// Whether the corner has this size.
+fn is_corner(corner: &Corner, width: u32, height: u32) -> bool {
+    corner.width == width && corner.height == height && corner.tokens.len() == 1
+}
+
+// Whether the point has this size and these places.
+fn is_point(point: &Point, width: u32, height: u32, places: &[u32]) -> bool {
+    point.width == width && point.height == height && point.places.as_slice() == places
+}
+
+// Whether these are the corners before the two points.
+fn are_corners(corners: &[Corner]) -> bool {
+    corners.len() == 2 && is_corner(&corners[0], 1, 4) && is_corner(&corners[1], 3, 1)
+}
+
+// Whether these are the two points.
+fn are_points(points: &[Point]) -> bool {
+    points.len() == 2
+        && is_point(&points[0], 2, 2, &[0, 0, 0, 1])
+        && is_point(&points[1], 4, 1, &[0, 0, 2, 0])
+}
+
+#[test]
+fn a_pair_has_two_least_sizes(rt: HostRuntime) -> Result<(), Fail> {
+    let alloc = rt.alloc();
+    let pair = pair(alloc)?;
+    assert_eq!(rt; pair.dims(), 2);
+    for workers in [1, 2] {
+        let front = least_sizes(&rt, alloc, &pair, &settings(workers, 2), &NoGate)?;
+        assert!(rt; front.complete);
+        assert!(rt; are_corners(&front.corners));
+        assert!(rt; are_points(&front.points));
+    }
+    Ok(())
+}
+
+// The whole container takes two branchings.
+#[test]
+fn a_budget_that_is_spent_ends_the_walk(rt: HostRuntime) -> Result<(), Fail> {
+    let alloc = rt.alloc();
+    let pair = pair(alloc)?;
+    assert_eq!(rt; pair.dims(), 2);
+    for workers in [1, 2] {
+        let front = least_sizes(&rt, alloc, &pair, &settings(workers, 1), &NoGate)?;
+        assert!(rt; !front.complete);
+        assert!(rt; front.points.is_empty());
+        assert!(rt; front.corners.is_empty());
+    }
+    Ok(())
+}

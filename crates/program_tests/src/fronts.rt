@@ -1,0 +1,72 @@
+//! The least sizes of two boxes, and what `front` refuses.
+use crate::runs::{told_of, told_written_to};
+use crate::texts::UNIT;
+use std::test::Fail;
+
+const PAIR: &[u8] = b"format 1\ncontainer 4 4\nbox 2 1\nbox 2 1\n";
+
+const PAIR_FRONT: &[u8] =
+    b"front\nformat 1\ncontainer 4 4\nbox 2 1\nbox 2 1\nresult front 2\ncorner 1 4\nt 1 1\npoint 2 2\nplace 0 0\nplace 0 1\ncorner 3 1\nx\npoint 4 1\nplace 0 0\nplace 2 0\nend\n";
+
+const PLATE: &[u8] = b"format 1\ncontainer 10 10\nbox 2 1\n";
+
+const PLATE_FRONT: &[u8] =
+    b"front\nformat 1\ncontainer 10 10\nbox 2 1\nresult front 1\ncorner 1 10\nt 1 1\npoint 2 1\nplace 0 0\nend\n";
+
+const PAIR_PART: &[u8] =
+    b"front\nformat 1\ncontainer 4 4\nbox 2 1\nbox 2 1\nresult partial 0\nend\n";
+
+const SOLID: &[u8] = b"format 1\ncontainer 2 2 2\nbox 1 1 1\n";
+
+const LARGE: &[u8] = b"format 1\ncontainer 2 2\nbox 3 1\n";
+
+const LARGE_FRONT: &[u8] =
+    b"front\nformat 1\ncontainer 2 2\nbox 3 1\nresult front 0\ncorner 2 2\nt 1 1\nend\n";
+
+// Words, a text, the status of its front and the document.
+const ROWS: [(&[&str], &[u8], u8, &[u8]); 6] = [
+    (&["front"], PLATE, 0, PLATE_FRONT),
+    (&["front"], PAIR, 0, PAIR_FRONT),
+    (&["front", "--workers", "2"], PAIR, 0, PAIR_FRONT),
+    (&["front", "--budget", "1"], PAIR, 3, PAIR_PART),
+    (&["front"], LARGE, 1, LARGE_FRONT),
+    (
+        &["front"],
+        UNIT,
+        0,
+        b"front\nformat 1\ncontainer 1 1\nbox 1 1\nresult front 1\npoint 1 1\nplace 0 0\nend\n",
+    ),
+];
+
+#[test]
+fn front_has_the_documents_of_the_rows(rt: HostRuntime) -> Result<(), Fail> {
+    for (words, text, status, document) in ROWS {
+        let told = told_of(&rt, words, text)?;
+        assert!(rt; told.is_as_written(status, document), "{status}");
+    }
+    Ok(())
+}
+
+#[test]
+fn front_needs_two_dimensions(rt: HostRuntime) -> Result<(), Fail> {
+    let told = told_of(&rt, &["front"], SOLID)?;
+    assert!(rt; told.is_stop(2, "pack: front needs two dimensions\n", b""));
+    let told = told_of(&rt, &["front"], b"format 1\ncontainer 5 5 5\nbox 0 1 1\n")?;
+    assert!(rt; told.is_stop(2, "pack: line 3: code 4\n", b""));
+    let told = told_of(&rt, &["front", "--number", "3"], SOLID)?;
+    assert_eq!(rt; told.status, 2);
+    Ok(())
+}
+
+#[test]
+fn a_write_that_fails_leaves_the_front_of_the_document(rt: HostRuntime) -> Result<(), Fail> {
+    let document = LARGE_FRONT;
+    for count in 0..document.len() {
+        let told = told_written_to(&rt, &["front"], LARGE, count)?;
+        assert!(rt;
+            told.is_stop(5, "pack: write fault\n", &document[..count]),
+            "{count}"
+        );
+    }
+    Ok(())
+}
