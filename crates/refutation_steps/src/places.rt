@@ -29,8 +29,8 @@ pub fn are_three(u: u32, v: u32, x: u32) -> bool
     (u != v) & (u != x) & (v != x)
 }
 
-// Whether four boxes are distinct.
-fn are_four(a: u32, b: u32, c: u32, d: u32) -> bool
+/// Whether four boxes are distinct.
+pub fn are_four(a: u32, b: u32, c: u32, d: u32) -> bool
     ensures yes { IsTrue result → (n : ℕ) → a < n → b < n → c < n → d < n → AreBoxesAmong n (a ∷ b ∷ c ∷ d ∷ []) }
     ensures no { (n : ℕ) → AreBoxesAmong n (a ∷ b ∷ c ∷ d ∷ []) → IsTrue result }
 {
@@ -291,8 +291,8 @@ fn orders_with(
     Ok(())
 }
 
-/// Whether a box is surely before another. It isn't before itself.
-pub fn leads(state: &EdgeState, dim: u32, u: u32, v: u32) -> bool
+// Whether a box is surely before another. It isn't before itself.
+fn leads(state: &EdgeState, dim: u32, u: u32, v: u32) -> bool
     requires dim { dim < state.now.dims }
     requires u { u < state.now.boxes }
     requires v { v < state.now.boxes }
