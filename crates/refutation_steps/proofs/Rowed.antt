@@ -1,5 +1,5 @@
 -- Surely before, read in rows of boxes.
-use Rattle.std.proofs.Common.{◌≡◌, ◌≢◌, ◌<◌, ◌&&◌, ◌||◌, ℕ, ◌⊎◌, inl, inr, refl, sym, ap₂, ◌∙◌, true, false, not, Bool}
+use Rattle.std.proofs.Common.{◌≡◌, ◌≢◌, ◌<◌, ◌&&◌, ◌||◌, ℕ, ◌⊎◌, inl, inr, refl, sym, ap, ap₂, ◌∙◌, true, false, not, Bool}
 use Rattle.std.proofs.lemmas.Bool.{true≢false, and_parts, and_from}
 use Rattle.packing_terms.specs.declared.Rel.TheVariants.{Before}
 use Rattle.packing_terms.specs.Exclusions.{Exclusions, IsSurelyBefore}
@@ -33,3 +33,12 @@ module _ (X : Exclusions) (i n : ℕ) where
 
   pub not_behind : (u v : ℕ) (a : Bool) → a ≡ is_other_box n u v && not (is_surely_before X i u v) → a ≡ true → is_surely_before X i u v ≡ false
   not_behind u v a f on = row_open n i u v S Before a f on
+
+-- what isn't in the row of its box is excluded
+pub shut_is : (o x r : Bool) → o ≡ true → r ≡ o && not x → not r ≡ x
+shut_is true x r e h = ap (λ z. not z) h ∙ twice x
+  where
+    twice : (y : Bool) → not (not y) ≡ y
+    twice true = refl
+    twice false = refl
+shut_is false x r e h = absurd (true≢false (sym e))

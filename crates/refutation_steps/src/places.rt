@@ -14,11 +14,14 @@ use edge_state::{EdgeState, Exclusion, Rel};
 use line_proofs::Step;
 
 /// Whether the exclusion is there.
+#[inline]
 pub fn is_there(state: &EdgeState, e: Exclusion) -> bool
     requires { IsEdgeAmong state.now.dims state.now.boxes e.dim e.u e.v }
     ensures { result ≡ excludes state.now.trail e.dim e.u e.v e.rel }
 {
-    !state.mask(e.dim, e.u, e.v).has(e.rel)
+    // For the proof alone: tells the limits of the state.
+    let _boxes = state.boxes();
+    !state.row(e.dim, e.u, e.rel).has(e.v)
 }
 
 /// Whether three boxes are distinct.
