@@ -1,8 +1,10 @@
 pub mod Chaining
+pub mod Guessing
 pub mod Heavy
 pub mod Going
 pub mod Seeking
 pub mod Replayed
+pub mod Rowed
 pub mod Linked
 pub mod Linking
 pub mod Emptied

@@ -101,21 +101,32 @@ module _ (instance : PlainInstance) where
       → IsMade instance a b x y e false
   made_there a b x y e there g f h = record { goes = g; empty = λ k. absurd (true≢false (sym k)); made = λ _ _. sym f ∙ h }
 
-  -- what follows is there after all rules were sought
-  pub made_by : (a b c : PlainEdges) (x y z : List PlainStep) (e : Exclusion) (stopped : Bool) → IsPlainSought instance a b x y e → AreChainsTried instance b c y z e stopped
+  -- what is made after steps is made by them too
+  pub made_on : (a b c : PlainEdges) (x y z : List PlainStep) (e : Exclusion) (stopped : Bool) → Goes instance a b x y → IsMade instance b c y z e stopped
       → IsMade instance a c x z e stopped
-  made_by a b c x y z e stopped s t = record { goes = goes_on instance a b c x y z s.goes t.goes; empty = t.empty; made = λ k. made k }
+  made_on a b c x y z e stopped g t = record { goes = goes_on instance a b c x y z g t.goes; empty = t.empty; made = λ k h. t.made k (given h) }
     where
-      go : stopped ≡ false → (rule : Rule) → IsPlain rule ⊎ IsChainRule rule → Gives instance (excludes a.trail) rule e ⊎ Gives instance (excludes a.trail) rule (turned_of e)
-          → IsThere c.trail e
-      go k rule (inl p) (inl g) = there_on instance b c y z e t.goes (s.here rule p g)
-      go k rule (inl p) (inr g) = there_on instance b c y z e t.goes (turned_there b.trail e (s.mirrored rule p g))
-      go k rule (inr p) (inl g) = t.here k rule p (gives_on instance a b x y rule e s.goes g)
-      go k rule (inr p) (inr g) = turned_there c.trail e (t.mirrored k rule p (gives_on instance a b x y rule (turned_of e) s.goes g))
+      given : IsTrue (excludes a.trail e.dim e.u e.v e.rel) ⊎ Follows instance (excludes a.trail) e.dim e.u e.v e.rel
+          → IsTrue (excludes b.trail e.dim e.u e.v e.rel) ⊎ Follows instance (excludes b.trail) e.dim e.u e.v e.rel
+      given (inl k) = inl (there_on instance a b x y e g k)
+      given (inr f) = inr (follows_more instance (excludes a.trail) (excludes b.trail) (goes_keeps instance a b x y g) e.dim e.u e.v e.rel f)
 
-      made : stopped ≡ false → IsTrue (excludes a.trail e.dim e.u e.v e.rel) ⊎ Follows instance (excludes a.trail) e.dim e.u e.v e.rel → IsThere c.trail e
-      made k (inl there) = there_on instance b c y z e t.goes (there_on instance a b x y e s.goes there)
-      made k (inr f) = let g = given_by (excludes a.trail) e.dim e.u e.v e.rel f in go k g.rule (plain_or_chain g.rule) g.gives
+  -- what follows is there after all rules were sought
+  pub made_later : (a b c : PlainEdges) (x y z : List PlainStep) (e : Exclusion) → AreChainsTried instance a b x y e false → IsPlainSought instance b c y z e
+      → IsMade instance a c x z e false
+  made_later a b c x y z e t s =
+      record { goes = goes_on instance a b c x y z t.goes s.goes; empty = λ k. absurd (true≢false (sym k)); made = λ _. made }
+    where
+      go : (rule : Rule) → IsPlain rule ⊎ IsChainRule rule → Gives instance (excludes a.trail) rule e ⊎ Gives instance (excludes a.trail) rule (turned_of e)
+          → IsThere c.trail e
+      go rule (inl p) (inl g) = s.here rule p (gives_on instance a b x y rule e t.goes g)
+      go rule (inl p) (inr g) = turned_there c.trail e (s.mirrored rule p (gives_on instance a b x y rule (turned_of e) t.goes g))
+      go rule (inr p) (inl g) = there_on instance b c y z e s.goes (t.here refl rule p g)
+      go rule (inr p) (inr g) = there_on instance b c y z e s.goes (turned_there b.trail e (t.mirrored refl rule p g))
+
+      made : IsTrue (excludes a.trail e.dim e.u e.v e.rel) ⊎ Follows instance (excludes a.trail) e.dim e.u e.v e.rel → IsThere c.trail e
+      made (inl there) = there_on instance b c y z e s.goes (there_on instance a b x y e t.goes there)
+      made (inr f) = let g = given_by (excludes a.trail) e.dim e.u e.v e.rel f in go g.rule (plain_or_chain g.rule) g.gives
 
   -- what was explained so far
   pub record IsSoFar (old now : PlainEdges) (before after : List PlainStep) (closed : List Exclusion) (from at : ℕ) : Type 0 where

@@ -5,8 +5,10 @@
 mod chain_steps;
 mod chains;
 mod empties;
+mod guesses;
 mod links;
 mod marks;
+mod near;
 mod needs;
 mod passing;
 mod pending;

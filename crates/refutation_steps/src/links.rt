@@ -1,16 +1,19 @@
 //! Surely before, made transitive in a dimension by COMPOSE.
-ghost use Rattle.std.specs.Prelude.{◌≡◌, ◌<◌, ℕ, [], ◌∷◌, OnOk, IfOk};
+ghost use Rattle.std.specs.Prelude.{◌≡◌, ◌<◌, ◌&&◌, ℕ, [], ◌∷◌, not, OnOk, IfOk};
 ghost use Rattle.packing_terms.specs.Packing.{dims, box_count};
 ghost use Rattle.packing_terms.specs.Exclusions.{excludes, IsSurelyBefore};
+ghost use Rattle.rule_terms.specs.Rounds.{is_surely_before};
 ghost use Rattle.rule_terms.specs.Runs.{IsTransitive};
+ghost use Rattle.edge_state.specs.Edges.{is_other_box};
+ghost use Rattle.edge_state.specs.BitRows.{row_has};
 ghost use Rattle.closure_terms.specs.States.{IsSized};
 ghost use Rattle.refutation_steps.specs.Goes.{plain_steps};
 ghost use Rattle.refutation_steps.specs.Links.{IsLinkedAt, IsLinkTry, IsLinkedThrough};
 
-use crate::places::{are_three, leads};
+use crate::places::are_three;
 use crate::steps::step_compose;
 use box_instances::{Instance, NoMemory};
-use edge_state::EdgeState;
+use edge_state::{BitRow, EdgeState, Rel};
 use line_proofs::Step;
 
 // COMPOSE where surely before isn't transitive at three boxes. Answers whether it wasn't.
@@ -73,7 +76,20 @@ fn link_row(
     Ok(false)
 }
 
-// The same, where the first box is surely before the second.
+// The boxes that a box isn't surely before.
+#[inline]
+fn unsure_row(state: &EdgeState, dim: u32, u: u32) -> BitRow<2>
+    requires dim { dim < state.now.dims }
+    requires u { u < state.now.boxes }
+    ensures { (x : ℕ) → row_has result x ≡ is_other_box state.now.boxes u x
+        && not (is_surely_before (excludes state.now.trail) dim u x) }
+{
+    let overlapping = state.row(dim, u, Rel::Overlap);
+    overlapping.or(state.row(dim, u, Rel::After))
+}
+
+// The same, where the first box is surely before the second, and isn't so before all boxes that the
+// second is. The row has those that the first box isn't surely before.
 fn link_pair(
     instance: &Instance,
     state: &mut EdgeState,
@@ -81,19 +97,31 @@ fn link_pair(
     dim: u32,
     u: u32,
     v: u32,
+    unsure: BitRow<2>,
 ) -> Result<bool, NoMemory>
     requires sizes { IsSized instance.now state.old dim }
     requires u { u < box_count instance.now }
     requires v { v < box_count instance.now }
+    requires unsure { (x : ℕ) → row_has unsure x ≡ is_other_box state.old.boxes u x
+        && not (is_surely_before (excludes state.old.trail) dim u x) }
     ensures { IfOk result (λ changed. IsLinkTry instance.now state.old state.new
         (plain_steps lines.old.items) (plain_steps lines.new.items)
         ((x : ℕ) → x < box_count instance.now
         → IsLinkedAt (box_count instance.now) (excludes state.old.trail) dim u v x) changed) }
 {
-    if !leads(state, dim, u, v) {
+    // For the proof alone: tells the limits of the state.
+    let _boxes = state.boxes();
+    if u == v {
         return Ok(false);
     }
-    link_row(instance, state, lines, dim, u, v)
+    if unsure.has(v) {
+        return Ok(false);
+    }
+    let open = unsure.minus(unsure_row(state, dim, v));
+    match open.first() {
+        None => Ok(false),
+        Some(_) => link_row(instance, state, lines, dim, u, v),
+    }
 }
 
 // The same with each second box.
@@ -111,8 +139,9 @@ fn link_from(
         ((v : ℕ) → v < box_count instance.now → (x : ℕ) → x < box_count instance.now
         → IsLinkedAt (box_count instance.now) (excludes state.old.trail) dim u v x) changed) }
 {
+    let unsure = unsure_row(state, dim, u);
     for v in 0..instance.len() {
-        let changed = link_pair(instance, state, lines, dim, u, v)?;
+        let changed = link_pair(instance, state, lines, dim, u, v, unsure)?;
         if changed {
             return Ok(true);
         }

@@ -14,11 +14,14 @@ use edge_state::{EdgeState, Exclusion, Rel};
 use line_proofs::Step;
 
 /// Whether the exclusion is there.
+#[inline]
 pub fn is_there(state: &EdgeState, e: Exclusion) -> bool
     requires { IsEdgeAmong state.now.dims state.now.boxes e.dim e.u e.v }
     ensures { result ≡ excludes state.now.trail e.dim e.u e.v e.rel }
 {
-    !state.mask(e.dim, e.u, e.v).has(e.rel)
+    // For the proof alone: tells the limits of the state.
+    let _boxes = state.boxes();
+    !state.row(e.dim, e.u, e.rel).has(e.v)
 }
 
 /// Whether three boxes are distinct.
@@ -29,8 +32,8 @@ pub fn are_three(u: u32, v: u32, x: u32) -> bool
     (u != v) & (u != x) & (v != x)
 }
 
-// Whether four boxes are distinct.
-fn are_four(a: u32, b: u32, c: u32, d: u32) -> bool
+/// Whether four boxes are distinct.
+pub fn are_four(a: u32, b: u32, c: u32, d: u32) -> bool
     ensures yes { IsTrue result → (n : ℕ) → a < n → b < n → c < n → d < n → AreBoxesAmong n (a ∷ b ∷ c ∷ d ∷ []) }
     ensures no { (n : ℕ) → AreBoxesAmong n (a ∷ b ∷ c ∷ d ∷ []) → IsTrue result }
 {
@@ -291,8 +294,8 @@ fn orders_with(
     Ok(())
 }
 
-/// Whether a box is surely before another. It isn't before itself.
-pub fn leads(state: &EdgeState, dim: u32, u: u32, v: u32) -> bool
+// Whether a box is surely before another. It isn't before itself.
+fn leads(state: &EdgeState, dim: u32, u: u32, v: u32) -> bool
     requires dim { dim < state.now.dims }
     requires u { u < state.now.boxes }
     requires v { v < state.now.boxes }

@@ -55,6 +55,10 @@ pub fn settle(
         walk.new.given.trail ended) }
 {
     let from = walk.given.mark();
+    let looked = match closed {
+        Some(mark) => mark,
+        None => from,
+    };
     let end = close_known(instance, &mut walk.closer, &mut walk.given, closed);
     let stopped = replay_on(
         instance,
@@ -62,6 +66,7 @@ pub fn settle(
         &mut walk.lines,
         &mut walk.room,
         &walk.given,
+        looked,
         from,
     )?;
     if stopped {

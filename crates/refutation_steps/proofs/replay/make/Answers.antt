@@ -1,7 +1,8 @@
-use Rattle.refutation_steps.proofs.Going.{if_ok}
-use Rattle.refutation_steps.proofs.Replayed.{made_by}
+use Rattle.refutation_steps.proofs.Going.{if_ok, goes_on}
+use Rattle.refutation_steps.proofs.Replayed.{made_on}
 use Rattle.refutation_steps.proofs.replay.make.Goals as goal
 
 pub returns-clause-made : goal.returns-clause-made
-returns-clause-made c = if_ok c.seek_chains.result
-    (λ stopped t. made_by c.args.instance.now _ _ _ _ _ _ c.args.e stopped c.in_ok-seek_both.ensures t) c.seek_chains.ensures.sought
+returns-clause-made c =
+    let g = goes_on c.args.instance.now _ _ _ _ _ _ c.in_ok-guess_chains.ensures.goes c.in_ok-read_near.ensures.goes in
+    if_ok c.make_by_any.result (λ stopped m. made_on c.args.instance.now _ _ _ _ _ _ c.args.e stopped g m) c.make_by_any.ensures.made

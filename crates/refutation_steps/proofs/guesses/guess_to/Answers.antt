@@ -1,0 +1,12 @@
+use Rattle.std.proofs.Common.{◌∙◌, ap, List, ℕ, reverse}
+use Rattle.std.proofs.lemmas.List.{with_items_is}
+use Rattle.rule_terms.specs.declared.Direction.TheVariants.{Backwards}
+use Rattle.refutation_steps.proofs.Chaining.{chain_to_by}
+use Rattle.refutation_steps.proofs.Guessing.{pushed_of}
+use Rattle.refutation_steps.proofs.guesses.guess_to.Goals as goal
+
+pub returns : goal.returns
+returns c = λ yes. rw (with_items_is c.push_guess.new.boxes c.reverse.new.self (c.reverse.auto.self ∙ c.as_mut_slice.ensures.len))
+    (chain_to_by c.args.instance.now c.args.state.now c.args.dim c.args.head.now c.args.v _ _ _ c.clear.ensures.items
+    (pushed_of c.args.instance.now c.args.state.now c.args.dim Backwards c.args.head.now c.args.v _ _ (c.in_ok-whole.ensures yes))
+    (c.reverse.ensures.after ∙ ap (λ (l : List ℕ). reverse l) c.as_mut_slice.ensures.value))
