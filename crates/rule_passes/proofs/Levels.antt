@@ -18,19 +18,21 @@ set_same [] i a d l e = absurd (omega (arith, l))
 set_same (x ∷ xs) zero a d l e = ap (λ z. z ∷ xs) e
 set_same (x ∷ xs) (suc i) a d l e = ap (λ zs. x ∷ zs) (set_same xs i a d (omega (arith, l)) e)
 
+-- what is known of the entries stays so where one is written of which it is known
+pub level_set : (P : PlainLevels → Type 0) (kept : List PlainLevels) (i : ℕ) (level : PlainLevels) (k : ℕ) (other : PlainLevels) → i < length kept → P level
+    → (k ≢ i → P (get_or kept k other)) → P (get_or (set kept i level) k other)
+level_set P kept i level k other there new old = go (cases_eq k i)
+  where
+    go : (k ≡ i) ⊎ (k ≢ i) → P (get_or (set kept i level) k other)
+    go (inl e) = rw e (rw (get_or-set_same kept i level other there) new)
+    go (inr ne) = rw (get_or-set_other kept i k level other ne) (old ne)
+
 -- levels with the same number are written
 pub each_set : (d m : ℕ) (f : PlainLevels → ℕ) (kept : List PlainLevels) (i : ℕ) (level : PlainLevels) → HaveEach d m f kept → i < d → f level ≡ m → HaveEach d m f (set kept i level)
 each_set d m f kept i level old small new = record {
   count = length-set kept i level ∙ old.count;
-  each = λ k other l. go k other l (cases_eq k i);
+  each = λ k other l. level_set (λ z. f z ≡ m) kept i level k other (rw old.count small) new (λ ne. old.each k other l);
 }
-  where
-    there : i < length kept
-    there = rw old.count small
-
-    go : (k : ℕ) (other : PlainLevels) → k < d → (k ≡ i) ⊎ (k ≢ i) → f (get_or (set kept i level) k other) ≡ m
-    go k other l (inl e) = rw e (ap f (get_or-set_same kept i level other there) ∙ new)
-    go k other l (inr ne) = ap f (get_or-set_other kept i k level other ne) ∙ old.each k other l
 
 -- levels of one dimension more
 pub each_push : (d m : ℕ) (f : PlainLevels → ℕ) (kept : List PlainLevels) (level : PlainLevels) → HaveEach d m f kept → f level ≡ m → HaveEach (d + 1) m f (kept ++ level ∷ [])

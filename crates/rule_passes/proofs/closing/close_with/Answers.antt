@@ -81,6 +81,9 @@ loop-dim-preserved g c = record {
   extends = extends_trans _ _ _ _ c.loop-dim.invariant.extends (extends_trans _ _ _ _ c.cover_chains.ensures.worked.extends c.settle-in-Some-first.ensures.extends);
   kept = (let there = c.loop-dim.invariant.looked.within _ c.in-Some-first.ensures.least.there in
       each_set _ _ (λ (z : PlainLevels). z.boxes) _ _ _ c.loop-dim.invariant.kept there (c.cover_chains.ensures.room ∙ c.loop-dim.invariant.kept.each c.in-Some-first.dim _ there));
+  made = λ most made. (let there = c.loop-dim.invariant.looked.within _ c.in-Some-first.ensures.least.there in
+      let before = c.loop-dim.invariant.made most made in
+      each_set _ _ (λ (z : PlainLevels). z.most) _ _ _ before there (c.cover_chains.ensures.most ∙ before.each c.in-Some-first.dim _ there));
   looked = c.in-Some-settle.ensures.looked;
 }
 
