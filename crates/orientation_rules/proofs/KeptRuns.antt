@@ -112,23 +112,20 @@ less_than u v l ne = go (cases_lt u v)
 abbrev zeros : ℕ → List ℕ
 zeros n = replicate n 0
 
-pub kept_empty : (n limit : ℕ) (e f : List ℕ) → ((x : ℕ) → row_has e x ≡ false) → ((x : ℕ) → row_has f x ≡ false)
-    → AreKeptWeights limit (zeros n) (zeros n) (zeros n) (replicate n e) (replicate n f)
-kept_empty n limit e f none no_fit = record {
+pub kept_zeros : (n limit : ℕ) (rows fits : List (List ℕ)) → length rows ≡ n → length fits ≡ n → ((u x : ℕ) → u < n → GoesOn rows u x → ⊥) → ((u x : ℕ) → u < n → GoesOn fits u x → ⊥)
+    → AreKeptWeights limit (zeros n) (zeros n) (zeros n) rows fits
+kept_zeros n limit rows fits row_count fit_count none no_fit = record {
   sides_count = refl;
   tail_count = refl;
-  rows_count = length-replicate n e ∙ sym count;
-  fits_count = length-replicate n f ∙ sym count;
-  heads = record { runs = alone (λ v x. GoesOn (replicate n e) x v); settled = λ v x hv hx. record { below = λ ne g. absurd (no e none x v hx g) } };
-  tails = record { runs = alone (λ v x. GoesOn (replicate n e) v x); settled = λ v x hv hx. record { below = λ ne g. absurd (no e none v x hv g) } };
-  fit = λ u v hu hv g. absurd (no f no_fit u v hu g);
+  rows_count = row_count ∙ sym count;
+  fits_count = fit_count ∙ sym count;
+  heads = record { runs = alone (λ v x. GoesOn rows x v); settled = λ v x hv hx. record { below = λ ne g. absurd (none x v (rw (← count) hx) g) } };
+  tails = record { runs = alone (λ v x. GoesOn rows v x); settled = λ v x hv hx. record { below = λ ne g. absurd (none v x (rw (← count) hv) g) } };
+  fit = λ u v hu hv g. absurd (no_fit u v (rw (← count) hu) g);
 }
   where
     count : length (zeros n) ≡ n
     count = length-replicate n _
-
-    no : (r : List ℕ) → ((x : ℕ) → row_has r x ≡ false) → (u x : ℕ) → u < length (zeros n) → GoesOn (replicate n r) u x → ⊥
-    no r off u x hu g = true≢false (sym g ∙ (ap (λ (l : List ℕ). row_has l x) (get_or-replicate n u r [] (rw (← count) hu)) ∙ off x))
 
     alone : (R : ℕ → ℕ → Type 0) → AreRuns (length (zeros n)) R (λ v. slice_index (zeros n) v) (zeros n)
     alone R v hv = record {
@@ -137,6 +134,14 @@ kept_empty n limit e f none no_fit = record {
       run = tt;
       heavy = (let h = sum_by-cons (λ (u : ℕ). slice_index (zeros n) u) v [] in omega (arith, h));
     }
+
+pub kept_empty : (n limit : ℕ) (e f : List ℕ) → ((x : ℕ) → row_has e x ≡ false) → ((x : ℕ) → row_has f x ≡ false)
+    → AreKeptWeights limit (zeros n) (zeros n) (zeros n) (replicate n e) (replicate n f)
+kept_empty n limit e f none no_fit =
+    kept_zeros n limit (replicate n e) (replicate n f) (length-replicate n e) (length-replicate n f) (no e none) (no f no_fit)
+  where
+    no : (r : List ℕ) → ((x : ℕ) → row_has r x ≡ false) → (u x : ℕ) → u < n → GoesOn (replicate n r) u x → ⊥
+    no r off u x hu g = true≢false (sym g ∙ (ap (λ (l : List ℕ). row_has l x) (get_or-replicate n u r [] hu) ∙ off x))
 
 -- what is written into a list of as many
 pub written_back : {A : Type 0} (m : ℕ) (old new : List A) → length new ≡ m → length old ≡ m → take m (new ++ drop (length new) old) ≡ new

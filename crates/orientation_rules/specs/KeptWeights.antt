@@ -29,6 +29,15 @@ pub record AreKeptWeights (limit : ℕ) (sides head tail : List ℕ) (rows fits 
   pub tails : AreSettled (length head) (λ v x. GoesOn rows v x) (λ v. slice_index sides v) tail
   pub fit : (u v : ℕ) → u < length head → v < length head → GoesOn fits u v → slice_index head u + slice_index tail v ≤ limit
 
+-- the same, with memory in each list for so many boxes
+pub record AreRoomy (most limit : ℕ) (sides head tail : List ℕ) (rows fits : List (List ℕ)) (side_room head_room tail_room row_room fit_room : ℕ) : Type 0 where
+  pub kept : AreKeptWeights limit sides head tail rows fits
+  pub sides_fit : most ≤ side_room
+  pub heads_fit : most ≤ head_room
+  pub tails_fit : most ≤ tail_room
+  pub rows_fit : most ≤ row_room
+  pub fits_fit : most ≤ fit_room
+
 -- the sides are those of the boxes, and each box still goes on to those of its row; to another one
 -- only boxes of the first row of two go on, and only to boxes of the second
 pub record StillHolds (instance : PlainInstance) (s : PlainEdges) (i : ℕ) (known : List ℕ) (rows : List (List ℕ)) (first second : List ℕ) : Type 0 where
@@ -39,9 +48,10 @@ pub record StillHolds (instance : PlainInstance) (s : PlainEdges) (i : ℕ) (kno
   pub ahead_within : (u : ℕ) → row_has first u ≡ true → u < s.boxes
   pub behind_within : (u : ℕ) → row_has second u ≡ true → u < s.boxes
 
--- what is seen of kept weights: the limit, and the weights of the chains that end in each box and
--- that start there
+-- what is seen of kept weights: how many boxes there is memory for, the limit, and the weights of
+-- the chains that end in each box and that start there
 pub record PlainWeights : Type 0 where
+  pub most : ℕ
   pub limit : ℕ
   pub head : List ℕ
   pub tail : List ℕ
@@ -54,13 +64,17 @@ pub record AreHeaviestWeights (instance : PlainInstance) (s : PlainEdges) (i : �
   pub heads : (v : ℕ) → v < box_count instance → IsHeaviest instance s i Backwards v (slice_index k.head v)
   pub tails : (v : ℕ) → v < box_count instance → IsHeaviest instance s i Forwards v (slice_index k.tail v)
 
--- so many levels are in use, and each has room for so many boxes
-pub record AreKeptLevels (boxes used : ℕ) (worked : PlainWeights) (levels : List PlainWeights) : Type 0 where
+-- so many levels are in use, there is room for so many boxes, and in each level memory for them
+pub record AreKeptLevels (boxes most used : ℕ) (worked : PlainWeights) (levels : List PlainWeights) : Type 0 where
   pub within : used ≤ length levels
+  pub few : boxes ≤ most
   pub work : length worked.head ≡ boxes
-  pub each : (k : ℕ) (other : PlainWeights) → k < length levels → length (slice_index_or levels k other).head ≡ boxes
+  pub work_room : worked.most ≡ most
+  pub each : (k : ℕ) (other : PlainWeights) → k < length levels → (slice_index_or levels k other).most ≡ most
 
--- what is seen of the levels: the number of boxes, and the weights that were made last
+-- what is seen of the levels: the number of boxes, how many there is memory for, and the weights
+-- that were made last
 pub record PlainLevels : Type 0 where
   pub boxes : ℕ
+  pub most : ℕ
   pub weights : PlainWeights

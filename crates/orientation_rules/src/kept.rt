@@ -1,5 +1,5 @@
 //! Weights of heaviest chains that are kept, and made those of a later state.
-ghost use Rattle.std.specs.Prelude.{◌≡◌, ◌+◌, ◌*◌, ◌<◌, ◌≤◌, ◌⊎◌, ℕ, true, false, length, slice_index, slice_index_or, IfOk, MatchOption};
+ghost use Rattle.std.specs.Prelude.{◌≡◌, ◌+◌, ◌*◌, ◌<◌, ◌≤◌, ◌⊎◌, ℕ, true, false, length, replicate, slice_index, slice_index_or, vec_capacity, IfOk, MatchOption};
 ghost use Rattle.packing_terms.specs.Packing.{dims, box_count, container_side, side};
 ghost use Rattle.packing_terms.specs.Limits.{IsBoxCount};
 ghost use Rattle.packing_terms.specs.Exclusions.{excludes};
@@ -20,9 +20,11 @@ use std::alloc::Global;
 use std::marker::Model;
 
 /// The weights of the heaviest chains in one dimension, kept with what a chain of each box may go
-/// on to, and with the boxes beside which each is known to fit.
+/// on to, and with the boxes beside which each is known to fit. There is memory for so many boxes,
+/// and room for at most as many.
 #[derive(Drop)]
 pub struct KeptWeights<const K: usize> {
+    most: u32,
     limit: u64,
     sides: Vec<u64>,
     head: Vec<u64>,
@@ -32,14 +34,21 @@ pub struct KeptWeights<const K: usize> {
 }
 
 impl<const K: usize> Model for KeptWeights<K> {
-    ghost use Rattle.orientation_rules.specs.KeptWeights.{PlainWeights, AreKeptWeights};
+    ghost use Rattle.std.specs.Prelude.{vec_capacity};
+    ghost use Rattle.orientation_rules.specs.KeptWeights.{PlainWeights, AreRoomy};
 
     ghost Value = { PlainWeights };
 
-    ghost view = { λ k. record { limit = k.limit; head = k.head.items; tail = k.tail.items } };
+    ghost view = { λ k. record {
+      most = k.most;
+      limit = k.limit;
+      head = k.head.items;
+      tail = k.tail.items;
+    } };
 
-    ghost invariant = { λ k. AreKeptWeights k.limit k.sides.items k.head.items k.tail.items
-        k.rows.items k.fits.items };
+    ghost invariant = { λ k. AreRoomy k.most k.limit k.sides.items k.head.items k.tail.items
+        k.rows.items k.fits.items (vec_capacity k.sides) (vec_capacity k.head)
+        (vec_capacity k.tail) (vec_capacity k.rows) (vec_capacity k.fits) };
 }
 
 // Whether a row has no member.
@@ -221,11 +230,37 @@ fn drop_risen<const K: usize>(heads: BitRow<K>, tails: BitRow<K>, fits: &mut [Bi
     }
 }
 
+// Makes the list one of so many zeros, without taking memory.
+fn refill(list: &mut Vec<u64>, count: u32)
+    requires { count ≤ vec_capacity list.old }
+    ensures items { list.new.items ≡ replicate count 0 }
+    ensures capacity { vec_capacity list.new ≡ vec_capacity list.old }
+{
+    list.clear();
+    for _ in 0..count {
+        list.push_reserved(0);
+    }
+}
+
+// Makes the list one of so many rows without a member, without taking memory.
+fn refill_rows<const K: usize>(list: &mut Vec<BitRow<K>>, count: u32)
+    requires width { IsRowWidth K }
+    requires room { count ≤ vec_capacity list.old }
+    ensures count { length list.new.items ≡ count }
+    ensures none { (u x : ℕ) → u < count → GoesOn list.new.items u x → ⊥ }
+    ensures capacity { vec_capacity list.new ≡ vec_capacity list.old }
+{
+    list.clear();
+    for _ in 0..count {
+        list.push_reserved(BitRow::empty());
+    }
+}
+
 impl<const K: usize> KeptWeights<K> {
     /// Room for so many boxes. Nothing is known of any chain.
     pub fn new(alloc: Global, boxes: u32) -> Result<KeptWeights<K>, NoMemory>
         requires { IsRowWidth K }
-        ensures { IfOk result (λ kept. length kept.head ≡ boxes) }
+        ensures { IfOk result (λ kept. (length kept.head ≡ boxes) × (kept.most ≡ boxes)) }
     {
         let Ok(sides) = vec![in alloc; 0u64; boxes as usize] else {
             return Err(NoMemory);
@@ -243,6 +278,7 @@ impl<const K: usize> KeptWeights<K> {
             return Err(NoMemory);
         };
         Ok(KeptWeights {
+            most: boxes,
             limit: 0,
             sides,
             head,
@@ -252,13 +288,32 @@ impl<const K: usize> KeptWeights<K> {
         })
     }
 
+    /// Makes room for so many boxes, at most as many as there is memory for. Where there was room for
+    /// another number, nothing is known of any chain then. It takes no memory.
+    pub fn set_boxes(&mut self, boxes: u32)
+        requires width { IsRowWidth K }
+        requires most { boxes ≤ self.old.most }
+        ensures count { length self.new.head ≡ boxes }
+        ensures most { self.new.most ≡ self.old.most }
+    {
+        if self.head.len() == boxes as usize {
+            return;
+        }
+        refill(&mut self.sides, boxes);
+        refill(&mut self.head, boxes);
+        refill(&mut self.tail, boxes);
+        refill_rows(&mut self.rows, boxes);
+        refill_rows(&mut self.fits, boxes);
+    }
+
     /// Makes them the weights of a state, from nothing. No two boxes are known to fit.
     pub fn weigh(&mut self, instance: &Instance, state: &EdgeState, dim: u32)
         requires words { HoldsBoxes K state.now.boxes }
         requires room { length self.old.head ≡ box_count instance.now }
         requires ordered_back { HasOneWayChains instance.now state.now dim Backwards }
         requires ordered { HasOneWayChains instance.now state.now dim Forwards }
-        ensures { AreHeaviestWeights instance.now state.now dim self.new }
+        ensures most { self.new.most ≡ self.old.most }
+        ensures weights { AreHeaviestWeights instance.now state.now dim self.new }
     {
         // For the proof alone: tells the limits of the state.
         let _boxes = state.boxes();
@@ -273,7 +328,8 @@ impl<const K: usize> KeptWeights<K> {
     }
 
     /// Makes them the weights of a state, from others that were kept. It answers `false` where these
-    /// are of other sides, or where a box doesn't go on to one any more, and then nothing changes.
+    /// are of another number of boxes or of other sides, or where a box doesn't go on to one any
+    /// more, and then nothing changes.
     pub fn renew(
         &mut self,
         from: &KeptWeights<K>,
@@ -284,14 +340,17 @@ impl<const K: usize> KeptWeights<K> {
     ) -> bool
         requires words { HoldsBoxes K state.now.boxes }
         requires room { length self.old.head ≡ box_count instance.now }
-        requires from_room { length from.now.head ≡ box_count instance.now }
         requires ordered_back { HasOneWayChains instance.now state.now dim Backwards }
         requires ordered { HasOneWayChains instance.now state.now dim Forwards }
+        ensures most { self.new.most ≡ self.old.most }
         ensures unchanged { result ≡ false → self.new ≡ self.old }
         ensures renewed { result ≡ true → AreHeaviestWeights instance.now state.now dim self.new }
     {
         // For the proof alone: tells the limits of the state.
         let _boxes = state.boxes();
+        if from.head.len() != self.head.len() {
+            return false;
+        }
         if from.limit != u64::from(instance.container_side(dim)) {
             return false;
         }

@@ -19,10 +19,11 @@ use std::marker::Model;
 /// The weights of heaviest chains in one dimension, made from those that were kept before, the
 /// newest of which stand on top. With them is kept which two boxes are known to fit.
 ///
-/// It is seen as the number of boxes, and the weights that were made last.
+/// It is seen as the number of boxes, how many it was made for, and the weights that were made last.
 #[derive(Drop)]
 pub struct KeptLevels<const K: usize> {
     boxes: u32,
+    most: u32,
     used: usize,
     rose: bool,
     fresh: bool,
@@ -35,9 +36,9 @@ impl<const K: usize> Model for KeptLevels<K> {
 
     ghost Value = { PlainLevels };
 
-    ghost view = { λ k. record { boxes = k.boxes; weights = k.work } };
+    ghost view = { λ k. record { boxes = k.boxes; most = k.most; weights = k.work } };
 
-    ghost invariant = { λ k. AreKeptLevels k.boxes k.used k.work k.levels.items };
+    ghost invariant = { λ k. AreKeptLevels k.boxes k.most k.used k.work k.levels.items };
 }
 
 // Which of so many levels is written next: the topmost anew where it is of this closing, or where
@@ -56,7 +57,7 @@ impl<const K: usize> KeptLevels<K> {
     /// Room for so many levels, each for so many boxes. None is in use.
     pub fn new(alloc: Global, boxes: u32, count: u32) -> Result<KeptLevels<K>, NoMemory>
         requires { IsRowWidth K }
-        ensures { IfOk result (λ kept. kept.boxes ≡ boxes) }
+        ensures { IfOk result (λ kept. (kept.boxes ≡ boxes) × (kept.most ≡ boxes)) }
     {
         let work = KeptWeights::new(alloc, boxes)?;
         let mut levels = Vec::new(alloc);
@@ -68,12 +69,25 @@ impl<const K: usize> KeptLevels<K> {
         }
         Ok(KeptLevels {
             boxes,
+            most: boxes,
             used: 0,
             rose: false,
             fresh: false,
             work,
             levels,
         })
+    }
+
+    /// Uses it for other boxes, at most as many as it was made for. It takes no memory.
+    pub fn set_boxes(&mut self, boxes: u32)
+        requires width { IsRowWidth K }
+        requires most { boxes ≤ self.old.most }
+        ensures boxes { self.new.boxes ≡ boxes }
+        ensures most { self.new.most ≡ self.old.most }
+    {
+        self.boxes = boxes;
+        self.used = 0;
+        self.work.set_boxes(boxes);
     }
 
     /// Begins another closing, whose weights don't take the place of those that are kept.
@@ -91,6 +105,7 @@ impl<const K: usize> KeptLevels<K> {
         requires ordered_back { HasOneWayChains instance.now state.now dim Backwards }
         requires ordered { HasOneWayChains instance.now state.now dim Forwards }
         ensures boxes { self.new.boxes ≡ self.old.boxes }
+        ensures most { self.new.most ≡ self.old.most }
         ensures renewed { result ≡ true
             → AreHeaviestWeights instance.now state.now dim self.new.weights }
     {
@@ -113,6 +128,7 @@ impl<const K: usize> KeptLevels<K> {
         requires ordered_back { HasOneWayChains instance.now state.now dim Backwards }
         requires ordered { HasOneWayChains instance.now state.now dim Forwards }
         ensures boxes { self.new.boxes ≡ self.old.boxes }
+        ensures most { self.new.most ≡ self.old.most }
         ensures weights { AreHeaviestWeights instance.now state.now dim self.new.weights }
     {
         if self.renew_newest(instance, state, dim) {
@@ -135,6 +151,7 @@ impl<const K: usize> KeptLevels<K> {
         requires transitive { IsTransitive (box_count instance.now) (IsSurelyBefore
             (excludes state.now.trail) dim) }
         ensures boxes { self.new.boxes ≡ self.old.boxes }
+        ensures most { self.new.most ≡ self.old.most }
         ensures limit { self.new.weights.limit ≡ container_side instance.now dim }
         ensures head_count { length self.new.weights.head ≡ box_count instance.now }
         ensures tail_count { length self.new.weights.tail ≡ box_count instance.now }
@@ -162,7 +179,9 @@ impl<const K: usize> KeptLevels<K> {
 
     // Puts the weights on top.
     fn push(&mut self)
-        ensures { self.new.boxes ≡ self.old.boxes }
+        requires { IsRowWidth K }
+        ensures boxes { self.new.boxes ≡ self.old.boxes }
+        ensures most { self.new.most ≡ self.old.most }
     {
         let count = self.levels.len();
         if count == 0 {
@@ -170,6 +189,7 @@ impl<const K: usize> KeptLevels<K> {
         }
         let at = slot(self.used, count, self.fresh);
         std::mem::swap(&mut self.work, &mut self.levels[at]);
+        self.work.set_boxes(self.boxes);
         self.used = at + 1;
         self.fresh = true;
     }
@@ -185,7 +205,8 @@ impl<const K: usize> KeptLevels<K> {
             → excludes state.now.trail dim u v Before ≡ false
             → slice_index self.old.weights.head u + slice_index self.old.weights.tail v
             ≤ self.old.weights.limit }
-        ensures { self.new.boxes ≡ self.old.boxes }
+        ensures boxes { self.new.boxes ≡ self.old.boxes }
+        ensures most { self.new.most ≡ self.old.most }
     {
         if !self.rose {
             return;

@@ -14,7 +14,7 @@ use Rattle.box_instances.specs.Sets.{PlainBoxSet, all_boxes}
 use Rattle.box_instances.proofs.BoxSets.{set_few}
 use Rattle.edge_state.specs.Edges.{PlainEdges, oldest}
 use Rattle.refutation_check.specs.declared.node.OpenNode.{OpenNode}
-use Rattle.refutation_check.specs.Rooms.{PlainRoom}
+use Rattle.rule_passes.specs.Rooms.{PlainRoom}
 use Rattle.refutation_check.specs.Nodes.{with_each, opens, all_relations, IsHeldNode}
 use Rattle.refutation_check.specs.Refuters.{PlainRefuter, most_nodes, IsHeld}
 use Rattle.refutation_check.proofs.Nodes.{each_same}
@@ -56,14 +56,16 @@ root_held set start es n is f = rw is (record {
     few = few_open (dims set) (box_count set) es
 
 pub begun : (whole set : PlainInstance) (start : List Exclusion) (state : PlainEdges) (room : PlainRoom) (n : OpenNode) (sc nc : ℕ)
-    → box_count set ≤ box_count whole → state.dims ≡ dims set → state.boxes ≡ box_count set → state.room ≡ box_count whole → room.boxes ≡ box_count set → room.most ≡ box_count whole
+    → box_count set ≤ box_count whole → state.dims ≡ dims set → state.boxes ≡ box_count set → state.room ≡ box_count whole
+    → room.dims ≡ dims set → room.boxes ≡ box_count set → room.most ≡ box_count whole
     → 2 * all_relations whole ≤ sc → most_nodes whole ≤ nc → state.trail ≡ with_each start
     → n ≡ record { mark = length state.trail; splits = 0; first = None; second = None } → IsHeld whole set start [] (n ∷ []) state room sc nc
-begun whole set start state room n sc nc within d b t r m s k f is = record {
+begun whole set start state room n sc nc within d b t rd r m s k f is = record {
   within = within;
   same_dims = d;
   same_boxes = b;
   state_room = t;
+  room_dims = rd;
   room_boxes = r;
   room_most = m;
   split_room = s;
@@ -74,7 +76,7 @@ begun whole set start state room n sc nc within d b t r m s k f is = record {
 
 pub begun_all : (instance : PlainInstance) (boxes : PlainBoxSet) (start splits : List Exclusion) (nodes : List OpenNode) (fresh state : PlainEdges) (room : PlainRoom)
     (root : OpenNode) (sc nc d n mark : ℕ) → boxes ≡ record { whole = instance; keep = all_boxes instance } → d ≡ dims instance → n ≡ box_count instance
-    → fresh ≡ record { dims = d; boxes = n; room = n; trail = [] } → state ≡ record fresh { trail = with_each start } → room ≡ record { boxes = n; most = n }
+    → fresh ≡ record { dims = d; boxes = n; room = n; trail = [] } → state ≡ record fresh { trail = with_each start } → room ≡ record { dims = d; boxes = n; most = n }
     → 2 * (3 * d * n * (n - 1) / 2) ≤ sc → d * n * (n - 1) + 1 ≤ nc → splits ≡ [] → nodes ≡ root ∷ [] → mark ≡ length state.trail
     → root ≡ record { mark = mark; splits = 0; first = None; second = None } → IsHeld boxes.whole (subset boxes.whole boxes.keep) start splits nodes state room sc nc
 begun_all instance boxes start splits nodes fresh state room root sc nc d n mark eb ed en ef es er hs hn e0 e1 em is =
@@ -82,7 +84,7 @@ begun_all instance boxes start splits nodes fresh state room root sc nc d n mark
     (ap (λ (s : PlainEdges). s.dims) (es ∙ ap (λ (s : PlainEdges). record s { trail = with_each start }) ef) ∙ ed)
     (ap (λ (s : PlainEdges). s.boxes) (es ∙ ap (λ (s : PlainEdges). record s { trail = with_each start }) ef) ∙ (en ∙ sym same))
     (ap (λ (s : PlainEdges). s.room) (es ∙ ap (λ (s : PlainEdges). record s { trail = with_each start }) ef) ∙ en)
-    (ap (λ (r : PlainRoom). r.boxes) er ∙ (en ∙ sym same)) (ap (λ (r : PlainRoom). r.most) er ∙ en)
+    (ap (λ (r : PlainRoom). r.dims) er ∙ ed) (ap (λ (r : PlainRoom). r.boxes) er ∙ (en ∙ sym same)) (ap (λ (r : PlainRoom). r.most) er ∙ en)
     (rw (← ed, ← en) hs) (rw (← ed, ← en) hn) (ap (λ (s : PlainEdges). s.trail) es) (rw (← em) is))
   where
     same : box_count (subset instance (all_boxes instance)) ≡ box_count instance
@@ -98,7 +100,7 @@ pub begun_again : (whole last : PlainInstance) (keep : List ℕ) (boxes : PlainB
 begun_again whole last keep boxes start splits held nodes old_start old_splits old state was room root sc nc sc' nc' n mark h same set eb en es er e0 e1 e2 e3 e4 em is =
     rw (eb, e0, e1, e2, e3, e4) (begun whole (subset whole keep) [] state room root sc nc (omega (arith, set_count whole keep, set_few whole keep set))
     (ap (λ (s : PlainEdges). s.dims) es ∙ (h.same_dims ∙ same)) (ap (λ (s : PlainEdges). s.boxes) es ∙ en) (ap (λ (s : PlainEdges). s.room) es ∙ h.state_room)
-    (ap (λ (r : PlainRoom). r.boxes) er ∙ en) (ap (λ (r : PlainRoom). r.most) er ∙ h.room_most) h.split_room h.node_room
+    (ap (λ (r : PlainRoom). r.dims) er ∙ (h.room_dims ∙ same)) (ap (λ (r : PlainRoom). r.boxes) er ∙ en) (ap (λ (r : PlainRoom). r.most) er ∙ h.room_most) h.split_room h.node_room
     (ap (λ (s : PlainEdges). s.trail) es) (rw (← em) is))
 
 -- the boxes of the new tree are a set of the instance that is kept

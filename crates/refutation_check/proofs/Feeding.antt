@@ -14,7 +14,7 @@ use Rattle.check_terms.specs.declared.answers.FeedVerdict.TheVariants.{More, Don
 use Rattle.check_terms.specs.Judging.{refusal}
 use Rattle.check_terms.specs.Checking.{Checked, checked_after, inner_after, answered_by}
 use Rattle.refutation_check.specs.declared.node.OpenNode.{OpenNode}
-use Rattle.refutation_check.specs.Rooms.{PlainRoom}
+use Rattle.rule_passes.specs.Rooms.{PlainRoom}
 use Rattle.refutation_check.specs.Nodes.{node_exclusions, above, all_relations, IsOver, AreHeld, splits_after, child_nodes, is_split, IsJudged}
 use Rattle.refutation_check.specs.Refuters.{PlainRefuter, most_nodes, fed, nodes_of, IsHeld}
 use Rattle.refutation_check.proofs.Stack.{held_same}
@@ -96,6 +96,7 @@ module _ (whole set : PlainInstance) (start splits : List Exclusion) (held : Lis
         same_dims = new_dims;
         same_boxes = new_boxes;
         state_room = ap (λ (s : PlainEdges). s.room) sizes ∙ h.state_room;
+        room_dims = rw kept h.room_dims;
         room_boxes = rw kept h.room_boxes;
         room_most = rw kept h.room_most;
         split_room = h.split_room;
@@ -140,6 +141,7 @@ module _ (whole set : PlainInstance) (start splits : List Exclusion) (held : Lis
           same_dims = new_dims;
           same_boxes = new_boxes;
           state_room = ap (λ (s : PlainEdges). s.room) sizes ∙ h.state_room;
+          room_dims = rw kept h.room_dims;
           room_boxes = rw kept h.room_boxes;
           room_most = rw kept h.room_most;
           split_room = rw e h.split_room;

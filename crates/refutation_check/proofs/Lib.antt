@@ -1,5 +1,3 @@
-pub mod Bools
-pub mod Spread
 pub mod Ends
 pub mod Nodes
 pub mod Judged

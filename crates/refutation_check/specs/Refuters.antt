@@ -7,7 +7,7 @@ use Rattle.packing_terms.specs.Tokens.{PlainToken}
 use Rattle.edge_state.specs.Edges.{PlainEdges}
 use Rattle.check_terms.specs.Checking.{Checked, checked_after, inner_after}
 use Rattle.refutation_check.specs.declared.node.OpenNode.{OpenNode}
-use Rattle.refutation_check.specs.Rooms.{PlainRoom}
+use Rattle.rule_passes.specs.Rooms.{PlainRoom}
 use Rattle.refutation_check.specs.Nodes.{node_exclusions, above, all_relations, AreHeld}
 
 -- the instance, the boxes of the tree by rising number, and what was checked of it: the list of
@@ -38,6 +38,7 @@ pub record IsHeld (whole set : PlainInstance) (start splits : List Exclusion) (h
   pub same_dims : state.dims ≡ dims set
   pub same_boxes : state.boxes ≡ box_count set
   pub state_room : state.room ≡ box_count whole
+  pub room_dims : room.dims ≡ dims set
   pub room_boxes : room.boxes ≡ box_count set
   pub room_most : room.most ≡ box_count whole
   pub split_room : 2 * all_relations whole ≤ split_capacity

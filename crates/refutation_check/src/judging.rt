@@ -12,13 +12,13 @@ ghost use Rattle.refutation_check.specs.Tests.{box_fits};
 ghost use Rattle.refutation_check.specs.Nodes.{IsOver, IsJudged};
 
 use crate::node::{OpenNode, enter};
-use crate::room::Room;
 use box_instances::Instance;
 use check_terms::RefuseCode;
 use conservative_scales::{ScaleFn, exceeds, legal};
 use edge_state::{EdgeState, Rel};
 use proof_tree::Token;
 use relation_table::Mask;
+use rule_passes::ClosingRoom;
 
 // Whether the number of a text names a dimension.
 fn names_dim(instance: &Instance, dim: u32) -> bool
@@ -60,14 +60,15 @@ fn may_order(mask: Mask) -> bool
 fn apart_refusal(
     instance: &Instance,
     state: &mut EdgeState,
-    room: &mut Room,
+    room: &mut ClosingRoom,
     node: OpenNode,
     dim: u32,
     u: u32,
     v: u32,
 ) -> Option<RefuseCode>
     requires over { IsOver instance.now state.old node }
-    requires room { room.old.boxes ≡ box_count instance.now }
+    requires room_dims { room.old.dims ≡ dims instance.now }
+    requires room_boxes { room.old.boxes ≡ box_count instance.now }
     ensures sizes { state.new ≡ record state.old { trail = state.new.trail } }
     ensures room { room.new ≡ room.old }
     ensures judged { IsJudged instance.now node state.old.trail state.new.trail result
@@ -91,14 +92,15 @@ fn apart_refusal(
 fn order_refusal(
     instance: &Instance,
     state: &mut EdgeState,
-    room: &mut Room,
+    room: &mut ClosingRoom,
     node: OpenNode,
     dim: u32,
     u: u32,
     v: u32,
 ) -> Option<RefuseCode>
     requires over { IsOver instance.now state.old node }
-    requires room { room.old.boxes ≡ box_count instance.now }
+    requires room_dims { room.old.dims ≡ dims instance.now }
+    requires room_boxes { room.old.boxes ≡ box_count instance.now }
     ensures sizes { state.new ≡ record state.old { trail = state.new.trail } }
     ensures room { room.new ≡ room.old }
     ensures judged { IsJudged instance.now node state.old.trail state.new.trail result
@@ -122,11 +124,12 @@ fn order_refusal(
 fn rules_refusal(
     instance: &Instance,
     state: &mut EdgeState,
-    room: &mut Room,
+    room: &mut ClosingRoom,
     node: OpenNode,
 ) -> Option<RefuseCode>
     requires over { IsOver instance.now state.old node }
-    requires room { room.old.boxes ≡ box_count instance.now }
+    requires room_dims { room.old.dims ≡ dims instance.now }
+    requires room_boxes { room.old.boxes ≡ box_count instance.now }
     ensures sizes { state.new ≡ record state.old { trail = state.new.trail } }
     ensures room { room.new ≡ room.old }
     ensures judged { IsJudged instance.now node state.old.trail state.new.trail result PlainRules }
@@ -220,12 +223,13 @@ pub fn judge_tuple(instance: &Instance, tuple: &[ScaleFn], copies: u32) -> Optio
 pub fn judge(
     instance: &Instance,
     state: &mut EdgeState,
-    room: &mut Room,
+    room: &mut ClosingRoom,
     node: OpenNode,
     token: &Token,
 ) -> Option<RefuseCode>
     requires over { IsOver instance.now state.old node }
-    requires room { room.old.boxes ≡ box_count instance.now }
+    requires room_dims { room.old.dims ≡ dims instance.now }
+    requires room_boxes { room.old.boxes ≡ box_count instance.now }
     ensures sizes { state.new ≡ record state.old { trail = state.new.trail } }
     ensures room { room.new ≡ room.old }
     ensures judged { IsJudged instance.now node state.old.trail state.new.trail result

@@ -2,16 +2,17 @@
 ghost use Rattle.std.specs.Prelude.{◌≡◌, List, [], None};
 ghost use Rattle.std.specs.List.{All};
 ghost use Rattle.packing_terms.specs.declared.Exclusion.{Exclusion as PlainExclusion};
-ghost use Rattle.packing_terms.specs.Packing.{box_count};
+ghost use Rattle.packing_terms.specs.Packing.{dims, box_count};
 ghost use Rattle.packing_terms.specs.Exclusions.{excludes, IsEdgeAmong};
 ghost use Rattle.rule_terms.specs.Applied.{Extends};
 ghost use Rattle.edge_state.specs.Edges.{oldest};
 ghost use Rattle.refutation_check.specs.Ended.{IsEnded};
 ghost use Rattle.refutation_check.specs.Nodes.{with_each, with_some, IsAtAmong, entered, node_exclusions, Stands, IsOver};
 
-use crate::room::Room;
+use crate::closing::{close_all, close_since};
 use box_instances::Instance;
 use edge_state::{EdgeState, Exclusion, Mark};
+use rule_passes::ClosingRoom;
 
 /// An open node: how long the lists of the state and of the splits were at its parent, and what its
 /// split excludes; nothing at the root.
@@ -62,9 +63,15 @@ pub fn exclude_each(state: &mut EdgeState, start: &[Exclusion])
 
 /// Brings the state back to the parent of a node and on to the closure of the node. True is a
 /// conflict.
-pub fn enter(instance: &Instance, state: &mut EdgeState, room: &mut Room, node: OpenNode) -> bool
+pub fn enter(
+    instance: &Instance,
+    state: &mut EdgeState,
+    room: &mut ClosingRoom,
+    node: OpenNode,
+) -> bool
     requires over { IsOver instance.now state.old node }
-    requires room { room.old.boxes ≡ box_count instance.now }
+    requires room_dims { room.old.dims ≡ dims instance.now }
+    requires room_boxes { room.old.boxes ≡ box_count instance.now }
     ensures sizes { state.new ≡ record state.old { trail = state.new.trail } }
     ensures room { room.new ≡ room.old }
     ensures extends { Extends instance.now (entered node state.old.trail) state.new.trail }
@@ -76,7 +83,7 @@ pub fn enter(instance: &Instance, state: &mut EdgeState, room: &mut Room, node: 
     exclude_some(state, node.second);
     exclude_some(state, node.first);
     if node.first.is_none() {
-        return room.close_all(instance, state);
+        return close_all(instance, state, room);
     }
-    room.close_since(instance, state, node.mark)
+    close_since(instance, state, room, node.mark)
 }

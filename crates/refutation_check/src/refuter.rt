@@ -11,11 +11,11 @@ ghost use Rattle.refutation_check.specs.Refuters.{fed, most_nodes};
 use crate::children::replace;
 use crate::judging::judge;
 use crate::node::{OpenNode, exclude_each};
-use crate::room::Room;
 use box_instances::{BoxSet, Instance, NoMemory};
 use check_terms::{FeedVerdict, RefuseCode};
 use edge_state::{EdgeState, Exclusion};
 use proof_tree::Token;
+use rule_passes::ClosingRoom;
 use std::alloc::Global;
 use std::marker::Model;
 
@@ -33,7 +33,7 @@ pub struct Refuter<'a> {
     splits: Vec<Exclusion>,
     nodes: Vec<OpenNode>,
     state: EdgeState,
-    room: Room,
+    room: ClosingRoom,
     refused: Option<RefuseCode>,
 }
 
@@ -121,7 +121,7 @@ impl<'a> Refuter<'a> {
         let splits = split_room(alloc, dims, count)?;
         let mut nodes = node_room(alloc, dims, count)?;
         let mut state = EdgeState::new(alloc, dims, count)?;
-        let room = Room::new(alloc, count)?;
+        let room = ClosingRoom::new(alloc, dims, count)?;
         exclude_each(&mut state, start.as_slice());
         nodes.push_reserved(OpenNode::root(state.mark()));
         Ok(Refuter {

@@ -1,4 +1,1 @@
 pub mod Closings
-mod Compositions
-mod Guards
-pub mod Levels

@@ -1,14 +1,6 @@
-//! The closure of a state under the seven propagation rules.
+//! The closure of a state under the seven propagation rules, as a search asks for it.
 #![tactic(auto)]
 
-mod chains;
 mod closer;
-mod edges;
-mod empties;
-mod orders;
-mod pairs;
-mod rows;
-mod settle;
-mod work;
 
 pub use closer::{Closed, Closer};

@@ -1,4 +1,4 @@
-use Rattle.std.proofs.Common.{◌≡◌, length}
+use Rattle.std.proofs.Common.{◌≡◌}
 use Rattle.orientation_rules.specs.KeptWeights.{PlainWeights}
 use Rattle.orientation_rules.proofs.KeptRuns.{each_more}
 use Rattle.orientation_rules.proofs.levels.KeptLevels.new.Goals as goal
@@ -6,4 +6,4 @@ use Rattle.orientation_rules.proofs.levels.KeptLevels.new.Goals as goal
 pub loop-preserved : goal.loop-preserved
 loop-preserved g c =
     rw c.in-Ok.ensures.items
-    (each_more (λ (w : PlainWeights). length w.head ≡ c.args.boxes) c.loop.levels.items c.in_ok-level.level c.in_ok-level.ensures c.loop.invariant)
+    (each_more (λ (w : PlainWeights). w.most ≡ c.args.boxes) c.loop.levels.items c.in_ok-level.level c.in_ok-level.ensures.1 c.loop.invariant)

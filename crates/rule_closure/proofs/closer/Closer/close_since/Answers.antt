@@ -1,12 +1,5 @@
-use Rattle.closure_terms.proofs.Settled.{settled_since, chained_since}
 use Rattle.rule_closure.proofs.Closings.{closed_ended}
 use Rattle.rule_closure.proofs.closer.Closer.close_since.Goals as goal
 
-pub close_from-requires-clause-settled : goal.close_from-requires-clause-settled
-close_from-requires-clause-settled c = settled_since _ _ _ c.requires.stable c.requires.full
-
-pub close_from-requires-clause-chained : goal.close_from-requires-clause-chained
-close_from-requires-clause-chained c i h = chained_since _ _ _ _ c.requires.stable
-
 pub returns-clause-closed : goal.returns-clause-closed
-returns-clause-closed c = closed_ended _ _ _ _ c.close_from.ensures.extends c.close_from.ensures.ended
+returns-clause-closed c = closed_ended _ _ _ _ _ c.close_since-is_empty.ensures.extends c.close_since-is_empty.ensures.ended c.told.ensures

@@ -1,0 +1,60 @@
+-- Levels of kept weights, and what CHAIN at all pairs says of boxes that fit.
+use Rattle.std.proofs.Common.{◌≡◌, ◌≢◌, ℕ, zero, suc, ◌+◌, ◌<◌, ◌≤◌, ◌⊎◌, inl, inr, refl, sym, ap, ◌∙◌, arith, Bool, true, false, not, ◌&&◌, List, [], ◌∷◌, ◌++◌, length, slice_index, get_or}
+use Rattle.std.proofs.Math.ListN.{set}
+use Rattle.std.proofs.lemmas.Bool.{true≢false, cases_lt, cases_eq}
+use Rattle.std.proofs.lemmas.List.{length-set, length-append, get_or-set_same, get_or-set_other}
+use Rattle.packing_terms.specs.declared.Exclusion.{Exclusion}
+use Rattle.packing_terms.specs.declared.Rel.TheVariants.{Before}
+use Rattle.packing_terms.specs.Packing.{PlainInstance, container_side}
+use Rattle.packing_terms.specs.Exclusions.{excludes}
+use Rattle.closure_terms.specs.Passes.{IsShut}
+use Rattle.orientation_rules.specs.KeptWeights.{PlainLevels}
+use Rattle.orientation_rules.proofs.KeptRuns.{each_more}
+use Rattle.rule_passes.specs.Rooms.{HaveEach}
+
+-- an entry that is written as it was
+pub set_same : {A : Type 0} (xs : List A) (i : ℕ) (a d : A) → i < length xs → a ≡ get_or xs i d → set xs i a ≡ xs
+set_same [] i a d l e = absurd (omega (arith, l))
+set_same (x ∷ xs) zero a d l e = ap (λ z. z ∷ xs) e
+set_same (x ∷ xs) (suc i) a d l e = ap (λ zs. x ∷ zs) (set_same xs i a d (omega (arith, l)) e)
+
+-- what is known of the entries stays so where one is written of which it is known
+pub level_set : (P : PlainLevels → Type 0) (kept : List PlainLevels) (i : ℕ) (level : PlainLevels) (k : ℕ) (other : PlainLevels) → i < length kept → P level
+    → (k ≢ i → P (get_or kept k other)) → P (get_or (set kept i level) k other)
+level_set P kept i level k other there new old = go (cases_eq k i)
+  where
+    go : (k ≡ i) ⊎ (k ≢ i) → P (get_or (set kept i level) k other)
+    go (inl e) = rw e (rw (get_or-set_same kept i level other there) new)
+    go (inr ne) = rw (get_or-set_other kept i k level other ne) (old ne)
+
+-- levels with the same number are written
+pub each_set : (d m : ℕ) (f : PlainLevels → ℕ) (kept : List PlainLevels) (i : ℕ) (level : PlainLevels) → HaveEach d m f kept → i < d → f level ≡ m → HaveEach d m f (set kept i level)
+each_set d m f kept i level old small new = record {
+  count = length-set kept i level ∙ old.count;
+  each = λ k other l. level_set (λ z. f z ≡ m) kept i level k other (rw old.count small) new (λ ne. old.each k other l);
+}
+
+-- levels of one dimension more
+pub each_push : (d m : ℕ) (f : PlainLevels → ℕ) (kept : List PlainLevels) (level : PlainLevels) → HaveEach d m f kept → f level ≡ m → HaveEach (d + 1) m f (kept ++ level ∷ [])
+each_push d m f kept level old new = record {
+  count = let e = length-append kept (level ∷ []) in omega (arith, e, old.count);
+  each = λ k other l. each_more (λ (z : PlainLevels). f z ≡ m) kept level new (λ j e n. old.each j e (rw (← old.count) n)) k other
+      (let e = length-append kept (level ∷ []) in omega (arith, e, old.count, l));
+}
+
+-- two boxes fit where CHAIN left the first before the second
+pub fits_shut : (instance : PlainInstance) (i limit : ℕ) (head tail : List ℕ) (u v : ℕ) (es : List Exclusion) → limit ≡ container_side instance i → IsShut instance i head tail u v es
+    → (u ≡ v → ⊥) → excludes es i u v Before ≡ false → slice_index head u + slice_index tail v ≤ limit
+fits_shut instance i limit head tail u v es e shut ne open_still = go (cases_lt (container_side instance i) (slice_index head u + slice_index tail v))
+  where
+    go : (container_side instance i < slice_index head u + slice_index tail v) ⊎ (slice_index head u + slice_index tail v ≤ container_side instance i)
+        → slice_index head u + slice_index tail v ≤ limit
+    go (inl l) = absurd (true≢false (sym (shut.shut ne l) ∙ open_still))
+    go (inr l) = omega (arith, e, l)
+
+-- beside boxes that are known to fit, and those that aren't in the row, CHAIN excludes nothing
+pub shut_known : (instance : PlainInstance) (i : ℕ) (head tail : List ℕ) (u v : ℕ) (es : List Exclusion) (row known left : Bool) → left ≡ row && not known → left ≡ false
+    → (known ≡ true → slice_index head u + slice_index tail v ≤ container_side instance i) → (row ≡ false → IsShut instance i head tail u v es) → IsShut instance i head tail u v es
+shut_known instance i head tail u v es row true left e off fit none = record { shut = λ ne wide. (let h = fit refl in absurd (omega (arith, h, wide))) }
+shut_known instance i head tail u v es false false left e off fit none = none refl
+shut_known instance i head tail u v es true false left e off fit none = absurd (true≢false (sym e ∙ off))

@@ -1,0 +1,3 @@
+mod Compositions
+mod Guards
+pub mod Levels

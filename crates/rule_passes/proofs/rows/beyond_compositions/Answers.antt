@@ -1,0 +1,63 @@
+use Rattle.std.proofs.Common.{◌≡◌, ◌∙◌, refl, sym, not, ◌&&◌, ◌||◌, eqb}
+use Rattle.std.proofs.lemmas.Bool.{and_parts, lt-ltb}
+use Rattle.packing_terms.specs.declared.Rel.{Rel}
+use Rattle.packing_terms.specs.declared.Rel.TheVariants.{Overlap, Before, After}
+use Rattle.packing_terms.specs.Packing.{box_count}
+use Rattle.packing_terms.specs.Exclusions.{excludes}
+use Rattle.edge_state.specs.BitRows.{row_has}
+use Rattle.edge_state.specs.Edges.{is_other_box}
+use Rattle.edge_state.proofs.Kept.{by_rel}
+use Rattle.closure_terms.specs.Rows.{in_each_relation}
+use Rattle.closure_terms.proofs.Beyond.{covered_beyond}
+use Rattle.rule_passes.proofs.Compositions.{none_left_out, within_found}
+use Rattle.rule_passes.proofs.rows.beyond_compositions.Goals as goal
+
+pub returns-clause-within : goal.returns-clause-within
+returns-clause-within g c x on =
+    let n = box_count c.args.instance.now in
+    let to = rw c.requires.sizes.same_boxes at c.row_in-here_overlap.ensures in
+    let tb = rw c.requires.sizes.same_boxes at c.row_in-here_before.ensures in
+    let ta = rw c.requires.sizes.same_boxes at c.row_in-here_after.ensures in
+    within_found n c.args.u x _ _ _ _ _ _ _ _ _ _ _ _ _ _ _ (to x) (tb x) (ta x) (c.outside.ensures x) (c.outside-2.ensures x) (c.outside-3.ensures x)
+    _ _ _ _ _ (c.one_of-beyond.ensures x) (c.requires.all x) (c.minus-lost.ensures x) (c.or.ensures x) (and_parts _ _ (sym (c.without.ensures x) ∙ on)).0
+
+pub returns-clause-others : goal.returns-clause-others
+returns-clause-others g c x small off =
+    let instance = c.args.instance.now in
+    let es = c.args.state.now.trail in
+    let j = c.args.dim in
+    let u = c.args.u in
+    let v = c.args.v in
+    let q = in_each_relation c.has-is_overlap.result c.has-is_before.result c.has-is_after.result in
+    let s = in_each_relation (row_has c.row_in-overlap.result x) (row_has c.row_in-before.result x) (row_has c.row_in-after.result x) in
+    let t = in_each_relation (row_has c.row_in-here_overlap.result x) (row_has c.row_in-here_before.result x) (row_has c.row_in-here_after.result x) in
+    let to = rw c.requires.sizes.same_boxes at c.row_in-here_overlap.ensures in
+    let tb = rw c.requires.sizes.same_boxes at c.row_in-here_before.ensures in
+    let ta = rw c.requires.sizes.same_boxes at c.row_in-here_after.ensures in
+    let ht : (r : Rel) → t r ≡ is_other_box (box_count instance) u x && not (excludes es j u x r) = by_rel t _ (to x) (tb x) (ta x) in
+    let so = rw c.requires.sizes.same_boxes at c.row_in-overlap.ensures in
+    let sb = rw c.requires.sizes.same_boxes at c.row_in-before.ensures in
+    let sa = rw c.requires.sizes.same_boxes at c.row_in-after.ensures in
+    let hs : (r : Rel) → s r ≡ is_other_box (box_count instance) v x && not (excludes es j v x r) = by_rel s _ (so x) (sb x) (sa x) in
+    let hq : (r : Rel) → q r ≡ not (excludes es j u v r) = by_rel q _ (c.has-is_overlap.ensures ∙ c.requires.left Overlap) (c.has-is_before.ensures ∙ c.requires.left Before) (c.has-is_after.ensures ∙ c.requires.left After) in
+    let e : row_has c.without.result x ≡ (((((t Overlap && not ((s Overlap || (s After && q Before)) || (s Before && q After))) && not (q Overlap)) || ((t Before && not ((s Overlap && q Overlap) || s Before)) && not (q Before))) || ((t After && not ((s Overlap && q Overlap) || s After)) && not (q After))) || (row_has c.args.all x && not (((s Overlap || s Before) || s After) && ((q Overlap || q Before) || q After)))) && not (eqb x v)
+    = rw (
+      c.without.ensures x,
+      c.or.ensures x,
+      c.one_of-beyond.ensures x,
+      c.outside.ensures x,
+      c.outside-2.ensures x,
+      c.outside-3.ensures x,
+      c.one_of-may_overlap.ensures x,
+      c.or-may_precede.ensures x,
+      c.or-may_follow.ensures x,
+      c.pick-2.ensures x,
+      c.pick-3.ensures x,
+      c.pick-near.ensures x,
+      c.minus-lost.ensures x,
+      c.pick.ensures x,
+      c.one_of-any.ensures x,
+    ) refl in
+    let none = none_left_out (q Overlap) (q Before) (q After) (s Overlap) (s Before) (s After) (t Overlap) (t Before) (t After) (row_has c.args.all x) (eqb x v)
+    (c.requires.all x ∙ lt-ltb x _ small) (sym e ∙ off) in
+    covered_beyond instance es j u v x _ q s t c.requires.distinct hq hs ht refl none

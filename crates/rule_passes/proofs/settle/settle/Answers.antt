@@ -1,0 +1,120 @@
+use Rattle.std.proofs.Common.{◌≤◌, ◌<◌, ◌-◌, ◌*◌, ◌/◌, ◌∙◌, refl, arith, length}
+use Rattle.packing_terms.specs.Exclusions.{IsEdge}
+use Rattle.rule_terms.proofs.Applied.{extends_refl, extends_trans}
+use Rattle.closure_terms.proofs.Worked.{worked_kept}
+use Rattle.closure_terms.proofs.Settled.{change_edge, trail_short, behind_within, grown_past, settled_all, chained_all}
+use Rattle.closure_terms.proofs.Looked.{looked_step}
+use Rattle.rule_passes.proofs.settle.settle.Goals as goal
+
+pub loop-change-init : goal.loop-change-init
+loop-change-init g c = record {
+  same_dims = refl;
+  same_boxes = refl;
+  same_room = refl;
+  extends = extends_refl _ _;
+  later = omega arith;
+  within = c.requires.mark;
+  looked = c.requires.looked;
+  still = λ e. refl;
+}
+
+pub is_empty_in-requires : goal.is_empty_in-requires
+is_empty_in-requires g c =
+    let s = c.loop-change.state in
+    let edge = change_edge s.dims s.boxes s.trail c.loop-change.next _ c.in-Some.change c.dims-sizes.ensures.limits.trail c.in-Some.ensures in
+    record {
+      words = c.requires.words;
+      sizes = record {
+        same_dims = c.loop-change.invariant.same_dims ∙ c.requires.dims;
+        same_boxes = c.loop-change.invariant.same_boxes ∙ c.requires.boxes;
+        there = omega (arith, edge.dim, c.loop-change.invariant.same_dims, c.requires.dims);
+      };
+      u = omega (arith, edge.first, c.loop-change.invariant.same_boxes, c.requires.boxes);
+      v = omega (arith, edge.second, c.loop-change.invariant.same_boxes, c.requires.boxes);
+    }
+
+pub dirtied-more-requires-clause-edge : goal.dirtied-more-requires-clause-edge
+dirtied-more-requires-clause-edge g c =
+    let s = c.loop-change.state in
+    change_edge s.dims s.boxes s.trail c.loop-change.next _ c.in-Some.change c.dims-sizes.ensures.limits.trail c.in-Some.ensures
+
+pub dirtied-more-requires-clause-dim : goal.dirtied-more-requires-clause-dim
+dirtied-more-requires-clause-dim g c =
+    let s = c.loop-change.state in
+    let edge = change_edge s.dims s.boxes s.trail c.loop-change.next _ c.in-Some.change c.dims-sizes.ensures.limits.trail c.in-Some.ensures in
+    omega (arith, edge.dim, c.dims-sizes.ensures.limits.dimensions.1)
+
+pub bounds-longest-change : goal.bounds-longest-change
+bounds-longest-change g c =
+    let s = c.loop-change.state in
+    let edge = change_edge s.dims s.boxes s.trail c.loop-change.next _ c.in-Some.change c.dims-sizes.ensures.limits.trail c.in-Some.ensures in
+    omega (arith, edge.dim, c.dims-sizes.ensures.limits.dimensions.1, c.requires.count)
+
+pub spread-requires : goal.spread-requires
+spread-requires g c =
+    let s = c.loop-change.state in
+    let edge = change_edge s.dims s.boxes s.trail c.loop-change.next _ c.in-Some.change c.dims-sizes.ensures.limits.trail c.in-Some.ensures in (
+      omega (arith, c.requires.words.0.1),
+      (
+        c.requires.words,
+        (
+          record {
+            same_dims = c.loop-change.invariant.same_dims ∙ c.requires.dims;
+            same_boxes = c.loop-change.invariant.same_boxes ∙ c.requires.boxes;
+            there = omega (arith, edge.dim, c.loop-change.invariant.same_dims, c.requires.dims);
+          },
+          (
+            omega (arith, edge.first, c.loop-change.invariant.same_boxes, c.requires.boxes),
+            (
+              omega (arith, edge.second, c.loop-change.invariant.same_boxes, c.requires.boxes),
+              (
+                edge.distinct,
+                (c.requires.all, c.requires.longest _ (omega (arith, edge.dim, c.loop-change.invariant.same_dims, c.requires.dims))),
+              ),
+            ),
+          ),
+        ),
+      ),
+    )
+
+pub loop-change-smaller : goal.loop-change-smaller
+loop-change-smaller g c =
+    let s = c.loop-change.state in
+    let short : length s.trail ≤ 3 * c.args.state.now.dims * c.args.state.now.boxes * (c.args.state.now.boxes - 1) / 2
+    = rw (← c.loop-change.invariant.same_dims, ← c.loop-change.invariant.same_boxes) (trail_short s.dims s.boxes s.trail c.dims-sizes.ensures.limits.trail) in
+    let change = c.in-Some.ensures in
+    let before_last : c.loop-change.next < length s.trail = change.before_last in
+    let past = behind_within s.trail c.loop-change.next c.behind-after.result c.in-Some.change before_last c.behind-after.ensures in
+    omega (arith, short, before_last, past.0)
+
+pub loop-change-preserved : goal.loop-change-preserved
+loop-change-preserved g c =
+    let s = c.loop-change.state in
+    let change = c.in-Some.ensures in
+    let edge = change_edge s.dims s.boxes s.trail c.loop-change.next _ c.in-Some.change c.dims-sizes.ensures.limits.trail change in
+    let work = worked_kept _ _ _ _ _ c.if-spread.false c.spread.ensures in
+    let past = behind_within s.trail c.loop-change.next c.behind-after.result c.in-Some.change change.before_last c.behind-after.ensures in
+    let here : IsEdge c.args.instance.now c.in-Some.change.dim c.in-Some.change.u c.in-Some.change.v
+    = record { dim = omega (arith, edge.dim, c.loop-change.invariant.same_dims, c.requires.dims); first = omega (arith, edge.first, c.loop-change.invariant.same_boxes, c.requires.boxes); second = omega (arith, edge.second, c.loop-change.invariant.same_boxes, c.requires.boxes); distinct = edge.distinct } in
+    record {
+      same_dims = work.same_dims ∙ c.loop-change.invariant.same_dims;
+      same_boxes = work.same_boxes ∙ c.loop-change.invariant.same_boxes;
+      same_room = work.same_room ∙ c.loop-change.invariant.same_room;
+      extends = extends_trans _ _ _ _ c.loop-change.invariant.extends work.extends;
+      later = omega (arith, c.loop-change.invariant.later, past.0);
+      within = grown_past c.args.instance.now _ _ _ _ _ work.extends change.before_last c.behind-after.ensures;
+      looked = looked_step c.args.instance.now _ _ c.in-Some.change _ _ _ _ here c.if-is_empty_in.ensures work change c.behind-after.ensures
+          c.dirtied-more.ensures.clean c.dirtied-more.ensures.unordered c.dirtied-more.ensures.within c.loop-change.invariant.looked;
+      still = λ e. absurd (omega (arith, e, c.loop-change.invariant.later, past.0));
+    }
+
+pub returns-then-spread-clause-extends : goal.returns-then-spread-clause-extends
+returns-then-spread-clause-extends g c = extends_trans _ _ _ _ c.loop-change.invariant.extends c.spread.ensures.extends
+
+pub returns-clause-looked : goal.returns-clause-looked
+returns-clause-looked g c =
+    let looked = c.loop-change.invariant.looked in record {
+      settled = settled_all _ _ _ c.in_default.ensures looked.settled;
+      chained = λ i h off. chained_all _ i _ _ c.in_default.ensures (looked.chained i h off);
+      within = looked.within;
+    }

@@ -1,0 +1,78 @@
+//! A closing: what changed is looked through until nothing is left or a mask is empty.
+ghost use Rattle.std.specs.Prelude.{◌≡◌, ◌<◌, ◌≤◌, ◌-◌, ℕ, nat_lt, length, drop, MatchBool};
+ghost use Rattle.packing_terms.specs.Packing.{dims, box_count};
+ghost use Rattle.packing_terms.specs.Exclusions.{excludes};
+ghost use Rattle.packing_terms.specs.Closure.{IsStable};
+ghost use Rattle.rule_terms.specs.Applied.{Extends};
+ghost use Rattle.rule_terms.specs.Places.{HasNoEmptyMask};
+ghost use Rattle.edge_state.specs.BitRows.{HoldsBoxes, row_has};
+ghost use Rattle.edge_state.specs.Edges.{oldest};
+ghost use Rattle.closure_terms.specs.States.{HasEmptyMask};
+ghost use Rattle.closure_terms.specs.Work.{IsUpToDate, IsChained};
+ghost use Rattle.rule_passes.specs.Rooms.{AreKept, AreMade};
+
+use crate::chains::cover_chains;
+use crate::settle::settle;
+use crate::sides::longest_sides;
+use box_instances::Instance;
+use edge_state::{BitRow, EdgeState, Mark};
+use orientation_rules::KeptLevels;
+
+// Begins a closing in each dimension.
+fn begin_each<const K: usize>(kept: &mut [KeptLevels<K>])
+    ensures { kept.new ≡ kept.old }
+{
+    for dim in 0..kept.len() {
+        kept[dim].begin();
+    }
+}
+
+/// Goes along what changed after a position of the list, then over CHAIN in the dimensions where two
+/// boxes became ordered, and again along what that changed, until nothing is left or a mask is
+/// empty, which the answer tells.
+pub fn close_with<const K: usize>(
+    instance: &Instance,
+    state: &mut EdgeState,
+    all: BitRow<K>,
+    kept: &mut [KeptLevels<K>],
+    closed: Mark,
+) -> bool
+    requires words { HoldsBoxes K (box_count instance.now) }
+    requires dims { state.old.dims ≡ dims instance.now }
+    requires boxes { state.old.boxes ≡ box_count instance.now }
+    requires all { (x : ℕ) → row_has all x ≡ nat_lt x (box_count instance.now) }
+    requires kept { AreKept (dims instance.now) (box_count instance.now) kept.old }
+    requires mark { closed ≤ length state.old.trail }
+    requires settled { IsUpToDate instance.now
+        (oldest closed state.old.trail) state.old.trail }
+    requires chained { (i : ℕ) → i < dims instance.now → IsChained instance.now i
+        (oldest closed state.old.trail) state.old.trail }
+    ensures kept { AreKept (dims instance.now) (box_count instance.now) kept.new }
+    ensures made { (most : ℕ) → AreMade (dims instance.now) most kept.old
+        → AreMade (dims instance.now) most kept.new }
+    ensures sizes { state.new ≡ record state.old { trail = state.new.trail } }
+    ensures extends { Extends instance.now state.old.trail state.new.trail }
+    ensures ended { MatchBool result (HasEmptyMask instance.now (excludes state.new.trail))
+        (IsStable instance.now (excludes state.new.trail)
+        × HasNoEmptyMask instance.now (excludes state.new.trail)) }
+{
+    begin_each(kept);
+    let longest = longest_sides(instance);
+    let Some(first) = settle(instance, state, all, closed, BitRow::empty(), &longest) else {
+        return true;
+    };
+    let mut dirty = first;
+    while let Some(dim) = dirty.first() {
+        let next = state.mark();
+        let levels = &mut kept[dim as usize];
+        cover_chains::<K>(instance, state, dim, levels);
+        let rest = dirty.without(dim);
+        let Some(more) = settle(instance, state, all, next, rest, &longest) else {
+            return true;
+        };
+        // For the proof alone: tells the limits of the state.
+        let _sizes = state.dims();
+        dirty = more;
+    }
+    false
+}

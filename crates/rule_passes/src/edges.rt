@@ -1,0 +1,149 @@
+//! What follows from a changed edge: the instances of the rules that read its mask.
+//!
+//! Each call applies some instances one after another and answers whether a mask is empty; it stops
+//! there.
+ghost use Rattle.std.specs.Prelude.{◌≡◌, ◌<◌, ℕ, false, nat_lt};
+ghost use Rattle.packing_terms.specs.declared.Rel.TheVariants.{Overlap, Before, After};
+ghost use Rattle.packing_terms.specs.Packing.{box_count};
+ghost use Rattle.relation_table.specs.Masks.{mask_has};
+ghost use Rattle.edge_state.specs.BitRows.{HoldsBoxes, row_has};
+ghost use Rattle.closure_terms.specs.States.{IsSized};
+ghost use Rattle.closure_terms.specs.Work.{IsWorked, IsAppliedAt};
+ghost use Rattle.rule_passes.specs.Reached.{HasNoLonger, IsReachedApart, IsReachedJoined, IsReachedOrdered};
+
+use crate::orders::{orders_crossed, orders_first, orders_second};
+use crate::work::{aparts, chords, composes, cycles, triples};
+use box_instances::Instance;
+use edge_state::{BitRow, EdgeState, Mask, Rel};
+
+// The instances that ask for two boxes that are apart: none where the mask has overlap.
+#[inline]
+fn spread_apart<const K: usize>(
+    instance: &Instance,
+    state: &mut EdgeState,
+    all: BitRow<K>,
+    dim: u32,
+    p: u32,
+    q: u32,
+    left: Mask,
+    most: u32,
+) -> bool
+    requires words { HoldsBoxes K (box_count instance.now) }
+    requires sizes { IsSized instance.now state.old dim }
+    requires p { p < box_count instance.now }
+    requires q { q < box_count instance.now }
+    requires distinct { p ≡ q → ⊥ }
+    requires all { (x : ℕ) → row_has all x ≡ nat_lt x (box_count instance.now) }
+    requires most { HasNoLonger instance.now dim most }
+    ensures { IsWorked instance.now state.old state.new result
+        (λ rule. (mask_has left Overlap ≡ false) × IsReachedApart instance.now dim p q rule) }
+{
+    if left.has(Rel::Overlap) {
+        return false;
+    }
+    if triples::<K>(instance, state, dim, p, q, most) {
+        return true;
+    }
+    chords(instance, state, all, dim, p, q)
+}
+
+// The instances that ask for two boxes that are joined: none where the mask has before or after.
+#[inline]
+fn spread_joined<const K: usize>(
+    instance: &Instance,
+    state: &mut EdgeState,
+    all: BitRow<K>,
+    dim: u32,
+    p: u32,
+    q: u32,
+    left: Mask,
+) -> bool
+    requires words { HoldsBoxes K (box_count instance.now) }
+    requires sizes { IsSized instance.now state.old dim }
+    requires p { p < box_count instance.now }
+    requires q { q < box_count instance.now }
+    requires distinct { p ≡ q → ⊥ }
+    requires all { (x : ℕ) → row_has all x ≡ nat_lt x (box_count instance.now) }
+    ensures { IsWorked instance.now state.old state.new result
+        (λ rule. ((mask_has left Before ≡ false) × (mask_has left After ≡ false))
+        × IsReachedJoined instance.now dim p q rule) }
+{
+    if left.has(Rel::Before) || left.has(Rel::After) {
+        return false;
+    }
+    if aparts(instance, state, dim, p, q) {
+        return true;
+    }
+    cycles(instance, state, all, dim, p, q)
+}
+
+// The instances that ask for a box that is surely before another: none where the mask has overlap
+// or after.
+#[inline]
+fn spread_ordered<const K: usize>(
+    instance: &Instance,
+    state: &mut EdgeState,
+    all: BitRow<K>,
+    dim: u32,
+    p: u32,
+    q: u32,
+    left: Mask,
+) -> bool
+    requires words { HoldsBoxes K (box_count instance.now) }
+    requires sizes { IsSized instance.now state.old dim }
+    requires p { p < box_count instance.now }
+    requires q { q < box_count instance.now }
+    requires distinct { p ≡ q → ⊥ }
+    requires all { (x : ℕ) → row_has all x ≡ nat_lt x (box_count instance.now) }
+    ensures { IsWorked instance.now state.old state.new result
+        (λ rule. ((mask_has left Overlap ≡ false) × (mask_has left After ≡ false))
+        × IsReachedOrdered instance.now dim p q rule) }
+{
+    if left.has(Rel::Overlap) || left.has(Rel::After) {
+        return false;
+    }
+    if orders_first(instance, state, all, dim, p, q) {
+        return true;
+    }
+    orders_second(instance, state, all, dim, p, q)
+}
+
+/// The instances that read the mask of two boxes in this order, up to those that add the same. The
+/// mask is read once: where a relation was in it, an instance that asks for its exclusion has
+/// nothing to add, and where that went since, the change is looked through in its turn.
+pub fn spread_from<const K: usize>(
+    instance: &Instance,
+    state: &mut EdgeState,
+    all: BitRow<K>,
+    dim: u32,
+    p: u32,
+    q: u32,
+    most: u32,
+) -> bool
+    requires words { HoldsBoxes K (box_count instance.now) }
+    requires sizes { IsSized instance.now state.old dim }
+    requires p { p < box_count instance.now }
+    requires q { q < box_count instance.now }
+    requires distinct { p ≡ q → ⊥ }
+    requires all { (x : ℕ) → row_has all x ≡ nat_lt x (box_count instance.now) }
+    requires most { HasNoLonger instance.now dim most }
+    ensures { IsWorked instance.now state.old state.new result (IsAppliedAt dim p q) }
+{
+    let left = state.mask_in::<K>(dim, p, q);
+    if composes(instance, state, all, dim, p, q, left) {
+        return true;
+    }
+    if spread_apart(instance, state, all, dim, p, q, left, most) {
+        return true;
+    }
+    if spread_joined(instance, state, all, dim, p, q, left) {
+        return true;
+    }
+    if spread_ordered(instance, state, all, dim, p, q, left) {
+        return true;
+    }
+    if left.has(Rel::Before) {
+        return false;
+    }
+    orders_crossed(instance, state, all, dim, p, q)
+}

@@ -1,0 +1,17 @@
+//! The seven rules over a state until none adds anything: what the search and the checker both
+//! close a state with, each from where it stands.
+#![tactic(auto)]
+
+mod chains;
+mod closing;
+mod edges;
+mod empties;
+mod orders;
+mod pairs;
+mod room;
+mod rows;
+mod settle;
+mod sides;
+mod work;
+
+pub use room::ClosingRoom;

@@ -1,0 +1,208 @@
+//! The working room of closings, and where they begin: at nothing, or where the state was closed.
+ghost use Rattle.std.specs.Prelude.{◌≡◌, ◌<◌, ◌≤◌, ◌-◌, ℕ, true, nat_lt, length, drop, slice_index_or, IfOk, MatchBool};
+ghost use Rattle.packing_terms.specs.Limits.{IsDimCount, IsBoxCount};
+ghost use Rattle.packing_terms.specs.Packing.{dims, box_count};
+ghost use Rattle.packing_terms.specs.Exclusions.{excludes};
+ghost use Rattle.packing_terms.specs.Closure.{IsStable};
+ghost use Rattle.rule_terms.specs.Applied.{Extends};
+ghost use Rattle.rule_terms.specs.Places.{HasNoEmptyMask};
+ghost use Rattle.edge_state.specs.BitRows.{IsRowWidth, row_has};
+ghost use Rattle.edge_state.specs.Edges.{oldest};
+ghost use Rattle.closure_terms.specs.States.{HasEmptyMask};
+ghost use Rattle.closure_terms.specs.Work.{IsUpToDate, IsChained};
+ghost use Rattle.orientation_rules.specs.KeptWeights.{PlainLevels};
+ghost use Rattle.rule_passes.specs.Rooms.{AreKept, AreMade};
+
+use crate::closing::close_with;
+use crate::pairs::pass_pairs;
+use crate::rows::all_boxes;
+use box_instances::{Instance, NoMemory};
+use edge_state::{BitRow, EdgeState, Mark};
+use orientation_rules::KeptLevels;
+use std::alloc::Global;
+use std::marker::Model;
+
+/// The working room of closings, for states of so many dimensions and boxes. It is seen as these two
+/// sizes, and the number of boxes that it was made for.
+///
+/// Rows have one word where that holds as many boxes as it was made for, and else two. The weights
+/// of chains are kept from one closing to the next.
+#[derive(Drop)]
+pub struct ClosingRoom {
+    dims: u32,
+    boxes: u32,
+    most: u32,
+    narrow: BitRow<1>,
+    wide: BitRow<2>,
+    narrow_kept: Vec<KeptLevels<1>>,
+    wide_kept: Vec<KeptLevels<2>>,
+}
+
+impl Model for ClosingRoom {
+    ghost use Rattle.rule_passes.specs.Rooms.{PlainRoom, HasRoom};
+
+    ghost Value = { PlainRoom };
+
+    ghost view = { λ c. record { dims = c.dims; boxes = c.boxes; most = c.most } };
+
+    ghost invariant = { λ c. HasRoom c.dims c.boxes c.most c.narrow c.wide c.narrow_kept.items
+        c.wide_kept.items };
+}
+
+// How many levels of weights are kept for each dimension. Old ones stand far apart, so it needn't be
+// as many as a path of a search is long.
+const LEVELS: u32 = 8;
+
+// As many where they are wanted, and else none.
+fn count_if(count: u32, wanted: bool) -> u32
+    ensures { wanted ≡ true → result ≡ count }
+{
+    if wanted { count } else { 0 }
+}
+
+// Room for the weights that are kept in each of so many dimensions.
+fn levels_of<const K: usize>(
+    alloc: Global,
+    dims: u32,
+    boxes: u32,
+) -> Result<Vec<KeptLevels<K>>, NoMemory>
+    requires { IsRowWidth K }
+    ensures { IfOk result (λ kept. AreKept dims boxes kept.items
+        × AreMade dims boxes kept.items) }
+{
+    let mut kept = Vec::new(alloc);
+    for _ in 0..dims {
+        let levels = KeptLevels::new(alloc, boxes, LEVELS)?;
+        let Ok(()) = kept.push(levels) else {
+            return Err(NoMemory);
+        };
+    }
+    Ok(kept)
+}
+
+// Uses the room in each dimension for so many boxes.
+fn set_each<const K: usize>(kept: &mut [KeptLevels<K>], boxes: u32)
+    requires width { IsRowWidth K }
+    requires few { (k : ℕ) (other : PlainLevels) → k < length kept.old
+        → boxes ≤ (slice_index_or kept.old k other).most }
+    ensures kept { AreKept (length kept.old) boxes kept.new }
+    ensures made { (d most : ℕ) → AreMade d most kept.old → AreMade d most kept.new }
+{
+    for dim in 0..kept.len() {
+        kept[dim].set_boxes(boxes);
+    }
+}
+
+impl ClosingRoom {
+    /// The working room for states of so many dimensions and boxes. `dims` is from 2 to 4, `boxes`
+    /// from 1 to 128.
+    pub fn new(alloc: Global, dims: u32, boxes: u32) -> Result<ClosingRoom, NoMemory>
+        requires dimensions { IsDimCount dims }
+        requires boxes { IsBoxCount boxes }
+        ensures { IfOk result
+            (λ room. room ≡ record { dims = dims; boxes = boxes; most = boxes }) }
+    {
+        let narrow_kept = levels_of::<1>(alloc, count_if(dims, boxes <= 64), boxes)?;
+        let wide_kept = levels_of::<2>(alloc, count_if(dims, boxes > 64), boxes)?;
+        Ok(ClosingRoom {
+            dims,
+            boxes,
+            most: boxes,
+            narrow: all_boxes(boxes.min(64)),
+            wide: all_boxes(boxes),
+            narrow_kept,
+            wide_kept,
+        })
+    }
+
+    /// Uses it for states of so many boxes, at most as many as it was made for. It takes no memory.
+    pub fn set_boxes(&mut self, boxes: u32)
+        requires count { IsBoxCount boxes }
+        requires most { boxes ≤ self.old.most }
+        ensures { self.new ≡ record self.old { boxes = boxes } }
+    {
+        self.boxes = boxes;
+        self.narrow = all_boxes(boxes.min(64));
+        self.wide = all_boxes(boxes);
+        if self.most > 64 {
+            set_each(self.wide_kept.as_mut_slice(), boxes);
+        } else {
+            set_each(self.narrow_kept.as_mut_slice(), boxes);
+        }
+    }
+
+    // Closes the state from a position of its list, with rows of as many words as hold all boxes.
+    fn close_from(&mut self, instance: &Instance, state: &mut EdgeState, closed: Mark) -> bool
+        requires dims { state.old.dims ≡ dims instance.now }
+        requires boxes { state.old.boxes ≡ box_count instance.now }
+        requires room_dims { self.old.dims ≡ dims instance.now }
+        requires room_boxes { self.old.boxes ≡ box_count instance.now }
+        requires mark { closed ≤ length state.old.trail }
+        requires settled { IsUpToDate instance.now
+            (oldest closed state.old.trail) state.old.trail }
+        requires chained { (i : ℕ) → i < dims instance.now → IsChained instance.now i
+            (oldest closed state.old.trail) state.old.trail }
+        ensures room { self.new ≡ self.old }
+        ensures sizes { state.new ≡ record state.old { trail = state.new.trail } }
+        ensures extends { Extends instance.now state.old.trail state.new.trail }
+        ensures ended { MatchBool result (HasEmptyMask instance.now (excludes state.new.trail))
+            (IsStable instance.now (excludes state.new.trail)
+            × HasNoEmptyMask instance.now (excludes state.new.trail)) }
+    {
+        // For the proof alone: tells the limits of the state.
+        let _sizes = state.dims();
+        if self.most <= 64 {
+            let kept = self.narrow_kept.as_mut_slice();
+            return close_with(instance, state, self.narrow, kept, closed);
+        }
+        let kept = self.wide_kept.as_mut_slice();
+        close_with(instance, state, self.wide, kept, closed)
+    }
+
+    /// Excludes what follows from the exclusions of the state, by the seven rules, until no rule
+    /// adds anything or a mask is empty, which the answer tells.
+    ///
+    /// The new exclusions come on top of the old ones, so `undo` gives the masks back. Room,
+    /// instance and state have the same sizes. It takes no memory.
+    pub fn close_all(&mut self, instance: &Instance, state: &mut EdgeState) -> bool
+        requires dims { state.old.dims ≡ dims instance.now }
+        requires boxes { state.old.boxes ≡ box_count instance.now }
+        requires room_dims { self.old.dims ≡ dims instance.now }
+        requires room_boxes { self.old.boxes ≡ box_count instance.now }
+        ensures room { self.new ≡ self.old }
+        ensures sizes { state.new ≡ record state.old { trail = state.new.trail } }
+        ensures extends { Extends instance.now state.old.trail state.new.trail }
+        ensures ended { MatchBool result (HasEmptyMask instance.now (excludes state.new.trail))
+            (IsStable instance.now (excludes state.new.trail)
+            × HasNoEmptyMask instance.now (excludes state.new.trail)) }
+    {
+        // For the proof alone: tells the limits of the state.
+        let _sizes = state.dims();
+        if pass_pairs(instance, state) {
+            return true;
+        }
+        self.close_from(instance, state, Mark::first())
+    }
+
+    /// The same for a state that was closed, without an empty mask, at a position of its list, and
+    /// to which exclusions were added since. It looks only at what these lead to.
+    pub fn close_since(&mut self, instance: &Instance, state: &mut EdgeState, closed: Mark) -> bool
+        requires dims { state.old.dims ≡ dims instance.now }
+        requires boxes { state.old.boxes ≡ box_count instance.now }
+        requires room_dims { self.old.dims ≡ dims instance.now }
+        requires room_boxes { self.old.boxes ≡ box_count instance.now }
+        requires mark { closed ≤ length state.old.trail }
+        requires stable { IsStable instance.now
+            (excludes (oldest closed state.old.trail)) }
+        requires full { HasNoEmptyMask instance.now
+            (excludes (oldest closed state.old.trail)) }
+        ensures room { self.new ≡ self.old }
+        ensures sizes { state.new ≡ record state.old { trail = state.new.trail } }
+        ensures extends { Extends instance.now state.old.trail state.new.trail }
+        ensures ended { MatchBool result (HasEmptyMask instance.now (excludes state.new.trail))
+            (IsStable instance.now (excludes state.new.trail)
+            × HasNoEmptyMask instance.now (excludes state.new.trail)) }
+    {
+        self.close_from(instance, state, closed)
+    }
+}
