@@ -1,6 +1,6 @@
 use Rattle.std.proofs.Common.{length, ◌-◌, ◌≡◌}
-use Rattle.explained_check.specs.Lines.{IsAmong, lines_left}
-use Rattle.explained_check.proofs.lines.next_line.Given as goal
+use Rattle.line_cursor.specs.Lines.{IsAmong, lines_left}
+use Rattle.line_cursor.proofs.cursor.next_line.Given as goal
 
 abbrev pub invariant-loop-at : goal.invariant-loop-at
 invariant-loop-at l =
