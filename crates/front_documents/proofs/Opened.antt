@@ -1,8 +1,9 @@
 -- What a line opens where a corner, a point or `end` is wanted.
 use Rattle.std.proofs.Common.{◌≡◌, ℕ, zero, suc, ◌+◌, ◌<◌, ◌≤◌, ◌⊎◌, inl, inr, refl, sym, ap, ◌∙◌, subst, arith, Bool, true, false, not, cond, List, [], ◌∷◌, Option, Some, None, Result, Ok, Err, codes}
-use Rattle.std.specs.Prelude.{◌==◌, ◌&&◌, ◌-◌, nat_le, nat_lt}
+use Rattle.std.specs.Prelude.{◌==◌, ◌&&◌, ◌-◌, nat_le, nat_lt, slice_index}
 use Rattle.std.proofs.lemmas.Bool.{ne_eqb, and_left, and_right, false_from_ne_true, leb-true, leb-false, ltb-true}
-use Rattle.packing_terms.specs.Packing.{PlainInstance, written_container}
+use Rattle.packing_terms.specs.Packing.{PlainInstance, dims, written_container}
+use Rattle.packing_terms.specs.Limits.{IsInternalInstance, most_height}
 use Rattle.packing_terms.specs.Results.{◌>>=◌}
 use Rattle.packing_terms.specs.Tokens.{PlainToken}
 use Rattle.text_terms.specs.Lines.{Line}
@@ -24,6 +25,13 @@ use Rattle.front_documents.specs.Audits.{claim_of}
 use Rattle.front_documents.specs.Parts.{at_front, IsOpened, taken_by, opened_by, clamped, told_code}
 
 -- ---- numbers that are too great for any side
+
+pub small_sides : (instance : PlainInstance) → IsInternalInstance instance → dims instance ≡ 2 → (written_container instance 0 < most_coordinate) × (written_container instance 1 < most_coordinate)
+small_sides instance limits plane =
+    let first = limits.container.others 0 (omega (arith, plane)) in
+    let e : dims instance - 1 ≡ 1 = omega (arith, plane) in
+    let last : slice_index instance.container 1 ≤ most_height = subst (λ (n : ℕ). slice_index instance.container n ≤ most_height) e limits.container.last in
+    let side = first.1 in (omega (arith, side), omega (arith, last))
 
 -- one of the two is
 abbrev AreBig : ℕ → ℕ → Type 0

@@ -34,7 +34,9 @@ use Rattle.front_verdict_terms.specs.Verdicts.{DocumentStage, Ended, line_named,
 use Rattle.front_check.specs.Audits.{growing, placing, pointed}
 use Rattle.line_cursor.specs.declared.cursor.Cursor.{Cursor}
 use Rattle.line_cursor.specs.Lines.{lines_left}
-use Rattle.front_documents.specs.Audits.{claim_of, verdict_left, IsNextTaken}
+use Rattle.front_documents.specs.declared.audit.FrontAudit.{FrontAudit}
+use Rattle.front_documents.specs.declared.audit.FrontAudit.TheVariants.{Refused as RefusedAudit}
+use Rattle.front_documents.specs.Audits.{claim_of, verdict_left, IsVerdict, IsNextTaken}
 use Rattle.front_documents.specs.Parts.{at_front, IsOpenTree, nodes_by, nodes_behind, IsGrown, place_by, place_of, reason_of, places_reason}
 use Rattle.front_documents.proofs.Cursors.{taken_on, taken_refused}
 
@@ -78,20 +80,20 @@ module _ (instance : PlainInstance) (complete : Bool) (points left w h : ℕ) wh
   -- ---- a place where one is wanted
 
   place_taken : (places xs : List ℕ) (b : Bool)
-      → (told (cond b (placed instance left w h (places ++ xs)) (Err front_form)) >>= λ next. Ok (at_front instance complete points next))
-      ≡ (cond b (Ok xs) (Err form) >>= λ ys. told (placed instance left w h (places ++ ys)) >>= λ next. Ok (at_front instance complete points next))
+      → (told (cond b (placed instance complete left w h (places ++ xs)) (Err front_form)) >>= λ next. Ok (at_front instance complete points next))
+      ≡ (cond b (Ok xs) (Err form) >>= λ ys. told (placed instance complete left w h (places ++ ys)) >>= λ next. Ok (at_front instance complete points next))
   place_taken places xs true = refl
   place_taken places xs false = refl
 
   ranged : (places xs : List ℕ) (b : Bool)
-      → require b range (told (cond (length xs == 2) (placed instance left w h (places ++ xs)) (Err front_form)) >>= λ next. Ok (at_front instance complete points next))
-      ≡ (require b range (cond (length xs == 2) (Ok xs) (Err form)) >>= λ ys. told (placed instance left w h (places ++ ys)) >>= λ next. Ok (at_front instance complete points next))
+      → require b range (told (cond (length xs == 2) (placed instance complete left w h (places ++ xs)) (Err front_form)) >>= λ next. Ok (at_front instance complete points next))
+      ≡ (require b range (cond (length xs == 2) (Ok xs) (Err form)) >>= λ ys. told (placed instance complete left w h (places ++ ys)) >>= λ next. Ok (at_front instance complete points next))
   ranged places xs true = place_taken places xs (length xs == 2)
   ranged places xs false = refl
 
   place_named : (places : List ℕ) (o : Option PlainLine)
       → named_line instance (claim_of complete points) (placing left w h places) o
-      ≡ (place_by o >>= λ xs. told (placed instance left w h (places ++ xs)) >>= λ next. Ok (at_front instance complete points next))
+      ≡ (place_by o >>= λ xs. told (placed instance complete left w h (places ++ xs)) >>= λ next. Ok (at_front instance complete points next))
   place_named places None = refl
   place_named places (Some (CornerAt a b)) = refl
   place_named places (Some (PointAt a b)) = go left
@@ -103,12 +105,12 @@ module _ (instance : PlainInstance) (complete : Bool) (points left w h : ℕ) wh
   place_named places (Some (TreeToken t)) = refl
 
   place_line : (places : List ℕ) (line : Line)
-      → front_filled_line (behind_places places) line ≡ (place_of line >>= λ xs. told (placed instance left w h (places ++ xs)) >>= λ next. Ok (at_front instance complete points next))
+      → front_filled_line (behind_places places) line ≡ (place_of line >>= λ xs. told (placed instance complete left w h (places ++ xs)) >>= λ next. Ok (at_front instance complete points next))
   place_line places line = go line.bad (is_word (codes "end") line.words)
     where
       go : (b e : Bool)
           → require (not b) form (cond e (require (is_whole_front complete (placing left w h places)) form (Ok (Ended instance (claim_of complete points)))) (named_line instance (claim_of complete points) (placing left w h places) (line_named line.words)))
-          ≡ (require (not b) form (cond e (Err form) (place_by (line_named line.words))) >>= λ xs. told (placed instance left w h (places ++ xs)) >>= λ next. Ok (at_front instance complete points next))
+          ≡ (require (not b) form (cond e (Err form) (place_by (line_named line.words))) >>= λ xs. told (placed instance complete left w h (places ++ xs)) >>= λ next. Ok (at_front instance complete points next))
       go true e = refl
       go false true = ap (λ x. require x form (Ok (Ended instance (claim_of complete points)))) (and-false (left == 0))
       go false false = place_named places (line_named line.words)
@@ -127,10 +129,10 @@ module _ (instance : PlainInstance) (complete : Bool) (points left w h : ℕ) wh
   tested_bad (Overlap u v) reason e = ap Err (cc (e))
 
   module _ (places xs after : List ℕ) (line : Line) (is : place_of line ≡ Ok xs) (e : after ≡ places ++ xs) where
-    taken : front_filled_line (behind_places places) line ≡ (told (placed instance left w h after) >>= λ next. Ok (at_front instance complete points next))
+    taken : front_filled_line (behind_places places) line ≡ (told (placed instance complete left w h after) >>= λ next. Ok (at_front instance complete points next))
     taken =
-        place_line places line ∙ (ap (λ r. r >>= λ ys. told (placed instance left w h (places ++ ys)) >>= λ next. Ok (at_front instance complete points next)) is
-        ∙ ap (λ (ps : List ℕ). told (placed instance left w h ps) >>= λ next. Ok (at_front instance complete points next)) (sym e))
+        place_line places line ∙ (ap (λ r. r >>= λ ys. told (placed instance complete left w h (places ++ ys)) >>= λ next. Ok (at_front instance complete points next)) is
+        ∙ ap (λ (ps : List ℕ). told (placed instance complete left w h ps) >>= λ next. Ok (at_front instance complete points next)) (sym e))
 
     pub place_more : ¬ (length after ≡ 2 * box_count instance) → front_filled_line (behind_places places) line ≡ Ok (behind_places after)
     place_more off =
@@ -151,7 +153,7 @@ module _ (instance : PlainInstance) (complete : Bool) (points left w h : ℕ) wh
 
   pub place_refused : (places : List ℕ) (line : Line) (reason : Reason) → place_of line ≡ Err reason → front_filled_line (behind_places places) line ≡ Err reason
   place_refused places line reason e =
-      place_line places line ∙ ap (λ r. r >>= λ ys. told (placed instance left w h (places ++ ys)) >>= λ next. Ok (at_front instance complete points next)) e
+      place_line places line ∙ ap (λ r. r >>= λ ys. told (placed instance complete left w h (places ++ ys)) >>= λ next. Ok (at_front instance complete points next)) e
 
 -- ---- a refuter that takes a token
 
@@ -259,3 +261,49 @@ module _ (bytes : List ℕ) (old at mid : Cursor) (instance : PlainInstance) (w 
   tree_refused reason g complete points left =
       read.same complete points left
       ∙ taken_refused bytes at mid there (at_front instance complete points (growing left w h r.checked.nodes)) reason (tree_line_at complete points left ∙ ap (map_ok (behind_tree instance complete points left w h)) g)
+
+pub tree_short : (bytes : List ℕ) (old at mid : Cursor) (instance : PlainInstance) (w h : ℕ) (r : PlainRefuter) → IsTreeRead bytes old at instance w h r → IsNextTaken bytes at mid false
+    → (end : FrontAudit) → end ≡ RefusedAudit (mid.line.number + 1) TooShort → (complete : Bool) (points left : ℕ) → IsVerdict (verdict_left bytes old (at_front instance complete points (growing left w h ([] ∷ [])))) end
+tree_short bytes old at mid instance w h r read none end e complete points left =
+    subst (λ (a : FrontAudit). IsVerdict (verdict_left bytes old (at_front instance complete points (growing left w h ([] ∷ [])))) a) (sym e)
+    (read.same complete points left ∙ none (at_front instance complete points (growing left w h r.checked.nodes)))
+
+-- ---- places of which some were read
+
+pub record IsPlacesRead (bytes : List ℕ) (old at : Cursor) (instance : PlainInstance) (w h : ℕ) (places : List ℕ) : Type 0 where
+  pub fewer : length (lines_left bytes at) ≤ length (lines_left bytes old)
+  pub same : (complete : Bool) (points left : ℕ)
+      → verdict_left bytes old (at_front instance complete points (placing left w h [])) ≡ verdict_left bytes at (at_front instance complete points (placing left w h places))
+
+pub places_begun : (bytes : List ℕ) (old : Cursor) (instance : PlainInstance) (w h : ℕ) (places : List ℕ) → places ≡ [] → IsPlacesRead bytes old old instance w h places
+places_begun bytes old instance w h places e =
+    subst (λ (ps : List ℕ). IsPlacesRead bytes old old instance w h ps) (sym e) (record { fewer = omega arith; same = λ complete points left. refl })
+
+module _ (bytes : List ℕ) (old at mid : Cursor) (instance : PlainInstance) (w h : ℕ) (places : List ℕ) (read : IsPlacesRead bytes old at instance w h places) (there : IsNextTaken bytes at mid true) where
+  pub place_stopped : (reason : Reason) → place_of (ended_line mid.line.held) ≡ Err reason → (complete : Bool) (points left : ℕ)
+      → verdict_left bytes old (at_front instance complete points (placing left w h [])) ≡ Err (record { line = mid.line.number; reason = reason })
+  place_stopped reason e complete points left =
+      read.same complete points left
+      ∙ taken_refused bytes at mid there (at_front instance complete points (placing left w h places)) reason (place_refused instance complete points left w h places (ended_line mid.line.held) reason e)
+
+  module _ (xs after : List ℕ) (is : place_of (ended_line mid.line.held) ≡ Ok xs) (e : after ≡ places ++ xs) where
+    pub places_more : ¬ (length after ≡ 2 * box_count instance) → length (lines_left bytes mid) < length (lines_left bytes at) → IsPlacesRead bytes old mid instance w h after
+    places_more off few = record {
+      fewer = (let l = read.fewer in omega (arith, l, few));
+      same = λ complete points left.
+          read.same complete points left
+          ∙ taken_on bytes at mid there (at_front instance complete points (placing left w h places)) (at_front instance complete points (placing left w h after)) (place_more instance complete points left w h places xs after (ended_line mid.line.held) is e off);
+    }
+
+    module _ (full : length after ≡ 2 * box_count instance) where
+      pub places_done : None ≡ places_reason (with_container instance w h) after → (complete : Bool) (points left : ℕ)
+          → verdict_left bytes old (at_front instance complete points (placing left w h [])) ≡ verdict_left bytes mid (at_front instance complete points (pointed left w h))
+      places_done f complete points left =
+          read.same complete points left
+          ∙ taken_on bytes at mid there (at_front instance complete points (placing left w h places)) (at_front instance complete points (pointed left w h)) (places_good instance complete points left w h places xs after (ended_line mid.line.held) is e full f)
+
+      pub places_refused : (reason : Reason) → Some reason ≡ places_reason (with_container instance w h) after → (complete : Bool) (points left : ℕ)
+          → verdict_left bytes old (at_front instance complete points (placing left w h [])) ≡ Err (record { line = mid.line.number; reason = reason })
+      places_refused reason f complete points left =
+          read.same complete points left
+          ∙ taken_refused bytes at mid there (at_front instance complete points (placing left w h places)) reason (places_bad instance complete points left w h places xs after (ended_line mid.line.held) is e full reason f)

@@ -1,13 +1,14 @@
 -- Lines of a front, by their words.
 use Rattle.std.proofs.Common.{◌≡◌, ℕ, suc, ◌<◌, refl, sym, ap, ◌∙◌, arith, Bool, true, false, cond, List, [], ◌∷◌, length, Option, Some, None, Result, Ok, Err, codes, get_or}
-use Rattle.std.specs.Prelude.{nat_le}
+use Rattle.std.specs.Prelude.{◌==◌, ◌&&◌, nat_le}
+use Rattle.std.proofs.lemmas.Bool.{ne_eqb, and_right}
 use Rattle.packing_terms.specs.Results.{◌>>=◌}
 use Rattle.text_terms.specs.Lines.{same_bytes, number_of}
 use Rattle.text_terms.specs.Texts.{first_word}
 use Rattle.document_terms.specs.TokenLines.{token_of}
 use Rattle.verdict_terms.specs.declared.reason.Reason.{Reason}
 use Rattle.verdict_terms.specs.Reasons.{form, range}
-use Rattle.verdict_terms.specs.Numbers.{wanted, wanted_by, numbers_line, require}
+use Rattle.verdict_terms.specs.Numbers.{wanted, wanted_by, all_wanted, numbers_line, require}
 use Rattle.verdict_terms.specs.Stages.{rest_of}
 use Rattle.front_terms.specs.Lines.{PlainLine, CornerAt, PointAt, PlaceAt}
 use Rattle.front_verdict_terms.specs.Verdicts.{FrontClaim, two_by, token_by, line_named, front_claim, most_points, claim_by}
@@ -34,7 +35,9 @@ pair_line key f [] e = refl
 pair_line key f (w ∷ []) e = rw e refl
 pair_line key f (w ∷ a ∷ []) e = rw e refl
 pair_line key f (w ∷ a ∷ b ∷ []) e = rw e (two_numbers f (number_of a) (number_of b))
-pair_line key f (w ∷ a ∷ b ∷ c ∷ words) e = rw e refl
+pair_line key f (w ∷ a ∷ b ∷ c ∷ words) e =
+    ap (λ t. two_by (cond t (all_wanted (a ∷ b ∷ c ∷ words)) (Err form)) f)
+    (and_right (same_bytes w key) (length (a ∷ b ∷ c ∷ words) == 2) (ne_eqb (length (a ∷ b ∷ c ∷ words)) 2 (λ k. omega (arith, k))))
 
 pub corner_named : (words : List (List ℕ)) → same_bytes (first_word words) (codes "corner") ≡ true → pair_map CornerAt (pair_behind words) ≡ line_named words
 corner_named words e = sym (ap (λ b. cond b (two_by (numbers_line (codes "corner") 2 words) CornerAt) (behind words)) e ∙ pair_line (codes "corner") CornerAt words e)

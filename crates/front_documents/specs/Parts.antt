@@ -22,6 +22,7 @@ use Rattle.front_verdict_terms.specs.Verdicts.{DocumentStage, Fronting, Ended, l
 use Rattle.front_check.specs.declared.parts.Stage.{Stage}
 use Rattle.front_check.specs.Audits.{plain_stage, growing, placing, pointed, IsInside, IsPartInside}
 use Rattle.line_cursor.specs.declared.cursor.Cursor.{Cursor}
+use Rattle.line_cursor.specs.Lines.{lines_left}
 use Rattle.front_documents.specs.declared.audit.FrontAudit.{FrontAudit}
 use Rattle.front_documents.specs.declared.opening.OpenPart.{OpenPart}
 use Rattle.front_documents.specs.declared.opening.OpenPart.TheVariants.{Corner as OpenCorner, Point as OpenPoint}
@@ -143,6 +144,7 @@ IsPartRead bytes old new instance s t (Some end) = (complete : Bool) (points lef
 -- the same of what is opened
 pub record IsReadOn (bytes : List ℕ) (old new : Cursor) (instance : PlainInstance) (s : Stage) (part : OpenPart) (t : Stage) : Type 0 where
   pub inside : IsPartInside instance t.part
+  pub later : length (lines_left bytes new) ≤ length (lines_left bytes old)
   pub same : (complete : Bool) (points : ℕ)
       → verdict_left bytes old (at_front instance complete points (opened_stage s part)) ≡ verdict_left bytes new (at_front instance complete points (plain_stage t))
 

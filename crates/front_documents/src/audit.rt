@@ -40,14 +40,7 @@ fn audit_lines(alloc: Global, bytes: &[u8], at: &mut Cursor) -> FrontAudit
     ensures { IsVerdict (verdict_left bytes.now at.old Opening) result }
 {
     match read_head(alloc, bytes, at) {
-        Ok(head) => read_front(
-            alloc,
-            bytes,
-            at,
-            &head.instance,
-            head.complete,
-            head.points,
-        ),
+        Ok(head) => read_front(alloc, bytes, at, &head.instance, head.complete, head.points),
         Err(end) => end,
     }
 }

@@ -55,6 +55,8 @@ fn open_corner(
     ensures { IsOpened instance.now complete stage
         (opened_by instance.now complete stage (CornerAt width height)) result }
 {
+    // For the proof alone: tells the limits of the instance.
+    let _limits = instance.len();
     let (width, height) = (clamped(width), clamped(height));
     match corner_reason(instance, complete, stage, width, height) {
         None => Ok(Some(OpenPart::Corner { width, height })),
@@ -75,6 +77,8 @@ fn open_point(
     ensures { IsOpened instance.now complete stage
         (opened_by instance.now complete stage (PointAt width height)) result }
 {
+    // For the proof alone: tells the limits of the instance.
+    let _limits = instance.len();
     let (width, height) = (clamped(width), clamped(height));
     match point_reason(instance, stage, width, height) {
         None => Ok(Some(OpenPart::Point { width, height })),
@@ -113,7 +117,12 @@ pub fn open_part(
             open_point(instance, complete, stage, width, height)
         }
         Some(NamedLine::Tree(_)) => Err(told_code(token_reason(stage.part))),
-        Some(NamedLine::Place { first: _, second: _ }) => Err(FORM),
+        Some(
+            NamedLine::Place {
+                first: _,
+                second: _,
+            },
+        ) => Err(FORM),
         None => Err(FORM),
     }
 }

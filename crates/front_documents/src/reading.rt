@@ -16,11 +16,7 @@ use verdict_terms::Reason;
 const MOST_COORDINATE: u128 = 4_294_967_295;
 
 /// Gives a line to the refuter. Answers whether the tree is whole with it.
-pub fn take_token(
-    alloc: Global,
-    refuter: &mut Refuter,
-    line: &LineLexer,
-) -> Result<bool, Reason>
+pub fn take_token(alloc: Global, refuter: &mut Refuter, line: &LineLexer) -> Result<bool, Reason>
     requires { IsOpenTree refuter.old }
     ensures { IsGrown refuter.old refuter.new (ended_line line.now.held) result }
 {
@@ -67,11 +63,7 @@ fn read_place(alloc: Global, line: &LineLexer) -> Result<(u32, u32), Reason>
 }
 
 /// Puts the place of a line behind the others.
-pub fn take_place(
-    alloc: Global,
-    places: &mut Vec<u32>,
-    line: &LineLexer,
-) -> Result<(), PlaceStop>
+pub fn take_place(alloc: Global, places: &mut Vec<u32>, line: &LineLexer) -> Result<(), PlaceStop>
     ensures { TakesPlace places.old.items (ended_line line.now.held) places.new.items result }
 {
     match read_place(alloc, line) {

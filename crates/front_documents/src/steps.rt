@@ -1,9 +1,9 @@
 //! The lines behind the result line, one part after another.
-ghost use Rattle.std.specs.Prelude.{◌≡◌, ◌≤◌, length, IfOk, IfErr};
+ghost use Rattle.std.specs.Prelude.{◌≡◌, IfOk, IfErr};
 ghost use Rattle.packing_terms.specs.Packing.{PlainInstance, dims};
 ghost use Rattle.front_terms.specs.Lines.{announced};
 ghost use Rattle.front_verdict_terms.specs.Verdicts.{Ended};
-ghost use Rattle.line_cursor.specs.Lines.{IsAmong, lines_left};
+ghost use Rattle.line_cursor.specs.Lines.{IsAmong};
 ghost use Rattle.front_documents.specs.Audits.{IsVerdict, claim_of, verdict_left};
 ghost use Rattle.front_documents.specs.Parts.{at_front, IsOpenable, IsReadOn, IsReadUpTo};
 
@@ -45,7 +45,6 @@ fn read_part(
     requires plane { dims instance.now ≡ 2 }
     requires open { IsOpenable instance.now stage part }
     ensures at { IsAmong bytes.now at.new }
-    ensures later { length (lines_left bytes.now at.new) ≤ length (lines_left bytes.now at.old) }
     ensures read { IfOk result (IsReadOn bytes.now at.old at.new instance.now stage part) }
     ensures stopped { IfErr result (IsReadUpTo bytes.now at.old instance.now stage part) }
 {

@@ -27,7 +27,8 @@ pub fn read_tree(
     requires plane { dims instance.now ≡ 2 }
     requires inside { IsInside instance.now width height }
     ensures at { IsAmong bytes.now at.new }
-    ensures later { length (lines_left bytes.now at.new) ≤ length (lines_left bytes.now at.old) }
+    ensures later { result ≡ None
+        → length (lines_left bytes.now at.new) ≤ length (lines_left bytes.now at.old) }
     ensures read { IsPartRead bytes.now at.old at.new instance.now (tree_stage width height)
         (whole_stage width height) result }
 {
