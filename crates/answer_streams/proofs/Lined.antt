@@ -1,16 +1,18 @@
 -- The line of a verdict, written piece by piece.
-use Rattle.std.proofs.Common.{◌≡◌, ℕ, List, [], ◌∷◌, ◌++◌, refl, sym, ap, ◌∙◌, append-nil, append_assoc, Ok, Err, codes}
+use Rattle.std.proofs.Common.{◌≡◌, ℕ, List, [], ◌∷◌, ◌++◌, refl, sym, ap, ◌∙◌, append-nil, append_assoc, Bool, true, false, Ok, Err, codes}
 use Rattle.std.specs.List.{flat_map}
 use Rattle.std.specs.Fmt.{decimal}
+use Rattle.packing_terms.specs.Packing.{PlainInstance}
 use Rattle.document_terms.specs.declared.claim.Claim.{Claim}
 use Rattle.document_terms.specs.declared.claim.Claim.TheVariants.{Fitting, NotFitting, LeastHeight, HeightBetween, NoHeight, LeastBins, BinsBetween, NoBins, GreatestValue, ValueBetween}
 use Rattle.verdict_terms.specs.declared.reason.Reason.{Reason}
 use Rattle.verdict_terms.specs.Reasons.{reason_words}
 use Rattle.verdict_terms.specs.Documents.{verdict_line, reduced_verdict_line}
+use Rattle.front_verdict_terms.specs.Verdicts.{FrontRead, front_verdict_line}
 use Rattle.explained_documents.specs.declared.reason.ExplainedReason.{ExplainedReason}
 use Rattle.explained_documents.specs.Documents.{explained_line, reason_words as explained_words_of}
-use Rattle.answer_streams.specs.Audited.{explained_end}
-use Rattle.answer_streams.specs.Lines.{claim_text, reason_end}
+use Rattle.answer_streams.specs.Audited.{explained_end, verified_front}
+use Rattle.answer_streams.specs.Lines.{number_line, claim_text, reason_end}
 
 -- a text of one number more, as a line of words has it
 one_number : (front number : List ℕ) → front ++ (number ++ 10 ∷ []) ≡ (front ++ (number ++ [])) ++ 10 ∷ []
@@ -63,3 +65,9 @@ pub explained_refusal_line : (line : ℕ) (reason : ExplainedReason)
 explained_refusal_line line reason =
     sym (append_assoc (codes "refused " ++ decimal line) (flat_map (λ word. 32 ∷ word) (explained_words_of reason)) (10 ∷ []))
     ∙ ap (λ z. z ++ 10 ∷ []) (append_assoc (codes "refused ") (decimal line) (flat_map (λ word. 32 ∷ word) (explained_words_of reason)))
+
+-- that of a document of a front that is verified
+pub front_line : (complete : Bool) (points : ℕ) (instance : PlainInstance)
+    → number_line (verified_front complete) points ≡ front_verdict_line (Ok (record { instance = instance; claim = record { complete = complete; points = points } }))
+front_line true points instance = one_number (codes "verified front ") (decimal points)
+front_line false points instance = one_number (codes "verified front partial ") (decimal points)

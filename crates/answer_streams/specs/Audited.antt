@@ -1,31 +1,39 @@
 -- The verdict on a document by its kind, its line and its status.
-use Rattle.std.specs.Prelude.{ℕ, ◌≡◌, List, [], ◌∷◌, ◌++◌, Result, Ok, Err, codes}
+use Rattle.std.specs.Prelude.{ℕ, ◌≡◌, Bool, true, false, List, [], ◌∷◌, ◌++◌, Result, Ok, Err, codes}
 use Rattle.std.specs.List.{flat_map}
-use Rattle.packing_terms.specs.Packing.{PlainInstance}
+use Rattle.packing_terms.specs.Packing.{PlainInstance, dims}
+use Rattle.packing_terms.specs.Limits.{IsInstance}
 use Rattle.document_terms.specs.declared.claim.Claim.{Claim}
 use Rattle.document_terms.specs.Claims.{IsTrueOf}
-use Rattle.verdict_terms.specs.Documents.{Refusal, reduced_verdict, reduced_verdict_line}
+use Rattle.verdict_terms.specs.Documents.{Refusal, verdict_line, reduced_verdict, reduced_verdict_line}
 use Rattle.verdict_terms.specs.Form.{IsReducedDocument}
 use Rattle.explained_terms.specs.declared.answers.AuditCode.{AuditCode}
 use Rattle.explained_documents.specs.declared.kind.DocumentKind.{DocumentKind}
-use Rattle.explained_documents.specs.declared.kind.DocumentKind.TheVariants.{Explained as OfExplained, Reduced as OfReduced}
+use Rattle.explained_documents.specs.declared.kind.DocumentKind.TheVariants.{Explained as OfExplained, Front as OfFront, Reduced as OfReduced}
 use Rattle.explained_documents.specs.declared.reason.ExplainedReason.{ExplainedReason}
 use Rattle.explained_documents.specs.Kinds.{document_kind}
 use Rattle.explained_documents.specs.Documents.{ExplainedRefusal, explained_verdict, explained_line, explained_status, code_word, reason_words, IsShown}
+use Rattle.front_verdict_terms.specs.Verdicts.{FrontRead, front_document_verdict, front_verdict_line, front_verdict_status}
+use Rattle.front_verdict_terms.specs.Laws.{IsTrueFrontOf}
+use Rattle.answer_streams.specs.Lines.{number_line}
 use Rattle.answer_streams.specs.Verdicts.{plain_verdict, verdict_status}
 use Rattle.answer_streams.specs.declared.audited.AuditedVerdict.{AuditedVerdict}
-use Rattle.answer_streams.specs.declared.audited.AuditedVerdict.TheVariants.{Reduced, Explained}
+use Rattle.answer_streams.specs.declared.audited.AuditedVerdict.TheVariants.{Reduced, Explained, Front}
 use Rattle.answer_streams.specs.declared.audited.ExplainedVerdict.{ExplainedVerdict}
 use Rattle.answer_streams.specs.declared.audited.ExplainedVerdict.TheVariants.{Verified, Refused}
+use Rattle.answer_streams.specs.declared.audited_fronts.FrontAudited.{FrontAudited}
+use Rattle.answer_streams.specs.declared.audited_fronts.FrontAudited.TheVariants.{Verified as VerifiedFront, Refused as RefusedFront}
 
 -- a verdict, under the kind of the document
 pub data KindVerdict : Type 0 where
   ReducedVerdictOf : (verdict : Result Claim Refusal) → KindVerdict
   ExplainedVerdictOf : (verdict : Result PlainInstance ExplainedRefusal) → KindVerdict
+  FrontVerdictOf : (verdict : Result FrontRead Refusal) → KindVerdict
 
 abbrev pub verdict_of_kind : DocumentKind → List ℕ → KindVerdict
 verdict_of_kind OfReduced text = ReducedVerdictOf (reduced_verdict text)
 verdict_of_kind OfExplained text = ExplainedVerdictOf (explained_verdict text)
+verdict_of_kind OfFront text = FrontVerdictOf (front_document_verdict text)
 
 -- the verdict on a text, by what its first line that isn't blank says
 abbrev pub audit_verdict : List ℕ → KindVerdict
@@ -35,18 +43,32 @@ audit_verdict text = verdict_of_kind (document_kind text) text
 abbrev pub audit_line : KindVerdict → List ℕ
 audit_line (ReducedVerdictOf verdict) = reduced_verdict_line verdict
 audit_line (ExplainedVerdictOf verdict) = explained_line verdict
+audit_line (FrontVerdictOf verdict) = front_verdict_line verdict
 
 abbrev pub audit_status : KindVerdict → ℕ
 audit_status (ReducedVerdictOf verdict) = verdict_status verdict
 audit_status (ExplainedVerdictOf verdict) = explained_status verdict
+audit_status (FrontVerdictOf verdict) = front_verdict_status verdict
+
+-- what a verified document of a front says of the instance in it, which is within the limits and has
+-- two dimensions: the claim is that of so many points, which are the front, or all of it up to the
+-- last of them
+pub record IsTrueFrontRead (text : List ℕ) (r : FrontRead) : Type 0 where
+  pub verdict : front_document_verdict text ≡ Ok r
+  pub limits : IsInstance r.instance
+  pub plane : dims r.instance ≡ 2
+  pub front : IsTrueFrontOf r.instance r.claim
 
 -- What is verified is true: a reduced document is one of its claim, which holds of the instance in
--- it; the instance of an explained document has no packing.
+-- it; the instance of an explained document has no packing; and the points of a document of a front
+-- are what its claim says.
 abbrev pub IsTrueVerdict : List ℕ → KindVerdict → Type 0
 IsTrueVerdict text (ReducedVerdictOf (Ok claim)) = (document : IsReducedDocument text claim) × IsTrueOf document.instance claim
 IsTrueVerdict text (ReducedVerdictOf (Err refusal)) = ⊥
 IsTrueVerdict text (ExplainedVerdictOf (Ok instance)) = (explained_verdict text ≡ Ok instance) × IsShown instance
 IsTrueVerdict text (ExplainedVerdictOf (Err refusal)) = ⊥
+IsTrueVerdict text (FrontVerdictOf (Ok r)) = IsTrueFrontRead text r
+IsTrueVerdict text (FrontVerdictOf (Err refusal)) = ⊥
 
 -- ---- what is told
 
@@ -54,19 +76,40 @@ abbrev pub explained_text : ExplainedVerdict → List ℕ
 explained_text Verified = codes "verified explained fit no\n"
 explained_text (Refused line reason) = explained_line (Err (record { line = line; reason = reason }))
 
+-- what stands before the number of points
+abbrev pub verified_front : Bool → List ℕ
+verified_front true = codes "verified front "
+verified_front false = codes "verified front partial "
+
+abbrev pub front_audit_text : FrontAudited → List ℕ
+front_audit_text (VerifiedFront complete points) = number_line (verified_front complete) points
+front_audit_text (RefusedFront line reason) = verdict_line (Err (record { line = line; reason = reason }))
+
+abbrev pub front_told_status : FrontAudited → ℕ
+front_told_status (VerifiedFront complete points) = 0
+front_told_status (RefusedFront line reason) = 1
+
 abbrev pub verdict_text : AuditedVerdict → List ℕ
 verdict_text (Reduced verdict) = reduced_verdict_line (plain_verdict verdict)
 verdict_text (Explained verdict) = explained_text verdict
+verdict_text (Front verdict) = front_audit_text verdict
 
 abbrev pub told_status : AuditedVerdict → ℕ
 told_status (Reduced verdict) = verdict_status (plain_verdict verdict)
 told_status (Explained Verified) = 0
 told_status (Explained (Refused line reason)) = 1
+told_status (Front verdict) = front_told_status verdict
 
 -- the verdict on an explained document
 abbrev pub IsExplainedAs : Result PlainInstance ExplainedRefusal → ExplainedVerdict → Type 0
 IsExplainedAs verdict Verified = (instance : PlainInstance) × (verdict ≡ Ok instance)
 IsExplainedAs verdict (Refused line reason) = verdict ≡ Err (record { line = line; reason = reason })
+
+-- the verdict on a document of a front
+abbrev pub IsFrontToldAs : Result FrontRead Refusal → FrontAudited → Type 0
+IsFrontToldAs verdict (VerifiedFront complete points) =
+    (instance : PlainInstance) × (verdict ≡ Ok (record { instance = instance; claim = record { complete = complete; points = points } }))
+IsFrontToldAs verdict (RefusedFront line reason) = verdict ≡ Err (record { line = line; reason = reason })
 
 -- the verdict is told by its line and its status
 pub record IsToldAs (verdict : KindVerdict) (told : AuditedVerdict) : Type 0 where

@@ -4,6 +4,7 @@ ghost use Rattle.pack_streams.specs.Writing.{Continues, Writes};
 ghost use Rattle.explained_documents.specs.Documents.{explained_line};
 ghost use Rattle.answer_streams.specs.Audited.{explained_text, verdict_text, audit_code_end, explained_end, told_status};
 
+use crate::audited_fronts::{FrontAudited, write_front_verdict};
 use crate::documents::Written;
 use crate::streaming::Streamed;
 use crate::verdict::{ReducedVerdict, Verdict, write_numbered};
@@ -25,6 +26,7 @@ pub enum ExplainedVerdict {
 pub enum AuditedVerdict {
     Reduced(Verdict),
     Explained(ExplainedVerdict),
+    Front(FrontAudited),
 }
 
 impl AuditedVerdict {
@@ -36,6 +38,7 @@ impl AuditedVerdict {
             AuditedVerdict::Reduced(verdict) => verdict.status(),
             AuditedVerdict::Explained(ExplainedVerdict::Verified) => 0,
             AuditedVerdict::Explained(ExplainedVerdict::Refused { line: _, reason: _ }) => 1,
+            AuditedVerdict::Front(verdict) => verdict.status(),
         }
     }
 }
@@ -107,6 +110,7 @@ impl Streamed for AuditedVerdict {
         match *self {
             AuditedVerdict::Reduced(verdict) => ReducedVerdict { verdict }.write_to(sink),
             AuditedVerdict::Explained(verdict) => write_explained(sink, verdict),
+            AuditedVerdict::Front(verdict) => write_front_verdict(sink, verdict),
         }
     }
 }

@@ -3,6 +3,7 @@
 #![tactic(auto)]
 
 mod audited;
+mod audited_fronts;
 mod bins_documents;
 mod documents;
 mod explained;
@@ -17,6 +18,7 @@ mod summary;
 mod verdict;
 
 pub use audited::{AuditedVerdict, ExplainedVerdict};
+pub use audited_fronts::FrontAudited;
 pub use documents::Written;
 pub use explained::Explanation;
 pub use solution::{Solution, fit_status};

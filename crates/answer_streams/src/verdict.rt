@@ -159,8 +159,8 @@ fn write_reason<K: Sink>(sink: &mut K, so_far: Written, reason: Reason) -> Writt
     }
 }
 
-// Writes the line of a refusal.
-fn write_refusal<K: Sink>(sink: &mut K, line: u64, reason: Reason) -> Written
+/// Writes the line of a refusal.
+pub fn write_refusal<K: Sink>(sink: &mut K, line: u64, reason: Reason) -> Written
     ensures { Writes (K.written sink.old) (K.written sink.new) (K.faults sink.old)
         (K.faults sink.new)
         (verdict_line (Err (record { line = line; reason = reason }))) result }

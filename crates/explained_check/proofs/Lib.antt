@@ -1,2 +1,1 @@
-pub mod WordCounts
 pub mod Verdicts

@@ -9,8 +9,8 @@ use Rattle.explained_documents.specs.Stages.{ExplainedStage, filled_line}
 use Rattle.explained_documents.specs.Documents.{ExplainedRefusal, at_line, at_end, explained_verdict, told_verdict, IsShown}
 use Rattle.explained_check.specs.declared.audit.ExplainedAudit.{ExplainedAudit}
 use Rattle.explained_check.specs.declared.audit.ExplainedAudit.TheVariants.{Verified, Refused, NoMemory}
-use Rattle.explained_check.specs.declared.lines.Position.{Position}
-use Rattle.explained_check.specs.Lines.{lines_left}
+use Rattle.line_cursor.specs.declared.cursor.Cursor.{Cursor}
+use Rattle.line_cursor.specs.Lines.{lines_left}
 
 -- the verdict, unless memory was refused
 abbrev pub IsVerdict : Result PlainInstance ExplainedRefusal → ExplainedAudit → Type 0
@@ -19,7 +19,7 @@ IsVerdict verdict (Refused line reason) = verdict ≡ Err (record { line = line;
 IsVerdict verdict NoMemory = Unit {0}
 
 -- the verdict of the lines that are left, at a stage
-abbrev pub verdict_left : List ℕ → Position → ExplainedStage → Result PlainInstance ExplainedRefusal
+abbrev pub verdict_left : List ℕ → Cursor → ExplainedStage → Result PlainInstance ExplainedRefusal
 verdict_left bytes at stage = told_verdict stage at.line.number (lines_left bytes at)
 
 -- what is verified has no packing
@@ -33,12 +33,12 @@ IsStopped verdict None = Unit {0}
 IsStopped verdict (Some end) = IsVerdict verdict end
 
 -- the next line that isn't blank decides, or the end of the lines
-abbrev pub IsNextFilled : List ℕ → Position → Position → Bool → Type 0
-IsNextFilled bytes old new true = (stage : ExplainedStage) → verdict_left bytes old stage
+abbrev pub IsNextTaken : List ℕ → Cursor → Cursor → Bool → Type 0
+IsNextTaken bytes old new true = (stage : ExplainedStage) → verdict_left bytes old stage
     ≡ (at_line new.line.number (filled_line stage (ended_line new.line.held)) >>= λ next. verdict_left bytes new next)
-IsNextFilled bytes old new false = (stage : ExplainedStage) → verdict_left bytes old stage ≡ at_end stage new.line.number
+IsNextTaken bytes old new false = (stage : ExplainedStage) → verdict_left bytes old stage ≡ at_end stage new.line.number
 
 -- so it decides the kind
-abbrev pub IsKindTold : List ℕ → Position → Position → Bool → Type 0
+abbrev pub IsKindTold : List ℕ → Cursor → Cursor → Bool → Type 0
 IsKindTold bytes old new true = kind_told (lines_left bytes old) ≡ kind_of_line (ended_line new.line.held)
 IsKindTold bytes old new false = kind_told (lines_left bytes old) ≡ Reduced

@@ -1,4 +1,3 @@
-pub mod Lines
 pub mod Audits
 pub mod Heads
 pub mod Trees

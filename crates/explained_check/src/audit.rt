@@ -4,12 +4,12 @@ ghost use Rattle.explained_documents.specs.declared.reason.ExplainedReason.TheVa
 ghost use Rattle.explained_documents.specs.Stages.{Heading};
 ghost use Rattle.explained_documents.specs.Documents.{explained_verdict};
 ghost use Rattle.explained_check.specs.Audits.{IsVerdict, IsTrueAudit, verdict_left};
-ghost use Rattle.explained_check.specs.Lines.{IsAmong};
+ghost use Rattle.line_cursor.specs.Lines.{IsAmong};
 
 use crate::head::read_head;
-use crate::lines::Position;
 use crate::tree::{read_end, read_tree};
 use explained_documents::ExplainedReason;
+use line_cursor::Cursor;
 use line_proofs::Auditor;
 use std::alloc::Global;
 
@@ -36,7 +36,7 @@ pub fn short(lines: u64) -> ExplainedAudit
 }
 
 // The verdict of the lines that are left.
-fn audit_lines(alloc: Global, bytes: &[u8], at: &mut Position) -> ExplainedAudit
+fn audit_lines(alloc: Global, bytes: &[u8], at: &mut Cursor) -> ExplainedAudit
     requires { IsAmong bytes.now at.old }
     ensures { IsVerdict (verdict_left bytes.now at.old Heading) result }
 {
@@ -61,6 +61,6 @@ pub fn audit_explained(alloc: Global, bytes: &[u8]) -> ExplainedAudit
     ensures audited { IsVerdict (explained_verdict bytes.now) result }
     ensures truth { IsTrueAudit bytes.now result }
 {
-    let mut at = Position::start();
+    let mut at = Cursor::start();
     audit_lines(alloc, bytes, &mut at)
 }

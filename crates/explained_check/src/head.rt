@@ -3,17 +3,18 @@ ghost use Rattle.std.specs.Prelude.{◌≡◌, IfOk, IfErr, true};
 ghost use Rattle.text_terms.specs.Texts.{no_parts};
 ghost use Rattle.text_terms.specs.Feeding.{ended_line};
 ghost use Rattle.explained_documents.specs.Stages.{Heading, Reading, begun, filled_line, result_line};
-ghost use Rattle.explained_check.specs.Lines.{IsAmong};
+ghost use Rattle.line_cursor.specs.Lines.{IsAmong};
 ghost use Rattle.explained_check.specs.Audits.{IsVerdict, verdict_left};
 ghost use Rattle.explained_check.specs.Heads.{map_ok, held_parts, IsHeldHead, TakesText};
 
 use crate::audit::{ExplainedAudit, short};
-use crate::lines::{Position, next_filled};
-use crate::words::{are_two, is_result};
+use crate::lines::next_taken;
+use crate::words::are_two;
 use box_instances::Instance;
 use explained_documents::ExplainedReason;
 use explained_terms::AuditCode;
 use instance_text::{InstanceReader, LineLexer, ReadTextError};
+use line_cursor::{Cursor, is_result};
 use std::alloc::Global;
 
 /// The line has another form than the place wants.
@@ -44,14 +45,14 @@ fn heading(line: &LineLexer) -> Result<(), ExplainedReason>
 }
 
 // Reads the first line that isn't blank.
-fn read_heading(bytes: &[u8], at: &mut Position) -> Result<(), ExplainedAudit>
+fn read_heading(bytes: &[u8], at: &mut Cursor) -> Result<(), ExplainedAudit>
     requires { IsAmong bytes.now at.old }
     ensures at { IsAmong bytes.now at.new }
     ensures read { IfOk result (λ u. verdict_left bytes.now at.old Heading
         ≡ verdict_left bytes.now at.new (Reading no_parts)) }
     ensures stopped { IfErr result (IsVerdict (verdict_left bytes.now at.old Heading)) }
 {
-    let there = next_filled(bytes, at);
+    let there = next_taken(bytes, at);
     let line = at.line.line_number();
     if !there {
         return Err(short(line));
@@ -98,7 +99,7 @@ fn read_result(reader: InstanceReader, line: &LineLexer) -> Result<Instance, Exp
 }
 
 // Reads the lines of the instance text, and the result line behind them.
-fn read_instance(alloc: Global, bytes: &[u8], at: &mut Position) -> Result<Instance, ExplainedAudit>
+fn read_instance(alloc: Global, bytes: &[u8], at: &mut Cursor) -> Result<Instance, ExplainedAudit>
     requires { IsAmong bytes.now at.old }
     ensures at { IsAmong bytes.now at.new }
     ensures read { IfOk result (λ i. verdict_left bytes.now at.old (Reading no_parts)
@@ -107,7 +108,7 @@ fn read_instance(alloc: Global, bytes: &[u8], at: &mut Position) -> Result<Insta
 {
     let mut reader = InstanceReader::new(alloc);
     loop {
-        let there = next_filled(bytes, at);
+        let there = next_taken(bytes, at);
         let line = at.line.line_number();
         if !there {
             return Err(short(line));
@@ -127,7 +128,7 @@ fn read_instance(alloc: Global, bytes: &[u8], at: &mut Position) -> Result<Insta
 }
 
 /// Reads the lines up to the result line.
-pub fn read_head(alloc: Global, bytes: &[u8], at: &mut Position) -> Result<Instance, ExplainedAudit>
+pub fn read_head(alloc: Global, bytes: &[u8], at: &mut Cursor) -> Result<Instance, ExplainedAudit>
     requires { IsAmong bytes.now at.old }
     ensures at { IsAmong bytes.now at.new }
     ensures read { IfOk result (λ i. verdict_left bytes.now at.old Heading

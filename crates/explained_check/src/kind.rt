@@ -1,34 +1,47 @@
 //! The kind of a document.
 ghost use Rattle.std.specs.Prelude.{◌≡◌};
-ghost use Rattle.explained_documents.specs.Kinds.{document_kind, kind_told};
-ghost use Rattle.explained_check.specs.Lines.{IsAmong, lines_left};
+ghost use Rattle.text_terms.specs.Feeding.{ended_line};
+ghost use Rattle.explained_documents.specs.Kinds.{document_kind, kind_of_line, kind_told};
+ghost use Rattle.line_cursor.specs.Lines.{IsAmong, lines_left};
 
-use crate::lines::{Position, next_filled};
+use crate::lines::next_taken;
 use crate::words::are_two;
 use explained_documents::DocumentKind;
+use instance_text::LineLexer;
+use line_cursor::{Cursor, is_word};
 
-// The kind that the lines that are left tell.
-fn kind_left(bytes: &[u8], at: &mut Position) -> DocumentKind
-    requires { IsAmong bytes.now at.old }
-    ensures { result ≡ kind_told (lines_left bytes.now at.old) }
+// The kind of a document with this first line.
+fn kind_of_line(line: &LineLexer) -> DocumentKind
+    ensures { result ≡ kind_of_line (ended_line line.now.held) }
 {
-    if !next_filled(bytes, at) {
+    if line.bad_byte() {
         return DocumentKind::Reduced;
     }
-    if at.line.bad_byte() {
-        return DocumentKind::Reduced;
+    if are_two(line, b"explained", b"fit") {
+        return DocumentKind::Explained;
     }
-    if are_two(&at.line, b"explained", b"fit") {
-        DocumentKind::Explained
+    if is_word(line, b"front") {
+        DocumentKind::Front
     } else {
         DocumentKind::Reduced
     }
+}
+
+// The kind that the lines that are left tell.
+fn kind_left(bytes: &[u8], at: &mut Cursor) -> DocumentKind
+    requires { IsAmong bytes.now at.old }
+    ensures { result ≡ kind_told (lines_left bytes.now at.old) }
+{
+    if !next_taken(bytes, at) {
+        return DocumentKind::Reduced;
+    }
+    kind_of_line(&at.line)
 }
 
 /// The kind of the document of these bytes, by its first line that isn't blank.
 pub fn document_kind(bytes: &[u8]) -> DocumentKind
     ensures { result ≡ document_kind bytes.now }
 {
-    let mut at = Position::start();
+    let mut at = Cursor::start();
     kind_left(bytes, &mut at)
 }

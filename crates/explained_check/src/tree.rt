@@ -3,18 +3,18 @@ ghost use Rattle.std.specs.Prelude.{◌≡◌, ◌≤◌, None};
 ghost use Rattle.packing_terms.specs.Packing.{PlainInstance, dims as dim_count};
 ghost use Rattle.text_terms.specs.Feeding.{ended_line};
 ghost use Rattle.explained_documents.specs.Stages.{Explaining, Ending, Ended, filled_line};
-ghost use Rattle.explained_check.specs.Lines.{IsAmong};
+ghost use Rattle.line_cursor.specs.Lines.{IsAmong};
 ghost use Rattle.explained_check.specs.Audits.{IsVerdict, IsStopped, verdict_left};
 ghost use Rattle.explained_check.specs.Heads.{map_ok};
 ghost use Rattle.explained_check.specs.Trees.{IsGoing, IsGrown};
 
 use crate::audit::{ExplainedAudit, short};
 use crate::head::FORM;
-use crate::lines::{Position, next_filled};
-use crate::words::is_word;
+use crate::lines::next_taken;
 use explained_documents::ExplainedReason;
 use explained_terms::{AuditCode, AuditVerdict};
 use instance_text::LineLexer;
+use line_cursor::{Cursor, is_word};
 use line_proofs::{Auditor, read_step};
 use std::alloc::Global;
 
@@ -53,7 +53,7 @@ fn take_step(
 pub fn read_tree(
     alloc: Global,
     bytes: &[u8],
-    at: &mut Position,
+    at: &mut Cursor,
     auditor: &mut Auditor,
     dims: u32,
 ) -> Option<ExplainedAudit>
@@ -67,7 +67,7 @@ pub fn read_tree(
         (Explaining auditor.old.instance auditor.old.audited.nodes)) result }
 {
     loop {
-        let there = next_filled(bytes, at);
+        let there = next_taken(bytes, at);
         let line = at.line.line_number();
         if !there {
             return Some(short(line));
@@ -101,14 +101,14 @@ fn end_line(alloc: Global, dims: u32, line: &LineLexer) -> Result<(), ExplainedR
 }
 
 /// Reads `end`, behind the tree of an instance of so many dimensions, and what is left behind it.
-pub fn read_end(alloc: Global, bytes: &[u8], at: &mut Position, dims: u32) -> ExplainedAudit
+pub fn read_end(alloc: Global, bytes: &[u8], at: &mut Cursor, dims: u32) -> ExplainedAudit
     requires at { IsAmong bytes.now at.old }
     requires least { 2 ≤ dims }
     requires most { dims ≤ 4 }
     ensures { (instance : PlainInstance) → dim_count instance ≡ dims
         → IsVerdict (verdict_left bytes.now at.old (Ending instance)) result }
 {
-    let there = next_filled(bytes, at);
+    let there = next_taken(bytes, at);
     let line = at.line.line_number();
     if !there {
         return short(line);
@@ -116,7 +116,7 @@ pub fn read_end(alloc: Global, bytes: &[u8], at: &mut Position, dims: u32) -> Ex
     if let Err(reason) = end_line(alloc, dims, &at.line) {
         return ExplainedAudit::Refused { line, reason };
     }
-    if next_filled(bytes, at) {
+    if next_taken(bytes, at) {
         return ExplainedAudit::Refused {
             line: at.line.line_number(),
             reason: AFTER,

@@ -18,8 +18,8 @@ use Rattle.explained_documents.specs.declared.reason.ExplainedReason.{ExplainedR
 use Rattle.explained_documents.specs.Stages.{ExplainedStage, Heading, Reading, Explaining, Ending, Ended, form, require, are_two, text_fault, end_of_parts, begun, reading_line, tree_step, coded, grown, late_by, words_line, filled_line, stage_after}
 use Rattle.explained_documents.specs.Documents.{ExplainedRefusal, at_line, at_end, read_lines, told_verdict, explained_verdict, DocumentsAreFed}
 use Rattle.explained_documents.specs.declared.kind.DocumentKind.{DocumentKind}
-use Rattle.explained_documents.specs.declared.kind.DocumentKind.TheVariants.{Explained, Reduced}
-use Rattle.explained_documents.specs.Kinds.{kind_of_line, kind_of_lines, kind_told, document_kind, KindsAreTold}
+use Rattle.explained_documents.specs.declared.kind.DocumentKind.TheVariants.{Explained, Front, Reduced}
+use Rattle.explained_documents.specs.Kinds.{kind_of_words, kind_of_line, kind_of_lines, kind_told, document_kind, KindsAreTold}
 use Rattle.explained_documents.proofs.Limits.{IsWell, stage_well}
 
 two_cut : (key other word : List ℕ) (words : List (List ℕ)) → length key ≤ 20 → length other ≤ 20 → are_two key other (cut_words (word ∷ words)) ≡ are_two key other (word ∷ words)
@@ -96,7 +96,8 @@ kind_cut : (bad : Bool) (words : List (List ℕ)) (n m : ℕ) (later now : Docum
 kind_cut true [] n m later now e = refl
 kind_cut false [] n m later now e = e
 kind_cut true (w ∷ ws) n m later now e = refl
-kind_cut false (w ∷ ws) n m later now e = ap (λ b. cond b Explained Reduced) (two_cut (codes "explained") (codes "fit") w ws (omega arith) (omega arith))
+kind_cut false (w ∷ ws) n m later now e =
+    ap₂ (λ b c. cond b Explained (cond c Front Reduced)) (two_cut (codes "explained") (codes "fit") w ws (omega arith) (omega arith)) (is_word_cut (codes "front") w ws (omega arith))
 
 kind_is_told : (n : ℕ) (lines : List (List ℕ)) → kind_told (numbered_lines n lines) ≡ kind_of_lines lines
 kind_is_told n [] = refl

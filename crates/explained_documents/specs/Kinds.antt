@@ -1,15 +1,19 @@
 -- The kind of a document: what its first line that isn't blank says.
-use Rattle.std.specs.Prelude.{ℕ, ◌≡◌, ◌&&◌, not, cond, true, false, List, [], ◌∷◌, codes}
+use Rattle.std.specs.Prelude.{ℕ, ◌≡◌, cond, true, false, List, [], ◌∷◌, codes}
 use Rattle.text_terms.specs.Lines.{Line, line_of, text_lines}
 use Rattle.text_terms.specs.Feeding.{NumberedLine, lines_fed, new_lexer}
-use Rattle.verdict_terms.specs.Stages.{is_blank}
+use Rattle.verdict_terms.specs.Stages.{is_blank, is_word}
 use Rattle.explained_documents.specs.declared.kind.DocumentKind.{DocumentKind}
-use Rattle.explained_documents.specs.declared.kind.DocumentKind.TheVariants.{Explained, Reduced}
+use Rattle.explained_documents.specs.declared.kind.DocumentKind.TheVariants.{Explained, Front, Reduced}
 use Rattle.explained_documents.specs.Stages.{are_two}
+
+-- of a document whose first line has these words
+abbrev pub kind_of_words : List (List ℕ) → DocumentKind
+kind_of_words words = cond (are_two (codes "explained") (codes "fit") words) Explained (cond (is_word (codes "front") words) Front Reduced)
 
 -- of a document with this first line
 abbrev pub kind_of_line : Line → DocumentKind
-kind_of_line line = cond (not line.bad && are_two (codes "explained") (codes "fit") line.words) Explained Reduced
+kind_of_line line = cond line.bad Reduced (kind_of_words line.words)
 
 abbrev pub kind_of_lines : List (List ℕ) → DocumentKind
 kind_of_lines [] = Reduced

@@ -5,6 +5,8 @@
 pub enum DocumentKind {
     /// `explained fit`.
     Explained,
+    /// `front`.
+    Front,
     /// `reduced fit`, or no line of these kinds: then it is refused as a reduced document is.
     Reduced,
 }

@@ -46,6 +46,8 @@ fn documents_are_audited(rt: HostRuntime) -> Result<(), Fail> {
     assert!(rt; refuses(alloc, yes, 5, line(AuditCode::Kind)));
     assert!(rt; refuses(alloc, b"reduced fit\n", 1, line(AuditCode::Kind)));
     assert!(rt; document_kind(b"reduced fit\n") == DocumentKind::Reduced);
+    assert!(rt; document_kind(b"# least sizes\n\n front\nformat 1\n") == DocumentKind::Front);
+    assert!(rt; document_kind(b"front 1\n") == DocumentKind::Reduced);
     assert!(rt; refuses(alloc, b"", 1, ExplainedReason::TooShort));
     Ok(())
 }

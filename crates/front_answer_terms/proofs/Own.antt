@@ -19,7 +19,7 @@ use Rattle.text_terms.proofs.FormNumbers.{word_is}
 use Rattle.text_terms.proofs.Good.{bind_ok}
 use Rattle.verdict_terms.specs.declared.reason.Reason.{Reason}
 use Rattle.verdict_terms.specs.Documents.{document_at_line}
-use Rattle.verdict_terms.specs.Stages.{is_result, rest_of, end_of_parts, text_fault}
+use Rattle.verdict_terms.specs.Stages.{is_blank, is_result, rest_of, end_of_parts, text_fault}
 use Rattle.verdict_terms.proofs.Taken.{is_same, bound, wanted_is}
 use Rattle.verdict_terms.proofs.FormTold.{any_end}
 use Rattle.verdict_terms.proofs.Passed.{ok_is}
@@ -30,7 +30,10 @@ use Rattle.tree_terms.specs.Rising.{AreRising}
 use Rattle.front_terms.specs.declared.answers.FrontReason.{FrontReason}
 use Rattle.front_terms.specs.declared.answers.FrontVerdict.TheVariants.{Good, Short}
 use Rattle.front_terms.specs.Fronts.{with_container, IsLeastSize, IsClaimed}
-use Rattle.front_answer_terms.specs.Laws.{OwnFrontsAreVerified}
+use Rattle.explained_documents.specs.declared.kind.DocumentKind.{DocumentKind}
+use Rattle.explained_documents.specs.declared.kind.DocumentKind.TheVariants.{Front as FrontKind}
+use Rattle.explained_documents.specs.Kinds.{kind_of_line, kind_of_lines}
+use Rattle.front_answer_terms.specs.Laws.{OwnFrontsAreVerified, OwnFrontsAreFronts}
 use Rattle.front_walks.specs.Walks.{PlainCorner, PlainPoint, PlainFront, sizes, front_walk, size_answer}
 use Rattle.front_terms.specs.Lines.{PlainLine, CornerAt, PointAt, PlaceAt, TreeToken, FrontStage, front_line, front_lines_after, at_line, is_whole_front, announced}
 use Rattle.front_terms.specs.Verdicts.{verdict_by}
@@ -288,9 +291,13 @@ module _ (instance : PlainInstance) (front : PlainFront) (limits : IsInstance in
       (result_read r.last instance front.complete (length front.points) r.ended plane few)
       ∙ lines_read instance claimed (front_lines front) (r.line + 1) (announced (length front.points)) written good)))
 
-pub own_fronts_are_verified : OwnFrontsAreVerified
-unfolding front_document_verdict
-own_fronts_are_verified instance budget scales limits plane =
+-- the lines of the document of a walk, and the verdict on them
+record IsOwn (instance : PlainInstance) (front : PlainFront) : Type 0 where
+  lines : text_lines (front_text instance front) ≡ map spaced (front_document instance front)
+  read : read_front_lines Opening 0 (map spaced (front_document instance front)) ≡ Ok (record { instance = instance; claim = record { complete = front.complete; points = length front.points } })
+
+own_walk : (instance : PlainInstance) (budget : ℕ) (scales : Bool) → IsInstance instance → dims instance ≡ 2 → IsOwn instance (front_walk instance budget scales)
+own_walk instance budget scales limits plane =
     let internal = written_internal instance limits in
     let backed = front_backed instance internal plane (size_answer instance budget scales) (right_sizes instance internal plane budget scales) in
     let front = front_walk instance budget scales in
@@ -300,5 +307,28 @@ own_fronts_are_verified instance budget scales limits plane =
     let most : length (front_walk instance budget scales).points ≤ most_points = omega (arith, few, same, side) in
     let written = front_written instance internal plane (front_walk instance budget scales).corners (front_walk instance budget scales).points backed.0 backed.1 in
     let good = good_from instance (front_walk instance budget scales).complete (front_lines (front_walk instance budget scales)) 0 (announced (length (front_walk instance budget scales).points)) (walks_are_good instance budget scales internal plane) in
-    ap (read_front_lines Opening 0) (lines_spaced (front_document instance (front_walk instance budget scales)) (are_lines (front_document instance (front_walk instance budget scales)) (document_filled instance (front_walk instance budget scales) limits plane most written good)))
-    ∙ document_read instance (front_walk instance budget scales) limits plane most written good
+    record {
+      lines = lines_spaced (front_document instance (front_walk instance budget scales)) (are_lines (front_document instance (front_walk instance budget scales)) (document_filled instance (front_walk instance budget scales) limits plane most written good));
+      read = document_read instance (front_walk instance budget scales) limits plane most written good;
+    }
+
+pub own_fronts_are_verified : OwnFrontsAreVerified
+unfolding front_document_verdict
+own_fronts_are_verified instance budget scales limits plane =
+    let own = own_walk instance budget scales limits plane in ap (read_front_lines Opening 0) own.lines ∙ own.read
+
+-- a line of the one word
+front_kind : kind_of_line (record { bad = false; count = length (codes "front" ∷ []); words = codes "front" ∷ [] }) ≡ FrontKind
+unfolding same_bytes
+front_kind = refl
+
+pub own_fronts_are_fronts : OwnFrontsAreFronts
+own_fronts_are_fronts instance budget scales limits plane =
+    let own = own_walk instance budget scales limits plane in
+    ap kind_of_lines own.lines
+    ∙ (ap (λ l. elim (is_blank l) as (λ b. DocumentKind) [ true ↦ kind_of_lines (map spaced (behind (front_walk instance budget scales))) | false ↦ kind_of_line l ]) (line_spaced (codes "front" ∷ []) (omega arith, refl, tt))
+    ∙ front_kind)
+  where
+    behind : PlainFront → List (List (List ℕ))
+    behind front =
+        instance_words instance ++ (codes "result" ∷ front_result front.complete (length front.points)) ∷ (map line_words (front_lines front) ++ (codes "end" ∷ []) ∷ [])

@@ -2,6 +2,8 @@
 use Rattle.std.specs.Prelude.{ℕ, ◌≡◌, Bool, List, length, Ok}
 use Rattle.packing_terms.specs.Packing.{PlainInstance, dims}
 use Rattle.packing_terms.specs.Limits.{IsInstance}
+use Rattle.explained_documents.specs.declared.kind.DocumentKind.TheVariants.{Front}
+use Rattle.explained_documents.specs.Kinds.{document_kind}
 use Rattle.front_terms.specs.Fronts.{IsClaimed}
 use Rattle.front_walks.specs.Walks.{front_walk}
 use Rattle.front_answer_terms.specs.Texts.{front_text}
@@ -15,3 +17,8 @@ OwnFrontsAreVerified = (instance : PlainInstance) (budget : ℕ) (scales : Bool)
       instance = instance;
       claim = record { complete = (front_walk instance budget scales).complete; points = length (front_walk instance budget scales).points };
     })
+
+-- by its first line it is one of a front
+abbrev pub OwnFrontsAreFronts : Type 0
+OwnFrontsAreFronts = (instance : PlainInstance) (budget : ℕ) (scales : Bool) → IsInstance instance → dims instance ≡ 2
+    → document_kind (front_text instance (front_walk instance budget scales)) ≡ Front

@@ -3,4 +3,4 @@
 
 mod laws;
 
-pub use laws::own_fronts_are_verified;
+pub use laws::{own_fronts_are_fronts, own_fronts_are_verified};

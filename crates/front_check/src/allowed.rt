@@ -10,7 +10,7 @@ use crate::parts::{Part, Stage};
 use box_instances::Instance;
 use check_terms::RefuseCode;
 
-// A line of another form than is wanted.
+/// A line of another form than is wanted.
 pub fn form() -> FrontReason
     ensures { result ≡ form }
 {
@@ -24,7 +24,7 @@ fn range() -> FrontReason
     FrontReason::Tree(RefuseCode::Range)
 }
 
-// Why a corner may not stand here.
+/// Why a corner may not stand behind what was read last, if it may not.
 pub fn corner_reason(
     instance: &Instance,
     complete: bool,
@@ -86,7 +86,7 @@ pub fn corner_reason(
     }
 }
 
-// Why a point may not stand here.
+/// Why a point may not stand behind what was read last, if it may not.
 pub fn point_reason(
     instance: &Instance,
     stage: Stage,
@@ -131,8 +131,8 @@ pub fn point_reason(
     }
 }
 
-// Why a token may not stand here: behind a whole tree it comes too late, and elsewhere it has no
-// place.
+/// Why a token may not stand behind what was read last: behind a whole tree it comes too late, and
+/// elsewhere it has no place.
 pub fn token_reason(part: Part) -> FrontReason
     ensures { (instance : PlainInstance) (complete : Bool) (left : ℕ) (token : PlainToken)
         → token_line instance complete left (plain_part part) token ≡ Err result }
@@ -143,7 +143,7 @@ pub fn token_reason(part: Part) -> FrontReason
     }
 }
 
-// Whether nothing is missing behind what was read last.
+/// Whether nothing is missing behind what was read last.
 pub fn is_whole(complete: bool, stage: Stage) -> bool
     ensures { result ≡ is_whole_front complete (plain_stage stage) }
 {

@@ -7,6 +7,8 @@ mod line;
 mod parts;
 mod reading;
 
+pub use allowed::{corner_reason, is_whole, point_reason, token_reason};
 pub use audit::audit_front;
 pub use front_terms::{FrontReason, FrontVerdict};
 pub use line::FrontLine;
+pub use parts::{Part, Stage};

@@ -4,6 +4,8 @@
 #[cfg(test)]
 mod audits;
 #[cfg(test)]
+mod documents;
+#[cfg(test)]
 mod texts;
 #[cfg(test)]
 mod walks;

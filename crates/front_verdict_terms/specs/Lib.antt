@@ -1,2 +1,3 @@
 pub mod Verdicts
+pub mod Fed
 pub mod Laws

@@ -143,3 +143,12 @@ claim_words false points = codes "front" ∷ codes "partial" ∷ decimal points 
 abbrev pub front_verdict_words : Result FrontRead Refusal → List (List ℕ)
 front_verdict_words (Ok r) = codes "verified" ∷ claim_words r.claim.complete r.claim.points
 front_verdict_words (Err refusal) = codes "refused" ∷ decimal refusal.line ∷ reason_words refusal.reason
+
+-- the line, which a line feed ends
+abbrev pub front_verdict_line : Result FrontRead Refusal → List ℕ
+front_verdict_line verdict = spaced (front_verdict_words verdict) ++ 10 ∷ []
+
+-- verified has status 0, refused has status 1
+abbrev pub front_verdict_status : Result FrontRead Refusal → ℕ
+front_verdict_status (Ok r) = 0
+front_verdict_status (Err refusal) = 1

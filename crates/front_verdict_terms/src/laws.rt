@@ -1,8 +1,15 @@
-//! The law over the verdict, the contract of a function with an empty body.
+//! The laws over the verdict, each the contract of a function with an empty body.
 ghost use Rattle.front_verdict_terms.specs.Laws.{VerifiedFrontsAreTrue};
+ghost use Rattle.front_verdict_terms.specs.Fed.{FrontsAreFed};
 
 /// Whatever text is verified, what it claims is true of the instance in it, which is within the
 /// limits of instances and has two dimensions.
 pub fn verified_fronts_are_true()
     ensures { VerifiedFrontsAreTrue }
+{}
+
+/// The bytes of a text, fed from its start to a lexer with each line taken as it ends, give its
+/// verdict. A line is told by its first 12 words of at most 21 bytes.
+pub fn fronts_are_fed()
+    ensures { FrontsAreFed }
 {}

@@ -12,17 +12,22 @@ use Rattle.verdict_terms.specs.Form.{IsReducedDocument}
 use Rattle.verdict_terms.proofs.FormGiven.{documents_have_form}
 use Rattle.verdict_terms.proofs.True.{documents_are_true}
 use Rattle.explained_documents.specs.declared.kind.DocumentKind.{DocumentKind}
-use Rattle.explained_documents.specs.declared.kind.DocumentKind.TheVariants.{Explained as OfExplained, Reduced as OfReduced}
+use Rattle.explained_documents.specs.declared.kind.DocumentKind.TheVariants.{Explained as OfExplained, Front as OfFront, Reduced as OfReduced}
 use Rattle.explained_documents.specs.Kinds.{document_kind}
 use Rattle.explained_documents.specs.Documents.{ExplainedRefusal, explained_verdict, explained_line, explained_status}
 use Rattle.explained_documents.proofs.Shown.{documents_are_true as explained_are_true}
+use Rattle.front_verdict_terms.specs.Verdicts.{FrontRead, front_document_verdict, front_verdict_line, front_verdict_status}
+use Rattle.front_verdict_terms.proofs.Verified.{verified_fronts_are_true}
 use Rattle.answer_streams.specs.declared.verdict.Verdict.{Verdict}
 use Rattle.answer_streams.specs.declared.audited.AuditedVerdict.{AuditedVerdict}
-use Rattle.answer_streams.specs.declared.audited.AuditedVerdict.TheVariants.{Reduced as ToldReduced, Explained as ToldExplained}
+use Rattle.answer_streams.specs.declared.audited.AuditedVerdict.TheVariants.{Reduced as ToldReduced, Explained as ToldExplained, Front as ToldFront}
 use Rattle.answer_streams.specs.declared.audited.ExplainedVerdict.{ExplainedVerdict}
 use Rattle.answer_streams.specs.declared.audited.ExplainedVerdict.TheVariants.{Verified, Refused}
+use Rattle.answer_streams.specs.declared.audited_fronts.FrontAudited.{FrontAudited}
+use Rattle.answer_streams.specs.declared.audited_fronts.FrontAudited.TheVariants.{Verified as VerifiedFront, Refused as RefusedFront}
 use Rattle.answer_streams.specs.Verdicts.{plain_verdict, verdict_status}
-use Rattle.answer_streams.specs.Audited.{KindVerdict, ReducedVerdictOf, ExplainedVerdictOf, verdict_of_kind, audit_verdict, audit_line, audit_status, IsTrueVerdict, IsExplainedAs, IsToldAs}
+use Rattle.answer_streams.specs.Audited.{KindVerdict, ReducedVerdictOf, ExplainedVerdictOf, FrontVerdictOf, verdict_of_kind, audit_verdict, audit_line, audit_status, IsTrueVerdict, IsExplainedAs, IsFrontToldAs, IsToldAs}
+use Rattle.answer_streams.proofs.Lined.{front_line}
 use Rattle.pack_command.specs.Asked.{AsksToSolve, AsksTask, AsksNothing, IsLongReading}
 use Rattle.pack_command.specs.Audits.{IsAuditClaimed}
 use Rattle.pack_command.specs.Readings.{DocumentTask, Audits, ComesTo, IsReadingDone, IsWithoutReading, IsExactlyRead}
@@ -93,6 +98,11 @@ true_verdict bytes OfExplained zero = go (explained_verdict bytes) refl zero
     go : (verdict : Result PlainInstance ExplainedRefusal) → explained_verdict bytes ≡ verdict → explained_status verdict ≡ 0 → IsTrueVerdict bytes (ExplainedVerdictOf verdict)
     go (Ok instance) is ok = (is, explained_are_true bytes instance is)
     go (Err refusal) is bad = absurd (cc (bad))
+true_verdict bytes OfFront zero = go (front_document_verdict bytes) refl zero
+  where
+    go : (verdict : Result FrontRead Refusal) → front_document_verdict bytes ≡ verdict → front_verdict_status verdict ≡ 0 → IsTrueVerdict bytes (FrontVerdictOf verdict)
+    go (Ok r) is ok = let t = verified_fronts_are_true bytes r is in record { verdict = is; limits = t.0; plane = t.1; front = t.2 }
+    go (Err refusal) is bad = absurd (cc (bad))
 
 pub audited_claimed : (old new sunk_old sunk_new : Option (List ℕ)) (status : ℕ) → status ≡ 0
     → IsReadingDone Audits old new sunk_old sunk_new status → IsAuditClaimed old new sunk_old sunk_new
@@ -112,6 +122,10 @@ told_reduced verdict is e = record { line = ap reduced_verdict_line e; status = 
 pub told_explained : (verdict : ExplainedVerdict) (is : Result PlainInstance ExplainedRefusal) → IsExplainedAs is verdict → IsToldAs (ExplainedVerdictOf is) (ToldExplained verdict)
 told_explained Verified is e = record { line = ap explained_line (sym e.1); status = ap explained_status (sym e.1) }
 told_explained (Refused line reason) is e = record { line = ap explained_line (sym e); status = ap explained_status (sym e) }
+
+pub told_fronts : (verdict : FrontAudited) (is : Result FrontRead Refusal) → IsFrontToldAs is verdict → IsToldAs (FrontVerdictOf is) (ToldFront verdict)
+told_fronts (VerifiedFront complete points) is e = record { line = front_line complete points e.0 ∙ ap front_verdict_line (sym e.1); status = ap front_verdict_status (sym e.1) }
+told_fronts (RefusedFront line reason) is e = record { line = ap front_verdict_line (sym e); status = ap front_verdict_status (sym e) }
 
 -- a verdict of the kind of the bytes
 pub told_as : (bytes : List ℕ) (kind : DocumentKind) (told : AuditedVerdict) → kind ≡ document_kind bytes → IsToldAs (verdict_of_kind kind bytes) told

@@ -17,7 +17,8 @@ use Rattle.front_walks.proofs.Decided.{right_sizes, walks_are_fronts}
 use Rattle.front_walks.proofs.Spent.{spent_exactly, enough}
 use Rattle.front_answer_terms.specs.Texts.{front_answer, front_status, front_text}
 use Rattle.front_answer_terms.proofs.Backed.{IsBackedCorner, IsBackedPoint, AreBacked, front_backed}
-use Rattle.front_answer_terms.proofs.Own.{own_fronts_are_verified}
+use Rattle.front_answer_terms.proofs.Own.{own_fronts_are_verified, own_fronts_are_fronts}
+use Rattle.answer_streams.specs.Audited.{FrontVerdictOf, verdict_of_kind}
 use Rattle.pack_streams.specs.Moves.{Gains}
 use Rattle.pack_command.specs.Answered.{class_bound}
 use Rattle.pack_command.specs.Asked.{AsksFront, IsFronting}
@@ -111,7 +112,8 @@ module _ (instance : PlainInstance) where
           complete = (front_walk instance settings.budget settings.scales).complete;
           points = length (front_walk instance settings.budget settings.scales).points;
         };
-        verified = own_fronts_are_verified instance settings.budget settings.scales limits plane;
+        verified = ap (λ k. verdict_of_kind k (front_for settings instance).text) (own_fronts_are_fronts instance settings.budget settings.scales limits plane)
+            ∙ ap FrontVerdictOf (own_fronts_are_verified instance settings.budget settings.scales limits plane);
         status_is = is;
       }
 

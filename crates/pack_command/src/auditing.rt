@@ -3,18 +3,20 @@ ghost use Rattle.std.specs.Prelude.{◌≡◌, ◌≢◌, ◌≤◌, length, IfO
 ghost use Rattle.verdict_terms.specs.Documents.{reduced_verdict};
 ghost use Rattle.explained_documents.specs.Documents.{explained_verdict};
 ghost use Rattle.answer_streams.specs.Verdicts.{plain_verdict};
-ghost use Rattle.answer_streams.specs.Audited.{IsExplainedAs, IsToldAs, audit_verdict};
+ghost use Rattle.front_verdict_terms.specs.Verdicts.{front_document_verdict};
+ghost use Rattle.answer_streams.specs.Audited.{IsExplainedAs, IsFrontToldAs, IsToldAs, audit_verdict};
 ghost use Rattle.pack_command.specs.Counts.{CountsReads, CountsWrites};
 ghost use Rattle.pack_command.specs.Inputs.{most_read_bytes};
 ghost use Rattle.pack_command.specs.Readings.{Audits, IsReadingDone, IsWithoutReading};
 
 use crate::input::read_document;
 use crate::stop::Stop;
-use answer_streams::{AuditedVerdict, ExplainedVerdict, Verdict, stream};
+use answer_streams::{AuditedVerdict, ExplainedVerdict, FrontAudited, Verdict, stream};
 use box_instances::NoMemory;
 use document_check::{Audit, audit_document};
 use explained_check::{ExplainedAudit, audit_explained, document_kind};
 use explained_documents::DocumentKind;
+use front_documents::{FrontAudit, audit_front_document};
 use pack_streams::{Sink, Source};
 use std::alloc::Global;
 use verdict_terms::Heading;
@@ -42,6 +44,19 @@ fn explained_on(alloc: Global, bytes: &[u8]) -> Result<ExplainedVerdict, NoMemor
     }
 }
 
+// The verdict on them as a document of a front.
+fn front_on(alloc: Global, bytes: &[u8]) -> Result<FrontAudited, NoMemory>
+    ensures { IfOk result (IsFrontToldAs (front_document_verdict bytes.now)) }
+{
+    match audit_front_document(alloc, bytes) {
+        FrontAudit::Verified { complete, points } => {
+            Ok(FrontAudited::Verified { complete, points })
+        }
+        FrontAudit::Refused { line, reason } => Ok(FrontAudited::Refused { line, reason }),
+        FrontAudit::NoMemory => Err(NoMemory),
+    }
+}
+
 // The verdict on the document of these bytes, as one of its kind.
 fn verdict_on(alloc: Global, bytes: &[u8]) -> Result<AuditedVerdict, NoMemory>
     requires { length bytes.now ≤ most_read_bytes }
@@ -55,6 +70,10 @@ fn verdict_on(alloc: Global, bytes: &[u8]) -> Result<AuditedVerdict, NoMemory>
         DocumentKind::Explained => {
             let verdict = explained_on(alloc, bytes)?;
             Ok(AuditedVerdict::Explained(verdict))
+        }
+        DocumentKind::Front => {
+            let verdict = front_on(alloc, bytes)?;
+            Ok(AuditedVerdict::Front(verdict))
         }
     }
 }

@@ -97,10 +97,11 @@ pub fn run<R: Threads + Wait + Sync, S: Source, K: Sink, E: Sink, G: Gate + Sync
     ensures claimed { AsksCheck words.now → result ≡ 0
         → IsClaimed (S.left input.old) (S.left input.new) (K.written out.old) (K.written out.new) }
 
-    // `audit` writes exactly the line of the verdict on the input as a document of its kind, reduced
-    // or explained, with its status, and what it verifies is true, whoever wrote it: the claim of a
-    // reduced document of the instance in it, and that the instance of an explained one has no
-    // packing.
+    // `audit` writes exactly the line of the verdict on the input as a document of its kind, reduced,
+    // explained or of a front, with its status, and what it verifies is true, whoever wrote it: the
+    // claim of a reduced document of the instance in it, that the instance of an explained one has no
+    // packing, and that the points of a front are all least sizes of its instance, or all up to the
+    // last of them, and as many as are told.
     ensures audits { (bytes : List ℕ) → IsAuditing words.now (S.left input.old) bytes
         → IsAnswerStatus result
         → IsExactlyRead Audits bytes (K.written out.old) (K.written out.new) result }
@@ -125,7 +126,7 @@ pub fn run<R: Threads + Wait + Sync, S: Source, K: Sink, E: Sink, G: Gate + Sync
         → IsFrontDecided instance settings (K.written out.old) (K.written out.new) result }
 
     // It is the answer of the definition, in which the number of workers has no part; it is whole
-    // where the budget is enough for each container; and its document is verified as a front of
+    // where the budget is enough for each container; and `audit` verifies its document as a front of
     // that instance.
     ensures fronts { (settings : PlainSettings) (instance : PlainInstance)
         → IsFronting words.now (S.left input.old) settings instance → IsAnswerStatus result

@@ -16,6 +16,10 @@ const PLATE_FRONT: &[u8] =
 const PAIR_PART: &[u8] =
     b"front\nformat 1\ncontainer 4 4\nbox 2 1\nbox 2 1\nresult partial 0\nend\n";
 
+// The second corner is narrower than its point asks for.
+const NARROW_FRONT: &[u8] =
+    b"front\nformat 1\ncontainer 4 4\nbox 2 1\nbox 2 1\nresult front 2\ncorner 1 4\nt 1 1\npoint 2 2\nplace 0 0\nplace 0 1\ncorner 2 1\nx\npoint 4 1\nplace 0 0\nplace 2 0\nend\n";
+
 const SOLID: &[u8] = b"format 1\ncontainer 2 2 2\nbox 1 1 1\n";
 
 const LARGE: &[u8] = b"format 1\ncontainer 2 2\nbox 3 1\n";
@@ -43,6 +47,26 @@ fn front_has_the_documents_of_the_rows(rt: HostRuntime) -> Result<(), Fail> {
     for (words, text, status, document) in ROWS {
         let told = told_of(&rt, words, text)?;
         assert!(rt; told.is_as_written(status, document), "{status}");
+    }
+    Ok(())
+}
+
+#[test]
+fn audit_reads_documents_of_fronts(rt: HostRuntime) -> Result<(), Fail> {
+    let rows: [(&[u8], u8, &[u8]); 5] = [
+        (PAIR_FRONT, 0, b"verified front 2\n"),
+        (PLATE_FRONT, 0, b"verified front 1\n"),
+        (LARGE_FRONT, 0, b"verified front 0\n"),
+        (PAIR_PART, 0, b"verified front partial 0\n"),
+        (NARROW_FRONT, 1, b"refused 14 range\n"),
+    ];
+    for (document, status, line) in rows {
+        let told = told_of(&rt, &["audit"], document)?;
+        assert!(rt; told.is_as_written(status, line), "{status}");
+    }
+    for job in ["check", "explain"] {
+        let told = told_of(&rt, &[job], PAIR_FRONT)?;
+        assert!(rt; told.is_as_written(1, b"refused 1 form\n"), "{job}");
     }
     Ok(())
 }

@@ -1,7 +1,7 @@
 use Rattle.std.proofs.Common.{length, ◌≡◌}
 use Rattle.text_terms.specs.Texts.{no_parts}
 use Rattle.explained_documents.specs.Stages.{Reading}
-use Rattle.explained_check.specs.Lines.{IsAmong, lines_left}
+use Rattle.line_cursor.specs.Lines.{IsAmong, lines_left}
 use Rattle.explained_check.specs.Audits.{verdict_left}
 use Rattle.explained_check.specs.Heads.{held_parts, IsHeldHead}
 use Rattle.explained_check.proofs.head.read_instance.Given as goal

@@ -1,8 +1,8 @@
 use Rattle.std.proofs.Common.{◌≡◌, sym, subst, true, false}
-use Rattle.explained_check.specs.Audits.{IsNextFilled}
+use Rattle.explained_check.specs.Audits.{IsNextTaken}
 use Rattle.explained_check.proofs.Verdicts.{ended}
 use Rattle.explained_check.proofs.tree.read_end.Goals as goal
 
 pub returns : goal.returns
 returns c = λ instance same.
-    (instance, ended c.args.bytes.now _ c.next_filled-there.new.at c.next_filled.new.at instance c.if-not-there.ensures.line (c.in_default.ensures instance same) c.if-next_filled.ensures.line)
+    (instance, ended c.args.bytes.now _ c.next_taken-there.new.at c.next_taken.new.at instance c.if-not-there.ensures.line (c.in_default.ensures instance same) c.if-next_taken.ensures.line)

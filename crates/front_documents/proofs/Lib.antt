@@ -1,0 +1,4 @@
+pub mod Cursors
+pub mod Words
+pub mod Opened
+pub mod Read

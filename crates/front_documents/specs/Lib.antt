@@ -1,0 +1,4 @@
+pub mod Audits
+pub mod Heads
+pub mod Named
+pub mod Parts

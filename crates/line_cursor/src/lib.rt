@@ -1,0 +1,8 @@
+//! The lines of bytes in memory, one by one, and what their words are.
+#![tactic(auto)]
+
+mod cursor;
+mod words;
+
+pub use cursor::{Cursor, next_filled};
+pub use words::{is_blank, is_first, is_result, is_same, is_word};
