@@ -5,8 +5,11 @@ ghost use Rattle.packing_terms.specs.Packing.{dims, box_count};
 ghost use Rattle.refutation_steps.specs.Goes.{plain_steps, Goes};
 ghost use Rattle.refutation_steps.specs.Places.{IsPlaced};
 
-use crate::places::{are_four, are_three, is_there};
-use crate::steps::{step_apart, step_compose, step_cycle, step_order, step_triple};
+use crate::places::{
+    are_four, are_three, compose_with, cycles_with, is_there, joins, leads, order_with,
+    orders_with, triple_with, turned_exclusion,
+};
+use crate::steps::{step_apart, step_cycle, step_order};
 use box_instances::{Instance, NoMemory};
 use edge_state::{EdgeState, Exclusion, Mark};
 use line_proofs::Step;
@@ -19,31 +22,75 @@ pub struct Trace {
     pub behind: u32,
 }
 
-// COMPOSE by way of a box, and TRIPLE with it, at the place of two others.
+// ORDER at the place of the exclusion, with a box that its first one is surely before.
+fn orders_to(
+    instance: &Instance,
+    state: &mut EdgeState,
+    lines: &mut Vec<Step>,
+    e: Exclusion,
+    d: u32,
+) -> Result<(), NoMemory>
+    requires placed { IsPlaced instance.now state.old e }
+    requires d { d < box_count instance.now }
+    ensures { OnOk result (Goes instance.now state.old state.new
+        (plain_steps lines.old.items) (plain_steps lines.new.items)) }
+{
+    for a in 0..instance.len() {
+        order_with(instance, state, lines, e, a, d)?;
+    }
+    Ok(())
+}
+
+// CYCLE and ORDER with a fourth box, where the change is at the first box of the exclusion and
+// another.
+fn read_fourth(
+    instance: &Instance,
+    state: &mut EdgeState,
+    lines: &mut Vec<Step>,
+    e: Exclusion,
+    other: u32,
+) -> Result<(), NoMemory>
+    requires placed { IsPlaced instance.now state.old e }
+    requires other { other < box_count instance.now }
+    ensures { OnOk result (Goes instance.now state.old state.new
+        (plain_steps lines.old.items) (plain_steps lines.new.items)) }
+{
+    if joins(state, e.dim, other, e.u) {
+        return cycles_with(instance, state, lines, e, other);
+    }
+    if leads(state, e.dim, e.u, other) {
+        return orders_to(instance, state, lines, e, other);
+    }
+    if leads(state, e.dim, other, e.u) {
+        let turned = turned_exclusion(e);
+        return orders_with(instance, state, lines, turned, other);
+    }
+    Ok(())
+}
+
+// What a change at the first box of the exclusion and another leads to: COMPOSE by way of the other,
+// TRIPLE with it, or a rule with a fourth box.
 fn read_third(
     instance: &Instance,
     state: &mut EdgeState,
     lines: &mut Vec<Step>,
     e: Exclusion,
-    u: u32,
-    v: u32,
-    x: u32,
+    other: u32,
 ) -> Result<(), NoMemory>
     requires placed { IsPlaced instance.now state.old e }
-    requires u { u < box_count instance.now }
-    requires v { v < box_count instance.now }
-    requires x { x < box_count instance.now }
+    requires other { other < box_count instance.now }
     ensures { OnOk result (Goes instance.now state.old state.new
         (plain_steps lines.old.items) (plain_steps lines.new.items)) }
 {
-    if !are_three(u, v, x) || !are_three(u, x, v) {
+    if !are_three(e.u, other, e.v) {
         return Ok(());
     }
-    step_compose(instance, state, lines, e.dim, u, v, x)?;
+    compose_with(instance, state, lines, e, other)?;
+    triple_with(instance, state, lines, e, other)?;
     if is_there(state, e) {
         return Ok(());
     }
-    step_triple(instance, state, lines, e.dim, u, x, v)
+    read_fourth(instance, state, lines, e, other)
 }
 
 // ORDER with these boxes.
@@ -111,17 +158,18 @@ fn read_edge(
     ensures { OnOk result (Goes instance.now state.old state.new
         (plain_steps lines.old.items) (plain_steps lines.new.items)) }
 {
+    let turned = turned_exclusion(e);
     if p == e.u {
-        return read_third(instance, state, lines, e, p, q, e.v);
+        return read_third(instance, state, lines, e, q);
     }
     if p == e.v {
-        return read_third(instance, state, lines, e, p, q, e.u);
+        return read_third(instance, state, lines, turned, q);
     }
     if q == e.u {
-        return read_third(instance, state, lines, e, q, p, e.v);
+        return read_third(instance, state, lines, e, p);
     }
     if q == e.v {
-        return read_third(instance, state, lines, e, q, p, e.u);
+        return read_third(instance, state, lines, turned, p);
     }
     read_crossed(instance, state, lines, e, p, q)
 }

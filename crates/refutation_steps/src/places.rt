@@ -74,8 +74,8 @@ pub fn seek_apart(
     step_apart(instance, state, lines, e.dim, e.u, e.v)
 }
 
-// TRIPLE there, with a third box.
-fn triple_with(
+/// TRIPLE there, with a third box.
+pub fn triple_with(
     instance: &Instance,
     state: &mut EdgeState,
     lines: &mut Vec<Step>,
@@ -113,8 +113,8 @@ pub fn seek_triple(
     Ok(())
 }
 
-// COMPOSE there, with a third box.
-fn compose_with(
+/// COMPOSE there, with a third box.
+pub fn compose_with(
     instance: &Instance,
     state: &mut EdgeState,
     lines: &mut Vec<Step>,
@@ -176,8 +176,8 @@ fn cycle_with(
     step_cycle(instance, state, lines, e.dim, a, e.u, c, e.v)
 }
 
-// CYCLE there, with one box more.
-fn cycles_with(
+/// CYCLE there, with one box more.
+pub fn cycles_with(
     instance: &Instance,
     state: &mut EdgeState,
     lines: &mut Vec<Step>,
@@ -195,8 +195,8 @@ fn cycles_with(
     Ok(())
 }
 
-// Whether two boxes are joined. A box isn't joined with itself.
-fn joins(state: &EdgeState, dim: u32, u: u32, v: u32) -> bool
+/// Whether two boxes are joined. A box isn't joined with itself.
+pub fn joins(state: &EdgeState, dim: u32, u: u32, v: u32) -> bool
     requires dim { dim < state.now.dims }
     requires u { u < state.now.boxes }
     requires v { v < state.now.boxes }
@@ -251,8 +251,8 @@ pub fn seek_cycle(
     Ok(())
 }
 
-// ORDER there, with two boxes more: its place is that of its third box and its second.
-fn order_with(
+/// ORDER there, with two boxes more: its place is that of its third box and its second.
+pub fn order_with(
     instance: &Instance,
     state: &mut EdgeState,
     lines: &mut Vec<Step>,
@@ -275,8 +275,8 @@ fn order_with(
     step_order(instance, state, lines, e.dim, a, e.v, e.u, d)
 }
 
-// ORDER there, with one box more.
-fn orders_with(
+/// ORDER there, with one box more.
+pub fn orders_with(
     instance: &Instance,
     state: &mut EdgeState,
     lines: &mut Vec<Step>,
@@ -294,8 +294,8 @@ fn orders_with(
     Ok(())
 }
 
-// Whether a box is surely before another. It isn't before itself.
-fn leads(state: &EdgeState, dim: u32, u: u32, v: u32) -> bool
+/// Whether a box is surely before another. It isn't before itself.
+pub fn leads(state: &EdgeState, dim: u32, u: u32, v: u32) -> bool
     requires dim { dim < state.now.dims }
     requires u { u < state.now.boxes }
     requires v { v < state.now.boxes }
