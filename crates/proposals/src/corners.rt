@@ -1,5 +1,5 @@
-//! The search that fills the lowest corner first, for three dimensions and more, with a stack of its
-//! own.
+//! The search that fills the lowest corner first, for three dimensions and more, with a stack of
+//! its own.
 //!
 //! At each node the lowest corner point is taken, by the last coordinate and then by those before
 //! it. A box is laid with its corner there, or the point is given up. A box that was laid gives new

@@ -1,8 +1,8 @@
 //! The search that fills the lowest gap first, for two dimensions, with a stack of its own.
 //!
 //! At each node the lowest gap of the skyline is taken. A box is laid into its left corner, boxes
-//! that fill it first; or the gap is lost up to its lower neighbour. What is lost is never more than
-//! the container has to spare.
+//! that fill it first; or the gap is lost up to its lower neighbour. What is lost is never more
+//! than the container has to spare.
 //!
 //! Source: the best-fit rule of Burke, Kendall and Whitwell (2004), with going back.
 
@@ -29,8 +29,8 @@ enum Try {
     Back,
 }
 
-// A node on the way down: how many segments its skyline has, its gap, the next try, the box that was
-// laid from here, counted from 1, and what may still be lost.
+// A node on the way down: how many segments its skyline has, its gap, the next try, the box that
+// was laid from here, counted from 1, and what may still be lost.
 #[derive(Clone, Copy)]
 struct Level {
     segments: usize,
@@ -40,8 +40,8 @@ struct Level {
     spare: u64,
 }
 
-// A position of the order at which a box is tried: in a gap of this width, under a room above it, and
-// whether it is to fill the width.
+// A position of the order at which a box is tried: in a gap of this width, under a room above it,
+// and whether it is to fill the width.
 #[derive(Clone, Copy)]
 struct Place {
     position: usize,
@@ -137,8 +137,8 @@ impl GapSearch {
         self.set_level(0, first);
     }
 
-    // Whether the next try of a level is this position of the order: the box isn't laid yet, no equal
-    // one before it waits, and it fits the gap, all of its width or not as is asked.
+    // Whether the next try of a level is this position of the order: the box isn't laid yet, no
+    // equal one before it waits, and it fits the gap, all of its width or not as is asked.
     #[inline]
     fn may_lay(&self, turned: &Turned, order: &[u32], twins: &[u32], try_at: Place) -> bool {
         let v = at(order, try_at.position);

@@ -1,7 +1,7 @@
 //! Proposals: places and refutations of an instance, of which nothing is promised but their sizes.
 //!
-//! Whoever takes one tests it. So a search here is free to be clever: it is proved to be safe and to
-//! end, and nothing else.
+//! Whoever takes one tests it. So a search here is free to be clever: it is proved to be safe and
+//! to end, and nothing else.
 #![tactic(auto)]
 
 mod corners;

@@ -10,7 +10,8 @@ use crate::splits::{Child, Choice, Split};
 use crate::weights::Weights;
 use box_instances::NoMemory;
 
-// Pairs whose children are both closed.
+// Pairs whose children are both closed. On a prototype six pairs by weight took fewer splits and
+// less time than eight or sixteen by rank.
 const PAIRS: usize = 6;
 
 // A pair with its weight over the ways that are left to it. Without a weight it is none.
@@ -27,8 +28,8 @@ const NOBODY: Rated = Rated {
     v: 0,
 };
 
-// How a pair stands: whether it is settled in some dimension, apart in some, and in how many ways it
-// may still be apart.
+// How a pair stands: whether it is settled in some dimension, apart in some, and in how many ways
+// it may still be apart.
 #[derive(Clone, Copy)]
 struct Standing {
     settled: bool,
@@ -86,8 +87,8 @@ fn best_pairs(descent: &Descent<'_>, weights: &Weights, rank: &[u32]) -> [Rated;
     best
 }
 
-// The split of a pair: once it is apart, into its orders, in the dimension that weighs most of those
-// in which it may be split so.
+// The split of a pair: once it is apart, into its orders, in the dimension that weighs most of
+// those in which it may be split so.
 fn split_of(descent: &Descent<'_>, weights: &Weights, u: u32, v: u32) -> Option<Split> {
     let dims = descent.instance().dims();
     let apart = standing_of(descent, weights, dims, u, v).apart;
@@ -139,8 +140,8 @@ fn rating(descent: &mut Descent<'_>, split: Split) -> Result<u64, NoMemory> {
     Ok(product.saturating_add(first).saturating_add(second))
 }
 
-/// The split that the node of the descent gets, and none where each pair is settled. The descent ends
-/// where it was.
+/// The split that the node of the descent gets, and none where each pair is settled. The descent
+/// ends where it was.
 pub fn chosen_split(
     descent: &mut Descent<'_>,
     weights: &Weights,

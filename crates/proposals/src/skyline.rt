@@ -50,8 +50,8 @@ fn append(next: &mut [Segment], count: usize, segment: Segment) -> usize {
     count
 }
 
-/// Writes the skyline in which the left part of a gap is as high as `top`, up to a width. It answers
-/// how many segments there are.
+/// Writes the skyline in which the left part of a gap is as high as `top`, up to a width. It
+/// answers how many segments there are.
 pub fn raise(line: &[Segment], gap: usize, width: u32, top: u32, next: &mut [Segment]) -> usize {
     let mut count = 0;
     for k in 0..line.len() {

@@ -1,7 +1,7 @@
 //! Weights of pairs: how often and how lately they were seen in conflicts.
 //!
-//! Source: the weighted degree of Boussemart, Hemery, Lecoutre and Sais (2004), with decay as in the
-//! solvers of satisfiability.
+//! Source: the weighted degree of Boussemart, Hemery, Lecoutre and Sais (2004), with decay as in
+//! the solvers of satisfiability.
 
 use box_instances::NoMemory;
 use std::alloc::Global;
