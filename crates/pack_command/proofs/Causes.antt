@@ -8,7 +8,7 @@ use Rattle.document_terms.specs.declared.claim.Claim.{Claim}
 use Rattle.verdict_terms.specs.Documents.{Refusal}
 use Rattle.pack_streams.specs.Faults.{FailedOnce}
 use Rattle.pack_command.specs.Answered.{IsAnswerStatus}
-use Rattle.pack_command.specs.Asked.{AsksToSolve, AsksCheck, AsksToMake, AsksNothing, IsSolving, IsChecking, IsReading, IsFronting, HasAnswer, ReadsNothing, IsLongInstance, IsLongDocument, IsLongReading, IsFaultyText, IsRefusable}
+use Rattle.pack_command.specs.Asked.{AsksToSolve, AsksCheck, AsksToMake, AsksNothing, IsSolving, IsChecking, IsReading, IsFronting, IsProposing, HasAnswer, ReadsNothing, IsLongInstance, IsLongDocument, IsLongReading, IsFaultyText, IsRefusable}
 use Rattle.pack_command.specs.Checks.{IsVerdictStatus, IsWithoutVerdict, IsPastLimit}
 use Rattle.pack_command.specs.Counts.{CountsReads, CountsWrites, CountsStatus, IsFaultStatus}
 use Rattle.pack_command.specs.Ends.{IsDone, IsUndone}
@@ -23,8 +23,9 @@ use Rattle.pack_command.proofs.Checked.{one_job, solved_done, solved_undone, fou
 use Rattle.pack_command.specs.Readings.{DocumentTask, IsWholeDocument, IsWithoutReading}
 use Rattle.pack_command.specs.Inputs.{most_read_bytes}
 use Rattle.pack_command.proofs.Audited.{reading_done, reading_undone, long_read}
-use Rattle.pack_command.proofs.OneJob.{front_checks}
+use Rattle.pack_command.proofs.OneJob.{front_checks, proposed_checks}
 use Rattle.pack_command.proofs.Fronted.{fronted_done, fronted_undone, front_never_stops, long_fronted, faulty_fronted, other_fronted, front_long_ends, front_faulty_ends, front_other_ends}
+use Rattle.pack_command.proofs.ProposedEnds.{proposed_done, proposed_undone, proposed_never_stops, long_proposed, faulty_proposed, proposed_long_ends, proposed_faulty_ends}
 use Rattle.pack_command.proofs.Generating.{no_check, task_checks, never_unmade, never_broken_off}
 
 -- ---- statuses
@@ -141,7 +142,8 @@ module _ (words : List (String Global)) (old new sunk_old sunk_new : Option (Lis
   judged_undone stop asks (inr (inl c)) = inl c.1
   judged_undone stop asks (inr (inr (inl m))) = absurd (no_check words m.number m.settings m.asked asks)
   judged_undone stop asks (inr (inr (inr (inl a)))) = absurd (task_checks words a.0 asks a.1)
-  judged_undone stop asks (inr (inr (inr (inr f)))) = absurd (front_checks words f.0.0 f.0.1 asks)
+  judged_undone stop asks (inr (inr (inr (inr (inl f))))) = absurd (front_checks words f.0.0 f.0.1 asks)
+  judged_undone stop asks (inr (inr (inr (inr (inr p))))) = absurd (proposed_checks words p.0.0 p.0.1 asks)
 
   -- ---- words and an input that have an answer
 
@@ -219,12 +221,19 @@ module _ (words : List (String Global)) (old new sunk_old sunk_new : Option (Lis
   fronting_stops settings instance s stop undone =
       by_cases stop (front_never_stops words old new sunk_old sunk_new settings instance s stop (fronted_undone words old new sunk_old sunk_new stop settings s.asks undone))
 
+  proposing_stops : (settings : Settings) (instance : PlainInstance) → IsProposing words old settings instance → (stop : Stop)
+      → IsUndone words old new sunk_old sunk_new stop → IsFault stop
+  proposing_stops settings instance s stop undone =
+      by_cases stop (proposed_never_stops words old new sunk_old sunk_new settings instance s stop
+      (proposed_undone words old new sunk_old sunk_new stop settings s.asks undone))
+
   pub completes : HasAnswer words old → (stop : Stop) (status : ℕ) → status ≡ stop_status stop → IsUndone words old new sunk_old sunk_new stop → IsFaultStatus status
   completes (inl s) stop status e undone = fault_status stop status (solving_stops s.0 s.1 s.2 s.3 stop undone) e
   completes (inr (inl s)) stop status e undone = fault_status stop status (checking_stops s.0 s.1 stop undone) e
   completes (inr (inr (inl s))) stop status e undone = fault_status stop status (making_stops s.0 s.1 s.2 stop undone) e
   completes (inr (inr (inr (inl s)))) stop status e undone = fault_status stop status (reading_stops s.0 s.1 s.2 stop undone) e
-  completes (inr (inr (inr (inr s)))) stop status e undone = fault_status stop status (fronting_stops s.0 s.1 s.2 stop undone) e
+  completes (inr (inr (inr (inr (inl s))))) stop status e undone = fault_status stop status (fronting_stops s.0 s.1 s.2 stop undone) e
+  completes (inr (inr (inr (inr (inr s))))) stop status e undone = fault_status stop status (proposing_stops s.0 s.1 s.2 stop undone) e
 
   -- ---- words and an input that are to be refused
 
@@ -251,17 +260,23 @@ module _ (words : List (String Global)) (old new sunk_old sunk_new : Option (Lis
   refusable_done Words none status (inr (inl c)) = let i = c.0.is in absurd (cc (none, i))
   refusable_done Words none status (inr (inr (inl m))) = let i = (m.asked).is in absurd (cc (none, i))
   refusable_done Words none status (inr (inr (inr (inl a)))) = let i = a.1.is in absurd (cc (none, i))
-  refusable_done Words none status (inr (inr (inr (inr f)))) = let i = (f.answered.asked).is in absurd (cc (none, i))
+  refusable_done Words none status (inr (inr (inr (inr (inl f))))) = let i = (f.answered.asked).is in absurd (cc (none, i))
+  refusable_done Words none status (inr (inr (inr (inr (inr p))))) = let i = (p.answered.asked).is in absurd (cc (none, i))
   refusable_done TooLong (inl l) status done =
       let w = solved_done words old new sunk_old sunk_new status l.job l.settings l.asks done in long_answered l status w.document w.answered
-  refusable_done TooLong (inr (inr (inr l))) status done = long_fronted words old new sunk_old sunk_new status l (fronted_done words old new sunk_old sunk_new status l.settings l.asks done)
+  refusable_done TooLong (inr (inr (inr (inr l)))) status done =
+      long_proposed words old new sunk_old sunk_new status l (proposed_done words old new sunk_old sunk_new status l.settings l.asks done)
+  refusable_done TooLong (inr (inr (inr (inl l)))) status done = long_fronted words old new sunk_old sunk_new status l (fronted_done words old new sunk_old sunk_new status l.settings l.asks done)
   refusable_done TooLong (inr (inr (inl l))) status done = long_read words old new sunk_old sunk_new l.task status l (reading_done words old new sunk_old sunk_new l.task status l.asks done)
   refusable_done TooLong (inr (inl l)) status (inl w) = one_job words w.answered.job w.answered.settings w.answered.asked l.asks
   refusable_done TooLong (inr (inl l)) status (inr (inl c)) = found_within old new l.bytes l.told l.past l.none c.1.verdict c.1.found
   refusable_done TooLong (inr (inl l)) status (inr (inr (inl m))) = no_check words m.number m.settings m.asked l.asks
   refusable_done TooLong (inr (inl l)) status (inr (inr (inr (inl a)))) = task_checks words a.0 l.asks a.1
-  refusable_done TooLong (inr (inl l)) status (inr (inr (inr (inr f)))) = front_checks words f.settings f.answered.asked l.asks
-  refusable_done (Text fault) (inr l) status done =
+  refusable_done TooLong (inr (inl l)) status (inr (inr (inr (inr (inl f))))) = front_checks words f.settings f.answered.asked l.asks
+  refusable_done TooLong (inr (inl l)) status (inr (inr (inr (inr (inr p))))) = proposed_checks words p.settings p.answered.asked l.asks
+  refusable_done (Text fault) (inr (inr l)) status done =
+      faulty_proposed words old new sunk_old sunk_new status fault l (proposed_done words old new sunk_old sunk_new status l.settings l.asks done)
+  refusable_done (Text fault) (inr (inl l)) status done =
       faulty_fronted words old new sunk_old sunk_new status fault l (fronted_done words old new sunk_old sunk_new status l.settings l.asks done)
   refusable_done Dimensions l status done = other_fronted words old new sunk_old sunk_new status l (fronted_done words old new sunk_old sunk_new status l.settings l.asks done)
   refusable_done (Text fault) (inl l) status done =
@@ -291,7 +306,8 @@ module _ (words : List (String Global)) (old new sunk_old sunk_new : Option (Lis
   nothing_ends none end (inr (inl c)) = let i = c.0.is in absurd (cc (none, i))
   nothing_ends none end (inr (inr (inl m))) = let i = (m.asked).is in absurd (cc (none, i))
   nothing_ends none end (inr (inr (inr (inl a)))) = let i = a.1.is in absurd (cc (none, i))
-  nothing_ends none end (inr (inr (inr (inr f)))) = let i = f.0.1.is in absurd (cc (none, i))
+  nothing_ends none end (inr (inr (inr (inr (inl f))))) = let i = f.0.1.is in absurd (cc (none, i))
+  nothing_ends none end (inr (inr (inr (inr (inr p))))) = let i = p.0.1.is in absurd (cc (none, i))
 
   long_ends : IsLongInstance words old → (end : Stop) → IsStopped words old new sunk_old sunk_new end → EndsFor TooLong end
   long_ends l Words s = let i = (l.asks).is in absurd (cc (s.0, i))
@@ -355,9 +371,13 @@ module _ (words : List (String Global)) (old new sunk_old sunk_new : Option (Lis
   refusable_ends Words none end undone = nothing_ends none end undone
   refusable_ends TooLong (inl l) end undone = long_ends l end (solved_undone words old new sunk_old sunk_new end l.job l.settings l.asks undone)
   refusable_ends TooLong (inr (inl l)) end undone = long_document_ends l end (judged_undone end l.asks undone)
-  refusable_ends TooLong (inr (inr (inr l))) end undone = front_long_ends words old new sunk_old sunk_new l end (fronted_undone words old new sunk_old sunk_new end l.settings l.asks undone)
+  refusable_ends TooLong (inr (inr (inr (inr l)))) end undone =
+      proposed_long_ends words old new sunk_old sunk_new l end (proposed_undone words old new sunk_old sunk_new end l.settings l.asks undone)
+  refusable_ends TooLong (inr (inr (inr (inl l)))) end undone = front_long_ends words old new sunk_old sunk_new l end (fronted_undone words old new sunk_old sunk_new end l.settings l.asks undone)
   refusable_ends TooLong (inr (inr (inl l))) end undone = long_reading_ends l.task l end (reading_undone words old new sunk_old sunk_new l.task end l.asks undone)
-  refusable_ends (Text fault) (inr l) end undone = front_faulty_ends words old new sunk_old sunk_new fault l end (fronted_undone words old new sunk_old sunk_new end l.settings l.asks undone)
+  refusable_ends (Text fault) (inr (inr l)) end undone =
+      proposed_faulty_ends words old new sunk_old sunk_new fault l end (proposed_undone words old new sunk_old sunk_new end l.settings l.asks undone)
+  refusable_ends (Text fault) (inr (inl l)) end undone = front_faulty_ends words old new sunk_old sunk_new fault l end (fronted_undone words old new sunk_old sunk_new end l.settings l.asks undone)
   refusable_ends Dimensions l end undone = front_other_ends words old new sunk_old sunk_new l end (fronted_undone words old new sunk_old sunk_new end l.settings l.asks undone)
   refusable_ends (Text fault) (inl l) end undone = faulty_ends fault l end (solved_undone words old new sunk_old sunk_new end l.job l.settings l.asks undone)
   refusable_ends ReadFault l end undone = absurd l
@@ -389,7 +409,8 @@ module _ (words : List (String Global)) (old new sunk_old sunk_new : Option (Lis
   nothing_broken none (inr (inl c)) = let i = c.0.is in absurd (cc (none, i))
   nothing_broken none (inr (inr (inl m))) = m.cut
   nothing_broken none (inr (inr (inr (inl a)))) = let i = a.1.is in absurd (cc (none, i))
-  nothing_broken none (inr (inr (inr (inr f)))) = let i = f.0.1.is in absurd (cc (none, i))
+  nothing_broken none (inr (inr (inr (inr (inl f))))) = let i = f.0.1.is in absurd (cc (none, i))
+  nothing_broken none (inr (inr (inr (inr (inr p))))) = let i = p.0.1.is in absurd (cc (none, i))
 
   pub never_read : ReadsNothing words → (end : Stop) (status : ℕ) → status ≡ stop_status end → IsUndone words old new sunk_old sunk_new end → ¬ (status ≡ 4)
   never_read (inl none) end status is undone four = go (nothing_ends none end undone)

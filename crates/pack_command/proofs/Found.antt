@@ -31,7 +31,7 @@ use Rattle.answer_streams.specs.Placed.{IsPlaced}
 use Rattle.answer_streams.specs.declared.solution.Solution.TheVariants.{Fit, Strip, Bins, Knapsack, Reduced}
 use Rattle.answer_streams.specs.Solutions.{strip_found, bins_found, choice_found, IsPlacedStrip, ArePlacedBins, IsSolution}
 
-right_placed : (instance : PlainInstance) (es : List Exclusion) (o : PlainOutcome) → IsRight instance es o → IsPlaced instance o
+pub right_placed : (instance : PlainInstance) (es : List Exclusion) (o : PlainOutcome) → IsRight instance es o → IsPlaced instance o
 right_placed instance es (Decided (Yes numbers count)) h = h.count
 right_placed instance es (Decided (No tokens count)) h = tt
 right_placed instance es Past h = tt

@@ -12,7 +12,7 @@ use Rattle.pack_command.specs.Run.{IsStopped}
 use Rattle.pack_command.specs.declared.stop.Stop.{Stop}
 use Rattle.pack_command.specs.declared.stop.Stop.TheVariants.{Words, TooLong, Text, Dimensions, ReadFault, WriteFault, NoMemory}
 use Rattle.pack_command.proofs.Written.{taken_all, taken_within}
-use Rattle.pack_command.proofs.OneJob.{front_solves, front_checks, front_tasks, front_makes}
+use Rattle.pack_command.proofs.OneJob.{front_solves, front_checks, front_tasks, front_makes, proposed_fronts}
 
 module _ (words : List (String Global)) (old new sunk_old sunk_new : Option (List ℕ)) where
   pub fronted_done : (status : ℕ) (settings : Settings) → AsksFront words settings → IsDone words old new sunk_old sunk_new status
@@ -21,7 +21,8 @@ module _ (words : List (String Global)) (old new sunk_old sunk_new : Option (Lis
   fronted_done status settings asks (inr (inl c)) = absurd (front_checks words settings asks c.0)
   fronted_done status settings asks (inr (inr (inl m))) = absurd (front_makes words m.number m.settings settings m.asked asks)
   fronted_done status settings asks (inr (inr (inr (inl a)))) = absurd (front_tasks words settings a.0 asks a.1)
-  fronted_done status settings asks (inr (inr (inr (inr f)))) = f
+  fronted_done status settings asks (inr (inr (inr (inr (inl f))))) = f
+  fronted_done status settings asks (inr (inr (inr (inr (inr p))))) = absurd (proposed_fronts words settings p.settings asks p.answered.asked)
 
   pub fronted_undone : (stop : Stop) (settings : Settings) → AsksFront words settings → IsUndone words old new sunk_old sunk_new stop
       → IsWithoutFront words old new sunk_old sunk_new stop ⊎ (stop ≡ NoMemory)
@@ -44,7 +45,8 @@ module _ (words : List (String Global)) (old new sunk_old sunk_new : Option (Lis
   fronted_undone stop settings asks (inr (inl c)) = absurd (front_checks words settings asks c.0)
   fronted_undone stop settings asks (inr (inr (inl m))) = absurd (front_makes words m.number m.settings settings m.asked asks)
   fronted_undone stop settings asks (inr (inr (inr (inl a)))) = absurd (front_tasks words settings a.0 asks a.1)
-  fronted_undone stop settings asks (inr (inr (inr (inr f)))) = inl f.1
+  fronted_undone stop settings asks (inr (inr (inr (inr (inl f))))) = inl f.1
+  fronted_undone stop settings asks (inr (inr (inr (inr (inr p))))) = absurd (proposed_fronts words settings p.0.0 asks p.0.1)
 
   -- ---- an input that has an answer
 

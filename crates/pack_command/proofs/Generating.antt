@@ -25,7 +25,7 @@ use Rattle.pack_command.specs.Stops.{stop_status}
 use Rattle.pack_command.specs.declared.stop.Stop.{Stop}
 use Rattle.pack_command.specs.declared.stop.Stop.TheVariants.{Words, TooLong, Text, Dimensions, ReadFault, WriteFault, NoMemory}
 use Rattle.pack_command.proofs.Decided.{fit_decided}
-use Rattle.pack_command.proofs.OneJob.{front_makes}
+use Rattle.pack_command.proofs.OneJob.{front_makes, proposed_makes}
 
 -- no words ask for `make` and for another job
 pub no_solve : (words : List (String Global)) (number : ℕ) (settings : Settings) (job : DocumentJob) (others : Settings)
@@ -146,7 +146,8 @@ module _ (words : List (String Global)) (old new sunk_old sunk_new : Option (Lis
   made_done status (inr (inl c)) = absurd (no_check words number settings asks c.0)
   made_done status (inr (inr (inl m))) = m
   made_done status (inr (inr (inr (inl a)))) = absurd (no_task words number settings a.0 asks a.1)
-  made_done status (inr (inr (inr (inr f)))) = absurd (front_makes words number settings f.settings asks f.answered.asked)
+  made_done status (inr (inr (inr (inr (inl f))))) = absurd (front_makes words number settings f.settings asks f.answered.asked)
+  made_done status (inr (inr (inr (inr (inr p))))) = absurd (proposed_makes words number settings p.settings asks p.answered.asked)
 
   same_made : (m : ℕ) (others : Settings) → AsksToMake words m others → made_for m others ≡ made_for number settings
   same_made m others asked =
@@ -194,7 +195,8 @@ module _ (words : List (String Global)) (old new sunk_old sunk_new : Option (Lis
   never_unmade stop (inr (inl c)) = λ w m. absurd (no_check words number settings asks c.0)
   never_unmade stop (inr (inr (inl u))) = cut stop u.number u.settings u.cut
   never_unmade stop (inr (inr (inr (inl a)))) = λ w m. absurd (no_task words number settings a.0 asks a.1)
-  never_unmade stop (inr (inr (inr (inr f)))) = λ w m. absurd (front_makes words number settings f.0.0 asks f.0.1)
+  never_unmade stop (inr (inr (inr (inr (inl f))))) = λ w m. absurd (front_makes words number settings f.0.0 asks f.0.1)
+  never_unmade stop (inr (inr (inr (inr (inr p))))) = λ w m. absurd (proposed_makes words number settings p.0.0 asks p.0.1)
 
   -- in particular by no failed read
   pub never_broken_off : (stop : Stop) → IsUndone words old new sunk_old sunk_new stop → ¬ (stop_status stop ≡ 4)

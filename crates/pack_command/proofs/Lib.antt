@@ -15,5 +15,7 @@ pub mod Audited
 pub mod ExplainedAs
 pub mod OneJob
 pub mod Fronted
+pub mod ProposedEnds
+pub mod ProposedDecided
 pub mod Sized
 pub mod FrontAnswering

@@ -1,11 +1,11 @@
--- No words ask for `front` and for another job.
+-- No words ask for `front` and for another job, or for `fit` with proposals and for another.
 use Rattle.std.proofs.Common.{ℕ, ◌≡◌, sym, ap, ◌∙◌, List, Option, Some, None, String, Global}
 use Rattle.answer_terms.specs.declared.job.DocumentJob.{DocumentJob}
-use Rattle.pack_words.specs.declared.job.Job.TheVariants.{Check, Make, Front}
+use Rattle.pack_words.specs.declared.job.Job.TheVariants.{Check, Make, Front, Proposed}
 use Rattle.pack_words.specs.declared.job.JobWords.{JobWords}
 use Rattle.pack_words.proofs.Walking.{some_inj}
 use Rattle.text_terms.specs.declared.settings.Settings.{Settings}
-use Rattle.pack_command.specs.Asked.{document_job, task_job, AsksToSolve, AsksCheck, AsksTask, AsksToMake, AsksFront}
+use Rattle.pack_command.specs.Asked.{document_job, task_job, AsksToSolve, AsksCheck, AsksTask, AsksToMake, AsksFront, AsksProposed}
 use Rattle.pack_command.specs.Readings.{DocumentTask, Audits, Explains}
 
 pub front_solves : (words : List (String Global)) (job : DocumentJob) (settings others : Settings) → AsksToSolve words job settings → AsksFront words others → ⊥
@@ -37,3 +37,39 @@ pub front_settings : (words : List (String Global)) (settings others : Settings)
 front_settings words settings others x y =
     let same : x.asked ≡ y.asked = some_inj (sym x.is ∙ y.is) in
     sym x.with_settings ∙ (ap (λ (w : JobWords). w.settings) same ∙ y.with_settings)
+
+pub proposed_solves : (words : List (String Global)) (job : DocumentJob) (settings others : Settings) → AsksToSolve words job settings → AsksProposed words others → ⊥
+proposed_solves words job settings others solve proposed =
+    let same : solve.asked ≡ proposed.asked = some_inj (sym solve.is ∙ proposed.is) in
+    let none : None ≡ Some job = sym (ap (λ (w : JobWords). document_job w.job) same ∙ ap document_job proposed.job) ∙ solve.job_is in
+    absurd (cc (none))
+
+pub proposed_checks : (words : List (String Global)) (settings : Settings) → AsksProposed words settings → AsksCheck words → ⊥
+proposed_checks words settings proposed check =
+    let same : proposed.asked ≡ check.asked = some_inj (sym proposed.is ∙ check.is) in
+    let both : Proposed ≡ Check = sym proposed.job ∙ (ap (λ (w : JobWords). w.job) same ∙ check.job) in
+    absurd (cc (both))
+
+pub proposed_tasks : (words : List (String Global)) (settings : Settings) (task : DocumentTask) → AsksProposed words settings → AsksTask words task → ⊥
+proposed_tasks words settings task proposed asks = go task (sym proposed.job ∙ (ap (λ (w : JobWords). w.job) (some_inj (sym proposed.is ∙ asks.is)) ∙ asks.job))
+  where
+    go : (t : DocumentTask) → Proposed ≡ task_job t → ⊥
+    go Audits e = absurd (cc (e))
+    go Explains e = absurd (cc (e))
+
+pub proposed_makes : (words : List (String Global)) (number : ℕ) (settings others : Settings) → AsksToMake words number settings → AsksProposed words others → ⊥
+proposed_makes words number settings others make proposed =
+    let same : make.asked ≡ proposed.asked = some_inj (sym make.is ∙ proposed.is) in
+    let both : Make ≡ Proposed = sym make.job ∙ (ap (λ (w : JobWords). w.job) same ∙ proposed.job) in
+    absurd (cc (both))
+
+pub proposed_same : (words : List (String Global)) (settings others : Settings) → AsksProposed words settings → AsksProposed words others → settings ≡ others
+proposed_same words settings others x y =
+    let same : x.asked ≡ y.asked = some_inj (sym x.is ∙ y.is) in
+    sym x.with_settings ∙ (ap (λ (w : JobWords). w.settings) same ∙ y.with_settings)
+
+pub proposed_fronts : (words : List (String Global)) (settings others : Settings) → AsksFront words settings → AsksProposed words others → ⊥
+proposed_fronts words settings others front proposed =
+    let same : front.asked ≡ proposed.asked = some_inj (sym front.is ∙ proposed.is) in
+    let both : Front ≡ Proposed = sym front.job ∙ (ap (λ (w : JobWords). w.job) same ∙ proposed.job) in
+    absurd (cc (both))

@@ -8,7 +8,7 @@ use Rattle.answer_terms.specs.declared.job.DocumentJob.TheVariants.{Solving as S
 use Rattle.document_terms.specs.declared.claim.SolvingJob.TheVariants.{Fit as SolvesFit, Strip as SolvesStrip, Bins as SolvesBins, Knapsack as SolvesKnapsack}
 use Rattle.pack_words.specs.Job.{job_of_words}
 use Rattle.pack_words.specs.declared.job.Job.{Job}
-use Rattle.pack_words.specs.declared.job.Job.TheVariants.{Fit, Strip, Bins, Knapsack, Check, Make, Audit, Explain, Reduced, Front}
+use Rattle.pack_words.specs.declared.job.Job.TheVariants.{Fit, Strip, Bins, Knapsack, Check, Make, Audit, Explain, Reduced, Front, Proposed}
 use Rattle.pack_words.specs.declared.job.JobWords.{JobWords}
 use Rattle.text_terms.specs.declared.settings.Settings.{Settings}
 use Rattle.verdict_terms.specs.Fed.{NoneRefused}
@@ -17,7 +17,7 @@ use Rattle.text_terms.specs.declared.fault.TextFault.{TextFault}
 use Rattle.pack_command.specs.Inputs.{most_instance_bytes, most_read_bytes}
 use Rattle.pack_command.specs.Readings.{DocumentTask, Audits, Explains}
 use Rattle.pack_command.specs.declared.words.Asked.{Asked}
-use Rattle.pack_command.specs.declared.words.Asked.TheVariants.{Solving, Checking, Making, Auditing, Explaining, Fronting}
+use Rattle.pack_command.specs.declared.words.Asked.TheVariants.{Solving, Checking, Making, Auditing, Explaining, Fronting, Proposing}
 use Rattle.pack_command.specs.declared.stop.Stop.{Stop}
 use Rattle.pack_command.specs.declared.stop.Stop.TheVariants.{Words, TooLong, Text, Dimensions, ReadFault, WriteFault, NoMemory}
 
@@ -33,6 +33,7 @@ document_job Make = None
 document_job Audit = None
 document_job Explain = None
 document_job Front = None
+document_job Proposed = None
 
 -- the job of the words, if they are one
 abbrev pub asked_job : List (String Global) → Option JobWords
@@ -76,6 +77,13 @@ pub record AsksFront (words : List (String Global)) (settings : Settings) : Type
   pub job : asked.job ≡ Front
   pub with_settings : asked.settings ≡ settings
 
+-- the words are the job `fit` with proposals and these settings
+pub record AsksProposed (words : List (String Global)) (settings : Settings) : Type 0 where
+  pub asked : JobWords
+  pub is : asked_job words ≡ Some asked
+  pub job : asked.job ≡ Proposed
+  pub with_settings : asked.settings ≡ settings
+
 -- the words are the job `make` with this number and these settings
 pub record AsksToMake (words : List (String Global)) (number : ℕ) (settings : Settings) : Type 0 where
   pub asked : JobWords
@@ -96,6 +104,7 @@ IsAsked words (Ok Auditing) = AsksTask words Audits
 IsAsked words (Ok Explaining) = AsksTask words Explains
 IsAsked words (Ok (Making number settings)) = AsksToMake words number settings
 IsAsked words (Ok (Fronting settings)) = AsksFront words settings
+IsAsked words (Ok (Proposing settings)) = AsksProposed words settings
 IsAsked words (Err Words) = AsksNothing words
 IsAsked words (Err NoMemory) = Unit {0}
 IsAsked words (Err TooLong) = ⊥
@@ -141,6 +150,14 @@ pub record IsFronting (words : List (String Global)) (left : Option (List ℕ)) 
   pub read : text_instance bytes ≡ Ok instance
   pub plane : dims instance ≡ 2
 
+-- the words ask for `fit` with proposals, and the input is the text of this instance
+pub record IsProposing (words : List (String Global)) (left : Option (List ℕ)) (settings : Settings) (instance : PlainInstance) : Type 0 where
+  pub asks : AsksProposed words settings
+  pub bytes : List ℕ
+  pub told : left ≡ Some bytes
+  pub within : length bytes ≤ most_instance_bytes
+  pub read : text_instance bytes ≡ Ok instance
+
 -- the words and the input have an answer
 abbrev pub HasAnswer : List (String Global) → Option (List ℕ) → Type 0
 HasAnswer words left =
@@ -148,7 +165,8 @@ HasAnswer words left =
     ⊎ (((bytes : List ℕ) × IsChecking words left bytes)
     ⊎ (((number : ℕ) × (settings : Settings) × AsksToMake words number settings)
     ⊎ (((task : DocumentTask) × (bytes : List ℕ) × IsReading words left task bytes)
-    ⊎ ((settings : Settings) × (instance : PlainInstance) × IsFronting words left settings instance))))
+    ⊎ (((settings : Settings) × (instance : PlainInstance) × IsFronting words left settings instance)
+    ⊎ ((settings : Settings) × (instance : PlainInstance) × IsProposing words left settings instance)))))
 
 -- the words are a job that reads nothing, or none
 abbrev pub ReadsNothing : List (String Global) → Type 0
@@ -218,11 +236,28 @@ pub record IsOtherFront (words : List (String Global)) (left : Option (List ℕ)
   pub read : text_instance bytes ≡ Ok instance
   pub other : ¬ (dims instance ≡ 2)
 
+-- more bytes come for `fit` with proposals than an instance may have
+pub record IsLongProposed (words : List (String Global)) (left : Option (List ℕ)) : Type 0 where
+  pub settings : Settings
+  pub asks : AsksProposed words settings
+  pub bytes : List ℕ
+  pub told : left ≡ Some bytes
+  pub past : most_instance_bytes < length bytes
+
+-- the words ask for `fit` with proposals, and the input has this fault
+pub record IsFaultyProposed (words : List (String Global)) (left : Option (List ℕ)) (fault : TextFault) : Type 0 where
+  pub settings : Settings
+  pub asks : AsksProposed words settings
+  pub bytes : List ℕ
+  pub told : left ≡ Some bytes
+  pub within : length bytes ≤ most_instance_bytes
+  pub wrong : text_instance bytes ≡ Err fault
+
 -- the words and the input are to be refused for this cause
 abbrev pub IsRefusable : List (String Global) → Option (List ℕ) → Stop → Type 0
 IsRefusable words left Words = AsksNothing words
-IsRefusable words left TooLong = IsLongInstance words left ⊎ (IsLongDocument words left ⊎ (IsLongReading words left ⊎ IsLongFront words left))
-IsRefusable words left (Text fault) = IsFaultyText words left fault ⊎ IsFaultyFront words left fault
+IsRefusable words left TooLong = IsLongInstance words left ⊎ (IsLongDocument words left ⊎ (IsLongReading words left ⊎ (IsLongFront words left ⊎ IsLongProposed words left)))
+IsRefusable words left (Text fault) = IsFaultyText words left fault ⊎ (IsFaultyFront words left fault ⊎ IsFaultyProposed words left fault)
 IsRefusable words left Dimensions = IsOtherFront words left
 IsRefusable words left ReadFault = ⊥
 IsRefusable words left WriteFault = ⊥

@@ -4,6 +4,7 @@ use Rattle.std.specs.declared.option.Option.{Option}
 use Rattle.std.specs.declared.alloc.Global.{Global}
 use Rattle.pack_command.specs.Asked.{AsksCheck, AsksTask}
 use Rattle.pack_command.specs.Fronts.{AsksForFront, IsFrontWritten, IsWithoutFront}
+use Rattle.pack_command.specs.Proposed.{AsksForProposals, IsProposedWritten, IsWithoutProposed}
 use Rattle.pack_command.specs.Readings.{DocumentTask, IsReadingDone, IsWithoutReading}
 use Rattle.pack_command.specs.Checks.{IsVerdictWritten, IsWithoutVerdict}
 use Rattle.pack_command.specs.Generated.{IsMade, IsUnmade}
@@ -11,13 +12,14 @@ use Rattle.pack_command.specs.Run.{IsWritten, IsStopped}
 use Rattle.pack_command.specs.declared.stop.Stop.{Stop}
 
 -- the document of an answer, the line of a check, the summary of `make`, what a whole document comes
--- to, or the document of a front, written whole
+-- to, the document of a front, or that of `fit` with proposals, written whole
 abbrev pub IsDone : List (String Global) → (old new sunk_old sunk_new : Option (List ℕ)) → ℕ → Type 0
 IsDone words old new sunk_old sunk_new status =
     IsWritten words old new sunk_old sunk_new status
     ⊎ ((AsksCheck words × IsVerdictWritten old new sunk_old sunk_new status)
     ⊎ (IsMade words old new sunk_old sunk_new status
-    ⊎ (((task : DocumentTask) × AsksTask words task × IsReadingDone task old new sunk_old sunk_new status) ⊎ IsFrontWritten words old new sunk_old sunk_new status)))
+    ⊎ (((task : DocumentTask) × AsksTask words task × IsReadingDone task old new sunk_old sunk_new status)
+    ⊎ (IsFrontWritten words old new sunk_old sunk_new status ⊎ IsProposedWritten words old new sunk_old sunk_new status))))
 
 -- why a job ended without
 abbrev pub IsUndone : List (String Global) → (old new sunk_old sunk_new : Option (List ℕ)) → Stop → Type 0
@@ -26,4 +28,5 @@ IsUndone words old new sunk_old sunk_new stop =
     ⊎ ((AsksCheck words × IsWithoutVerdict old new sunk_old sunk_new stop)
     ⊎ (IsUnmade words old new sunk_old sunk_new stop
     ⊎ (((task : DocumentTask) × AsksTask words task × IsWithoutReading task old new sunk_old sunk_new stop)
-    ⊎ (AsksForFront words × IsWithoutFront words old new sunk_old sunk_new stop))))
+    ⊎ ((AsksForFront words × IsWithoutFront words old new sunk_old sunk_new stop)
+    ⊎ (AsksForProposals words × IsWithoutProposed words old new sunk_old sunk_new stop)))))

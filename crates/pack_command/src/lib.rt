@@ -7,6 +7,7 @@ mod explaining;
 mod fronting;
 mod input;
 mod making;
+mod proposing;
 mod solving;
 mod stop;
 mod top;

@@ -4,8 +4,10 @@ ghost use Rattle.std.specs.declared.alloc.Global.{Global as PlainGlobal};
 ghost use Rattle.packing_terms.specs.Packing.{PlainInstance};
 ghost use Rattle.pack_streams.specs.Moves.{Gains};
 ghost use Rattle.answer_terms.specs.declared.job.DocumentJob.{DocumentJob as PlainJob};
-ghost use Rattle.pack_command.specs.Answered.{answer_for, class_bound, IsAnswerStatus, IsEnough};
-ghost use Rattle.pack_command.specs.Asked.{AsksToSolve, AsksCheck, AsksToMake, AsksAudit, IsSolving, IsChecking, IsAuditing, IsExplaining, IsFronting, HasAnswer, ReadsNothing, IsRefusable};
+ghost use Rattle.answer_terms.specs.declared.job.DocumentJob.TheVariants.{Solving as Solves};
+ghost use Rattle.document_terms.specs.declared.claim.SolvingJob.TheVariants.{Fit as SolvesFit};
+ghost use Rattle.pack_command.specs.Answered.{answer_for, branchings, class_bound, IsAnswerStatus, IsEnough};
+ghost use Rattle.pack_command.specs.Asked.{AsksToSolve, AsksCheck, AsksToMake, AsksAudit, IsSolving, IsChecking, IsAuditing, IsExplaining, IsFronting, IsProposing, HasAnswer, ReadsNothing, IsRefusable};
 ghost use Rattle.pack_command.specs.Audits.{IsAuditClaimed};
 ghost use Rattle.pack_command.specs.Readings.{Audits, Explains, IsExactlyRead};
 ghost use Rattle.pack_command.specs.Checks.{IsExactly, IsClaimed};
@@ -15,6 +17,7 @@ ghost use Rattle.pack_command.specs.Ends.{IsDone, IsUndone};
 ghost use Rattle.pack_command.specs.Fronts.{front_for, IsFrontDecided, IsOwnFront};
 ghost use Rattle.pack_command.specs.Generated.{IsExactlyMade};
 ghost use Rattle.pack_command.specs.Own.{IsOwnDocument};
+ghost use Rattle.pack_command.specs.Proposed.{IsProposedAnswer, IsProposedDecided};
 ghost use Rattle.pack_command.specs.Stops.{stop_status, message_of};
 ghost use Rattle.pack_command.specs.Run.{IsWritten, IsStopped, IsTold};
 ghost use Rattle.pack_command.specs.declared.stop.Stop.{Stop as PlainStop};
@@ -26,6 +29,7 @@ use crate::explaining::explain;
 use crate::fronting::tell_front;
 use crate::input::read_input;
 use crate::making::make_and_tell;
+use crate::proposing::tell_proposed;
 use crate::solving::solve;
 use crate::stop::Stop;
 use crate::words::{Asked, read_job};
@@ -48,7 +52,8 @@ use work_share::{Gate, Settings};
 /// front of what was to be written; 6 want of memory. With 2, 4 and 6 nothing was written to `out`.
 ///
 /// Several workers share each search tree. Nothing that is written depends on their number, or on
-/// the gate, which they call around the exploring of each task.
+/// the gate, which they call around the exploring of each task. With proposals that is said of what
+/// stands behind a proposal; the search for one knows nothing of workers.
 pub fn run<R: Threads + Wait + Sync, S: Source, K: Sink, E: Sink, G: Gate + Sync>(
     rt: &R,
     alloc: Global,
@@ -138,6 +143,30 @@ pub fn run<R: Threads + Wait + Sync, S: Source, K: Sink, E: Sink, G: Gate + Sync
     ensures confirmed { (settings : PlainSettings) (instance : PlainInstance)
         → IsFronting words.now (S.left input.old) settings instance → IsAnswerStatus result
         → IsOwnFront instance (K.written out.old) (K.written out.new) result }
+
+    // The answer of `fit` with proposals is true of the instance that the input is the text of: yes
+    // only with a packing, no only with a refutation, and undecided only where the class tree has
+    // more branchings than the budget. It is the answer behind some proposal, in which the number of
+    // workers has no part.
+    ensures proposes { (settings : PlainSettings) (instance : PlainInstance)
+        → IsProposing words.now (S.left input.old) settings instance → IsAnswerStatus result
+        → IsProposedDecided instance settings (K.written out.old) (K.written out.new) result
+        × IsProposedAnswer instance settings (K.written out.old) (K.written out.new) result }
+
+    // Where the class tree has at most as many branchings as the budget allows, it is yes or no;
+    // where the budget is enough for every tree, the status says exactly whether the instance fits.
+    ensures settles { (settings : PlainSettings) (instance : PlainInstance)
+        → IsProposing words.now (S.left input.old) settings instance
+        → branchings settings instance ≤ settings.budget → result ≢ 3 }
+    ensures settled { (settings : PlainSettings) (instance : PlainInstance)
+        → IsProposing words.now (S.left input.old) settings instance → IsAnswerStatus result
+        → class_bound instance ≤ settings.budget + 1 → IsExactlyFit instance result }
+
+    // The document is one of `fit`: verified with its claim about that instance, or it says undecided
+    // and is verified with none.
+    ensures vouched { (settings : PlainSettings) (instance : PlainInstance)
+        → IsProposing words.now (S.left input.old) settings instance → IsAnswerStatus result
+        → IsOwnDocument (Solves SolvesFit) instance (K.written out.old) (K.written out.new) result }
 
     // `make` writes exactly the summary of the number, with the status of its decision: yes only
     // where the generated instance fits, no only where it doesn't, and undecided exactly where its
@@ -252,6 +281,7 @@ fn job<R: Threads + Wait + Sync, S: Source, K: Sink, G: Gate + Sync>(
         Asked::Auditing => audit(alloc, input, out),
         Asked::Explaining => explain(alloc, input, out),
         Asked::Fronting { settings } => tell_front(rt, alloc, &settings, input, out, gate),
+        Asked::Proposing { settings } => tell_proposed(rt, alloc, &settings, input, out, gate),
         Asked::Making { number, settings } => {
             make_and_tell(rt, alloc, number, &settings, out, gate)
         }

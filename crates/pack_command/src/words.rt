@@ -26,6 +26,10 @@ pub enum Asked {
     Fronting {
         settings: Settings,
     },
+    /// `fit` with proposals, and how the tree behind them is to be decided.
+    Proposing {
+        settings: Settings,
+    },
     /// `make`, the number that it generates from, and how the instance is to be decided.
     Making {
         number: u32,
@@ -53,6 +57,7 @@ pub fn read_job(alloc: Global, words: &[String]) -> Result<Asked, Stop>
         Job::Audit => return Ok(Asked::Auditing),
         Job::Explain => return Ok(Asked::Explaining),
         Job::Front => return Ok(Asked::Fronting { settings }),
+        Job::Proposed => return Ok(Asked::Proposing { settings }),
         Job::Make => {
             return Ok(Asked::Making {
                 number: asked.number,

@@ -1,7 +1,7 @@
 -- Command lines with their jobs.
 use Rattle.std.proofs.Common.{◌≡◌, [], ◌∷◌, Some, None, refl, codes, true, false}
 use Rattle.text_terms.specs.Lines.{number_of}
-use Rattle.pack_words.specs.declared.job.Job.TheVariants.{Fit, Make, Audit, Explain, Reduced, Front}
+use Rattle.pack_words.specs.declared.job.Job.TheVariants.{Fit, Make, Audit, Explain, Reduced, Front, Proposed}
 use Rattle.pack_words.specs.Job.{job_of_words}
 
 eight_workers : job_of_words (codes "fit" ∷ codes "--workers=08" ∷ [])
@@ -96,3 +96,21 @@ front_with_options = refl
 front_with_number : job_of_words (codes "front" ∷ codes "--number" ∷ codes "3" ∷ []) ≡ None
 unfolding job_of_words number_of
 front_with_number = refl
+
+proposals_asked : job_of_words (codes "fit" ∷ codes "--proposals=yes" ∷ [])
+    ≡ Some (record { job = Proposed; settings = record { workers = 1; budget = 1000000; scales = true }; number = 0 })
+unfolding job_of_words number_of
+proposals_asked = refl
+
+proposals_declined : job_of_words (codes "fit" ∷ codes "--proposals" ∷ codes "no" ∷ [])
+    ≡ Some (record { job = Fit; settings = record { workers = 1; budget = 1000000; scales = true }; number = 0 })
+unfolding job_of_words number_of
+proposals_declined = refl
+
+foreign_proposals : job_of_words (codes "strip" ∷ codes "--proposals" ∷ codes "no" ∷ []) ≡ None
+unfolding job_of_words number_of
+foreign_proposals = refl
+
+proposed_is_no_word : job_of_words (codes "proposed" ∷ []) ≡ None
+unfolding job_of_words number_of
+proposed_is_no_word = refl

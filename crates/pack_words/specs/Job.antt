@@ -4,7 +4,7 @@ use Rattle.std.specs.Str.{bytes_eq}
 use Rattle.text_terms.specs.Lines.{number_of}
 use Rattle.pack_words.specs.Items.{Text, Item, option, word, items_from}
 use Rattle.pack_words.specs.declared.job.Job.{Job}
-use Rattle.pack_words.specs.declared.job.Job.TheVariants.{Fit, Strip, Bins, Knapsack, Check, Make, Audit, Explain, Reduced, Front}
+use Rattle.pack_words.specs.declared.job.Job.TheVariants.{Fit, Strip, Bins, Knapsack, Check, Make, Audit, Explain, Reduced, Front, Proposed}
 use Rattle.pack_words.specs.declared.job.JobWords.{JobWords}
 use Rattle.pack_words.specs.declared.job.WordsError.{WordsError}
 use Rattle.pack_words.specs.declared.job.WordsError.TheVariants.{Refused, NoMemory}
@@ -21,6 +21,7 @@ pub record Texts : Type 0 where
   pub budget : Option Text
   pub scales : Option Text
   pub number : Option Text
+  pub proposals : Option Text
 
 -- the values that an option is given
 abbrev pub values_of : Text → List Item → List Text
@@ -47,7 +48,8 @@ texts_of items =
     at_most_once (values_of (codes "budget") items) >>= λ budget.
     at_most_once (values_of (codes "scales") items) >>= λ scales.
     at_most_once (values_of (codes "number") items) >>= λ number.
-    Some (record { job = job; workers = workers; budget = budget; scales = scales; number = number })
+    at_most_once (values_of (codes "proposals") items) >>= λ proposals.
+    Some (record { job = job; workers = workers; budget = budget; scales = scales; number = number; proposals = proposals })
 
 abbrev pub job_of_name : Text → Option Job
 job_of_name text =
@@ -63,7 +65,8 @@ job_of_name text =
     else (if bytes_eq text (codes "front") then Some Front
     else None)))))))))
 
--- `check`, `audit` and `explain` take no option, and `make` alone takes a number
+-- `check`, `audit` and `explain` take no option, `make` alone takes a number, and `fit` alone takes
+-- proposals
 abbrev pub takes_settings : Job → Bool
 takes_settings Check = false
 takes_settings Audit = false
@@ -74,11 +77,16 @@ abbrev pub takes_number : Job → Bool
 takes_number Make = true
 takes_number _ = false
 
+abbrev pub takes_proposals : Job → Bool
+takes_proposals Fit = true
+takes_proposals _ = false
+
 -- each option that is given is one that the job takes
 abbrev pub are_taken : Job → Texts → Bool
 are_taken job texts =
     (takes_settings job || not (is_some texts.workers || (is_some texts.budget || is_some texts.scales)))
-    && (takes_number job || not (is_some texts.number))
+    && ((takes_number job || not (is_some texts.number))
+    && (takes_proposals job || not (is_some texts.proposals)))
 
 -- a number in its range, both ends included
 abbrev pub kept_in_range : ℕ → ℕ → Option ℕ → Option ℕ
@@ -95,6 +103,15 @@ abbrev pub scales_in : Option Text → Option Bool
 scales_in None = Some true
 scales_in (Some text) = if bytes_eq text (codes "yes") then Some true else (if bytes_eq text (codes "no") then Some false else None)
 
+-- `yes`, or `no`, the default
+abbrev pub proposals_in : Option Text → Option Bool
+proposals_in None = Some false
+proposals_in (Some text) = if bytes_eq text (codes "yes") then Some true else (if bytes_eq text (codes "no") then Some false else None)
+
+-- the job that takes proposals, with them or without
+abbrev pub by_proposals : Bool → Job → Job
+by_proposals proposals job = if proposals then Proposed else job
+
 -- the settings and the number of a job that these texts give
 abbrev pub settings_of : Job → Texts → Option JobWords
 settings_of job texts =
@@ -102,7 +119,8 @@ settings_of job texts =
     number_or 0 10000000 1000000 texts.budget >>= λ budget.
     scales_in texts.scales >>= λ scales.
     number_or 0 2147483647 0 texts.number >>= λ number.
-    Some (record { job = job; settings = record { workers = workers; budget = budget; scales = scales }; number = number })
+    proposals_in texts.proposals >>= λ proposals.
+    Some (record { job = by_proposals proposals job; settings = record { workers = workers; budget = budget; scales = scales }; number = number })
 
 -- the job of these texts: there is a job word, which is a job that takes these options, and their
 -- values are in range

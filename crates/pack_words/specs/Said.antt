@@ -10,4 +10,5 @@ plain_found f = record {
   budget = option_map (λ s. s.now) f.budget;
   scales = option_map (λ s. s.now) f.scales;
   number = option_map (λ s. s.now) f.number;
+  proposals = option_map (λ s. s.now) f.proposals;
 }

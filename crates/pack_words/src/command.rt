@@ -38,6 +38,7 @@ fn pack_command<'a>(alloc: Global) -> Result<Command<'a>, AllocError>
         .arg(option_arg(alloc, "budget"))?
         .arg(option_arg(alloc, "scales"))?
         .arg(option_arg(alloc, "number"))?
+        .arg(option_arg(alloc, "proposals"))?
         .arg(job_arg(alloc))
 }
 

@@ -26,10 +26,13 @@ pub enum Job {
     Reduced,
     /// All least widths and heights of a container that holds the boxes.
     Front,
+    /// Whether the boxes fit the container, decided by proposals first: `fit` with proposals.
+    Proposed,
 }
 
 /// A job with its settings, and the number that `make` generates from. Where the words don't give
-/// one, the workers are 1, the budget is 1,000,000, scales are used and the number is 0.
+/// one, the workers are 1, the budget is 1,000,000, scales are used, the number is 0, and there are no
+/// proposals.
 #[derive(Clone, Copy, Debug, PartialEq, Eq)]
 pub struct JobWords {
     pub job: Job,

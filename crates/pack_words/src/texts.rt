@@ -1,6 +1,6 @@
 //! From texts to a job and its settings.
 ghost use Rattle.std.specs.Prelude.{◌≡◌, option_map};
-ghost use Rattle.pack_words.specs.Job.{job_of_name, takes_settings, takes_number, are_taken, number_or, scales_in, settings_of, job_of_texts};
+ghost use Rattle.pack_words.specs.Job.{job_of_name, takes_settings, takes_number, takes_proposals, are_taken, number_or, scales_in, proposals_in, by_proposals, settings_of, job_of_texts};
 ghost use Rattle.pack_words.specs.Said.{plain_found};
 
 use crate::job::{Job, JobWords};
@@ -30,10 +30,14 @@ fn are_taken(job: Job, found: Found<'_>) -> bool
     ensures { result ≡ are_taken job (plain_found found.entry) }
 {
     let has_settings = found.workers.is_some() | found.budget.is_some() | found.scales.is_some();
+    let unproposed = found.proposals.is_none();
     match job {
-        Job::Check | Job::Audit | Job::Explain => !has_settings & found.number.is_none(),
-        Job::Make => true,
-        _ => found.number.is_none(),
+        Job::Check | Job::Audit | Job::Explain => {
+            !has_settings & found.number.is_none() & unproposed
+        }
+        Job::Make => unproposed,
+        Job::Fit => found.number.is_none(),
+        _ => found.number.is_none() & unproposed,
     }
 }
 
@@ -66,6 +70,24 @@ fn scales_in(value: Option<&str>) -> Option<bool>
     }
 }
 
+fn proposals_in(value: Option<&str>) -> Option<bool>
+    ensures { result ≡ proposals_in (option_map (λ s. s.now) value.entry) }
+{
+    match value {
+        None => Some(false),
+        Some("yes") => Some(true),
+        Some("no") => Some(false),
+        Some(_) => None,
+    }
+}
+
+// The job that takes proposals, with them or without.
+fn by_proposals(proposals: bool, job: Job) -> Job
+    ensures { result ≡ by_proposals proposals job }
+{
+    if proposals { Job::Proposed } else { job }
+}
+
 fn settings_of(job: Job, found: Found<'_>) -> Option<JobWords>
     ensures { result ≡ settings_of job (plain_found found.entry) }
 {
@@ -73,13 +95,14 @@ fn settings_of(job: Job, found: Found<'_>) -> Option<JobWords>
     let budget = number_or(0, 10_000_000, 1_000_000, found.budget)?;
     let scales = scales_in(found.scales)?;
     let number = number_or(0, 2_147_483_647, 0, found.number)?;
+    let proposals = proposals_in(found.proposals)?;
     let settings = Settings {
         workers,
         budget: budget as u64,
         scales,
     };
     Some(JobWords {
-        job,
+        job: by_proposals(proposals, job),
         settings,
         number,
     })

@@ -1,0 +1,11 @@
+//! Tests of proposals, and of the decisions that test them, on instances worked out by hand.
+#![tactic(auto)]
+
+#[cfg(test)]
+mod decisions;
+#[cfg(test)]
+mod faults;
+#[cfg(test)]
+mod instances;
+#[cfg(test)]
+mod searches;

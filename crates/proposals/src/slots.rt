@@ -1,0 +1,56 @@
+//! Lists that are read and written without a promise of their lengths.
+//!
+//! Nothing is proved of what the searches for proposals find. So a place past the end of a list
+//! reads as 0 and takes no entry, in one test, and no search needs an invariant to be safe.
+
+use box_instances::{Instance, NoMemory};
+use std::alloc::Global;
+
+/// The entry at an index, and 0 past the end.
+#[inline]
+pub fn at(list: &[u32], index: usize) -> u32 {
+    if index < list.len() { list[index] } else { 0 }
+}
+
+/// Writes the entry at an index, and nothing past the end.
+#[inline]
+pub fn put(list: &mut [u32], index: usize, entry: u32) {
+    if index < list.len() {
+        list[index] = entry;
+    }
+}
+
+/// Makes all entries 0.
+pub fn clear(list: &mut [u32]) {
+    for k in 0..list.len() {
+        list[k] = 0;
+    }
+}
+
+/// So many zeros.
+pub fn zeros(alloc: Global, count: usize) -> Result<Vec<u32>, NoMemory> {
+    let Ok(list) = vec![in alloc; 0u32; count] else {
+        return Err(NoMemory);
+    };
+    Ok(list)
+}
+
+/// A working side of a box, and 0 where there is none.
+#[inline]
+pub fn side(instance: &Instance, box_no: u32, dim: u32) -> u32 {
+    if box_no < instance.len() && dim < instance.dims() {
+        instance.side(box_no, dim)
+    } else {
+        0
+    }
+}
+
+/// A working side of the container, and 0 where there is none.
+#[inline]
+pub fn container_side(instance: &Instance, dim: u32) -> u32 {
+    if dim < instance.dims() {
+        instance.container_side(dim)
+    } else {
+        0
+    }
+}

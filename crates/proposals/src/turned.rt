@@ -1,0 +1,82 @@
+//! An instance as it is seen with one of its dimensions upwards.
+
+use crate::slots::{at, container_side, put, side, zeros};
+use box_instances::{Instance, NoMemory};
+use std::alloc::Global;
+
+/// The working sides of the boxes and of the container in an order of the dimensions whose last one
+/// goes up.
+#[derive(Drop)]
+pub struct Turned {
+    pub dims: u32,
+    pub count: u32,
+    /// The dimension of the instance at each place of the order.
+    pub original: Vec<u32>,
+    pub container: Vec<u32>,
+    /// The sides, box after box.
+    pub sides: Vec<u32>,
+}
+
+// The dimensions in their order, but that one goes up and is last.
+fn order_of(alloc: Global, dims: u32, up: u32) -> Result<Vec<u32>, NoMemory> {
+    let mut order = zeros(alloc, dims as usize)?;
+    let mut filled = 0usize;
+    for dim in 0..dims {
+        if dim != up {
+            put(&mut order, filled, dim);
+            filled = filled.saturating_add(1);
+        }
+    }
+    put(&mut order, filled, up);
+    Ok(order)
+}
+
+impl Turned {
+    /// The instance with this dimension upwards.
+    pub fn new(alloc: Global, instance: &Instance, up: u32) -> Result<Turned, NoMemory> {
+        let (dims, count) = (instance.dims(), instance.len());
+        let original = order_of(alloc, dims, up)?;
+        let mut container = zeros(alloc, dims as usize)?;
+        let mut sides = zeros(alloc, dims as usize * count as usize)?;
+        for k in 0..dims as usize {
+            let dim = at(&original, k);
+            put(&mut container, k, container_side(instance, dim));
+            for v in 0..count {
+                let index = v as usize * dims as usize + k;
+                put(&mut sides, index, side(instance, v, dim));
+            }
+        }
+        Ok(Turned {
+            dims,
+            count,
+            original,
+            container,
+            sides,
+        })
+    }
+
+    /// The side of a box at a place of the order of dimensions.
+    #[inline]
+    pub fn side(&self, box_no: u32, place: u32) -> u32 {
+        at(
+            &self.sides,
+            box_no as usize * self.dims as usize + place as usize,
+        )
+    }
+
+    /// The container's side at a place of the order of dimensions.
+    #[inline]
+    pub fn container(&self, place: u32) -> u32 {
+        at(&self.container, place as usize)
+    }
+
+    /// Whether two boxes have the same sides.
+    pub fn are_equal(&self, u: u32, v: u32) -> bool {
+        for place in 0..self.dims {
+            if self.side(u, place) != self.side(v, place) {
+                return false;
+            }
+        }
+        true
+    }
+}

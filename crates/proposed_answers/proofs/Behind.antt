@@ -1,0 +1,99 @@
+-- What an outcome behind a proposal is worth.
+use Rattle.std.proofs.Common.{◌≡◌, ℕ, ◌+◌, ◌-◌, ◌*◌, ◌/◌, ◌^◌, ◌<◌, ◌≤◌, refl, sym, ◌∙◌, subst, arith, Bool, true, false, nat_lt, ltb, if◌then◌else◌, List, []}
+use Rattle.std.proofs.lemmas.Bool.{ltb-true}
+use Rattle.packing_terms.specs.Packing.{PlainInstance, Fits, dims, box_count, IsPacking}
+use Rattle.packing_terms.specs.Limits.{IsInternalInstance}
+use Rattle.packing_terms.specs.Tokens.{PlainToken}
+use Rattle.packing_terms.proofs.Internal.{internal_sides}
+use Rattle.packing_terms.proofs.Refuted.{none_fits}
+use Rattle.scale_terms.proofs.Excess.{excess_law}
+use Rattle.tree_terms.specs.Trees.{PlainOutcome, Decided, Past, Verdict, Yes, No, outcome, count_of, told}
+use Rattle.tree_terms.specs.ClassTree.{class_tree}
+use Rattle.tree_terms.proofs.Told.{told_decided}
+use Rattle.check_terms.specs.declared.answers.PlaceVerdict.{PlaceVerdict}
+use Rattle.check_terms.specs.declared.answers.PlaceVerdict.TheVariants.{Good, Outside, Overlap}
+use Rattle.check_terms.specs.Placing.{place_verdict}
+use Rattle.check_terms.proofs.Places.{places_tested}
+use Rattle.check_terms.proofs.Refuting.{inner_fed}
+use Rattle.class_search.specs.Right.{IsRight, Decides, IsYesOrNo}
+use Rattle.class_search.proofs.Rights.{class_right}
+use Rattle.proposals.specs.Sizes.{IsSized}
+use Rattle.proposals.specs.declared.proposal.Proposal.{Proposal}
+use Rattle.proposals.specs.declared.proposal.Proposal.TheVariants.{Places as ProposedPlaces, Tokens as ProposedTokens, Nothing as ProposedNothing}
+use Rattle.proposed_answers.specs.Behind.{PlainProposal, plain_proposal, Places, Tokens, Nothing, IsCounted, is_refutation, by_places, by_tokens, answer_behind, tree_count, tree_told}
+
+pub proposal_counted : (instance : PlainInstance) (p : Proposal) → IsSized instance p → IsCounted instance (plain_proposal p)
+proposal_counted instance (ProposedPlaces places) h = h
+proposal_counted instance (ProposedTokens tokens) h = tt
+proposal_counted instance ProposedNothing h = tt
+
+module _ (instance : PlainInstance) where
+  -- a proposal that passes its test is right, and so is what it stands before
+  pub behind_right : (p : PlainProposal) (other : PlainOutcome) → IsCounted instance p → IsRight instance [] other → IsRight instance [] (answer_behind instance p other)
+  behind_right (Places places) other counted right = go (place_verdict instance places) refl
+    where
+      go : (v : PlaceVerdict) → place_verdict instance places ≡ v → IsRight instance [] (by_places v places other)
+      go Good e = (places_tested instance places Good counted).0 e
+      go (Outside v i) e = right
+      go (Overlap u v) e = right
+  behind_right (Tokens tokens) other counted right = go (is_refutation instance tokens) refl
+    where
+      go : (b : Bool) → is_refutation instance tokens ≡ b → IsRight instance [] (by_tokens b tokens other)
+      go true e = (inner_fed instance [] tokens).0 e
+      go false e = right
+  behind_right Nothing other counted right = right
+
+  -- it is past only where the other outcome is
+  pub behind_past : (p : PlainProposal) (other : PlainOutcome) → answer_behind instance p other ≡ Past → other ≡ Past
+  behind_past (Places places) other e = go (place_verdict instance places) e
+    where
+      go : (v : PlaceVerdict) → by_places v places other ≡ Past → other ≡ Past
+      go Good f = absurd (cc (f))
+      go (Outside v i) f = f
+      go (Overlap u v) f = f
+  behind_past (Tokens tokens) other e = go (is_refutation instance tokens) e
+    where
+      go : (b : Bool) → by_tokens b tokens other ≡ Past → other ≡ Past
+      go true f = absurd (cc (f))
+      go false f = f
+  behind_past Nothing other e = e
+
+  -- it is yes or no where the other outcome is
+  pub behind_decided : (p : PlainProposal) (other : PlainOutcome) → IsYesOrNo other → IsYesOrNo (answer_behind instance p other)
+  behind_decided (Places places) other h = go (place_verdict instance places)
+    where
+      go : (v : PlaceVerdict) → IsYesOrNo (by_places v places other)
+      go Good = tt
+      go (Outside v i) = h
+      go (Overlap u v) = h
+  behind_decided (Tokens tokens) other h = go (is_refutation instance tokens)
+    where
+      go : (b : Bool) → IsYesOrNo (by_tokens b tokens other)
+      go true = tt
+      go false = h
+  behind_decided Nothing other h = h
+
+-- what is told of a tree is past only where the tree has more branchings than the budget
+pub told_more : (budget : ℕ) (v : Verdict) → told budget v ≡ Past → budget < count_of v
+told_more budget v e = go (ltb budget (count_of v)) refl e
+  where
+    go : (b : Bool) → ltb budget (count_of v) ≡ b → (if b then Past else Decided v) ≡ Past → budget < count_of v
+    go true f g = ltb-true budget (count_of v) f
+    go false f g = absurd (cc (g))
+
+-- what is right decides
+pub right_decides : (instance : PlainInstance) → IsInternalInstance instance → (o : PlainOutcome) → IsRight instance [] o → Decides instance o
+right_decides instance limits (Decided (Yes places count)) h = (places, h)
+right_decides instance limits (Decided (No tokens count)) h = none_fits excess_law instance (internal_sides instance limits) tokens h
+right_decides instance limits Past h = tt
+
+module _ (instance : PlainInstance) (limits : IsInternalInstance instance) (budget : ℕ) (scales : Bool) (p : PlainProposal) (r : PlainOutcome)
+    (is : r ≡ answer_behind instance p (tree_told instance budget scales)) where
+  pub outcome_right : IsCounted instance p → IsRight instance [] r
+  outcome_right counted = rw is (behind_right instance p (tree_told instance budget scales) counted (class_right instance limits scales budget _ refl))
+
+  pub outcome_past : r ≡ Past → budget < tree_count instance scales
+  outcome_past e = told_more budget (outcome (class_tree instance [] scales)) (behind_past instance p (tree_told instance budget scales) (sym is ∙ e))
+
+  pub outcome_within : tree_count instance scales ≤ budget → IsYesOrNo r
+  outcome_within l = rw (is) (behind_decided instance p (tree_told instance budget scales) (subst IsYesOrNo (sym (told_decided budget (outcome (class_tree instance [] scales)) l)) tt))

@@ -1,0 +1,65 @@
+-- What is answered behind a proposal: the proposal where it passes its test, and else what is told
+-- of the class tree. The number of workers has no part.
+use Rattle.std.specs.Prelude.{ℕ, ◌≡◌, ◌*◌, ◌/◌, Bool, true, false, List, [], length, map}
+use Rattle.packing_terms.specs.Packing.{PlainInstance, dims, box_count}
+use Rattle.packing_terms.specs.Tokens.{PlainToken}
+use Rattle.tree_terms.specs.Trees.{PlainOutcome, Decided, Past, Yes, No, outcome, told, count_of}
+use Rattle.tree_terms.specs.ClassTree.{class_tree}
+use Rattle.check_terms.specs.declared.answers.PlaceVerdict.{PlaceVerdict}
+use Rattle.check_terms.specs.declared.answers.PlaceVerdict.TheVariants.{Good, Outside, Overlap}
+use Rattle.check_terms.specs.Placing.{place_verdict}
+use Rattle.check_terms.specs.Checking.{starting, is_whole, inner_after, checked_after_all}
+use Rattle.proof_tree.specs.Plain.{plain_token}
+use Rattle.proposals.specs.declared.proposal.Proposal.{Proposal}
+use Rattle.proposals.specs.declared.proposal.Proposal.TheVariants.{Places as ProposedPlaces, Tokens as ProposedTokens, Nothing as ProposedNothing}
+
+-- a proposal, with lists
+pub data PlainProposal : Type 0 where
+  Places : List ℕ → PlainProposal
+  Tokens : List PlainToken → PlainProposal
+  Nothing : PlainProposal
+
+abbrev pub plain_proposal : Proposal → PlainProposal
+plain_proposal (ProposedPlaces places) = Places places.items
+plain_proposal (ProposedTokens tokens) = Tokens (map plain_token tokens.items)
+plain_proposal ProposedNothing = Nothing
+
+-- proposed places have one coordinate for each box and dimension
+abbrev pub IsCounted : PlainInstance → PlainProposal → Type 0
+IsCounted instance (Places places) = length places ≡ box_count instance * dims instance
+IsCounted instance (Tokens tokens) = Unit {0}
+IsCounted instance Nothing = Unit {0}
+
+-- whether the tokens are taken one by one and leave no node open
+abbrev pub is_refutation : PlainInstance → List PlainToken → Bool
+is_refutation instance tokens = is_whole (checked_after_all (inner_after instance) (starting []) tokens)
+
+-- places that are a packing are a yes without a branching; else it is the other outcome
+abbrev pub by_places : PlaceVerdict → List ℕ → PlainOutcome → PlainOutcome
+by_places Good places other = Decided (Yes places 0)
+by_places (Outside v i) places other = other
+by_places (Overlap u v) places other = other
+
+-- tokens that are a refutation are a no, in which each second token but the last is a split
+abbrev pub by_tokens : Bool → List PlainToken → PlainOutcome → PlainOutcome
+by_tokens true tokens other = Decided (No tokens (length tokens / 2))
+by_tokens false tokens other = other
+
+-- the proposal where it passes its test, and else the other outcome
+abbrev pub answer_behind : PlainInstance → PlainProposal → PlainOutcome → PlainOutcome
+answer_behind instance (Places places) other = by_places (place_verdict instance places) places other
+answer_behind instance (Tokens tokens) other = by_tokens (is_refutation instance tokens) tokens other
+answer_behind instance Nothing other = other
+
+-- the count of branchings of the described tree, and what is told of it under a budget
+abbrev pub tree_count : PlainInstance → Bool → ℕ
+tree_count instance scales = count_of (outcome (class_tree instance [] scales))
+
+abbrev pub tree_told : PlainInstance → ℕ → Bool → PlainOutcome
+tree_told instance budget scales = told budget (outcome (class_tree instance [] scales))
+
+-- the outcome is the one behind some proposal
+pub record IsBehind (instance : PlainInstance) (budget : ℕ) (scales : Bool) (outcome : PlainOutcome) : Type 0 where
+  pub proposal : PlainProposal
+  pub counted : IsCounted instance proposal
+  pub is : outcome ≡ answer_behind instance proposal (tree_told instance budget scales)

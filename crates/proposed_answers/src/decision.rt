@@ -1,0 +1,93 @@
+//! The decision of one instance by proposals first, and then by the described tree.
+ghost use Rattle.std.specs.Prelude.{◌≡◌, ◌<◌, ◌≤◌, ◌+◌, ◌-◌, ◌*◌, ◌/◌, ◌^◌, IfOk, []};
+ghost use Rattle.packing_terms.specs.Packing.{dims, box_count};
+ghost use Rattle.tree_terms.specs.Trees.{Past as PlainPast};
+ghost use Rattle.work_share.specs.Outcomes.{plain_outcome};
+ghost use Rattle.class_search.specs.Right.{IsRight, Decides, IsYesOrNo};
+ghost use Rattle.proposals.specs.Sizes.{IsSized};
+ghost use Rattle.proposed_answers.specs.Behind.{plain_proposal, answer_behind, tree_count, tree_told, IsBehind};
+
+use crate::proposing::propose;
+use crate::testing::is_refutation;
+use box_instances::{Instance, NoMemory};
+use check_terms::PlaceVerdict;
+use class_search::decide;
+use placement_check::check_places;
+use proof_tree::Outcome;
+use proposals::Proposal;
+use std::alloc::Global;
+use std::sync::Wait;
+use std::thread::Threads;
+use work_share::{Gate, Settings};
+
+/// Whether an instance fits, by a proposal that passes its test, and else by the class tree under
+/// the budget of the settings, with as many workers as these say.
+///
+/// Proposed places are tested by `check_places`, proposed tokens by `Refuter`. The outcome is a
+/// function of the instance, the proposal, the budget and the choice of scales: the number of workers
+/// has no part in it. A yes by a proposal has a count of 0, and a no that of the splits in its
+/// tokens. Proposed places have one coordinate for each box and dimension.
+pub fn decide_behind<R: Threads + Wait + Sync, G: Gate + Sync>(
+    rt: &R,
+    alloc: Global,
+    instance: &Instance,
+    proposal: Proposal,
+    settings: &Settings,
+    gate: &G,
+) -> Result<Outcome, NoMemory>
+    requires sized { IsSized instance.now proposal }
+    ensures outcome { IfOk result (λ r. plain_outcome r
+        ≡ answer_behind instance.now (plain_proposal proposal)
+        (tree_told instance.now settings.now.budget settings.now.scales)) }
+{
+    match proposal {
+        Proposal::Places(places) => match check_places(instance, &places) {
+            PlaceVerdict::Good => Ok(Outcome::Yes {
+                numbers: places,
+                count: 0,
+            }),
+            _ => decide(rt, alloc, instance, settings, gate),
+        },
+        Proposal::Tokens(tokens) => {
+            if is_refutation(alloc, instance, &tokens)? {
+                let count = (tokens.len() / 2) as u64;
+                Ok(Outcome::No { tokens, count })
+            } else {
+                decide(rt, alloc, instance, settings, gate)
+            }
+        }
+        Proposal::Nothing => decide(rt, alloc, instance, settings, gate),
+    }
+}
+
+/// Whether an instance fits, by proposals first and then by the class tree under the budget.
+///
+/// A yes comes only with a packing, and a no only with a refutation of the instance. `Past` comes only
+/// where the class tree has more branchings than the budget: where it has at most so many, the answer
+/// is yes or no. Which packing, which refutation and how few branchings isn't promised, but the
+/// proposal is made by one worker that doesn't know how many there are, and behind a proposal the
+/// outcome is what `decide_behind` says.
+pub fn decide_proposed<R: Threads + Wait + Sync, G: Gate + Sync>(
+    rt: &R,
+    alloc: Global,
+    instance: &Instance,
+    settings: &Settings,
+    gate: &G,
+) -> Result<Outcome, NoMemory>
+    ensures right { IfOk result (λ r. IsRight instance.now [] (plain_outcome r)) }
+    ensures decides { IfOk result (λ r. Decides instance.now (plain_outcome r)) }
+    ensures past { IfOk result (λ r. plain_outcome r ≡ PlainPast
+        → settings.now.budget < tree_count instance.now settings.now.scales) }
+    ensures within { tree_count instance.now settings.now.scales ≤ settings.now.budget
+        → IfOk result (λ r. IsYesOrNo (plain_outcome r)) }
+    ensures enough { 3 ^ (dims instance.now * box_count instance.now
+        * (box_count instance.now - 1) / 2) ≤ settings.now.budget + 1
+        → IfOk result (λ r. IsYesOrNo (plain_outcome r)) }
+    ensures behind { IfOk result (λ r. IsBehind instance.now settings.now.budget
+        settings.now.scales (plain_outcome r)) }
+{
+    // For the proof alone: tells the limits of the instance.
+    let _limits = instance.len();
+    let proposal = propose(alloc, instance, settings.scales)?;
+    decide_behind(rt, alloc, instance, proposal, settings, gate)
+}

@@ -1,0 +1,11 @@
+//! Decisions of instances by proposals first, and by the described tree behind them.
+#![tactic(auto)]
+
+mod decision;
+mod proposing;
+mod testing;
+
+pub use decision::{decide_behind, decide_proposed};
+pub use proposals::Proposal;
+pub use proposing::propose;
+pub use testing::is_refutation;
