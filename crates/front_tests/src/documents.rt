@@ -56,17 +56,20 @@ fn fronts_are_verified(rt: HostRuntime) -> Result<(), Fail> {
     assert!(rt; verifies(alloc, b"result partial 0\nend\n", false, 0)?);
     let none = b"front\nformat 1\ncontainer 2 2\nbox 3 1\nresult front 0\ncorner 2 2\nt 1 1\nend\n";
     assert!(rt;
-        audit_front_document(alloc, none) == FrontAudit::Verified {
-            complete: true,
-            points: 0
-        }
+        audit_front_document(alloc, none)
+            == FrontAudit::Verified {
+                complete: true,
+                points: 0
+            }
     );
-    let unit = b"front\nformat 1\ncontainer 1 1\nbox 1 1\nresult front 1\npoint 1 1\nplace 0 0\nend";
+    let unit =
+        b"front\nformat 1\ncontainer 1 1\nbox 1 1\nresult front 1\npoint 1 1\nplace 0 0\nend";
     assert!(rt;
-        audit_front_document(alloc, unit) == FrontAudit::Verified {
-            complete: true,
-            points: 1
-        }
+        audit_front_document(alloc, unit)
+            == FrontAudit::Verified {
+                complete: true,
+                points: 1
+            }
     );
     Ok(())
 }
@@ -80,7 +83,11 @@ fn lines_up_to_the_result_are_refused(rt: HostRuntime) -> Result<(), Fail> {
         (b"fronts\n", 1, FORM),
         (b"front 1\n", 1, FORM),
         (b"front\x07\n", 1, FORM),
-        (b"front\nformat 1\ncontainer 4\n", 3, Reason::Text { code: 2 }),
+        (
+            b"front\nformat 1\ncontainer 4\n",
+            3,
+            Reason::Text { code: 2 },
+        ),
         (
             b"front\nformat 1\ncontainer 4 4\nresult front 0\n",
             4,
@@ -115,7 +122,14 @@ fn corners_and_points_are_refused(rt: HostRuntime) -> Result<(), Fail> {
     assert!(rt; refuses(alloc, b"result front 1\ncorner 1 3\n", 7, RANGE)?);
     assert!(rt; refuses(alloc, b"result front 1\ncorner 4 4\n", 7, RANGE)?);
     assert!(rt; refuses(alloc, b"result front 1\ncorner 0 4\n", 7, RANGE)?);
-    assert!(rt; refuses(alloc, b"result front 1\ncorner 99999999999999999999 4\n", 7, RANGE)?);
+    assert!(rt;
+        refuses(
+            alloc,
+            b"result front 1\ncorner 99999999999999999999 4\n",
+            7,
+            RANGE
+        )?
+    );
     assert!(rt; refuses(alloc, b"result front 1\ncorner 1 4294967300\n", 7, RANGE)?);
     assert!(rt; refuses(alloc, b"result front 1\ncorner 1\n", 7, FORM)?);
     assert!(rt; refuses(alloc, b"result front 1\npoint 2 2\n", 7, RANGE)?);
@@ -178,14 +192,7 @@ fn trees_and_places_are_refused(rt: HostRuntime) -> Result<(), Fail> {
     let one = b"result front 1\ncorner 1 4\nt 1 1\npoint 2 2\nplace 0\n";
     assert!(rt; refuses(alloc, one, 10, FORM)?);
     let outside = b"result front 1\ncorner 1 4\nt 1 1\npoint 2 2\nplace 0 0\nplace 0 2\n";
-    assert!(rt;
-        refuses(
-            alloc,
-            outside,
-            11,
-            Reason::OutsideAt { box_no: 2, dim: 2 }
-        )?
-    );
+    assert!(rt; refuses(alloc, outside, 11, Reason::OutsideAt { box_no: 2, dim: 2 })?);
     let crossing = b"result front 1\ncorner 1 4\nt 1 1\npoint 2 2\nplace 0 0\nplace 0 0\n";
     assert!(rt;
         refuses(
