@@ -1,5 +1,5 @@
 //! Weights of heaviest chains that are kept, and made those of a later state.
-ghost use Rattle.std.specs.Prelude.{◌≡◌, ◌+◌, ◌*◌, ◌<◌, ◌≤◌, ◌⊎◌, ℕ, true, false, length, replicate, slice_index, slice_index_or, vec_capacity, IfOk, MatchOption};
+ghost use Rattle.std.specs.Prelude.{◌≡◌, ◌+◌, ◌*◌, ◌<◌, ◌≤◌, ◌⊎◌, ℕ, true, false, length, slice_index, slice_index_or, vec_capacity, IfOk, MatchOption};
 ghost use Rattle.packing_terms.specs.Packing.{dims, box_count, container_side, side};
 ghost use Rattle.packing_terms.specs.Limits.{IsBoxCount};
 ghost use Rattle.packing_terms.specs.Exclusions.{excludes};
@@ -11,6 +11,7 @@ ghost use Rattle.orientation_rules.specs.Weights.{HasOneWayChains, IsHeaviest};
 ghost use Rattle.orientation_rules.specs.KeptWeights.{GoesOn, StillHolds, AreHeaviestWeights};
 
 use crate::leads::leads_row;
+use crate::refills::{refill, refill_rows};
 use crate::rises::raise_touched;
 use crate::weights::weigh_both;
 use box_instances::{Instance, NoMemory};
@@ -230,32 +231,6 @@ fn drop_risen<const K: usize>(heads: BitRow<K>, tails: BitRow<K>, fits: &mut [Bi
     }
 }
 
-// Makes the list one of so many zeros, without taking memory.
-fn refill(list: &mut Vec<u64>, count: u32)
-    requires { count ≤ vec_capacity list.old }
-    ensures items { list.new.items ≡ replicate count 0 }
-    ensures capacity { vec_capacity list.new ≡ vec_capacity list.old }
-{
-    list.clear();
-    for _ in 0..count {
-        list.push_reserved(0);
-    }
-}
-
-// Makes the list one of so many rows without a member, without taking memory.
-fn refill_rows<const K: usize>(list: &mut Vec<BitRow<K>>, count: u32)
-    requires width { IsRowWidth K }
-    requires room { count ≤ vec_capacity list.old }
-    ensures count { length list.new.items ≡ count }
-    ensures none { (u x : ℕ) → u < count → GoesOn list.new.items u x → ⊥ }
-    ensures capacity { vec_capacity list.new ≡ vec_capacity list.old }
-{
-    list.clear();
-    for _ in 0..count {
-        list.push_reserved(BitRow::empty());
-    }
-}
-
 impl<const K: usize> KeptWeights<K> {
     /// Room for so many boxes. Nothing is known of any chain.
     pub fn new(alloc: Global, boxes: u32) -> Result<KeptWeights<K>, NoMemory>
@@ -288,8 +263,8 @@ impl<const K: usize> KeptWeights<K> {
         })
     }
 
-    /// Makes room for so many boxes, at most as many as there is memory for. Where there was room for
-    /// another number, nothing is known of any chain then. It takes no memory.
+    /// Makes room for so many boxes, at most as many as there is memory for. Where there was room
+    /// for another number, nothing is known of any chain then. It takes no memory.
     pub fn set_boxes(&mut self, boxes: u32)
         requires width { IsRowWidth K }
         requires most { boxes ≤ self.old.most }
@@ -327,9 +302,9 @@ impl<const K: usize> KeptWeights<K> {
         write_all(instance, state, dim, sides, rows, fits);
     }
 
-    /// Makes them the weights of a state, from others that were kept. It answers `false` where these
-    /// are of another number of boxes or of other sides, or where a box doesn't go on to one any
-    /// more, and then nothing changes.
+    /// Makes them the weights of a state, from others that were kept. It answers `false` where
+    /// these are of another number of boxes or of other sides, or where a box doesn't go on to one
+    /// any more, and then nothing changes.
     pub fn renew(
         &mut self,
         from: &KeptWeights<K>,

@@ -19,7 +19,8 @@ use std::marker::Model;
 /// The weights of heaviest chains in one dimension, made from those that were kept before, the
 /// newest of which stand on top. With them is kept which two boxes are known to fit.
 ///
-/// It is seen as the number of boxes, how many it was made for, and the weights that were made last.
+/// It is seen as the number of boxes, how many it was made for, and the weights that were made
+/// last.
 #[derive(Drop)]
 pub struct KeptLevels<const K: usize> {
     boxes: u32,

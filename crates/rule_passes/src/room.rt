@@ -22,8 +22,8 @@ use orientation_rules::KeptLevels;
 use std::alloc::Global;
 use std::marker::Model;
 
-/// The working room of closings, for states of so many dimensions and boxes. It is seen as these two
-/// sizes, and the number of boxes that it was made for.
+/// The working room of closings, for states of so many dimensions and boxes. It is seen as these
+/// two sizes, and the number of boxes that it was made for.
 ///
 /// Rows have one word where that holds as many boxes as it was made for, and else two. The weights
 /// of chains are kept from one closing to the next.
@@ -49,8 +49,8 @@ impl Model for ClosingRoom {
         c.wide_kept.items };
 }
 
-// How many levels of weights are kept for each dimension. Old ones stand far apart, so it needn't be
-// as many as a path of a search is long.
+// How many levels of weights are kept for each dimension. Old ones stand far apart, so it needn't
+// be as many as a path of a search is long.
 const LEVELS: u32 = 8;
 
 // As many where they are wanted, and else none.

@@ -85,16 +85,16 @@ invariant_of-self g c =
     let fits : length c.drop_risen.new.fits ≡ n = c.drop_risen.ensures.count ∙ fits_were in
     record {
       kept = kept_same c.from.inside.limit _ _ _ _ _ _ _ _ _ _ (c.copy_from_slice.ensures.items ∙ c.as_slice-sides.ensures.value)
-      (with_items_is c.copy_from_slice-2.new.self c.raise_touched-heads.new.into (c.raise_touched-heads.auto.into ∙ c.as_mut_slice-head.ensures.len))
-      (with_items_is c.copy_from_slice-3.new.self c.raise_touched-tails.new.into (c.raise_touched-tails.auto.into ∙ c.as_mut_slice-tail.ensures.len))
-      (with_items_is c.copy_from_slice-4.new.self c.set_rows.new.rows (c.set_rows.ensures.count ∙ c.as_mut_slice.ensures.len))
-      (with_items_is c.copy_from_slice-5.new.self c.drop_risen.new.fits (c.drop_risen.ensures.count ∙ c.as_mut_slice-2.ensures.len))
-      (kept_from c.args.instance.now c.args.state.now c.args.dim c.from.inside.limit _ _ _ _ _ c.requires.ordered_back c.requires.ordered (c.from.invariant.kept.sides_count ∙ count) heads tails rows fits
-      still.sides c.set_rows.ensures.old c.set_rows.ensures.new c.raise_touched-heads.ensures.heaviest c.raise_touched-tails.ensures.heaviest
-      (λ u v hu hv on. (let h = c.drop_risen.ensures.left u v (rw fits_were hu) on in
-      fits_left c.args.instance.now c.args.state.now c.args.dim c.from.inside.limit _ _ _ _ _ _ _ c.from.invariant.kept count still c.raise_touched-heads.new.into c.raise_touched-tails.new.into u v hu hv
-      (c.raise_touched-heads.ensures.stays u h.0 ∙ ap (λ (l : List ℕ). slice_index l u) head_is) (c.raise_touched-tails.ensures.stays v h.1 ∙ ap (λ (l : List ℕ). slice_index l v) tail_is)
-      (rw fits_are at h.2))));
+          (with_items_is c.copy_from_slice-2.new.self c.raise_touched-heads.new.into (c.raise_touched-heads.auto.into ∙ c.as_mut_slice-head.ensures.len))
+          (with_items_is c.copy_from_slice-3.new.self c.raise_touched-tails.new.into (c.raise_touched-tails.auto.into ∙ c.as_mut_slice-tail.ensures.len))
+          (with_items_is c.copy_from_slice-4.new.self c.set_rows.new.rows (c.set_rows.ensures.count ∙ c.as_mut_slice.ensures.len))
+          (with_items_is c.copy_from_slice-5.new.self c.drop_risen.new.fits (c.drop_risen.ensures.count ∙ c.as_mut_slice-2.ensures.len))
+          (kept_from c.args.instance.now c.args.state.now c.args.dim c.from.inside.limit _ _ _ _ _ c.requires.ordered_back c.requires.ordered (c.from.invariant.kept.sides_count ∙ count) heads tails rows fits
+          still.sides c.set_rows.ensures.old c.set_rows.ensures.new c.raise_touched-heads.ensures.heaviest c.raise_touched-tails.ensures.heaviest
+          (λ u v hu hv on. (let h = c.drop_risen.ensures.left u v (rw fits_were hu) on in
+          fits_left c.args.instance.now c.args.state.now c.args.dim c.from.inside.limit _ _ _ _ _ _ _ c.from.invariant.kept count still c.raise_touched-heads.new.into c.raise_touched-tails.new.into u v hu hv
+          (c.raise_touched-heads.ensures.stays u h.0 ∙ ap (λ (l : List ℕ). slice_index l u) head_is) (c.raise_touched-tails.ensures.stays v h.1 ∙ ap (λ (l : List ℕ). slice_index l v) tail_is)
+          (rw fits_are at h.2))));
       sides_fit = rw c.copy_from_slice.ensures.capacity c.self.invariant.sides_fit;
       heads_fit = rw c.copy_from_slice-2.ensures.capacity c.self.invariant.heads_fit;
       tails_fit = rw c.copy_from_slice-3.ensures.capacity c.self.invariant.tails_fit;

@@ -21,12 +21,12 @@ invariant_of-self g c =
     let count = head_count g c in
     record {
       kept = kept_same c.from-self-inside.result _ _ _ _ _ _ _ _ _ _
-      (with_items_is k.sides c.write_all.new.sides (omega (arith, w.sides_count, k.sides.ok.0, i.sides_count, count))) (with_items_is k.head c.weigh_both.new.head (heads g c))
-      (with_items_is k.tail c.weigh_both.new.tail (tails g c)) (with_items_is k.rows c.write_all.new.rows (omega (arith, w.rows_count, k.rows.ok.0, i.rows_count, count)))
-      (with_items_is k.fits c.write_all.new.fits (omega (arith, w.fits_count, k.fits.ok.0, i.fits_count, count)))
-      (kept_from c.args.instance.now c.args.state.now c.args.dim c.from-self-inside.result _ _ _ _ _ c.requires.ordered_back c.requires.ordered w.sides_count
-      (omega (arith, heads g c, k.head.ok.0, count)) (omega (arith, tails g c, k.tail.ok.0, i.tail_count, count)) w.rows_count w.fits_count w.sides w.old w.new
-      c.weigh_both.ensures.heads c.weigh_both.ensures.tails (λ u v hu hv on. absurd (w.none u v hu on)));
+          (with_items_is k.sides c.write_all.new.sides (omega (arith, w.sides_count, k.sides.ok.0, i.sides_count, count))) (with_items_is k.head c.weigh_both.new.head (heads g c))
+          (with_items_is k.tail c.weigh_both.new.tail (tails g c)) (with_items_is k.rows c.write_all.new.rows (omega (arith, w.rows_count, k.rows.ok.0, i.rows_count, count)))
+          (with_items_is k.fits c.write_all.new.fits (omega (arith, w.fits_count, k.fits.ok.0, i.fits_count, count)))
+          (kept_from c.args.instance.now c.args.state.now c.args.dim c.from-self-inside.result _ _ _ _ _ c.requires.ordered_back c.requires.ordered w.sides_count
+          (omega (arith, heads g c, k.head.ok.0, count)) (omega (arith, tails g c, k.tail.ok.0, i.tail_count, count)) w.rows_count w.fits_count w.sides w.old w.new
+          c.weigh_both.ensures.heads c.weigh_both.ensures.tails (λ u v hu hv on. absurd (w.none u v hu on)));
       sides_fit = c.self.invariant.sides_fit;
       heads_fit = c.self.invariant.heads_fit;
       tails_fit = c.self.invariant.tails_fit;

@@ -1,6 +1,5 @@
-use Rattle.std.proofs.Common.{arith, ◌≡◌, ◌≤◌, ◌∙◌, ℕ, ap, nat_lt, length}
+use Rattle.std.proofs.Common.{arith, ◌≤◌, ◌∙◌, ℕ, ap, nat_lt}
 use Rattle.std.proofs.lemmas.List.{with_items_is}
-use Rattle.orientation_rules.specs.KeptWeights.{PlainLevels}
 use Rattle.rule_passes.proofs.room.ClosingRoom.set_boxes.Goals as goal
 
 pub invariant_of-self : goal.invariant_of-self

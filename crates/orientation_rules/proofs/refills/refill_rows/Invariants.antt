@@ -1,6 +1,6 @@
 use Rattle.std.proofs.Common.{◌≡◌, ◌<◌, ℕ, length, vec_capacity}
 use Rattle.orientation_rules.specs.KeptWeights.{GoesOn}
-use Rattle.orientation_rules.proofs.kept.refill_rows.Given as goal
+use Rattle.orientation_rules.proofs.refills.refill_rows.Given as goal
 
 abbrev pub invariant-loop : goal.invariant-loop
 invariant-loop g l = record {

@@ -1,5 +1,5 @@
 use Rattle.std.proofs.Common.{◌≡◌, replicate, vec_capacity}
-use Rattle.orientation_rules.proofs.kept.refill.Given as goal
+use Rattle.orientation_rules.proofs.refills.refill.Given as goal
 
 abbrev pub invariant-loop : goal.invariant-loop
 invariant-loop l = record {

@@ -1,6 +1,6 @@
-use Rattle.std.proofs.Common.{◌≡◌, ◌++◌, ◌∷◌, [], ◌∙◌, ap, List, ℕ, length, arith}
-use Rattle.std.proofs.lemmas.List.{length-replicate, replicate_more}
-use Rattle.orientation_rules.proofs.kept.refill.Goals as goal
+use Rattle.std.proofs.Common.{◌++◌, ◌∷◌, [], ◌∙◌, ap, List, ℕ}
+use Rattle.std.proofs.lemmas.List.{replicate_more}
+use Rattle.orientation_rules.proofs.refills.refill.Goals as goal
 
 pub loop-preserved : goal.loop-preserved
 loop-preserved c = record {

@@ -1,9 +1,9 @@
-use Rattle.std.proofs.Common.{◌≡◌, ◌++◌, ◌∷◌, [], ◌∙◌, ℕ, List, length, sym, true, arith}
+use Rattle.std.proofs.Common.{◌≡◌, ◌∷◌, [], ◌∙◌, ℕ, List, sym, true, arith}
 use Rattle.std.proofs.lemmas.Bool.{true≢false}
 use Rattle.std.proofs.lemmas.List.{length-append}
 use Rattle.edge_state.specs.BitRows.{row_has}
 use Rattle.orientation_rules.proofs.KeptRuns.{each_more, get_any}
-use Rattle.orientation_rules.proofs.kept.refill_rows.Goals as goal
+use Rattle.orientation_rules.proofs.refills.refill_rows.Goals as goal
 
 pub loop-preserved : goal.loop-preserved
 loop-preserved g c =
