@@ -66,7 +66,7 @@ fn audit_reads_documents_of_fronts(rt: HostRuntime) -> Result<(), Fail> {
     }
     for job in ["check", "explain"] {
         let told = told_of(&rt, &[job], PAIR_FRONT)?;
-        assert!(rt; told.is_as_written(1, b"refused 1 form\n"), "{job}");
+        assert!(rt; told.is_as_written(1, b"refused 1 form\n"));
     }
     Ok(())
 }
