@@ -34,7 +34,8 @@ fn a_no_is_proposed(rt: HostRuntime) -> Result<(), Fail> {
         let Outcome::No { tokens, count } = outcome else {
             return Err("no no".into());
         };
-        assert!(rt; tokens.len() as u64 == 2 * count + 1);
+        // A tree has one leaf more than splits.
+        assert!(rt; tokens.len() % 2 == 1 && tokens.len() as u64 / 2 == count);
         assert!(rt; proposed_answers::is_refutation(alloc, &instance, &tokens)?);
     }
     Ok(())

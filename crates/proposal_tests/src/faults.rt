@@ -42,7 +42,7 @@ fn a_wrong_coordinate_is_refused(rt: HostRuntime) -> Result<(), Fail> {
     let found = propose_places(alloc, &instance, 4000)?;
     let mut places = found.ok_or("no places")?;
     assert!(rt; places.len() == 10);
-    places[3] += 1;
+    places[3] = places[3].wrapping_add(1);
     let settings = settings(1, BUDGET);
     let wrong = Proposal::Places(places);
     let behind = decide_behind(&rt, alloc, &instance, wrong, &settings, &NoGate)?;
