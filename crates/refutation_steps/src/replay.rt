@@ -11,6 +11,7 @@ ghost use Rattle.refutation_steps.specs.Chains.{HasWeights};
 
 use crate::chain_steps::{ChainRoom, seek_chain};
 use crate::guesses::guess_chain;
+use crate::kept::raise;
 use crate::near::{Trace, read_near};
 use crate::places::{is_there, seek_plain, turned_exclusion};
 use box_instances::{Instance, NoMemory};
@@ -175,6 +176,7 @@ pub fn replay_on(
         if stopped {
             return Ok(true);
         }
+        raise(instance, state, &mut room.kept, change);
         at = closed.mark_after(at);
         trace.behind = trace.behind.wrapping_add(1);
     }
