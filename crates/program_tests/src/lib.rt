@@ -22,6 +22,8 @@ mod limits;
 #[cfg(test)]
 mod makes;
 #[cfg(test)]
+mod proposing;
+#[cfg(test)]
 mod reductions;
 #[cfg(test)]
 mod refusals;

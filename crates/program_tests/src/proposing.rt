@@ -1,0 +1,82 @@
+//! Instances that are decided by proposals first, with budgets of the described tree.
+use crate::rows::{Solved, is_solved};
+use crate::runs::{told_of, told_read_to, told_written_to};
+use crate::texts::{EIGHT_IN_A_ROW, TWO_BOXES, UNIT};
+use std::test::Fail;
+
+const PROPOSED: &[&str] = &["fit", "--proposals", "yes", "--budget", "0"];
+
+const SHARED: &[&str] = &["fit", "--proposals=yes", "--budget=0", "--workers=2"];
+
+const NOT_PROPOSED: &[&str] = &["fit", "--proposals", "no", "--budget", "0"];
+
+const TWO_HALVES: &[u8] = b"format 1\ncontainer 4 4\nbox 2 1\nbox 2 1\n";
+
+const TOO_LARGE: &[u8] = b"format 1\ncontainer 4 4\nbox 5 1\n";
+
+const PLACED: &[u8] = b"result yes\nplace 0 0\nend\n";
+
+const REFUTED: &[u8] = b"result no\nt 1 1\nend\n";
+
+const OPEN: &[u8] = b"result undecided\nend\n";
+
+const ROWS: [Solved; 6] = [
+    (PROPOSED, UNIT, 0, PLACED),
+    (SHARED, UNIT, 0, PLACED),
+    (PROPOSED, TOO_LARGE, 1, REFUTED),
+    (SHARED, TOO_LARGE, 1, REFUTED),
+    (NOT_PROPOSED, TWO_HALVES, 3, OPEN),
+    (&["fit", "--budget", "0"], TWO_HALVES, 3, OPEN),
+];
+
+#[test]
+fn proposals_have_the_documents_of_the_rows(rt: HostRuntime) -> Result<(), Fail> {
+    for row in &ROWS {
+        assert!(rt; is_solved(&rt, b"answer fit\n", row)?);
+    }
+    Ok(())
+}
+
+// Whichever packing or refutation is written, `check` verifies it, and workers have no part in it.
+#[test]
+fn what_is_proposed_is_verified(rt: HostRuntime) -> Result<(), Fail> {
+    let rows: [(&[u8], u8, &[u8]); 3] = [
+        (TWO_HALVES, 0, b"verified fit yes\n"),
+        (TWO_BOXES, 0, b"verified fit yes\n"),
+        (EIGHT_IN_A_ROW, 1, b"verified fit no\n"),
+    ];
+    for (text, status, line) in rows {
+        let told = told_of(&rt, PROPOSED, text)?;
+        assert_eq!(rt; told.status, status);
+        let shared = told_of(&rt, SHARED, text)?;
+        assert!(rt; shared.is_as_written(status, &told.out));
+        let checked = told_of(&rt, &["check"], &told.out)?;
+        assert!(rt; checked.is_as_written(0, line), "{status}");
+    }
+    Ok(())
+}
+
+#[test]
+fn proposals_refuse_what_fit_refuses(rt: HostRuntime) -> Result<(), Fail> {
+    let told = told_of(&rt, PROPOSED, b"format 1\ncontainer 5 5\nbox 0 1\n")?;
+    assert!(rt; told.is_stop(2, "pack: line 3: code 4\n", b""));
+    for words in [
+        ["strip", "--proposals", "yes"],
+        ["reduced", "--proposals", "no"],
+        ["check", "--proposals", "no"],
+        ["fit", "--proposals", "maybe"],
+    ] {
+        let told = told_of(&rt, &words, UNIT)?;
+        assert_eq!(rt; told.status, 2);
+    }
+    Ok(())
+}
+
+#[test]
+fn a_read_or_write_that_fails_ends_proposals(rt: HostRuntime) -> Result<(), Fail> {
+    let told = told_read_to(&rt, PROPOSED, UNIT, 5)?;
+    assert!(rt; told.is_stop(4, "pack: read fault\n", b""));
+    let told = told_written_to(&rt, PROPOSED, UNIT, 7)?;
+    assert!(rt; told.is_stop(5, "pack: write fault\n", b"answer "));
+    Ok(())
+}
