@@ -1,5 +1,5 @@
 //! What a closing found, step by step.
-ghost use Rattle.std.specs.Prelude.{◌≡◌, ◌≤◌, ◌⊎◌, length, OnOk, IfOk};
+ghost use Rattle.std.specs.Prelude.{◌≡◌, ◌≤◌, ℕ, length, OnOk, IfOk};
 ghost use Rattle.packing_terms.specs.Packing.{dims, box_count};
 ghost use Rattle.packing_terms.specs.Exclusions.{excludes};
 ghost use Rattle.packing_terms.specs.Closure.{IsDerivation, IsSubset};
@@ -8,6 +8,7 @@ ghost use Rattle.refutation_steps.specs.Goes.{plain_steps, Goes};
 ghost use Rattle.refutation_steps.specs.Places.{IsPlaced};
 ghost use Rattle.refutation_steps.specs.Replays.{IsPlainSought, AreChainsTried, IsMade, IsReplayed};
 ghost use Rattle.refutation_steps.specs.Chains.{HasWeights};
+ghost use Rattle.refutation_steps.specs.Traces.{IsTraced};
 
 use crate::chain_steps::{ChainRoom, seek_chain};
 use crate::guesses::guess_chain;
@@ -89,7 +90,7 @@ fn make_by_any(
     requires placed { IsPlaced instance.now state.old e }
     requires room { HasWeights (box_count instance.now) room.old.head.items room.old.tail.items }
     ensures room { HasWeights (box_count instance.now) room.new.head.items room.new.tail.items }
-    ensures trace { (trace.new.looked ≡ trace.old.looked) ⊎ (trace.new.looked ≡ at) }
+    ensures trace { (n : ℕ) → at ≤ n → IsTraced trace.old n → IsTraced trace.new n }
     ensures made { IfOk result (λ stopped. IsMade instance.now state.old state.new
         (plain_steps lines.old.items) (plain_steps lines.new.items) e stopped) }
 {
@@ -101,8 +102,7 @@ fn make_by_any(
         return Ok(true);
     }
     if is_there(state, e) {
-        trace.looked = at;
-        trace.behind = 0;
+        *trace = Trace::at(at, 0);
         return Ok(false);
     }
     seek_both(instance, state, lines, e)?;
@@ -124,21 +124,25 @@ fn make(
     requires closed_dims { closed.now.dims ≡ dims instance.now }
     requires closed_count { closed.now.boxes ≡ box_count instance.now }
     requires at { at ≤ length closed.now.trail }
-    requires trace { trace.old.looked ≤ length closed.now.trail }
+    requires trace { IsTraced trace.old (length closed.now.trail) }
     requires room { HasWeights (box_count instance.now) room.old.head.items room.old.tail.items }
     ensures room { HasWeights (box_count instance.now) room.new.head.items room.new.tail.items }
-    ensures trace { trace.new.looked ≤ length closed.now.trail }
+    ensures trace { IsTraced trace.new (length closed.now.trail) }
     ensures made { IfOk result (λ stopped. IsMade instance.now state.old state.new
         (plain_steps lines.old.items) (plain_steps lines.new.items) e stopped) }
 {
     if is_there(state, e) {
         return Ok(false);
     }
-    guess_chains(instance, state, lines, room, e)?;
+    read_near(instance, state, lines, closed, trace, e)?;
     if is_there(state, e) {
         return Ok(false);
     }
-    read_near(instance, state, lines, closed, trace, e)?;
+    guess_chains(instance, state, lines, room, e)?;
+    if is_there(state, e) {
+        *trace = Trace::at(at, 0);
+        return Ok(false);
+    }
     make_by_any(instance, state, lines, room, trace, at, e)
 }
 
@@ -169,7 +173,7 @@ pub fn replay_on(
     // For the proof alone: tells the limits of the state.
     let _sizes = closed.dims();
     // A split excludes two relations at most.
-    let mut trace = Trace { looked, behind: 2 };
+    let mut trace = Trace::at(looked, 2);
     let mut at = from;
     while let Some(change) = closed.change_after(at) {
         let stopped = make(instance, state, lines, room, closed, &mut trace, at, change)?;

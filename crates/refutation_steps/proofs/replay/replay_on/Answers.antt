@@ -1,4 +1,4 @@
-use Rattle.std.proofs.Common.{sym, subst, ℕ}
+use Rattle.std.proofs.Common.{◌≤◌, sym, subst, ℕ, length}
 use Rattle.edge_state.specs.Answers.{IsChangeAfter}
 use Rattle.closure_terms.proofs.Settled.{change_edge}
 use Rattle.refutation_steps.proofs.Seeking.{placed_by}
@@ -9,7 +9,10 @@ pub loop-change-init : goal.loop-change-init
 loop-change-init c = record {
   so_far = so_far_start c.args.instance.now c.args.state.now _ c.args.closed.now.trail c.args.from c.requires.mark c.requires.holds;
   room = c.requires.room;
-  trace = c.requires.looked;
+  trace = (
+    subst (λ (n : ℕ). n ≤ length c.args.closed.now.trail) (sym c.at-trace.ensures.base) c.requires.looked,
+    subst (λ (n : ℕ). n ≤ length c.args.closed.now.trail) (sym c.at-trace.ensures.looked) c.requires.looked,
+  );
 }
 
 pub change_after-requires : goal.change_after-requires
