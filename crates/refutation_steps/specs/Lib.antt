@@ -5,7 +5,6 @@ pub mod Links
 pub mod Empties
 pub mod Chains
 pub mod Guesses
-pub mod Traces
 pub mod Nodes
 pub mod Walks
 pub mod Shortened

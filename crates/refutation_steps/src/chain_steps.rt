@@ -17,7 +17,6 @@ ghost use Rattle.refutation_steps.specs.Chains.{AreWeighed, HasWeights, IsChainF
 
 use crate::chains::{chain_from, chain_to};
 use crate::empties::empty_place;
-use crate::kept::{Kept, keep, keep_none};
 use crate::links::link_through;
 use crate::places::is_there;
 use crate::steps::write_line;
@@ -27,13 +26,13 @@ use line_proofs::Step;
 use orientation_rules::heads_and_tails;
 use std::alloc::Global;
 
-/// Room for the weights of chains, for those that are kept in each dimension, and for the boxes of
+/// Room for the weights of chains, with the dimension in which they were made, and for the boxes of
 /// two chains.
 #[derive(Drop)]
 pub struct ChainRoom {
+    pub dim: u32,
     pub head: Vec<u64>,
     pub tail: Vec<u64>,
-    pub kept: Vec<Kept>,
     pub before: Vec<u32>,
     pub after: Vec<u32>,
 }
@@ -48,17 +47,16 @@ fn weights_of(alloc: Global, boxes: u32) -> Result<Vec<u64>, NoMemory>
     Ok(list)
 }
 
-/// Room for so many dimensions and boxes.
-pub fn chain_room(alloc: Global, dims: u32, boxes: u32) -> Result<ChainRoom, NoMemory>
+/// Room for so many boxes.
+pub fn chain_room(alloc: Global, boxes: u32) -> Result<ChainRoom, NoMemory>
     ensures { IfOk result (λ room. HasWeights boxes room.head.items room.tail.items) }
 {
     let head = weights_of(alloc, boxes)?;
     let tail = weights_of(alloc, boxes)?;
-    let kept = keep_none(alloc, dims, boxes)?;
     Ok(ChainRoom {
+        dim: 0,
         head,
         tail,
-        kept,
         before: Vec::new(alloc),
         after: Vec::new(alloc),
     })
@@ -87,6 +85,7 @@ fn weigh_chains(instance: &Instance, state: &EdgeState, dim: u32, room: &mut Cha
 {
     // For the proof alone: tells the limits of the instance.
     let _count = instance.len();
+    room.dim = dim;
     let head = room.head.as_mut_slice();
     let tail = room.tail.as_mut_slice();
     heads_and_tails(instance, state, dim, head, tail);
@@ -239,11 +238,5 @@ pub fn seek_chain(
         return Ok(false);
     }
     take_chain(instance, state, lines, room, e)?;
-    keep(
-        &mut room.kept,
-        e.dim,
-        room.head.as_slice(),
-        room.tail.as_slice(),
-    );
     Ok(false)
 }

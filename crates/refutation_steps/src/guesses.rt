@@ -1,5 +1,6 @@
-//! CHAIN by the weights that are kept: a guess, since they may be those of another state, so each box
-//! of a chain is tested.
+//! CHAIN by the weights that were made last: a guess, since they may be those of another state, so
+//! each box of a chain is tested. All that one closing found by CHAIN in a dimension is explained
+//! by one making of weights.
 ghost use Rattle.std.specs.Prelude.{◌≡◌, ◌<◌, ◌+◌, length, slice_index, IsTrue, OnOk, IfOk, MatchOption};
 ghost use Rattle.packing_terms.specs.Packing.{box_count};
 ghost use Rattle.rule_terms.specs.declared.Direction.TheVariants.{Forwards, Backwards};
@@ -169,18 +170,12 @@ pub fn guess_chain(
     ensures goes { OnOk result (Goes instance.now state.old state.new
         (plain_steps lines.old.items) (plain_steps lines.new.items)) }
 {
-    if !is_before(e.rel) || is_there(state, e) {
-        return Ok(());
-    }
-    let count = instance.len() as usize;
-    let Some(kept) = room.kept.get(e.dim as usize) else {
-        return Ok(());
-    };
-    let (head, tail) = (kept.head.as_slice(), kept.tail.as_slice());
-    if head.len() != count || tail.len() != count {
+    if !is_before(e.rel) || room.dim != e.dim || is_there(state, e) {
         return Ok(());
     }
     let side = u64::from(instance.container_side(e.dim));
+    let head = room.head.as_slice();
+    let tail = room.tail.as_slice();
     if !are_wide(head[e.u as usize], tail[e.v as usize], side) {
         return Ok(());
     }

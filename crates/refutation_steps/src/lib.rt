@@ -6,7 +6,6 @@ mod chain_steps;
 mod chains;
 mod empties;
 mod guesses;
-mod kept;
 mod links;
 mod marks;
 mod near;

@@ -1,10 +1,9 @@
 //! Rules that read a change, at the place of an exclusion. A closing looks through its changes one
 //! after another, so what it found next most often follows from the change at which it stood.
-ghost use Rattle.std.specs.Prelude.{◌≡◌, ◌<◌, ◌≤◌, length, OnOk, IfOk, MatchOption};
+ghost use Rattle.std.specs.Prelude.{◌≡◌, ◌<◌, ◌≤◌, length, OnOk};
 ghost use Rattle.packing_terms.specs.Packing.{dims, box_count};
 ghost use Rattle.refutation_steps.specs.Goes.{plain_steps, Goes};
 ghost use Rattle.refutation_steps.specs.Places.{IsPlaced};
-ghost use Rattle.refutation_steps.specs.Traces.{IsTraced};
 
 use crate::places::{
     are_four, are_three, compose_with, cycles_with, is_there, joins, leads, order_with,
@@ -15,29 +14,12 @@ use box_instances::{Instance, NoMemory};
 use edge_state::{EdgeState, Exclusion, Mark};
 use line_proofs::Step;
 
-/// How far a closed list was looked through: to some position past a base, before which all was, and
-/// which is so many changes behind that of the exclusion to be made.
+/// How far a closed list was looked through: up to a position, which is so many before that of the
+/// exclusion to be made.
 #[derive(Clone, Copy)]
 pub struct Trace {
-    pub base: Mark,
     pub looked: Mark,
-    pub skipped: u32,
     pub behind: u32,
-}
-
-impl Trace {
-    /// All before a position was looked through; the exclusion to be made is so many behind it.
-    pub fn at(position: Mark, behind: u32) -> Trace
-        ensures base { result.base ≡ position }
-        ensures looked { result.looked ≡ position }
-    {
-        Trace {
-            base: position,
-            looked: position,
-            skipped: 0,
-            behind,
-        }
-    }
 }
 
 // ORDER at the place of the exclusion, with a box that its first one is surely before.
@@ -212,51 +194,8 @@ fn read_change(
     step_apart(instance, state, lines, e.dim, e.u, e.v)
 }
 
-// A change of a closed list that led to the exclusion, and how many were passed before it.
-#[derive(Clone, Copy)]
-struct Found {
-    at: Mark,
-    passed: u32,
-}
-
-// What follows from so many changes, from a position on, until the exclusion is there.
-fn read_span(
-    instance: &Instance,
-    state: &mut EdgeState,
-    lines: &mut Vec<Step>,
-    closed: &EdgeState,
-    from: Mark,
-    count: u32,
-    e: Exclusion,
-) -> Result<Option<Found>, NoMemory>
-    requires placed { IsPlaced instance.now state.old e }
-    requires closed_dims { closed.now.dims ≡ dims instance.now }
-    requires closed_count { closed.now.boxes ≡ box_count instance.now }
-    requires from { from ≤ length closed.now.trail }
-    ensures goes { IfOk result (λ found. Goes instance.now state.old state.new
-        (plain_steps lines.old.items) (plain_steps lines.new.items)) }
-    ensures within { IfOk result (λ found. MatchOption found (Unit {0})
-        (λ change. change.at ≤ length closed.now.trail)) }
-{
-    // For the proof alone: tells the limits of the state.
-    let _sizes = closed.dims();
-    let mut at = from;
-    for passed in 0..count {
-        let Some(change) = closed.change_after(at) else {
-            return Ok(None);
-        };
-        read_change(instance, state, lines, e, change)?;
-        if is_there(state, e) {
-            return Ok(Some(Found { at, passed }));
-        }
-        at = closed.mark_after(at);
-    }
-    Ok(None)
-}
-
-/// What follows from the changes that are to be looked through, until the exclusion is there: those
-/// from where the trace stands on, and then those that it has skipped. The trace stands at the change
-/// that led to it then, and else as before.
+/// What follows from the changes that are to be looked through, the oldest first, until the
+/// exclusion is there. The trace then stands at the change that led to it, and else as before.
 pub fn read_near(
     instance: &Instance,
     state: &mut EdgeState,
@@ -268,25 +207,25 @@ pub fn read_near(
     requires placed { IsPlaced instance.now state.old e }
     requires closed_dims { closed.now.dims ≡ dims instance.now }
     requires closed_count { closed.now.boxes ≡ box_count instance.now }
-    requires trace { IsTraced trace.old (length closed.now.trail) }
-    ensures trace { IsTraced trace.new (length closed.now.trail) }
+    requires trace { trace.old.looked ≤ length closed.now.trail }
+    ensures trace { trace.new.looked ≤ length closed.now.trail }
     ensures goes { OnOk result (Goes instance.now state.old state.new
         (plain_steps lines.old.items) (plain_steps lines.new.items)) }
 {
-    let (looked, behind) = (trace.looked, trace.behind);
-    let later = read_span(instance, state, lines, closed, looked, behind, e)?;
-    if let Some(found) = later {
-        trace.looked = found.at;
-        trace.skipped = trace.skipped.wrapping_add(found.passed);
-        trace.behind = behind.wrapping_sub(found.passed);
-        return Ok(());
-    }
-    let (base, skipped) = (trace.base, trace.skipped);
-    let earlier = read_span(instance, state, lines, closed, base, skipped, e)?;
-    if let Some(found) = earlier {
-        trace.looked = found.at;
-        trace.skipped = found.passed;
-        trace.behind = behind.wrapping_add(skipped).wrapping_sub(found.passed);
+    // For the proof alone: tells the limits of the state.
+    let _sizes = closed.dims();
+    let mut looked = trace.looked;
+    for passed in 0..trace.behind {
+        let Some(change) = closed.change_after(looked) else {
+            return Ok(());
+        };
+        read_change(instance, state, lines, e, change)?;
+        if is_there(state, e) {
+            trace.looked = looked;
+            trace.behind = trace.behind.wrapping_sub(passed);
+            return Ok(());
+        }
+        looked = closed.mark_after(looked);
     }
     Ok(())
 }

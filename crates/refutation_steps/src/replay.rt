@@ -1,5 +1,5 @@
 //! What a closing found, step by step.
-ghost use Rattle.std.specs.Prelude.{◌≡◌, ◌≤◌, ℕ, length, OnOk, IfOk};
+ghost use Rattle.std.specs.Prelude.{◌≡◌, ◌≤◌, ◌⊎◌, length, OnOk, IfOk};
 ghost use Rattle.packing_terms.specs.Packing.{dims, box_count};
 ghost use Rattle.packing_terms.specs.Exclusions.{excludes};
 ghost use Rattle.packing_terms.specs.Closure.{IsDerivation, IsSubset};
@@ -8,11 +8,9 @@ ghost use Rattle.refutation_steps.specs.Goes.{plain_steps, Goes};
 ghost use Rattle.refutation_steps.specs.Places.{IsPlaced};
 ghost use Rattle.refutation_steps.specs.Replays.{IsPlainSought, AreChainsTried, IsMade, IsReplayed};
 ghost use Rattle.refutation_steps.specs.Chains.{HasWeights};
-ghost use Rattle.refutation_steps.specs.Traces.{IsTraced};
 
 use crate::chain_steps::{ChainRoom, seek_chain};
 use crate::guesses::guess_chain;
-use crate::kept::raise;
 use crate::near::{Trace, read_near};
 use crate::places::{is_there, seek_plain, turned_exclusion};
 use box_instances::{Instance, NoMemory};
@@ -90,7 +88,7 @@ fn make_by_any(
     requires placed { IsPlaced instance.now state.old e }
     requires room { HasWeights (box_count instance.now) room.old.head.items room.old.tail.items }
     ensures room { HasWeights (box_count instance.now) room.new.head.items room.new.tail.items }
-    ensures trace { (n : ℕ) → at ≤ n → IsTraced trace.old n → IsTraced trace.new n }
+    ensures trace { (trace.new.looked ≡ trace.old.looked) ⊎ (trace.new.looked ≡ at) }
     ensures made { IfOk result (λ stopped. IsMade instance.now state.old state.new
         (plain_steps lines.old.items) (plain_steps lines.new.items) e stopped) }
 {
@@ -102,7 +100,8 @@ fn make_by_any(
         return Ok(true);
     }
     if is_there(state, e) {
-        *trace = Trace::at(at, 0);
+        trace.looked = at;
+        trace.behind = 0;
         return Ok(false);
     }
     seek_both(instance, state, lines, e)?;
@@ -124,25 +123,21 @@ fn make(
     requires closed_dims { closed.now.dims ≡ dims instance.now }
     requires closed_count { closed.now.boxes ≡ box_count instance.now }
     requires at { at ≤ length closed.now.trail }
-    requires trace { IsTraced trace.old (length closed.now.trail) }
+    requires trace { trace.old.looked ≤ length closed.now.trail }
     requires room { HasWeights (box_count instance.now) room.old.head.items room.old.tail.items }
     ensures room { HasWeights (box_count instance.now) room.new.head.items room.new.tail.items }
-    ensures trace { IsTraced trace.new (length closed.now.trail) }
+    ensures trace { trace.new.looked ≤ length closed.now.trail }
     ensures made { IfOk result (λ stopped. IsMade instance.now state.old state.new
         (plain_steps lines.old.items) (plain_steps lines.new.items) e stopped) }
 {
     if is_there(state, e) {
         return Ok(false);
     }
-    read_near(instance, state, lines, closed, trace, e)?;
-    if is_there(state, e) {
-        return Ok(false);
-    }
     guess_chains(instance, state, lines, room, e)?;
     if is_there(state, e) {
-        *trace = Trace::at(at, 0);
         return Ok(false);
     }
+    read_near(instance, state, lines, closed, trace, e)?;
     make_by_any(instance, state, lines, room, trace, at, e)
 }
 
@@ -173,14 +168,13 @@ pub fn replay_on(
     // For the proof alone: tells the limits of the state.
     let _sizes = closed.dims();
     // A split excludes two relations at most.
-    let mut trace = Trace::at(looked, 2);
+    let mut trace = Trace { looked, behind: 2 };
     let mut at = from;
     while let Some(change) = closed.change_after(at) {
         let stopped = make(instance, state, lines, room, closed, &mut trace, at, change)?;
         if stopped {
             return Ok(true);
         }
-        raise(instance, state, &mut room.kept, change);
         at = closed.mark_after(at);
         trace.behind = trace.behind.wrapping_add(1);
     }

@@ -1,7 +1,6 @@
-use Rattle.std.proofs.Common.{◌≤◌, sym, subst, ℕ, length}
+use Rattle.std.proofs.Common.{sym, subst, ℕ}
 use Rattle.edge_state.specs.Answers.{IsChangeAfter}
 use Rattle.closure_terms.proofs.Settled.{change_edge}
-use Rattle.refutation_steps.proofs.Seeking.{placed_by}
 use Rattle.refutation_steps.proofs.Replayed.{so_far_start, so_far_next, replayed_end, replayed_stop, place_of}
 use Rattle.refutation_steps.proofs.replay.replay_on.Goals as goal
 
@@ -9,10 +8,7 @@ pub loop-change-init : goal.loop-change-init
 loop-change-init c = record {
   so_far = so_far_start c.args.instance.now c.args.state.now _ c.args.closed.now.trail c.args.from c.requires.mark c.requires.holds;
   room = c.requires.room;
-  trace = (
-    subst (λ (n : ℕ). n ≤ length c.args.closed.now.trail) (sym c.at-trace.ensures.base) c.requires.looked,
-    subst (λ (n : ℕ). n ≤ length c.args.closed.now.trail) (sym c.at-trace.ensures.looked) c.requires.looked,
-  );
+  trace = c.requires.looked;
 }
 
 pub change_after-requires : goal.change_after-requires
@@ -23,13 +19,6 @@ make-requires-clause-placed c =
     place_of c.args.instance.now c.args.state.now c.loop-change.state _ _ c.in-Some.change c.requires.dims c.requires.count c.loop-change.invariant.so_far.goes
     c.args.closed.now c.requires.closed_dims c.requires.closed_count
     (change_edge _ _ c.args.closed.now.trail c.loop-change.at _ c.in-Some.change c.dims-sizes.ensures.limits.trail c.in-Some.ensures)
-
-pub raise-requires : goal.raise-requires
-raise-requires c =
-    placed_by c.args.instance.now c.loop-change.state c.make.new.state _ _ c.in-Some.change
-    (place_of c.args.instance.now c.args.state.now c.loop-change.state _ _ c.in-Some.change c.requires.dims c.requires.count c.loop-change.invariant.so_far.goes
-    c.args.closed.now c.requires.closed_dims c.requires.closed_count
-    (change_edge _ _ c.args.closed.now.trail c.loop-change.at _ c.in-Some.change c.dims-sizes.ensures.limits.trail c.in-Some.ensures)) c.in_ok-stopped.ensures.made.goes
 
 pub loop-change-preserved : goal.loop-change-preserved
 loop-change-preserved c = record {

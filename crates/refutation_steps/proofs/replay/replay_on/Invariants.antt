@@ -1,8 +1,7 @@
-use Rattle.std.proofs.Common.{◌-◌, length}
+use Rattle.std.proofs.Common.{◌-◌, ◌≤◌, length}
 use Rattle.packing_terms.specs.Packing.{box_count}
 use Rattle.refutation_steps.specs.Goes.{plain_steps}
 use Rattle.refutation_steps.specs.Chains.{HasWeights}
-use Rattle.refutation_steps.specs.Traces.{IsTraced}
 use Rattle.refutation_steps.proofs.Replayed.{IsSoFar}
 use Rattle.refutation_steps.proofs.replay.replay_on.Given as goal
 
@@ -11,7 +10,7 @@ invariant-loop-change l =
     record {
       so_far : IsSoFar l.instance l.fn.state l.state (plain_steps l.fn.lines.items) (plain_steps l.lines.items) l.closed.trail l.fn.from l.at;
       room : HasWeights (box_count l.instance) l.room.head.items l.room.tail.items;
-      trace : IsTraced l.trace (length l.closed.trail);
+      trace : l.trace.looked ≤ length l.closed.trail;
     }
 
 abbrev pub decreases-loop-change : goal.decreases-loop-change
