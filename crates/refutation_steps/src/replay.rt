@@ -12,7 +12,7 @@ ghost use Rattle.refutation_steps.specs.Chains.{HasWeights};
 use crate::chain_steps::{ChainRoom, seek_chain};
 use crate::guesses::guess_chain;
 use crate::near::{Trace, read_near};
-use crate::places::{is_there, seek_plain, turned_exclusion};
+use crate::places::{is_there, seek_pair, seek_plain, turned_exclusion};
 use box_instances::{Instance, NoMemory};
 use edge_state::{EdgeState, Exclusion, Mark};
 use line_proofs::Step;
@@ -133,6 +133,7 @@ fn make(
     if is_there(state, e) {
         return Ok(false);
     }
+    seek_pair(instance, state, lines, e)?;
     guess_chains(instance, state, lines, room, e)?;
     if is_there(state, e) {
         return Ok(false);
