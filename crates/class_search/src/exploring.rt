@@ -9,7 +9,7 @@ ghost use Rattle.work_share.specs.Outcomes.{plain_outcome};
 ghost use Rattle.class_search.specs.Rooted.{arrival_tree, IsKnownArrival};
 
 use crate::root::{Arrival, visit_class_root};
-use crate::walk::walk;
+use crate::walk::{End, Walk, go_on};
 use box_instances::{Instance, NoMemory};
 use edge_state::EdgeState;
 use proof_tree::{Outcome, Token};
@@ -47,7 +47,13 @@ pub fn explored(
             };
             Ok(Outcome::No { tokens, count: 0 })
         }
-        Arrival::Inner(node) => walk(alloc, instance, pairs, state, closer, node, cap),
+        Arrival::Inner(node) => {
+            let walk = Walk::at(alloc, node);
+            match go_on(alloc, instance, pairs, state, closer, walk, cap)? {
+                End::Whole(outcome) => Ok(outcome),
+                End::Stopped(_) => Ok(Outcome::Past),
+            }
+        }
     }
 }
 

@@ -7,6 +7,8 @@
 mod decider;
 mod decision;
 mod exploring;
+mod keeping;
+mod kept;
 mod pairs;
 mod places;
 mod rank;

@@ -10,13 +10,15 @@ ghost use Rattle.class_search.specs.Splits.{with_all};
 ghost use Rattle.class_search.specs.Right.{IsRight, Decides, IsYesOrNo};
 ghost use Rattle.class_search.specs.Rooted.{IsArrival};
 ghost use Rattle.class_search.specs.Tree.{shape, same_trees};
+ghost use Rattle.class_search.specs.Kept.{IsKeptAt, IsExplored};
 
 use crate::exploring::explored;
+use crate::kept::{Explored, Kept, Refuted, Standing};
 use crate::rank::ranked_pairs;
 use crate::root::{Arrival, visit_class_root};
 use crate::same::{are_same_exclusions, are_same_instances};
 use crate::visit::visit_root;
-use crate::walk::{descend, told};
+use crate::walk::{Walk, descend, told};
 use box_instances::{Instance, NoMemory};
 use edge_state::{EdgeState, Exclusion};
 use proof_tree::Outcome;
@@ -143,6 +145,48 @@ impl<'a> ClassTree<'a> {
         }
         let root = visit_root(self.instance, pairs, state, closer);
         Arrival::Inner(descend(self.instance, pairs, state, closer, root, path))
+    }
+
+    // A walk that begins at the node of a path, or what the root gives that its own tests refute.
+    pub(crate) fn begun(&self, alloc: Global, path: &[u32]) -> Result<Kept<'a>, NoMemory>
+        requires { IsSome (node_at (Some (shape self.now)) path.now) }
+        ensures { IfOk result (IsKeptAt self.now path.now) }
+    {
+        let mut state = self.start_state(alloc)?;
+        let mut closer = Closer::new(alloc, self.instance.dims(), self.instance.len())?;
+        match self.come_to(alloc, &mut state, &mut closer, path) {
+            Arrival::RefutedRoot(token) => {
+                let mut tokens = Vec::new(alloc);
+                let Ok(()) = tokens.push(token) else {
+                    return Err(NoMemory);
+                };
+                Ok(Kept::Refuted(Refuted {
+                    tokens,
+                    count: 0,
+                }))
+            }
+            Arrival::Inner(node) => Ok(Kept::Standing(Standing {
+                instance: self.instance,
+                state,
+                closer,
+                walk: Walk::at(alloc, node),
+            })),
+        }
+    }
+
+    // Goes on with what is kept of the node at a path.
+    pub(crate) fn explored_on(
+        &self,
+        alloc: Global,
+        path: &[u32],
+        kept: Kept<'a>,
+        cap: u64,
+    ) -> Result<Explored<'a>, NoMemory>
+        requires { IsKeptAt self.now path.now kept }
+        ensures { IfOk result (λ e. IfSome (node_at (Some (shape self.now)) path.now)
+            (λ node. IsExplored self.now.instance node cap e)) }
+    {
+        kept.explored(alloc, self.instance, self.pairs.as_slice(), cap)
     }
 
     // What the tree below the node at a path gives under a cap.

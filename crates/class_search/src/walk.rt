@@ -1,16 +1,16 @@
-//! The walk through the tree below a node, depth first, with a stack of the second children that
-//! wait.
-ghost use Rattle.std.specs.Prelude.{◌≡◌, IfOk, IsSome, List};
+//! The walk through the tree below a node, depth first, with a stack of the splits on the way. It
+//! can be left where a cap is spent, and gone on with.
+ghost use Rattle.std.specs.Prelude.{◌≡◌, ◌≤◌, ◌<◌, ◌+◌, ◌^◌, IfOk, IsSome, List, Some};
 ghost use Rattle.packing_terms.specs.declared.Exclusion.{Exclusion as PlainExclusion};
 ghost use Rattle.packing_terms.specs.Packing.{PlainInstance, dims, box_count};
 ghost use Rattle.packing_terms.specs.Limits.{IsInternalInstance};
 ghost use Rattle.packing_terms.specs.Scales.{SidesFit};
 ghost use Rattle.packing_terms.specs.Rank.{ranked_pairs};
-ghost use Rattle.tree_terms.specs.Trees.{outcome, told, node_at};
+ghost use Rattle.tree_terms.specs.Trees.{node_at};
 ghost use Rattle.tree_terms.specs.Paths.{node_told};
-ghost use Rattle.work_share.specs.Outcomes.{plain_outcome};
 ghost use Rattle.work_share.specs.Nodes.{plain_node};
 ghost use Rattle.class_search.specs.Visits.{kind_tree, IsKind, IsAmong};
+ghost use Rattle.class_search.specs.Walks.{size_of_both, walk_tree, IsWalk, IsEndOf};
 
 use crate::places::places_of;
 use crate::splits::{Child, Split};
@@ -22,74 +22,166 @@ use rule_closure::Closer;
 use std::alloc::Global;
 use work_share::Node;
 
-// A second child that waits: the split above it, the closed state of that split's node, and its
-// pair's position by rank.
+// What was finished of a subtree: so many tokens, and this count.
 #[derive(Clone, Copy)]
-pub struct Waiting {
-    split: Split,
-    mark: Mark,
-    rank: usize,
+pub struct Size {
+    pub tokens: usize,
+    pub count: u64,
 }
 
-// What the tree of a node gives under a cap. This is the node's kind and its closed state.
-pub fn walk(
+// A split on the way to the node that was met last: its closed state, its pair's position by rank,
+// and the size of its first child, once that is finished. The way goes on in the second child then,
+// and before that in the first.
+#[derive(Clone, Copy)]
+pub struct Frame {
+    pub split: Split,
+    pub mark: Mark,
+    pub rank: usize,
+    pub first: Option<Size>,
+}
+
+// A walk: the splits on the way from its root, the tokens and the count so far, and the kind of the
+// node that was met and isn't counted yet.
+#[derive(Drop)]
+pub struct Walk {
+    pub frames: Vec<Frame>,
+    pub tokens: Vec<Token>,
+    pub count: u64,
+    pub node: NodeKind,
+}
+
+// What becomes of a walk under a cap: it has come to its end, or it stands where the cap is spent.
+#[derive(Drop)]
+pub enum End {
+    Whole(Outcome),
+    Stopped(Walk),
+}
+
+// Where a walk is: at a node that was met, or behind a subtree that is finished.
+#[derive(Clone, Copy)]
+enum Place {
+    Met(NodeKind),
+    Over(Size),
+}
+
+impl Walk {
+    // The walk that begins at a node.
+    pub fn at(alloc: Global, node: NodeKind) -> Walk
+        ensures begins { (instance : PlainInstance) (es : List PlainExclusion)
+            → IsKind instance es node → IsWalk instance es result }
+        ensures tree { (instance : PlainInstance) (es : List PlainExclusion)
+            → walk_tree instance es result ≡ kind_tree instance es node }
+        ensures count { result.count ≡ 0 }
+    {
+        Walk {
+            frames: Vec::new(alloc),
+            tokens: Vec::new(alloc),
+            count: 0,
+            node,
+        }
+    }
+}
+
+impl Size {
+    // The size of a node whose first child has this size, and its second child that of `self`.
+    fn behind(self, first: Size) -> Size
+        requires tokens { 1 + (first.tokens + self.tokens) < 2 ^ 64 }
+        requires count { 1 + (first.count + self.count) < 2 ^ 64 }
+        ensures { result ≡ size_of_both first self }
+    {
+        Size {
+            tokens: 1 + (first.tokens + self.tokens),
+            count: 1 + (first.count + self.count),
+        }
+    }
+}
+
+// Goes on with a walk under a cap, depth first. This is the closed state of the node where it
+// stands.
+pub fn go_on(
     alloc: Global,
     instance: &Instance,
     pairs: &[(u32, u32)],
     state: &mut EdgeState,
     closer: &mut Closer,
-    node: NodeKind,
+    walk: Walk,
     cap: u64,
-) -> Result<Outcome, NoMemory>
+) -> Result<End, NoMemory>
     requires limits { IsInternalInstance instance.now }
     requires dims { state.old.dims ≡ dims instance.now }
     requires boxes { state.old.boxes ≡ box_count instance.now }
     requires room { closer.old ≡ record { dims = state.old.dims; boxes = state.old.boxes } }
     requires pairs { pairs.now ≡ ranked_pairs instance.now }
     requires fit { SidesFit instance.now }
-    requires known { IsKind instance.now state.old.trail node }
+    requires known { IsWalk instance.now state.old.trail walk }
+    requires within { walk.count ≤ cap }
     ensures sizes { state.new ≡ record state.old { trail = state.new.trail } }
     ensures closer { closer.new ≡ closer.old }
-    ensures outcome { IfOk result
-        (λ r. plain_outcome r ≡ told cap (outcome (kind_tree instance.now state.old.trail node))) }
+    ensures end { IfOk result
+        (IsEndOf instance.now state.new.trail cap (walk_tree instance.now state.old.trail walk)) }
 {
-    let mut stack: Vec<Waiting> = Vec::new(alloc);
-    let mut tokens = Vec::new(alloc);
-    let mut count = 0;
-    let mut node = node;
+    let Walk {
+        mut frames,
+        mut tokens,
+        mut count,
+        node,
+    } = walk;
+    let mut place = Place::Met(node);
     loop {
-        match node {
-            NodeKind::Conflict => {
-                let Ok(()) = tokens.push(Token::Rules) else {
-                    return Err(NoMemory);
-                };
-                match stack.pop() {
-                    None => return Ok(Outcome::No { tokens, count }),
-                    Some(waiting) => {
-                        state.undo(waiting.mark);
-                        let (split, rank) = (waiting.split, waiting.rank);
-                        let child = Child::Second;
-                        node = visit_child(instance, pairs, state, closer, split, rank, child);
+        match place {
+            Place::Met(node) => match node {
+                NodeKind::Conflict => {
+                    let Ok(()) = tokens.push(Token::Rules) else {
+                        return Err(NoMemory);
+                    };
+                    place = Place::Over(Size {
+                        tokens: 1,
+                        count: 0,
+                    });
+                }
+                NodeKind::Settled => {
+                    let numbers = places_of(alloc, instance, state)?;
+                    return Ok(End::Whole(Outcome::Yes { numbers, count }));
+                }
+                NodeKind::Divided { split, rank } => {
+                    if count == cap {
+                        return Ok(End::Stopped(Walk {
+                            frames,
+                            tokens,
+                            count,
+                            node,
+                        }));
                     }
+                    count += 1;
+                    let Ok(()) = tokens.push(split.token()) else {
+                        return Err(NoMemory);
+                    };
+                    let (mark, first) = (state.mark(), None);
+                    let Ok(()) = frames.push(Frame { split, mark, rank, first }) else {
+                        return Err(NoMemory);
+                    };
+                    let child = Child::First;
+                    let met = visit_child(instance, pairs, state, closer, split, rank, child);
+                    place = Place::Met(met);
                 }
-            }
-            NodeKind::Settled => {
-                let numbers = places_of(alloc, instance, state)?;
-                return Ok(Outcome::Yes { numbers, count });
-            }
-            NodeKind::Divided { split, rank } => {
-                if count == cap {
-                    return Ok(Outcome::Past);
-                }
-                count += 1;
-                let Ok(()) = tokens.push(split.token()) else {
-                    return Err(NoMemory);
+            },
+            Place::Over(size) => {
+                let Some(frame) = frames.pop() else {
+                    return Ok(End::Whole(Outcome::No { tokens, count }));
                 };
-                let mark = state.mark();
-                let Ok(()) = stack.push(Waiting { split, mark, rank }) else {
-                    return Err(NoMemory);
+                state.undo(frame.mark);
+                let Some(first) = frame.first else {
+                    let Frame { split, mark, rank, .. } = frame;
+                    let first = Some(size);
+                    let Ok(()) = frames.push(Frame { split, mark, rank, first }) else {
+                        return Err(NoMemory);
+                    };
+                    let child = Child::Second;
+                    let met = visit_child(instance, pairs, state, closer, split, rank, child);
+                    place = Place::Met(met);
+                    continue;
                 };
-                node = visit_child(instance, pairs, state, closer, split, rank, Child::First);
+                place = Place::Over(size.behind(first));
             }
         }
     }

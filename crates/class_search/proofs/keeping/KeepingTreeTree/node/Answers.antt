@@ -1,0 +1,13 @@
+use Rattle.std.proofs.Common.{◌≡◌, Some, IfOk, IfSome, sym, subst}
+use Rattle.tree_terms.specs.Trees.{node_at}
+use Rattle.tree_terms.specs.Paths.{node_told, IsReachable}
+use Rattle.work_share.specs.Nodes.{plain_node}
+use Rattle.class_search.specs.Tree.{PlainClassTree, shape}
+use Rattle.class_search.proofs.keeping.KeepingTreeTree.node.Goals as goal
+
+pub node-requires : goal.node-requires
+node-requires c = subst (λ (t : PlainClassTree). IsReachable (shape t) c.args.path.now) (sym c.self.view_is) c.requires
+
+pub returns : goal.returns
+returns c =
+    subst (λ (t : PlainClassTree). IfOk c.node.result (λ r. IfSome (node_at (Some (shape t)) c.args.path.now) (λ node. plain_node r ≡ node_told node))) c.self.view_is c.node.ensures

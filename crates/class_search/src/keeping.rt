@@ -1,0 +1,217 @@
+//! The class tree with a room for walks that were left where their cap was spent.
+ghost use Rattle.std.specs.Prelude.{◌≡◌, ◌++◌, ◌∷◌, [], IfOk, IfSome, IsSome, MatchBool, Some};
+ghost use Rattle.tree_terms.specs.Trees.{node_at, outcome, told};
+ghost use Rattle.tree_terms.specs.Paths.{node_told, outcome_at, IsReachable};
+ghost use Rattle.work_share.specs.Outcomes.{plain_outcome};
+ghost use Rattle.work_share.specs.Nodes.{plain_node};
+ghost use Rattle.class_search.specs.Kept.{IsKeptAt, ArePartsOf, IsWalkOf};
+ghost use Rattle.class_search.specs.Tree.{shape, same_trees};
+
+use crate::ClassTree;
+use crate::kept::{Explored, Kept, Parts, Standing};
+use box_instances::NoMemory;
+use proof_tree::Outcome;
+use std::alloc::{AllocError, Global};
+use std::marker::Model;
+use std::sync::Mutex;
+use work_share::{Node, Tree};
+
+// What is kept of the node at a path of a class tree.
+#[derive(Drop)]
+pub struct Piece<'a> {
+    tree: &'a ClassTree<'a>,
+    path: Vec<u32>,
+    kept: Kept<'a>,
+}
+
+impl<'a> Model for Piece<'a> {
+    ghost use Rattle.class_search.specs.Pieces.{PlainPiece};
+    ghost use Rattle.class_search.specs.Kept.{IsKeptAt};
+
+    ghost Value = { PlainPiece };
+
+    ghost view = { λ p. record { tree = p.tree.now; path = p.path.items; kept = p.kept } };
+
+    ghost invariant = { λ p. IsKeptAt p.tree.now p.path.items p.kept };
+}
+
+impl<'a> Piece<'a> {
+    // Whether it is of the node at this path.
+    fn is_at(&self, path: &[u32]) -> bool
+        ensures { MatchBool result (self.now.path ≡ path.now) (¬ (self.now.path ≡ path.now)) }
+    {
+        self.path.as_slice() == path
+    }
+
+    // What is kept, if it is of the node at this path of this tree.
+    fn kept_of(self, tree: &ClassTree<'_>, path: &[u32]) -> Option<Kept<'a>>
+        ensures { IfSome result (IsKeptAt tree.now path.now) }
+    {
+        let is_here = self.path.as_slice() == path && self.tree.same(tree);
+        if !is_here {
+            return None;
+        }
+        Some(self.kept)
+    }
+
+    // What is kept of a child of the node at this path.
+    fn of_child(
+        alloc: Global,
+        tree: &'a ClassTree<'a>,
+        path: &[u32],
+        child: u32,
+        kept: Kept<'a>,
+    ) -> Result<Piece<'a>, AllocError>
+        requires { IsKeptAt tree.now (path.now ++ child ∷ []) kept }
+    {
+        let mut longer = Vec::with_capacity(alloc, path.len() + 1)?;
+        longer.extend_from_slice(path)?;
+        longer.push(child)?;
+        Ok(Piece {
+            tree,
+            path: longer,
+            kept,
+        })
+    }
+}
+
+// The class tree, with a room for what is kept of nodes below those whose cap was spent. It is seen
+// as that tree.
+//
+// Whoever explores the node of a kept walk goes on with it. Nothing hangs on what the room holds:
+// each piece is right for its node, and where the room is just in use by another thread, or there
+// is no memory for a piece, the walk is lost and its node is begun anew.
+pub struct KeepingTree<'a> {
+    tree: &'a ClassTree<'a>,
+    room: Mutex<Vec<Piece<'a>>>,
+}
+
+impl<'a> Model for KeepingTree<'a> {
+    ghost use Rattle.class_search.specs.Tree.{PlainClassTree};
+
+    ghost Value = { PlainClassTree };
+
+    ghost view = { λ t. t.tree.now };
+}
+
+// Takes a piece of the node at this path out of the room, if one is there.
+fn taken<'a>(room: &Mutex<Vec<Piece<'a>>>, path: &[u32]) -> Option<Piece<'a>> {
+    let mut room = room.try_lock()?;
+    let pieces = &mut *room;
+    let position = pieces.iter().position(|piece| piece.is_at(path))?;
+    Some(pieces.swap_remove(position))
+}
+
+// Puts pieces into the room, unless it is in use.
+fn put<'a>(room: &Mutex<Vec<Piece<'a>>>, mut pieces: Vec<Piece<'a>>) -> Result<(), AllocError> {
+    match room.try_lock() {
+        Some(mut room) => {
+            let kept = &mut *room;
+            kept.append(&mut pieces)
+        }
+        None => Ok(()),
+    }
+}
+
+// The pieces of what is left to the children of the node at a path.
+fn pieces_of<'a>(
+    alloc: Global,
+    tree: &'a ClassTree<'a>,
+    path: &[u32],
+    parts: Parts<'a>,
+) -> Result<Vec<Piece<'a>>, AllocError>
+    requires known { IfSome (node_at (Some (shape tree.now)) path.now)
+        (λ node. ArePartsOf tree.now.instance node parts) }
+    requires there { IsSome (node_at (Some (shape tree.now)) path.now) }
+{
+    let mut pieces = Vec::with_capacity(alloc, 2)?;
+    match parts {
+        Parts::First(standing) => {
+            pieces.push(Piece::of_child(alloc, tree, path, 0, Kept::Standing(standing))?)?;
+        }
+        Parts::Second(refuted, standing) => {
+            pieces.push(Piece::of_child(alloc, tree, path, 0, Kept::Refuted(refuted))?)?;
+            pieces.push(Piece::of_child(alloc, tree, path, 1, Kept::Standing(standing))?)?;
+        }
+    }
+    Ok(pieces)
+}
+
+impl<'a> KeepingTree<'a> {
+    // The tree with an empty room.
+    pub fn new(alloc: Global, tree: &'a ClassTree<'a>) -> KeepingTree<'a>
+        ensures { result ≡ tree.entry.now }
+    {
+        KeepingTree {
+            tree,
+            room: Mutex::new(Vec::new(alloc)),
+        }
+    }
+
+    // Keeps the walk that was left at the node of this path, if there is one, for its children.
+    fn keep(
+        &self,
+        alloc: Global,
+        path: &[u32],
+        left: Option<Standing<'a>>,
+    ) -> Result<(), AllocError>
+        requires there { IsSome (node_at (Some (shape self.now)) path.now) }
+        requires known { IfSome (node_at (Some (shape self.now)) path.now)
+            (λ node. IfSome left (IsWalkOf self.now.instance node)) }
+    {
+        let Some(standing) = left else {
+            return Ok(());
+        };
+        let Some(parts) = standing.parts()? else {
+            return Ok(());
+        };
+        put(&self.room, pieces_of(alloc, self.tree, path, parts)?)
+    }
+
+    // What was kept of the node at a path, or the walk that begins there.
+    fn kept_at(&self, alloc: Global, path: &[u32]) -> Result<Kept<'a>, NoMemory>
+        requires { IsSome (node_at (Some (shape self.now)) path.now) }
+        ensures { IfOk result (IsKeptAt self.now path.now) }
+    {
+        if let Some(piece) = taken(&self.room, path) {
+            if let Some(kept) = piece.kept_of(self.tree, path) {
+                return Ok(kept);
+            }
+        }
+        self.tree.begun(alloc, path)
+    }
+}
+
+impl<'a> Tree for KeepingTree<'a> {
+    ghost shape = { shape };
+
+    ghost AreSame = { λ t u. t ≡ u };
+
+    fn explore(&self, alloc: Global, path: &[u32], cap: u64) -> Result<Outcome, NoMemory>
+        requires { IsReachable (shape self.now) path.now }
+        ensures { IfOk result (λ r. IfSome (outcome_at (shape self.now) path.now)
+            (λ v. plain_outcome r ≡ told cap v)) }
+    {
+        let kept = self.kept_at(alloc, path)?;
+        let Explored { outcome, left } = self.tree.explored_on(alloc, path, kept, cap)?;
+        // Without memory the walk is lost, and nothing else.
+        let _is_kept = self.keep(alloc, path, left).is_ok();
+        Ok(outcome)
+    }
+
+    fn node(&self, alloc: Global, path: &[u32]) -> Result<Node, NoMemory>
+        requires { IsReachable (shape self.now) path.now }
+        ensures { IfOk result (λ r. IfSome (node_at (Some (shape self.now)) path.now)
+            (λ node. plain_node r ≡ node_told node)) }
+    {
+        self.tree.node(alloc, path)
+    }
+
+    fn same(&self, other: &Self) -> bool
+        ensures { MatchBool result (self.now ≡ other.now) (¬ (self.now ≡ other.now)) }
+    {
+        self.tree.same(other.tree)
+    }
+
+    ghost same_shape = { same_trees };
+}

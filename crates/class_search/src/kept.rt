@@ -1,0 +1,198 @@
+//! Walks that are kept where their cap was spent, and what becomes of them as their node is split.
+ghost use Rattle.std.specs.Prelude.{◌≡◌, ◌<◌, ◌∷◌, List, IfOk, IfSome, map, vec_len};
+ghost use Rattle.packing_terms.specs.Tokens.{PlainToken};
+ghost use Rattle.packing_terms.specs.Rank.{ranked_pairs};
+ghost use Rattle.tree_terms.specs.Trees.{SearchTree, No, outcome, told};
+ghost use Rattle.proof_tree.specs.Plain.{plain_token};
+ghost use Rattle.work_share.specs.Outcomes.{plain_outcome};
+ghost use Rattle.class_search.specs.Kept.{IsStanding, standing_tree, IsKeptOf, ArePartsOf, IsExplored};
+
+use crate::walk::{End, Walk, go_on};
+use box_instances::{Instance, NoMemory};
+use edge_state::EdgeState;
+use proof_tree::{Outcome, Token};
+use rule_closure::Closer;
+use std::alloc::{AllocError, Global};
+
+// A walk, with the closed state of the node where it stands.
+#[derive(Drop)]
+pub struct Standing<'a> {
+    pub instance: &'a Instance,
+    pub state: EdgeState,
+    pub closer: Closer,
+    pub walk: Walk,
+}
+
+// What a finished node gave: no, with these tokens and this count.
+#[derive(Drop)]
+pub struct Refuted {
+    pub tokens: Vec<Token>,
+    pub count: u64,
+}
+
+// What is kept of a node: all that it gives, or a walk through its tree.
+#[derive(Drop)]
+pub enum Kept<'a> {
+    Refuted(Refuted),
+    Standing(Standing<'a>),
+}
+
+// What a walk leaves to the children of its node: it goes on in the first; or the first is
+// finished, and it goes on in the second.
+#[derive(Drop)]
+pub enum Parts<'a> {
+    First(Standing<'a>),
+    Second(Refuted, Standing<'a>),
+}
+
+// What exploring gives: what is told, and the walk where the cap was spent.
+#[derive(Drop)]
+pub struct Explored<'a> {
+    pub outcome: Outcome,
+    pub left: Option<Standing<'a>>,
+}
+
+// Drops the first token.
+fn drop_first(tokens: &mut Vec<Token>)
+    requires { 0 < vec_len tokens.old }
+    ensures { (t : PlainToken) (ts : List PlainToken)
+        → map plain_token tokens.old.items ≡ t ∷ ts → map plain_token tokens.new.items ≡ ts }
+{
+    let _token = tokens.remove(0);
+}
+
+impl<'a> Standing<'a> {
+    // Goes on under a cap.
+    fn explored(
+        self,
+        alloc: Global,
+        pairs: &[(u32, u32)],
+        cap: u64,
+    ) -> Result<Explored<'a>, NoMemory>
+        requires pairs { pairs.now ≡ ranked_pairs self.instance.now }
+        requires known { IsStanding self }
+        ensures { IfOk result (IsExplored self.entry.instance.now (standing_tree self.entry) cap) }
+    {
+        // For the proof alone: tells the limits of the instance.
+        let _limits = self.instance.len();
+        let Standing {
+            instance,
+            mut state,
+            mut closer,
+            walk,
+        } = self;
+        if walk.count > cap {
+            return Ok(Explored {
+                outcome: Outcome::Past,
+                left: None,
+            });
+        }
+        match go_on(alloc, instance, pairs, &mut state, &mut closer, walk, cap)? {
+            End::Whole(outcome) => Ok(Explored {
+                outcome,
+                left: None,
+            }),
+            End::Stopped(walk) => Ok(Explored {
+                outcome: Outcome::Past,
+                left: Some(Standing {
+                    instance,
+                    state,
+                    closer,
+                    walk,
+                }),
+            }),
+        }
+    }
+
+    // What it leaves to the children of its node, if it has gone on to one.
+    pub fn parts(self) -> Result<Option<Parts<'a>>, AllocError>
+        requires { IsStanding self }
+        ensures { IfOk result
+            (λ r. IfSome r (ArePartsOf self.entry.instance.now (standing_tree self.entry))) }
+    {
+        let Standing {
+            instance,
+            state,
+            closer,
+            mut walk,
+        } = self;
+        if walk.frames.is_empty() {
+            return Ok(None);
+        }
+        let split = walk.frames.remove(0);
+        drop_first(&mut walk.tokens);
+        let Some(size) = split.first else {
+            walk.count -= 1;
+            return Ok(Some(Parts::First(Standing {
+                instance,
+                state,
+                closer,
+                walk,
+            })));
+        };
+        let rest = walk.tokens.split_off(size.tokens)?;
+        let Walk {
+            frames,
+            tokens,
+            count,
+            node,
+        } = walk;
+        let walk = Walk {
+            frames,
+            tokens: rest,
+            count: count - 1 - size.count,
+            node,
+        };
+        let refuted = Refuted {
+            tokens,
+            count: size.count,
+        };
+        Ok(Some(Parts::Second(
+            refuted,
+            Standing {
+                instance,
+                state,
+                closer,
+                walk,
+            },
+        )))
+    }
+}
+
+impl Refuted {
+    // What is told of it under a cap.
+    fn told(self, cap: u64) -> Outcome
+        ensures { (tree : SearchTree) → outcome tree ≡ No (map plain_token self.tokens.items) self.count
+            → plain_outcome result ≡ told cap (outcome tree) }
+    {
+        let Refuted { tokens, count } = self;
+        if count > cap {
+            return Outcome::Past;
+        }
+        Outcome::No { tokens, count }
+    }
+}
+
+impl<'a> Kept<'a> {
+    // What the tree of its node gives under a cap, and the walk where the cap was spent.
+    pub fn explored(
+        self,
+        alloc: Global,
+        instance: &Instance,
+        pairs: &[(u32, u32)],
+        cap: u64,
+    ) -> Result<Explored<'a>, NoMemory>
+        requires pairs { pairs.now ≡ ranked_pairs instance.now }
+        requires known { (tree : SearchTree) × IsKeptOf instance.now tree self }
+        ensures { (tree : SearchTree) → IsKeptOf instance.now tree self.entry
+            → IfOk result (IsExplored instance.now tree cap) }
+    {
+        match self {
+            Kept::Refuted(refuted) => Ok(Explored {
+                outcome: refuted.told(cap),
+                left: None,
+            }),
+            Kept::Standing(standing) => standing.explored(alloc, pairs, cap),
+        }
+    }
+}
