@@ -122,8 +122,7 @@ module _ (s : Standing) (f : Frame) (rest : List Frame) (e : s.walk.frames.items
   met_size size is =
       let done = subst (λ (o : Option Size). IsFirst s.instance.now f r.among o r.own r.own_count) is r.first in
       let a = done.0 in
-      let b = done.1 in
-      (
+      let b = done.1 in (
         (let t = ap length r.tokens_are in let l = length-append r.own r.left in omega (arith, t, l, a)),
         (let n = r.count_is in omega (arith, n, b)),
       )

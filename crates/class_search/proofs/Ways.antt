@@ -197,13 +197,12 @@ module _ (instance : PlainInstance) where
           let count : c ≡ s.count_before + 1 = (let n = s.all_count in let k = none.1 in omega (arith, n, k)) in
           (join second_child rest, joined ∙ ap₂ join (sym (ap₂ No tokens count)) (ap (λ (t : SearchTree). join (outcome t) (join second_child rest)) (sym (here_is None is))))
       go (Some size) is =
-          let done = subst (λ (o : Option Size). IsFirst instance f es o s.own s.own_count) is s.first in
-          (
+          let done = subst (λ (o : Option Size). IsFirst instance f es o s.own s.own_count) is s.first in (
             rest,
             joined
-            ∙ (ap (λ v. join (No (s.before ++ token ∷ []) (s.count_before + 1)) (join v (join second_child rest))) done.2
-            ∙ (sym (join_assoc (No (s.before ++ token ∷ []) (s.count_before + 1)) (No s.own s.own_count) (join second_child rest))
-            ∙ ap₂ join (sym (ap₂ No s.all_tokens s.all_count)) (ap (λ (t : SearchTree). join (outcome t) rest) (sym (here_is (Some size) is))))),
+                ∙ (ap (λ v. join (No (s.before ++ token ∷ []) (s.count_before + 1)) (join v (join second_child rest))) done.2
+                ∙ (sym (join_assoc (No (s.before ++ token ∷ []) (s.count_before + 1)) (No s.own s.own_count) (join second_child rest))
+                ∙ ap₂ join (sym (ap₂ No s.all_tokens s.all_count)) (ap (λ (t : SearchTree). join (outcome t) rest) (sym (here_is (Some size) is))))),
           )
 
   -- what the whole tree gives: what was met, and then the node where the way ends, and then some more
@@ -235,7 +234,7 @@ module _ (instance : PlainInstance) where
       let first_child = outcome (tree_below instance (added s First ++ es)) in
       let second_child = outcome (tree_below instance (added s Second ++ es)) in
       let f = ap (λ v. count_of (join v j.0)) (outcome_here es s k)
-          ∙ ap count_of (join_assoc (No ((plain_split s).token ∷ []) 1) (join first_child (join second_child no_tokens)) j.0) in
+      ∙ ap count_of (join_assoc (No ((plain_split s).token ∷ []) 1) (join first_child (join second_child no_tokens)) j.0) in
       let m = count_join_no ((plain_split s).token ∷ []) 1 (join (join first_child (join second_child no_tokens)) j.0) in
       omega (arith, e, n, f, m)
 

@@ -16,7 +16,7 @@ use rule_closure::Closer;
 use std::alloc::Global;
 use std::sync::Wait;
 use std::thread::Threads;
-use work_share::{Gate, Settings, solve_shared};
+use work_share::{Gate, Settings};
 
 /// Whether an instance fits, decided by its class tree under a budget of branchings.
 ///
@@ -99,5 +99,5 @@ pub fn decide<R: Threads + Wait + Sync, G: Gate + Sync>(
     // For the proof alone: tells the limits of the instance.
     let _limits = instance.len();
     let tree = ClassTree::new(alloc, instance, settings.scales)?;
-    solve_shared(rt, alloc, &tree, settings, gate)
+    tree.solve(rt, alloc, settings, gate)
 }

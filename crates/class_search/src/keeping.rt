@@ -13,8 +13,9 @@ use box_instances::NoMemory;
 use proof_tree::Outcome;
 use std::alloc::{AllocError, Global};
 use std::marker::Model;
-use std::sync::Mutex;
-use work_share::{Node, Tree};
+use std::sync::{Mutex, Wait};
+use std::thread::Threads;
+use work_share::{Gate, Node, Settings, Tree, solve_shared};
 
 // What is kept of the node at a path of a class tree.
 #[derive(Drop)]
@@ -81,6 +82,7 @@ impl<'a> Piece<'a> {
 // Whoever explores the node of a kept walk goes on with it. Nothing hangs on what the room holds:
 // each piece is right for its node, and where the room is just in use by another thread, or there
 // is no memory for a piece, the walk is lost and its node is begun anew.
+#[derive(Drop)]
 pub struct KeepingTree<'a> {
     tree: &'a ClassTree<'a>,
     room: Mutex<Vec<Piece<'a>>>,
@@ -214,4 +216,32 @@ impl<'a> Tree for KeepingTree<'a> {
     }
 
     ghost same_shape = { same_trees };
+}
+
+impl<'a> ClassTree<'a> {
+    /// What the tree gives under the budget of the settings, by as many workers as these say: what
+    /// `solve_shared` answers of it, for every number of workers and every gate.
+    ///
+    /// With more than one worker, a walk that has spent the cap of its task is kept: its state, the
+    /// splits on its way and what it has met. As the task is split, what it has finished of the
+    /// first child stands ready for whoever takes that child, and the walk waits for whoever takes
+    /// the child in which it stands, and goes on there. So at most one state waits for each task
+    /// that waits or was given up. Without memory to keep a walk, or where two workers come to the
+    /// room of the walks at once, its node is begun anew, and nothing else is lost.
+    pub fn solve<R: Threads + Wait + Sync, G: Gate + Sync>(
+        &self,
+        rt: &R,
+        alloc: Global,
+        settings: &Settings,
+        gate: &G,
+    ) -> Result<Outcome, NoMemory>
+        ensures { IfOk result
+            (λ r. plain_outcome r ≡ told settings.now.budget (outcome (shape self.now))) }
+    {
+        if settings.workers <= 1 {
+            return solve_shared(rt, alloc, self, settings, gate);
+        }
+        let keeping = KeepingTree::new(alloc, self);
+        solve_shared(rt, alloc, &keeping, settings, gate)
+    }
 }

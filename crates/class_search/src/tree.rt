@@ -160,10 +160,7 @@ impl<'a> ClassTree<'a> {
                 let Ok(()) = tokens.push(token) else {
                     return Err(NoMemory);
                 };
-                Ok(Kept::Refuted(Refuted {
-                    tokens,
-                    count: 0,
-                }))
+                Ok(Kept::Refuted(Refuted { tokens, count: 0 }))
             }
             Arrival::Inner(node) => Ok(Kept::Standing(Standing {
                 instance: self.instance,

@@ -157,7 +157,12 @@ pub fn go_on(
                         return Err(NoMemory);
                     };
                     let (mark, first) = (state.mark(), None);
-                    let Ok(()) = frames.push(Frame { split, mark, rank, first }) else {
+                    let Ok(()) = frames.push(Frame {
+                        split,
+                        mark,
+                        rank,
+                        first,
+                    }) else {
                         return Err(NoMemory);
                     };
                     let child = Child::First;
@@ -171,9 +176,19 @@ pub fn go_on(
                 };
                 state.undo(frame.mark);
                 let Some(first) = frame.first else {
-                    let Frame { split, mark, rank, .. } = frame;
+                    let Frame {
+                        split,
+                        mark,
+                        rank,
+                        ..
+                    } = frame;
                     let first = Some(size);
-                    let Ok(()) = frames.push(Frame { split, mark, rank, first }) else {
+                    let Ok(()) = frames.push(Frame {
+                        split,
+                        mark,
+                        rank,
+                        first,
+                    }) else {
                         return Err(NoMemory);
                     };
                     let child = Child::Second;

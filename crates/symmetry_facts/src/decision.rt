@@ -14,7 +14,7 @@ use std::alloc::Global;
 use std::sync::Wait;
 use std::thread::Threads;
 use symmetry_list::facts;
-use work_share::{Gate, Settings, solve_shared};
+use work_share::{Gate, Settings};
 
 /// Whether an instance fits, decided by the class tree that begins with its symmetry facts, under
 /// the budget of the settings, by as many workers as these say.
@@ -44,5 +44,5 @@ pub fn decide_reduced<R: Threads + Wait + Sync, G: Gate + Sync>(
     let _limits = instance.len();
     let start = facts(alloc, instance)?;
     let tree = ClassTree::starting(alloc, instance, start.as_slice(), settings.scales)?;
-    solve_shared(rt, alloc, &tree, settings, gate)
+    tree.solve(rt, alloc, settings, gate)
 }

@@ -29,7 +29,7 @@ pub returns-then-count-cap-clause-end : goal.returns-then-count-cap-clause-end
 returns-then-count-cap-clause-end c =
     let stands = rw (c.in-Met.is, c.in-Divided.is) at c.loop-place.invariant.stands in
     let past = split_count c.args.instance.now (walk_tree c.args.instance.now c.args.state.now.trail c.args.walk) (reverse c.loop-place.frames.items) c.loop-place.state.trail
-        (map plain_token c.loop-place.tokens.items) c.loop-place.count c.in-Divided.split c.in-Divided.rank stands in
+    (map plain_token c.loop-place.tokens.items) c.loop-place.count c.in-Divided.split c.in-Divided.rank stands in
     (record { met = stands.met; known = stands.known }, stands.root, omega (arith, past, c.if-count-cap.true))
 
 pub loop-place-preserved-in-Divided : goal.loop-place-preserved-in-Divided
@@ -61,7 +61,7 @@ behind-requires-clause-tokens c =
     let ts = map plain_token c.loop-place.tokens.items in
     let both = met_both c.args.instance.now whole c.in-Some.frame (reverse c.pop.new.self.items) c.loop-place.state.trail ts c.loop-place.count c.in-Over.size c.in-Some-first.first c.in-Some-first.is stands in
     let w = size_within c.args.instance.now whole (reverse c.pop.new.self.items) (oldest c.in-Some.frame.mark c.loop-place.state.trail) ts c.loop-place.count
-        (size_of_both c.in-Some-first.first c.in-Over.size) both in
+    (size_of_both c.in-Some-first.first c.in-Over.size) both in
     let l = w.0 in
     let n = length-map c.loop-place.tokens.items plain_token in
     let small = c.loop-place.tokens.small in
@@ -97,4 +97,3 @@ loop-place-preserved c =
       sizes = same_sizes c.args.state.now c.loop-place.state (record c.loop-place.state { trail = oldest c.in-Some.frame.mark c.loop-place.state.trail }) c.loop-place.invariant.sizes refl;
       same_closer = c.loop-place.invariant.same_closer;
     })
-

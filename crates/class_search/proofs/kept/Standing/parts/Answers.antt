@@ -65,8 +65,8 @@ returns c =
     let w : Walk = record { frames = c.remove-split.new.self; tokens = c.in_ok-rest.rest; count = c.args.self.walk.count - 1 - size.count; node = c.args.self.walk.node } in
     let refuted : RefutedNode = record { tokens = c.split_off.new.self; count = size.count } in (
       left_behind c.args.self c.remove-split.result _ f c.requires refuted size c.in-Some.is
-      (λ t ts e. ap (map plain_token) c.in_ok-rest.ensures.items ∙ (sym (take-map plain_token size.tokens c.drop_first.new.tokens.items) ∙ ap (take size.tokens) (c.drop_first.ensures t ts e))) refl,
+          (λ t ts e. ap (map plain_token) c.in_ok-rest.ensures.items ∙ (sym (take-map plain_token size.tokens c.drop_first.new.tokens.items) ∙ ap (take size.tokens) (c.drop_first.ensures t ts e))) refl,
       left_second c.args.self c.remove-split.result _ f c.requires w size c.in-Some.is c.remove-split.ensures.items
-      (λ t ts e. ap (map plain_token) c.in_ok-rest.ensures.tail ∙ (sym (drop-map plain_token size.tokens c.drop_first.new.tokens.items) ∙ ap (drop size.tokens) (c.drop_first.ensures t ts e)))
-      (omega (arith, m)) refl,
+          (λ t ts e. ap (map plain_token) c.in_ok-rest.ensures.tail ∙ (sym (drop-map plain_token size.tokens c.drop_first.new.tokens.items) ∙ ap (drop size.tokens) (c.drop_first.ensures t ts e)))
+          (omega (arith, m)) refl,
     )
