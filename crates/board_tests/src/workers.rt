@@ -12,9 +12,9 @@ use std::test::Fail;
 use std::thread::Threads;
 use work_share::{Gate, NoGate, Settings, Tree, solve_shared};
 
-const WORKERS: [u32; 5] = [1, 2, 3, 8, 64];
+const WORKERS: [u32; 6] = [1, 2, 3, 4, 8, 64];
 
-// What so many workers give.
+// What so many workers give, who go on with each other's walks.
 fn share<R: Threads + Wait + Sync, G: Gate + Sync>(
     rt: &R,
     alloc: Global,
@@ -28,7 +28,23 @@ fn share<R: Threads + Wait + Sync, G: Gate + Sync>(
         budget,
         scales: false,
     };
-    solve_shared(rt, alloc, tree, &settings, gate)
+    tree.solve(rt, alloc, &settings, gate)
+}
+
+// What so many workers give, who begin each task anew.
+fn share_anew<R: Threads + Wait + Sync>(
+    rt: &R,
+    alloc: Global,
+    tree: &ClassTree<'_>,
+    budget: u64,
+    workers: u32,
+) -> Result<Outcome, NoMemory> {
+    let settings = Settings {
+        workers,
+        budget,
+        scales: false,
+    };
+    solve_shared(rt, alloc, tree, &settings, &NoGate)
 }
 
 // Whether each number of workers gives the outcome of one thread, under each budget of a row.
@@ -40,6 +56,10 @@ fn is_shared<R: Threads + Wait + Sync>(rt: &R, alloc: Global, row: &Row) -> Resu
         for workers in WORKERS {
             let shared = share(rt, alloc, &tree, budget, workers, &NoGate)?;
             if !is_same(&alone, &shared) {
+                return Ok(false);
+            }
+            let anew = share_anew(rt, alloc, &tree, budget, workers)?;
+            if !is_same(&alone, &anew) {
                 return Ok(false);
             }
         }

@@ -1,6 +1,6 @@
 //! The walk through the tree below a node, depth first, with a stack of the splits on the way. It
 //! can be left where a cap is spent, and gone on with.
-ghost use Rattle.std.specs.Prelude.{◌≡◌, ◌≤◌, ◌<◌, ◌+◌, ◌^◌, IfOk, IsSome, List, Some};
+ghost use Rattle.std.specs.Prelude.{◌≡◌, ◌≤◌, ◌<◌, ◌+◌, ◌^◌, ◌++◌, ◌∷◌, [], IfOk, OnOk, IsSome, List, Some};
 ghost use Rattle.packing_terms.specs.declared.Exclusion.{Exclusion as PlainExclusion};
 ghost use Rattle.packing_terms.specs.Packing.{PlainInstance, dims, box_count};
 ghost use Rattle.packing_terms.specs.Limits.{IsInternalInstance};
@@ -9,8 +9,9 @@ ghost use Rattle.packing_terms.specs.Rank.{ranked_pairs};
 ghost use Rattle.tree_terms.specs.Trees.{node_at};
 ghost use Rattle.tree_terms.specs.Paths.{node_told};
 ghost use Rattle.work_share.specs.Nodes.{plain_node};
-ghost use Rattle.class_search.specs.Visits.{kind_tree, IsKind, IsAmong};
-ghost use Rattle.class_search.specs.Walks.{size_of_both, walk_tree, IsWalk, IsEndOf};
+ghost use Rattle.class_search.specs.Visits.{kind_tree, IsKind, IsAmong, IsMet, IsDivided};
+ghost use Rattle.class_search.specs.Splits.{added, with_all};
+ghost use Rattle.class_search.specs.Walks.{child_in, size_of_both, walk_tree, IsWalk, IsEndOf};
 
 use crate::places::places_of;
 use crate::splits::{Child, Split};
@@ -96,6 +97,46 @@ impl Size {
     }
 }
 
+// The child in which the way goes on.
+fn child_in(frame: &Frame) -> Child
+    ensures { result ≡ child_in frame.now.first }
+{
+    match frame.first {
+        None => Child::First,
+        Some(_) => Child::Second,
+    }
+}
+
+// Goes from a split, whose closed state this is, into the child that comes next, and puts the split
+// on the way.
+fn go_into(
+    instance: &Instance,
+    pairs: &[(u32, u32)],
+    state: &mut EdgeState,
+    closer: &mut Closer,
+    frames: &mut Vec<Frame>,
+    frame: Frame,
+) -> Result<NodeKind, NoMemory>
+    requires limits { IsInternalInstance instance.now }
+    requires dims { state.old.dims ≡ dims instance.now }
+    requires boxes { state.old.boxes ≡ box_count instance.now }
+    requires room { closer.old ≡ record { dims = state.old.dims; boxes = state.old.boxes } }
+    requires pairs { pairs.now ≡ ranked_pairs instance.now }
+    requires divided { IsDivided instance.now state.old.trail frame.split frame.rank }
+    ensures sizes { state.new ≡ record state.old { trail = state.new.trail } }
+    ensures closer { closer.new ≡ closer.old }
+    ensures frames { OnOk result (frames.new.items ≡ frames.old.items ++ frame ∷ []) }
+    ensures met { IfOk result (IsMet instance.now
+        (with_all (added frame.split (child_in frame.first)) state.old.trail) state.new.trail) }
+{
+    let (split, rank) = (frame.split, frame.rank);
+    let child = child_in(&frame);
+    let Ok(()) = frames.push(frame) else {
+        return Err(NoMemory);
+    };
+    Ok(visit_child(instance, pairs, state, closer, split, rank, child))
+}
+
 // Goes on with a walk under a cap, depth first. This is the closed state of the node where it
 // stands.
 pub fn go_on(
@@ -156,47 +197,28 @@ pub fn go_on(
                     let Ok(()) = tokens.push(split.token()) else {
                         return Err(NoMemory);
                     };
-                    let (mark, first) = (state.mark(), None);
-                    let Ok(()) = frames.push(Frame {
+                    let frame = Frame {
                         split,
-                        mark,
+                        mark: state.mark(),
                         rank,
-                        first,
-                    }) else {
-                        return Err(NoMemory);
+                        first: None,
                     };
-                    let child = Child::First;
-                    let met = visit_child(instance, pairs, state, closer, split, rank, child);
+                    let met = go_into(instance, pairs, state, closer, &mut frames, frame)?;
                     place = Place::Met(met);
                 }
             },
             Place::Over(size) => {
-                let Some(frame) = frames.pop() else {
+                let Some(mut frame) = frames.pop() else {
                     return Ok(End::Whole(Outcome::No { tokens, count }));
                 };
                 state.undo(frame.mark);
-                let Some(first) = frame.first else {
-                    let Frame {
-                        split,
-                        mark,
-                        rank,
-                        ..
-                    } = frame;
-                    let first = Some(size);
-                    let Ok(()) = frames.push(Frame {
-                        split,
-                        mark,
-                        rank,
-                        first,
-                    }) else {
-                        return Err(NoMemory);
-                    };
-                    let child = Child::Second;
-                    let met = visit_child(instance, pairs, state, closer, split, rank, child);
+                if let Some(first) = frame.first {
+                    place = Place::Over(size.behind(first));
+                } else {
+                    frame.first = Some(size);
+                    let met = go_into(instance, pairs, state, closer, &mut frames, frame)?;
                     place = Place::Met(met);
-                    continue;
-                };
-                place = Place::Over(size.behind(first));
+                }
             }
         }
     }

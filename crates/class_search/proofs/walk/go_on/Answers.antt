@@ -35,22 +35,22 @@ returns-then-count-cap-clause-end c =
 pub loop-place-preserved-in-Divided : goal.loop-place-preserved-in-Divided
 loop-place-preserved-in-Divided c =
     let stands = rw (c.in-Met.is, c.in-Divided.is) at c.loop-place.invariant.stands in
-    let f : Frame = record { split = c.in-Divided.split; mark = c.mark-mark.result; rank = c.in-Divided.rank; first = None } in
+    let f : Frame = record { split = c.in-Divided.split; mark = c.mark.result; rank = c.in-Divided.rank; first = None } in
     rw (
       c.in-Ok-push.ensures.items,
-      c.in-Ok-push-2.ensures.items,
+      c.in_ok-met-in-Divided.ensures.frames,
       map_push plain_token c.loop-place.tokens.items c.token.result,
       c.token.ensures,
       reverse_last c.loop-place.frames.items f,
-      c.mark-mark.ensures,
+      c.mark.ensures,
     ) (record {
-      stands = met_first c.args.instance.now (walk_tree c.args.instance.now c.args.state.now.trail c.args.walk) (reverse c.loop-place.frames.items) c.loop-place.state.trail c.visit_child-met.new.state.trail
-          (map plain_token c.loop-place.tokens.items) c.loop-place.count c.in-Divided.split c.in-Divided.rank c.visit_child-met.result stands c.visit_child-met.ensures.met;
+      stands = met_first c.args.instance.now (walk_tree c.args.instance.now c.args.state.now.trail c.args.walk) (reverse c.loop-place.frames.items) c.loop-place.state.trail c.go_into.new.state.trail
+          (map plain_token c.loop-place.tokens.items) c.loop-place.count c.in-Divided.split c.in-Divided.rank c.in_ok-met-in-Divided.met stands c.in_ok-met-in-Divided.ensures.met;
       within = omega (arith, c.loop-place.invariant.within, c.if-count-cap.false);
-      same_dims = ap (λ (s : PlainEdges). s.dims) c.visit_child-met.ensures.sizes ∙ c.loop-place.invariant.same_dims;
-      same_boxes = ap (λ (s : PlainEdges). s.boxes) c.visit_child-met.ensures.sizes ∙ c.loop-place.invariant.same_boxes;
-      sizes = same_sizes c.args.state.now c.loop-place.state c.visit_child-met.new.state c.loop-place.invariant.sizes c.visit_child-met.ensures.sizes;
-      same_closer = c.visit_child-met.ensures.closer ∙ c.loop-place.invariant.same_closer;
+      same_dims = ap (λ (s : PlainEdges). s.dims) c.in_ok-met-in-Divided.ensures.sizes ∙ c.loop-place.invariant.same_dims;
+      same_boxes = ap (λ (s : PlainEdges). s.boxes) c.in_ok-met-in-Divided.ensures.sizes ∙ c.loop-place.invariant.same_boxes;
+      sizes = same_sizes c.args.state.now c.loop-place.state c.go_into.new.state c.loop-place.invariant.sizes c.in_ok-met-in-Divided.ensures.sizes;
+      same_closer = c.in_ok-met-in-Divided.ensures.closer ∙ c.loop-place.invariant.same_closer;
     })
 
 pub behind-requires-clause-tokens : goal.behind-requires-clause-tokens
@@ -67,25 +67,8 @@ behind-requires-clause-tokens c =
     let small = c.loop-place.tokens.small in
     omega (arith, l, n, small)
 
-pub loop-place-preserved-in_default-first : goal.loop-place-preserved-in_default-first
-loop-place-preserved-in_default-first c =
-    let e = ap reverse c.in-Some.ensures.items ∙ reverse_last c.pop.new.self.items c.in-Some.frame in
-    let stands = rw (e, c.in-Over.is) at c.loop-place.invariant.stands in
-    let met = rw c.undo.ensures at c.visit_child-met-in_default-first.ensures.met in
-    let f : Frame = record { split = c.in-Some.frame.split; mark = c.in-Some.frame.mark; rank = c.in-Some.frame.rank; first = Some c.in-Over.size } in
-    rw (c.in-Ok-push-3.ensures.items, reverse_last c.pop.new.self.items f) (record {
-      stands = met_second c.args.instance.now (walk_tree c.args.instance.now c.args.state.now.trail c.args.walk) c.in-Some.frame (reverse c.pop.new.self.items) c.loop-place.state.trail
-          c.visit_child-met-in_default-first.new.state.trail (map plain_token c.loop-place.tokens.items) c.loop-place.count c.in-Over.size c.visit_child-met-in_default-first.result (c.in_default-first.is) stands met;
-      within = c.loop-place.invariant.within;
-      same_dims = ap (λ (s : PlainEdges). s.dims) c.visit_child-met-in_default-first.ensures.sizes ∙ (ap (λ (s : PlainEdges). s.dims) c.undo.ensures ∙ c.loop-place.invariant.same_dims);
-      same_boxes = ap (λ (s : PlainEdges). s.boxes) c.visit_child-met-in_default-first.ensures.sizes ∙ (ap (λ (s : PlainEdges). s.boxes) c.undo.ensures ∙ c.loop-place.invariant.same_boxes);
-      sizes = same_sizes c.args.state.now c.loop-place.state c.visit_child-met-in_default-first.new.state c.loop-place.invariant.sizes
-          (same_sizes c.loop-place.state c.undo.new.self c.visit_child-met-in_default-first.new.state (sizes_of c.loop-place.state c.undo.new.self _ c.undo.ensures) c.visit_child-met-in_default-first.ensures.sizes);
-      same_closer = c.visit_child-met-in_default-first.ensures.closer ∙ c.loop-place.invariant.same_closer;
-    })
-
-pub loop-place-preserved : goal.loop-place-preserved
-loop-place-preserved c =
+pub loop-place-preserved-in-Some-first : goal.loop-place-preserved-in-Some-first
+loop-place-preserved-in-Some-first c =
     let e = ap reverse c.in-Some.ensures.items ∙ reverse_last c.pop.new.self.items c.in-Some.frame in
     let stands = rw (e, c.in-Over.is) at c.loop-place.invariant.stands in
     rw (c.behind.ensures, c.undo.ensures) (record {
@@ -96,4 +79,21 @@ loop-place-preserved c =
       same_boxes = c.loop-place.invariant.same_boxes;
       sizes = same_sizes c.args.state.now c.loop-place.state (record c.loop-place.state { trail = oldest c.in-Some.frame.mark c.loop-place.state.trail }) c.loop-place.invariant.sizes refl;
       same_closer = c.loop-place.invariant.same_closer;
+    })
+
+pub loop-place-preserved : goal.loop-place-preserved
+loop-place-preserved c =
+    let e = ap reverse c.in-Some.ensures.items ∙ reverse_last c.pop.new.self.items c.in-Some.frame in
+    let stands = rw (e, c.in-Over.is) at c.loop-place.invariant.stands in
+    let met = rw c.undo.ensures at c.in_ok-met-in-Over.ensures.met in
+    let f : Frame = record { split = c.in-Some.frame.split; mark = c.in-Some.frame.mark; rank = c.in-Some.frame.rank; first = Some c.in-Over.size } in
+    rw (c.in_ok-met-in-Over.ensures.frames, reverse_last c.pop.new.self.items f) (record {
+      stands = met_second c.args.instance.now (walk_tree c.args.instance.now c.args.state.now.trail c.args.walk) c.in-Some.frame (reverse c.pop.new.self.items) c.loop-place.state.trail
+          c.go_into-in_default-first.new.state.trail (map plain_token c.loop-place.tokens.items) c.loop-place.count c.in-Over.size c.in_ok-met-in-Over.met (c.in_default-first.is) stands met;
+      within = c.loop-place.invariant.within;
+      same_dims = ap (λ (s : PlainEdges). s.dims) c.in_ok-met-in-Over.ensures.sizes ∙ (ap (λ (s : PlainEdges). s.dims) c.undo.ensures ∙ c.loop-place.invariant.same_dims);
+      same_boxes = ap (λ (s : PlainEdges). s.boxes) c.in_ok-met-in-Over.ensures.sizes ∙ (ap (λ (s : PlainEdges). s.boxes) c.undo.ensures ∙ c.loop-place.invariant.same_boxes);
+      sizes = same_sizes c.args.state.now c.loop-place.state c.go_into-in_default-first.new.state c.loop-place.invariant.sizes
+          (same_sizes c.loop-place.state c.undo.new.self c.go_into-in_default-first.new.state (sizes_of c.loop-place.state c.undo.new.self _ c.undo.ensures) c.in_ok-met-in-Over.ensures.sizes);
+      same_closer = c.in_ok-met-in-Over.ensures.closer ∙ c.loop-place.invariant.same_closer;
     })
