@@ -12,8 +12,9 @@ use crate::kept::{Explored, Kept, Parts, Standing};
 use box_instances::NoMemory;
 use proof_tree::Outcome;
 use std::alloc::{AllocError, Global};
+use std::hint::spin_loop;
 use std::marker::Model;
-use std::sync::{Mutex, Wait};
+use std::sync::{Mutex, MutexGuard, Wait};
 use std::thread::Threads;
 use work_share::{Gate, Node, Settings, Tree, solve_shared};
 
@@ -80,8 +81,8 @@ impl<'a> Piece<'a> {
 // as that tree.
 //
 // Whoever explores the node of a kept walk goes on with it. Nothing hangs on what the room holds:
-// each piece is right for its node, and where the room is just in use by another thread, or there
-// is no memory for a piece, the walk is lost and its node is begun anew.
+// each piece is right for its node, and where the room stays in use by another thread, or there is
+// no memory for a piece, the walk is lost and its node is begun anew.
 #[derive(Drop)]
 pub struct KeepingTree<'a> {
     tree: &'a ClassTree<'a>,
@@ -96,9 +97,25 @@ impl<'a> Model for KeepingTree<'a> {
     ghost view = { λ t. t.tree.now };
 }
 
+// How often a room in use is tried again. It is in use for a look through its pieces, which is
+// shorter than so many tries.
+const MOST_TRIES: u32 = 10_000;
+
+// The room, once nobody else is in it. It never waits, so that a tree can be explored by whoever
+// has no leave to.
+fn entered<'b, 'a>(room: &'b Mutex<Vec<Piece<'a>>>) -> Option<MutexGuard<'b, Vec<Piece<'a>>>> {
+    for _ in 0..MOST_TRIES {
+        if let Some(guard) = room.try_lock() {
+            return Some(guard);
+        }
+        spin_loop();
+    }
+    None
+}
+
 // Takes a piece of the node at this path out of the room, if one is there.
 fn taken<'a>(room: &Mutex<Vec<Piece<'a>>>, path: &[u32]) -> Option<Piece<'a>> {
-    let mut room = room.try_lock()?;
+    let mut room = entered(room)?;
     let pieces = &mut *room;
     let position = pieces.iter().position(|piece| piece.is_at(path))?;
     Some(pieces.swap_remove(position))
@@ -106,7 +123,7 @@ fn taken<'a>(room: &Mutex<Vec<Piece<'a>>>, path: &[u32]) -> Option<Piece<'a>> {
 
 // Puts pieces into the room, unless it is in use.
 fn put<'a>(room: &Mutex<Vec<Piece<'a>>>, mut pieces: Vec<Piece<'a>>) -> Result<(), AllocError> {
-    match room.try_lock() {
+    match entered(room) {
         Some(mut room) => {
             let kept = &mut *room;
             kept.append(&mut pieces)
@@ -226,8 +243,8 @@ impl<'a> ClassTree<'a> {
     /// splits on its way and what it has met. As the task is split, what it has finished of the
     /// first child stands ready for whoever takes that child, and the walk waits for whoever takes
     /// the child in which it stands, and goes on there. So at most one state waits for each task
-    /// that waits or was given up. Without memory to keep a walk, or where two workers come to the
-    /// room of the walks at once, its node is begun anew, and nothing else is lost.
+    /// that waits or was given up. Without memory to keep a walk, or where others are in the room of
+    /// the walks for long, its node is begun anew, and nothing else is lost.
     pub fn solve<R: Threads + Wait + Sync, G: Gate + Sync>(
         &self,
         rt: &R,
