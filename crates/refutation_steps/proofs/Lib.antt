@@ -1,5 +1,4 @@
 pub mod Chaining
-pub mod Guessing
 pub mod Heavy
 pub mod Going
 pub mod Seeking
@@ -15,3 +14,4 @@ pub mod Waits
 pub mod Taken
 pub mod Whole
 pub mod Shorter
+pub mod Tracking

@@ -105,3 +105,13 @@ module _ (instance : PlainInstance) where
       → b ≡ is_whole a → b ≡ true → Explains instance [] (plain_steps ls)
   run_whole ls k a b h e f t =
       accepted (plain_steps ls) (ap is_whole (sym e ∙ ap (λ (m : List PlainStep). run instance a m) (none_left ls k h)) ∙ (sym f ∙ t))
+
+-- ---- lines of reasons and tokens
+
+pub line_passed : (x y : List PlainStep) (l : PlainStep) → IsNoToken l → y ≡ x ++ l ∷ [] → tokens_among y ≡ tokens_among x
+line_passed x y l h e = ap tokens_among e ∙ (tokens_joined x (l ∷ []) ∙ (ap (λ (m : List PlainToken). tokens_among x ++ m) h ∙ append-nil (tokens_among x)))
+
+pub line_taken : (x mid y : List PlainStep) (l : PlainStep) (t : PlainToken) → tokens_among mid ≡ tokens_among x → y ≡ mid ++ l ∷ [] → tokens_among (l ∷ []) ≡ t ∷ []
+    → tokens_among y ≡ tokens_among x ++ t ∷ []
+line_taken x mid y l t same e h =
+    ap tokens_among e ∙ (tokens_joined mid (l ∷ []) ∙ (ap (λ (m : List PlainToken). tokens_among mid ++ m) h ∙ ap (λ (m : List PlainToken). m ++ t ∷ []) same))

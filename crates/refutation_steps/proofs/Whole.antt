@@ -118,7 +118,7 @@ one_more [] k d h = absurd (omega (arith, h))
 one_more (t ∷ ts) zero d h = refl
 one_more (t ∷ ts) (suc k) d h = ap (λ (l : List PlainToken). plain_token t ∷ l) (one_more ts k d (omega (arith, h)))
 
-module _ (instance : PlainInstance) (ts : List Token) (k : ℕ) (t : Token) (there : k < length ts) (is : t ≡ get_or ts k t) where
+module _ (ts : List Token) (k : ℕ) (t : Token) (there : k < length ts) (is : t ≡ get_or ts k t) where
   abbrev rest : List PlainToken
   rest = drop (k + 1) (plain_tokens ts)
 
@@ -128,8 +128,8 @@ module _ (instance : PlainInstance) (ts : List Token) (k : ℕ) (t : Token) (the
   left : drop k (plain_tokens ts) ≡ plain_token t ∷ rest
   left = next_token ts k t there ∙ (ap (λ (n : ℕ). plain_token (get_or ts k t) ∷ drop n (plain_tokens ts)) succ ∙ ap (λ (x : Token). plain_token x ∷ rest) (sym is))
 
-  pub next_between : (w : Walk) → IsBetween instance w (drop k (plain_tokens ts)) → IsBetween instance w (plain_token t ∷ rest)
-  next_between w b = subst (λ (l : List PlainToken). IsBetween instance w l) left b
+  pub next_between : (instance : PlainInstance) (w : Walk) → IsBetween instance w (drop k (plain_tokens ts)) → IsBetween instance w (plain_token t ∷ rest)
+  next_between instance w b = subst (λ (l : List PlainToken). IsBetween instance w l) left b
 
   pub told_more : (x y : List PlainStep) → tokens_among x ≡ take k (plain_tokens ts) → tokens_among y ≡ tokens_among x ++ plain_token t ∷ []
       → tokens_among y ≡ take (k + 1) (plain_tokens ts)

@@ -4,7 +4,7 @@ pub mod Replays
 pub mod Links
 pub mod Empties
 pub mod Chains
-pub mod Guesses
 pub mod Nodes
 pub mod Walks
 pub mod Shortened
+pub mod Traced

@@ -26,11 +26,9 @@ use line_proofs::Step;
 use orientation_rules::heads_and_tails;
 use std::alloc::Global;
 
-/// Room for the weights of chains, with the dimension in which they were made, and for the boxes of
-/// two chains.
+/// Room for the weights of chains, and for the boxes of two chains.
 #[derive(Drop)]
 pub struct ChainRoom {
-    pub dim: u32,
     pub head: Vec<u64>,
     pub tail: Vec<u64>,
     pub before: Vec<u32>,
@@ -54,7 +52,6 @@ pub fn chain_room(alloc: Global, boxes: u32) -> Result<ChainRoom, NoMemory>
     let head = weights_of(alloc, boxes)?;
     let tail = weights_of(alloc, boxes)?;
     Ok(ChainRoom {
-        dim: 0,
         head,
         tail,
         before: Vec::new(alloc),
@@ -62,8 +59,8 @@ pub fn chain_room(alloc: Global, boxes: u32) -> Result<ChainRoom, NoMemory>
     })
 }
 
-/// Whether it is the relation before.
-pub fn is_before(rel: Rel) -> bool
+// Whether it is the relation before.
+fn is_before(rel: Rel) -> bool
     ensures { IsTrue result ↔ (rel ≡ PlainBefore) }
 {
     match rel {
@@ -85,7 +82,6 @@ fn weigh_chains(instance: &Instance, state: &EdgeState, dim: u32, room: &mut Cha
 {
     // For the proof alone: tells the limits of the instance.
     let _count = instance.len();
-    room.dim = dim;
     let head = room.head.as_mut_slice();
     let tail = room.tail.as_mut_slice();
     heads_and_tails(instance, state, dim, head, tail);
@@ -132,8 +128,8 @@ fn write_chain(
     write_boxes(instance, lines, after)
 }
 
-/// CHAIN with two chains whose boxes are these.
-pub fn step_chain(
+// CHAIN with two chains whose boxes are these.
+fn step_chain(
     instance: &Instance,
     state: &mut EdgeState,
     lines: &mut Vec<Step>,

@@ -10,8 +10,8 @@ use box_instances::{Instance, NoMemory};
 use edge_state::EdgeState;
 use rule_terms::Direction;
 
-/// Whether a chain goes on from one box to the other.
-pub fn leads_to(state: &EdgeState, dim: u32, direction: Direction, v: u32, w: u32) -> bool
+// Whether a chain goes on from one box to the other.
+fn leads_to(state: &EdgeState, dim: u32, direction: Direction, v: u32, w: u32) -> bool
     requires { IsEdgeAmong state.now.dims state.now.boxes dim v w }
     ensures { IsTrue result ↔ Leads (excludes state.now.trail) dim direction v w }
 {

@@ -4,15 +4,16 @@
 
 mod chain_steps;
 mod chains;
+mod closings;
 mod empties;
-mod guesses;
+mod facts;
+mod finding;
+mod heaviest;
 mod links;
 mod marks;
-mod near;
-mod needs;
-mod passing;
 mod pending;
 mod places;
+mod reasons;
 mod replay;
 mod settling;
 mod shortening;
@@ -20,7 +21,9 @@ mod splits;
 mod steps;
 mod taking;
 mod tokens;
+mod tracing;
 mod walk;
 mod walk_state;
+mod written;
 
 pub use walk::explain;

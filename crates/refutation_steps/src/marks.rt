@@ -1,5 +1,6 @@
 //! Sets of relations at places, a bit for each relation.
 use box_instances::NoMemory;
+use edge_state::{Exclusion, Rel};
 use std::alloc::Global;
 
 pub const OVERLAP: u8 = 1;
@@ -8,8 +9,10 @@ pub const BEFORE: u8 = 2;
 
 pub const AFTER: u8 = 4;
 
-/// A dimension and two boxes, by the numbers of the text.
-#[derive(Clone, Copy)]
+pub const ALL: u8 = 7;
+
+/// A dimension and two boxes, counted from 0.
+#[derive(Clone, Copy, Debug, PartialEq, Eq)]
 pub struct Spot {
     pub dim: u32,
     pub u: u32,
@@ -21,95 +24,102 @@ pub fn at_place(dim: u32, u: u32, v: u32) -> Spot {
     Spot { dim, u, v }
 }
 
-// The relations, read from the other box.
-fn turned(bits: u8) -> u8 {
+/// The place, read from the other box.
+pub fn turned_spot(at: Spot) -> Spot {
+    at_place(at.dim, at.v, at.u)
+}
+
+/// The relations, read from the other box.
+pub fn turned_bits(bits: u8) -> u8 {
     (bits & OVERLAP) | ((bits & BEFORE) << 1) | ((bits & AFTER) >> 1)
 }
 
-/// Sets of relations at all places, one such table behind another.
+/// Whether the first set has all of the second.
+pub fn has_all(bits: u8, wanted: u8) -> bool {
+    wanted & !bits == 0
+}
+
+fn bit_of(rel: Rel) -> u8 {
+    match rel {
+        Rel::Overlap => OVERLAP,
+        Rel::Before => BEFORE,
+        Rel::After => AFTER,
+    }
+}
+
+/// Relations at a place.
+#[derive(Clone, Copy)]
+pub struct Marked {
+    pub at: Spot,
+    pub bits: u8,
+}
+
+/// An exclusion as such a set.
+pub fn as_marked(e: Exclusion) -> Marked {
+    Marked {
+        at: at_place(e.dim, e.u, e.v),
+        bits: bit_of(e.rel),
+    }
+}
+
+/// What the second has at the place of the first, read in its direction; nothing at another place.
+pub fn bits_there(at: Spot, other: Marked) -> u8 {
+    if at == other.at {
+        return other.bits;
+    }
+    if at == turned_spot(other.at) {
+        return turned_bits(other.bits);
+    }
+    0
+}
+
+/// A set of relations for each place.
 #[derive(Drop)]
-pub struct Tables {
+pub struct Marks {
     boxes: usize,
-    size: usize,
     bits: Vec<u8>,
 }
 
-// Where a place stands in a table.
-fn place(boxes: usize, dim: u32, u: u32, v: u32) -> usize {
-    let row = (dim as usize).wrapping_sub(1).wrapping_mul(boxes);
-    let column = row.wrapping_add((u as usize).wrapping_sub(1));
-    column
+// Where a place stands in the list.
+fn place(boxes: usize, at: Spot) -> usize {
+    let row = (at.dim as usize)
         .wrapping_mul(boxes)
-        .wrapping_add((v as usize).wrapping_sub(1))
+        .wrapping_add(at.u as usize);
+    row.wrapping_mul(boxes).wrapping_add(at.v as usize)
 }
 
-// One entry gets bits and loses others.
+// One set gets relations and loses others.
 fn change(bits: &mut [u8], at: usize, more: u8, less: u8) {
     if let Some(entry) = bits.get_mut(at) {
         *entry = (*entry | more) & !less;
     }
 }
 
-impl Tables {
-    /// No table, for so many dimensions and boxes.
-    pub fn new(alloc: Global, dims: u32, boxes: u32) -> Tables {
+impl Marks {
+    /// Empty sets, for so many dimensions and boxes.
+    pub fn new(alloc: Global, dims: u32, boxes: u32) -> Result<Marks, NoMemory> {
         let boxes = boxes as usize;
-        Tables {
-            boxes,
-            size: (dims as usize).wrapping_mul(boxes).wrapping_mul(boxes),
-            bits: Vec::new(alloc),
-        }
+        let count = (dims as usize).wrapping_mul(boxes).wrapping_mul(boxes);
+        let Ok(bits) = vec![in alloc; 0u8; count] else {
+            return Err(NoMemory);
+        };
+        Ok(Marks { boxes, bits })
     }
 
-    /// An empty table more, behind the others.
-    pub fn push(&mut self) -> Result<(), NoMemory> {
-        for _ in 0..self.size {
-            let Ok(()) = self.bits.push(0) else {
-                return Err(NoMemory);
-            };
-        }
-        Ok(())
-    }
-
-    // Where a table begins, the last one first.
-    fn begin(&self, back: usize) -> usize {
-        self.bits
-            .len()
-            .wrapping_sub(self.size.wrapping_mul(back.wrapping_add(1)))
-    }
-
-    /// What a table has at a place, the last table first.
-    pub fn at(&self, back: usize, at: Spot) -> u8 {
-        let entry = self
-            .begin(back)
-            .wrapping_add(place(self.boxes, at.dim, at.u, at.v));
-        match self.bits.as_slice().get(entry) {
+    /// The set at a place.
+    pub fn at(&self, at: Spot) -> u8 {
+        match self.bits.as_slice().get(place(self.boxes, at)) {
             Some(bits) => *bits,
             None => 0,
         }
     }
 
-    /// A table gets relations at a place and loses others, from both boxes.
-    pub fn change(&mut self, back: usize, at: Spot, more: u8, less: u8) {
-        let begin = self.begin(back);
-        let here = begin.wrapping_add(place(self.boxes, at.dim, at.u, at.v));
-        let there = begin.wrapping_add(place(self.boxes, at.dim, at.v, at.u));
+    /// The set at a place, read from either box, gets relations and loses others.
+    pub fn change(&mut self, at: Spot, more: u8, less: u8) {
+        let here = place(self.boxes, at);
+        let there = place(self.boxes, turned_spot(at));
         let bits = self.bits.as_mut_slice();
         change(bits, here, more, less);
-        change(bits, there, turned(more), turned(less));
-    }
-
-    /// The last table goes into the one before it.
-    pub fn merge(&mut self) {
-        let from = self.begin(0);
-        let to = self.begin(1);
-        for k in 0..self.size {
-            let more = match self.bits.as_slice().get(from.wrapping_add(k)) {
-                Some(bits) => *bits,
-                None => 0,
-            };
-            change(self.bits.as_mut_slice(), to.wrapping_add(k), more, 0);
-        }
-        self.bits.truncate(from);
+        change(bits, there, turned_bits(more), turned_bits(less));
     }
 }

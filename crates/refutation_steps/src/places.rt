@@ -32,16 +32,16 @@ pub fn are_three(u: u32, v: u32, x: u32) -> bool
     (u != v) & (u != x) & (v != x)
 }
 
-/// Whether four boxes are distinct.
-pub fn are_four(a: u32, b: u32, c: u32, d: u32) -> bool
+// Whether four boxes are distinct.
+fn are_four(a: u32, b: u32, c: u32, d: u32) -> bool
     ensures yes { IsTrue result → (n : ℕ) → a < n → b < n → c < n → d < n → AreBoxesAmong n (a ∷ b ∷ c ∷ d ∷ []) }
     ensures no { (n : ℕ) → AreBoxesAmong n (a ∷ b ∷ c ∷ d ∷ []) → IsTrue result }
 {
     (a != b) & (a != c) & (a != d) & are_three(b, c, d)
 }
 
-/// PAIR at the place of the exclusion.
-pub fn seek_pair(
+// PAIR at the place of the exclusion.
+fn seek_pair(
     instance: &Instance,
     state: &mut EdgeState,
     lines: &mut Vec<Step>,
@@ -57,8 +57,8 @@ pub fn seek_pair(
     step_pair(instance, state, lines, e.dim, e.u, e.v)
 }
 
-/// APART there.
-pub fn seek_apart(
+// APART there.
+fn seek_apart(
     instance: &Instance,
     state: &mut EdgeState,
     lines: &mut Vec<Step>,
@@ -74,8 +74,8 @@ pub fn seek_apart(
     step_apart(instance, state, lines, e.dim, e.u, e.v)
 }
 
-/// TRIPLE there, with a third box.
-pub fn triple_with(
+// TRIPLE there, with a third box.
+fn triple_with(
     instance: &Instance,
     state: &mut EdgeState,
     lines: &mut Vec<Step>,
@@ -96,8 +96,8 @@ pub fn triple_with(
     step_triple(instance, state, lines, e.dim, e.u, e.v, x)
 }
 
-/// TRIPLE there.
-pub fn seek_triple(
+// TRIPLE there.
+fn seek_triple(
     instance: &Instance,
     state: &mut EdgeState,
     lines: &mut Vec<Step>,
@@ -113,8 +113,8 @@ pub fn seek_triple(
     Ok(())
 }
 
-/// COMPOSE there, with a third box.
-pub fn compose_with(
+// COMPOSE there, with a third box.
+fn compose_with(
     instance: &Instance,
     state: &mut EdgeState,
     lines: &mut Vec<Step>,
@@ -135,8 +135,8 @@ pub fn compose_with(
     step_compose(instance, state, lines, e.dim, e.u, x, e.v)
 }
 
-/// COMPOSE there.
-pub fn seek_compose(
+// COMPOSE there.
+fn seek_compose(
     instance: &Instance,
     state: &mut EdgeState,
     lines: &mut Vec<Step>,
@@ -176,8 +176,8 @@ fn cycle_with(
     step_cycle(instance, state, lines, e.dim, a, e.u, c, e.v)
 }
 
-/// CYCLE there, with one box more.
-pub fn cycles_with(
+// CYCLE there, with one box more.
+fn cycles_with(
     instance: &Instance,
     state: &mut EdgeState,
     lines: &mut Vec<Step>,
@@ -195,8 +195,8 @@ pub fn cycles_with(
     Ok(())
 }
 
-/// Whether two boxes are joined. A box isn't joined with itself.
-pub fn joins(state: &EdgeState, dim: u32, u: u32, v: u32) -> bool
+// Whether two boxes are joined. A box isn't joined with itself.
+fn joins(state: &EdgeState, dim: u32, u: u32, v: u32) -> bool
     requires dim { dim < state.now.dims }
     requires u { u < state.now.boxes }
     requires v { v < state.now.boxes }
@@ -234,8 +234,8 @@ fn cycles_from(
     cycles_with(instance, state, lines, e, a)
 }
 
-/// CYCLE there.
-pub fn seek_cycle(
+// CYCLE there.
+fn seek_cycle(
     instance: &Instance,
     state: &mut EdgeState,
     lines: &mut Vec<Step>,
@@ -251,8 +251,8 @@ pub fn seek_cycle(
     Ok(())
 }
 
-/// ORDER there, with two boxes more: its place is that of its third box and its second.
-pub fn order_with(
+// ORDER there, with two boxes more: its place is that of its third box and its second.
+fn order_with(
     instance: &Instance,
     state: &mut EdgeState,
     lines: &mut Vec<Step>,
@@ -275,8 +275,8 @@ pub fn order_with(
     step_order(instance, state, lines, e.dim, a, e.v, e.u, d)
 }
 
-/// ORDER there, with one box more.
-pub fn orders_with(
+// ORDER there, with one box more.
+fn orders_with(
     instance: &Instance,
     state: &mut EdgeState,
     lines: &mut Vec<Step>,
@@ -294,8 +294,8 @@ pub fn orders_with(
     Ok(())
 }
 
-/// Whether a box is surely before another. It isn't before itself.
-pub fn leads(state: &EdgeState, dim: u32, u: u32, v: u32) -> bool
+// Whether a box is surely before another. It isn't before itself.
+fn leads(state: &EdgeState, dim: u32, u: u32, v: u32) -> bool
     requires dim { dim < state.now.dims }
     requires u { u < state.now.boxes }
     requires v { v < state.now.boxes }
@@ -330,8 +330,8 @@ fn orders_from(
     orders_with(instance, state, lines, e, a)
 }
 
-/// ORDER there.
-pub fn seek_order(
+// ORDER there.
+fn seek_order(
     instance: &Instance,
     state: &mut EdgeState,
     lines: &mut Vec<Step>,

@@ -15,8 +15,8 @@ use box_instances::{Instance, NoMemory};
 use edge_state::{EdgeState, Mark};
 use rule_closure::{Closed, Closer};
 
-// Closes a state, from the position up to which it is closed where one is named.
-fn close_known(
+/// Closes a state, from the position up to which it is closed where one is named.
+pub fn close_known(
     instance: &Instance,
     closer: &mut Closer,
     state: &mut EdgeState,
@@ -55,10 +55,6 @@ pub fn settle(
         walk.new.given.trail ended) }
 {
     let from = walk.given.mark();
-    let looked = match closed {
-        Some(mark) => mark,
-        None => from,
-    };
     let end = close_known(instance, &mut walk.closer, &mut walk.given, closed);
     let stopped = replay_on(
         instance,
@@ -66,7 +62,6 @@ pub fn settle(
         &mut walk.lines,
         &mut walk.room,
         &walk.given,
-        looked,
         from,
     )?;
     if stopped {

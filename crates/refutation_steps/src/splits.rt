@@ -14,8 +14,8 @@ use edge_state::{Exclusion, Mark, Rel};
 use line_proofs::Step;
 use proof_tree::Token;
 
-// An exclusion at a place that is given by the numbers of the text.
-fn in_text(dim: u32, u: u32, v: u32, rel: Rel) -> Exclusion
+/// An exclusion at a place that is given by the numbers of the text.
+pub fn in_text(dim: u32, u: u32, v: u32, rel: Rel) -> Exclusion
     requires dim { 1 ≤ dim }
     requires u { 1 ≤ u }
     requires v { 1 ≤ v }

@@ -10,7 +10,7 @@ ghost use Rattle.refutation_steps.specs.Walks.{IsFor, IsBetween, IsAt};
 
 use crate::chain_steps::chain_room;
 use crate::pending::{Pending, enter, push_pending};
-use crate::shortening::shortened;
+use crate::shortening::short_explanation;
 use crate::taking::take_token;
 use crate::walk_state::Walk;
 use box_instances::{Instance, NoMemory};
@@ -78,14 +78,12 @@ fn enter_next(instance: &Instance, walk: &mut Walk) -> Option<Mark>
     closed
 }
 
-/// An explained refutation of the instance: lines in which the tokens stand among steps, so that
-/// each conflict and each split is reached step by step. Without the steps, and with each conflict
-/// read without its place, the lines are the tokens.
-///
-/// The tokens are an inner refutation of the instance. Each node's own exclusions are closed, and
-/// what the closing adds is taken step by step, the oldest first, each by a rule whose instance is
-/// found at its place.
-pub fn explain(alloc: Global, instance: &Instance, tokens: &[Token]) -> Result<Vec<Step>, NoMemory>
+// Every step to all that each closing adds: an explanation for every refutation.
+fn explain_whole(
+    alloc: Global,
+    instance: &Instance,
+    tokens: &[Token],
+) -> Result<Vec<Step>, NoMemory>
     requires { Refutes instance.now [] (plain_tokens tokens.now) }
     ensures explains { IfOk result (λ lines.
         Explains instance.now [] (plain_steps lines.items)) }
@@ -97,5 +95,25 @@ pub fn explain(alloc: Global, instance: &Instance, tokens: &[Token]) -> Result<V
         let closed = enter_next(instance, &mut walk);
         take_token(alloc, instance, &mut walk, closed, token)?;
     }
-    shortened(alloc, instance, walk.lines)
+    Ok(walk.lines)
+}
+
+/// An explained refutation of the instance: lines in which the tokens stand among steps, so that
+/// each conflict and each split is reached step by step. Without the steps, and with each conflict
+/// read without its place, the lines are the tokens.
+///
+/// The tokens are an inner refutation of the instance. Each node's own exclusions are closed, and
+/// of what the closing adds only what a conflict or a split needs is explained, traced back from
+/// there. Were that not accepted by an auditor, all of it would be, the oldest first.
+pub fn explain(alloc: Global, instance: &Instance, tokens: &[Token]) -> Result<Vec<Step>, NoMemory>
+    requires { Refutes instance.now [] (plain_tokens tokens.now) }
+    ensures explains { IfOk result (λ lines.
+        Explains instance.now [] (plain_steps lines.items)) }
+    ensures tokens { IfOk result (λ lines.
+        tokens_among (plain_steps lines.items) ≡ plain_tokens tokens.now) }
+{
+    match short_explanation(alloc, instance, tokens)? {
+        Some(lines) => Ok(lines),
+        None => explain_whole(alloc, instance, tokens),
+    }
 }

@@ -3,10 +3,10 @@ use Rattle.std.proofs.lemmas.List.{with_items_is}
 use Rattle.refutation_steps.proofs.Chaining.{weighed_heads, weighed_tails}
 use Rattle.refutation_steps.proofs.chain_steps.weigh_chains.Goals as goal
 
-heads : (c : goal.After-room-3-1) → length c.heads_and_tails.new.head ≡ c.args.room.now.head.len
+heads : (c : goal.After-room-2-1) → length c.heads_and_tails.new.head ≡ c.args.room.now.head.len
 heads c = c.heads_and_tails.auto.head ∙ c.as_mut_slice-head.ensures.len
 
-tails : (c : goal.After-room-3-1) → length c.heads_and_tails.new.tail ≡ c.args.room.now.tail.len
+tails : (c : goal.After-room-2-1) → length c.heads_and_tails.new.tail ≡ c.args.room.now.tail.len
 tails c = c.heads_and_tails.auto.tail ∙ c.as_mut_slice-tail.ensures.len
 
 pub returns-clause-heads : goal.returns-clause-heads

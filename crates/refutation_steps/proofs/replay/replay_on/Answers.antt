@@ -8,7 +8,6 @@ pub loop-change-init : goal.loop-change-init
 loop-change-init c = record {
   so_far = so_far_start c.args.instance.now c.args.state.now _ c.args.closed.now.trail c.args.from c.requires.mark c.requires.holds;
   room = c.requires.room;
-  trace = c.requires.looked;
 }
 
 pub change_after-requires : goal.change_after-requires
@@ -26,7 +25,6 @@ loop-change-preserved c = record {
       c.loop-change.invariant.so_far (subst (λ (n : ℕ). IsChangeAfter c.args.closed.now.trail c.loop-change.at c.in-Some.change n) (sym c.mark_after-at.ensures) c.in-Some.ensures)
       c.in_ok-stopped.ensures.made c.if-stopped.false;
   room = c.in_ok-stopped.ensures.room;
-  trace = c.in_ok-stopped.ensures.trace;
 }
 
 pub returns-clause-replayed : goal.returns-clause-replayed
@@ -35,6 +33,3 @@ returns-clause-replayed c = replayed_end c.args.instance.now _ _ _ _ c.args.clos
 pub returns-then-stopped-clause-replayed : goal.returns-then-stopped-clause-replayed
 returns-then-stopped-clause-replayed c = replayed_stop c.args.instance.now _ _ _ _ _ _ c.args.closed.now.trail c.args.from c.loop-change.at c.in-Some.change _
     c.loop-change.invariant.so_far c.in_ok-stopped.ensures.made c.if-stopped.true
-
-pub make-requires-clause-trace : goal.make-requires-clause-trace
-make-requires-clause-trace c = c.loop-change.invariant.trace

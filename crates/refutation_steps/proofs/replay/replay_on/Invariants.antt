@@ -1,4 +1,4 @@
-use Rattle.std.proofs.Common.{◌-◌, ◌≤◌, length}
+use Rattle.std.proofs.Common.{◌-◌, length}
 use Rattle.packing_terms.specs.Packing.{box_count}
 use Rattle.refutation_steps.specs.Goes.{plain_steps}
 use Rattle.refutation_steps.specs.Chains.{HasWeights}
@@ -10,7 +10,6 @@ invariant-loop-change l =
     record {
       so_far : IsSoFar l.instance l.fn.state l.state (plain_steps l.fn.lines.items) (plain_steps l.lines.items) l.closed.trail l.fn.from l.at;
       room : HasWeights (box_count l.instance) l.room.head.items l.room.tail.items;
-      trace : l.trace.looked ≤ length l.closed.trail;
     }
 
 abbrev pub decreases-loop-change : goal.decreases-loop-change

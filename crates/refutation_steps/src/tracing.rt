@@ -1,0 +1,325 @@
+//! Closings that are traced back: what later lines need of what a closing excluded, and why.
+ghost use Rattle.std.specs.Prelude.{◌≤◌, length};
+
+use crate::facts::{Facts, first_facts};
+use crate::finding::{Found, Sought, find_chains, find_plain};
+use crate::heaviest::{Weights, first_weights};
+use crate::marks::{
+    AFTER, ALL, BEFORE, Marked, Marks, OVERLAP, Spot, as_marked, at_place, bits_there, turned_spot,
+};
+use crate::reasons::{Reason, need_reason};
+use box_instances::{Instance, NoMemory};
+use edge_state::{EdgeState, Mark};
+use std::alloc::Global;
+
+/// The reasons of one token's node: a part of their list, the last one first; and of a conflict
+/// its place.
+#[derive(Clone, Copy)]
+pub struct Span {
+    pub from: usize,
+    pub to: usize,
+    pub clash: Spot,
+}
+
+// A node that is open: which token is its own, how long the list of what is excluded was before it
+// and with what it excludes itself, and the place at which its token needs that overlap is excluded.
+#[derive(Clone, Copy)]
+struct Open {
+    token: usize,
+    before: usize,
+    begun: usize,
+    apart: Option<Spot>,
+}
+
+/// What is excluded on the way to a node, the oldest first, with what of it is needed; the nodes on
+/// that way; and the reasons of those that were left, by token.
+#[derive(Drop)]
+pub struct Trace {
+    facts: Facts,
+    needs: Marks,
+    weights: Weights,
+    trail: Vec<Marked>,
+    clash: Option<Spot>,
+    open: Vec<Open>,
+    pub reasons: Vec<Reason>,
+    pub boxes: Vec<u32>,
+    spans: Vec<Span>,
+}
+
+// The place, read from its lower box.
+fn rising(at: Spot) -> Spot {
+    if at.u < at.v {
+        return at;
+    }
+    turned_spot(at)
+}
+
+// Excludes one relation more, where there is no conflict yet.
+fn push_change(trace: &mut Trace, change: Marked) -> Result<(), NoMemory> {
+    if trace.clash.is_some() {
+        return Ok(());
+    }
+    trace.facts.excluded.change(change.at, change.bits, 0);
+    if trace.facts.excluded.at(change.at) == ALL {
+        trace.clash = Some(rising(change.at));
+    }
+    let Ok(()) = trace.trail.push(change) else {
+        return Err(NoMemory);
+    };
+    Ok(())
+}
+
+// Takes the newest exclusion back.
+fn pop_change(trace: &mut Trace) -> Option<Marked> {
+    let change = trace.trail.pop()?;
+    trace.facts.excluded.change(change.at, 0, change.bits);
+    Some(change)
+}
+
+// Takes the newest exclusion back where it is at this place and behind so many. Answers it, read in
+// the direction of the place, and nothing where it is another.
+fn pop_with(trace: &mut Trace, begun: usize, at: Spot) -> u8 {
+    if trace.trail.len() <= begun {
+        return 0;
+    }
+    let Some(last) = trace.trail.last() else {
+        return 0;
+    };
+    let bits = bits_there(at, *last);
+    if bits != 0 {
+        pop_change(trace);
+    }
+    bits
+}
+
+// What the needs of later lines want at a place, of these relations; it is wanted no longer.
+fn take_wanted(trace: &mut Trace, at: Spot, came: u8) -> u8 {
+    let wanted = trace.needs.at(at) & came;
+    trace.needs.change(at, 0, wanted);
+    wanted
+}
+
+// A reason for just this.
+fn find_exactly(trace: &mut Trace, sought: Sought) -> Result<Option<Found>, NoMemory> {
+    if let Some(plain) = find_plain(&trace.facts, sought) {
+        return Ok(Some(plain));
+    }
+    find_chains(&trace.facts, &mut trace.weights, &mut trace.boxes, sought)
+}
+
+// A reason for something of what is wanted at a place, for all of it where there is one.
+fn find_some(trace: &mut Trace, sought: Sought) -> Result<Option<Found>, NoMemory> {
+    for bits in [ALL, OVERLAP, BEFORE, AFTER] {
+        let wanted = sought.wanted & bits;
+        if wanted != 0 {
+            let part = Sought { wanted, ..sought };
+            let found = find_exactly(trace, part)?;
+            if found.is_some() {
+                return Ok(found);
+            }
+        }
+    }
+    Ok(None)
+}
+
+// A reason more, with what it needs.
+fn push_found(trace: &mut Trace, found: Option<Found>, wanted: u8) -> Result<(), NoMemory> {
+    let Some(Found { reason, bits }) = found else {
+        return Ok(());
+    };
+    let boxes = trace.boxes.as_slice();
+    need_reason(&trace.facts, &mut trace.needs, boxes, reason, bits & wanted);
+    let Ok(()) = trace.reasons.push(reason) else {
+        return Err(NoMemory);
+    };
+    Ok(())
+}
+
+// The same for what is left, where something is.
+fn find_left(trace: &mut Trace, sought: Sought, wanted: u8) -> Result<Option<Found>, NoMemory> {
+    if wanted == 0 {
+        return Ok(None);
+    }
+    find_some(trace, Sought { wanted, ..sought })
+}
+
+// What is still wanted.
+fn left_of(wanted: u8, found: Option<Found>) -> u8 {
+    match found {
+        Some(found) => wanted & !found.bits,
+        None => wanted,
+    }
+}
+
+// Reasons for what is wanted at a place, where these relations came one after another. What a later
+// reason is for an earlier one doesn't exclude, so it comes behind it in the lines; here the last
+// one is first.
+fn explain_at(trace: &mut Trace, at: Spot, came: u8) -> Result<(), NoMemory> {
+    let wanted = take_wanted(trace, at, came);
+    let allowed = trace.facts.excluded.at(at) | came;
+    let sought = Sought {
+        at,
+        wanted,
+        allowed,
+    };
+    let first = find_left(trace, sought, wanted)?;
+    let left = left_of(wanted, first);
+    let second = find_left(trace, sought, left)?;
+    let last = left_of(left, second);
+    let third = find_left(trace, sought, last)?;
+    push_found(trace, third, last)?;
+    push_found(trace, second, left)?;
+    push_found(trace, first, wanted)
+}
+
+// Traces back the newest exclusions at one place, of those that a closing added behind so many.
+fn trace_back(trace: &mut Trace, begun: usize) -> Result<(), NoMemory> {
+    if trace.trail.len() <= begun {
+        return Ok(());
+    }
+    let Some(last) = pop_change(trace) else {
+        return Ok(());
+    };
+    let second = pop_with(trace, begun, last.at);
+    let mut came = last.bits | second;
+    if second != 0 {
+        came |= pop_with(trace, begun, last.at);
+    }
+    if trace.needs.at(last.at) & came == 0 {
+        return Ok(());
+    }
+    explain_at(trace, last.at, came)
+}
+
+// Leaves a node: the reasons of what its closing added, and what it excludes itself is given.
+fn leave_node(trace: &mut Trace, node: Open) -> Result<(), NoMemory> {
+    if let Some(at) = node.apart {
+        trace.needs.change(at, OVERLAP, 0);
+    }
+    let from = trace.reasons.len();
+    for _ in node.begun..trace.trail.len() {
+        trace_back(trace, node.begun)?;
+    }
+    let to = trace.reasons.len();
+    if let Some(span) = trace.spans.get_mut(node.token) {
+        span.from = from;
+        span.to = to;
+    }
+    for _ in node.before..trace.trail.len() {
+        if let Some(change) = pop_change(trace) {
+            trace.needs.change(change.at, 0, change.bits);
+        }
+    }
+    Ok(())
+}
+
+impl Trace {
+    /// Before the first node.
+    pub fn new(alloc: Global, instance: &Instance) -> Result<Trace, NoMemory> {
+        let facts = first_facts(alloc, instance)?;
+        let weights = first_weights(alloc, &facts)?;
+        let needs = Marks::new(alloc, instance.dims(), instance.len())?;
+        Ok(Trace {
+            facts,
+            needs,
+            weights,
+            trail: Vec::new(alloc),
+            clash: None,
+            open: Vec::new(alloc),
+            reasons: Vec::new(alloc),
+            boxes: Vec::new(alloc),
+            spans: Vec::new(alloc),
+        })
+    }
+
+    /// How many nodes are open.
+    pub fn depth(&self) -> usize {
+        self.open.len()
+    }
+
+    /// Leaves nodes until so many are open.
+    pub fn leave(&mut self, depth: usize) -> Result<(), NoMemory> {
+        for _ in depth..self.open.len() {
+            if let Some(node) = self.open.pop() {
+                leave_node(self, node)?;
+            }
+        }
+        self.clash = None;
+        Ok(())
+    }
+
+    /// The node of the next token is open now.
+    pub fn enter(&mut self) -> Result<(), NoMemory> {
+        let node = Open {
+            token: self.spans.len(),
+            before: self.trail.len(),
+            begun: self.trail.len(),
+            apart: None,
+        };
+        let span = Span {
+            from: 0,
+            to: 0,
+            clash: at_place(0, 0, 0),
+        };
+        let (Ok(()), Ok(())) = (self.open.push(node), self.spans.push(span)) else {
+            return Err(NoMemory);
+        };
+        Ok(())
+    }
+
+    /// All so far is what the node excludes itself; what comes is what a closing adds.
+    pub fn begin(&mut self) {
+        let begun = self.trail.len();
+        if let Some(node) = self.open.last_mut() {
+            node.begun = begun;
+        }
+    }
+
+    /// Takes what came behind a position.
+    pub fn take(&mut self, state: &EdgeState, from: Mark) -> Result<(), NoMemory>
+        requires { from ≤ length state.now.trail }
+    {
+        let mut at = from;
+        while let Some(change) = state.change_after(at) {
+            push_change(self, as_marked(change))?;
+            at = state.mark_after(at);
+        }
+        Ok(())
+    }
+
+    /// The node's token is a conflict: all three relations at its place are needed.
+    pub fn conflict(&mut self) {
+        let Some(at) = self.clash else {
+            return;
+        };
+        self.needs.change(at, ALL, 0);
+        if let Some(span) = self.spans.last_mut() {
+            span.clash = at;
+        }
+    }
+
+    /// The node's token is a split of an ordered pair: it needs that the two are apart.
+    pub fn ordered(&mut self, at: Spot) {
+        if let Some(node) = self.open.last_mut() {
+            node.apart = Some(at);
+        }
+    }
+
+    /// The reasons of a token, and the place of its conflict.
+    pub fn span_at(&self, token: usize) -> Span {
+        match self.spans.as_slice().get(token) {
+            Some(span) => *span,
+            None => Span {
+                from: 0,
+                to: 0,
+                clash: at_place(0, 0, 0),
+            },
+        }
+    }
+
+    /// How many lines the reasons and the tokens have.
+    pub fn line_count(&self) -> usize {
+        let steps = self.reasons.len().wrapping_add(self.boxes.len());
+        steps.wrapping_add(self.spans.len())
+    }
+}

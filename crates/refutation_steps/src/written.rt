@@ -1,0 +1,228 @@
+//! The lines of reasons and tokens.
+ghost use Rattle.std.specs.Prelude.{◌≡◌, [], ◌∷◌, ◌++◌, OnOk, IfOk};
+ghost use Rattle.explained_terms.specs.Steps.{tokens_among};
+ghost use Rattle.line_proofs.specs.Plain.{plain_step};
+ghost use Rattle.proof_tree.specs.Plain.{plain_token, plain_tokens};
+ghost use Rattle.refutation_steps.specs.Goes.{plain_steps};
+ghost use Rattle.refutation_steps.specs.Shortened.{IsNoToken};
+
+use crate::marks::Spot;
+use crate::reasons::{Reason, box_of};
+use crate::steps::write_line;
+use crate::tokens::copy_of;
+use crate::tracing::{Span, Trace};
+use box_instances::NoMemory;
+use line_proofs::Step;
+use proof_tree::Token;
+use std::alloc::Global;
+
+// A number of the text.
+fn numbered(number: u32) -> u32 {
+    number.wrapping_add(1)
+}
+
+// A line that is no token.
+fn write_step(lines: &mut Vec<Step>, step: Step) -> Result<(), NoMemory>
+    requires { IsNoToken (plain_step step) }
+    ensures { OnOk result (tokens_among (plain_steps lines.new.items)
+        ≡ tokens_among (plain_steps lines.old.items)) }
+{
+    write_line(lines, step)
+}
+
+fn write_box(lines: &mut Vec<Step>, boxes: &[u32], at: usize) -> Result<(), NoMemory>
+    ensures { OnOk result (tokens_among (plain_steps lines.new.items)
+        ≡ tokens_among (plain_steps lines.old.items)) }
+{
+    let box_no = numbered(box_of(boxes, at));
+    write_step(lines, Step::On { box_no })
+}
+
+// The boxes of a chain that ends where its list begins.
+fn write_back(lines: &mut Vec<Step>, boxes: &[u32], from: usize, count: u32) -> Result<(), NoMemory>
+    ensures { OnOk result (tokens_among (plain_steps lines.new.items)
+        ≡ tokens_among (plain_steps lines.old.items)) }
+{
+    for k in 0..count {
+        let back = (count - 1 - k) as usize;
+        write_box(lines, boxes, from.wrapping_add(back))?;
+    }
+    Ok(())
+}
+
+// The boxes of a chain that starts where its list begins.
+fn write_on(lines: &mut Vec<Step>, boxes: &[u32], from: usize, count: u32) -> Result<(), NoMemory>
+    ensures { OnOk result (tokens_among (plain_steps lines.new.items)
+        ≡ tokens_among (plain_steps lines.old.items)) }
+{
+    for k in 0..count {
+        write_box(lines, boxes, from.wrapping_add(k as usize))?;
+    }
+    Ok(())
+}
+
+// The lines of a chain step.
+fn write_chain(
+    lines: &mut Vec<Step>,
+    boxes: &[u32],
+    dim: u32,
+    from: usize,
+    first: u32,
+    second: u32,
+) -> Result<(), NoMemory>
+    ensures { OnOk result (tokens_among (plain_steps lines.new.items)
+        ≡ tokens_among (plain_steps lines.old.items)) }
+{
+    let step = Step::Chain {
+        dim: numbered(dim),
+        first,
+        second,
+    };
+    write_step(lines, step)?;
+    write_back(lines, boxes, from, first)?;
+    write_on(lines, boxes, from.wrapping_add(first as usize), second)
+}
+
+// The step of another rule; its place stands where the rule's text has it.
+fn step_of(reason: Reason) -> Step
+    ensures { IsNoToken (plain_step result) }
+{
+    match reason {
+        Reason::Pair { at } => Step::Pair {
+            dim: numbered(at.dim),
+            u: numbered(at.u),
+            v: numbered(at.v),
+        },
+        Reason::Apart { at } => Step::Apart {
+            dim: numbered(at.dim),
+            u: numbered(at.u),
+            v: numbered(at.v),
+        },
+        Reason::Triple { at, x } => Step::Triple {
+            dim: numbered(at.dim),
+            u: numbered(at.u),
+            v: numbered(at.v),
+            x: numbered(x),
+        },
+        Reason::Compose { at, x } => Step::Compose {
+            dim: numbered(at.dim),
+            u: numbered(at.u),
+            v: numbered(x),
+            x: numbered(at.v),
+        },
+        Reason::Cycle { at, a, c } => Step::Cycle {
+            dim: numbered(at.dim),
+            a: numbered(a),
+            b: numbered(at.u),
+            c: numbered(c),
+            d: numbered(at.v),
+        },
+        Reason::Order { at, a, d } => Step::Order {
+            dim: numbered(at.dim),
+            a: numbered(a),
+            b: numbered(at.v),
+            c: numbered(at.u),
+            d: numbered(d),
+        },
+        Reason::Chain {
+            dim,
+            first,
+            second,
+            ..
+        } => Step::Chain {
+            dim: numbered(dim),
+            first,
+            second,
+        },
+    }
+}
+
+// The lines of a reason.
+fn write_reason(lines: &mut Vec<Step>, boxes: &[u32], reason: Reason) -> Result<(), NoMemory>
+    ensures { OnOk result (tokens_among (plain_steps lines.new.items)
+        ≡ tokens_among (plain_steps lines.old.items)) }
+{
+    match reason {
+        Reason::Chain {
+            dim,
+            from,
+            first,
+            second,
+        } => write_chain(lines, boxes, dim, from, first, second),
+        _ => write_step(lines, step_of(reason)),
+    }
+}
+
+// The lines of one reason of the list, where there is one.
+fn write_reason_at(lines: &mut Vec<Step>, trace: &Trace, at: usize) -> Result<(), NoMemory>
+    ensures { OnOk result (tokens_among (plain_steps lines.new.items)
+        ≡ tokens_among (plain_steps lines.old.items)) }
+{
+    match trace.reasons.as_slice().get(at) {
+        Some(reason) => write_reason(lines, trace.boxes.as_slice(), *reason),
+        None => Ok(()),
+    }
+}
+
+// The lines of the reasons of a node, the last one first.
+fn write_reasons(lines: &mut Vec<Step>, trace: &Trace, span: Span) -> Result<(), NoMemory>
+    ensures { OnOk result (tokens_among (plain_steps lines.new.items)
+        ≡ tokens_among (plain_steps lines.old.items)) }
+{
+    for at in span.from..span.to {
+        let back = span
+            .to
+            .wrapping_sub(at.wrapping_sub(span.from))
+            .wrapping_sub(1);
+        write_reason_at(lines, trace, back)?;
+    }
+    Ok(())
+}
+
+// A token's own line.
+fn line_of(alloc: Global, token: &Token, clash: Spot) -> Result<Step, NoMemory>
+    ensures { IfOk result (λ line. tokens_among (plain_step line ∷ []) ≡ plain_token token.now ∷ []) }
+{
+    match token {
+        Token::Rules => Ok(Step::Clash {
+            dim: numbered(clash.dim),
+            u: numbered(clash.u),
+            v: numbered(clash.v),
+        }),
+        _ => {
+            let copy = copy_of(alloc, token)?;
+            Ok(Step::Plain(copy))
+        }
+    }
+}
+
+// The lines of a token: its node's reasons, and its own line.
+fn write_token(
+    alloc: Global,
+    lines: &mut Vec<Step>,
+    trace: &Trace,
+    span: Span,
+    token: &Token,
+) -> Result<(), NoMemory>
+    ensures { OnOk result (tokens_among (plain_steps lines.new.items)
+        ≡ tokens_among (plain_steps lines.old.items) ++ plain_token token.now ∷ []) }
+{
+    write_reasons(lines, trace, span)?;
+    let line = line_of(alloc, token, span.clash)?;
+    write_line(lines, line)
+}
+
+/// The lines of all tokens, with the reasons that were traced for them.
+pub fn written(alloc: Global, trace: &Trace, tokens: &[Token]) -> Result<Vec<Step>, NoMemory>
+    ensures { IfOk result (λ lines. tokens_among (plain_steps lines.items)
+        ≡ plain_tokens tokens.now) }
+{
+    let Ok(mut lines) = Vec::with_capacity(alloc, trace.line_count()) else {
+        return Err(NoMemory);
+    };
+    for at in 0..tokens.len() {
+        let span = trace.span_at(at);
+        write_token(alloc, &mut lines, trace, span, &tokens[at])?;
+    }
+    Ok(lines)
+}
