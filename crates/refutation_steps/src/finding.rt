@@ -30,7 +30,7 @@ fn found_for(reason: Option<Reason>, bits: u8) -> Option<Found> {
     }
 }
 
-/// The best instance so far, and how much it needs beside what is needed already.
+// The best instance so far, and how much it needs beside what is needed already.
 #[derive(Clone, Copy)]
 struct Best {
     found: Option<Found>,
