@@ -1,5 +1,5 @@
--- Lines that are kept, and lines that an auditor accepts.
-use Rattle.std.proofs.Common.{◌≡◌, ◌≤◌, ◌<◌, ◌+◌, ℕ, zero, suc, refl, sym, ap, ◌∙◌, arith, true, Bool, List, [], ◌∷◌, ◌++◌, append-nil, length, take, drop, get_or, Some, None, Result, Ok, Err}
+-- Lines that are written, and lines that an auditor accepts.
+use Rattle.std.proofs.Common.{◌≡◌, ◌≤◌, ◌<◌, ◌+◌, ℕ, zero, suc, refl, sym, ap, ◌∙◌, arith, true, Bool, List, [], ◌∷◌, ◌++◌, append-nil, length, drop, get_or, Some, None, Result, Ok, Err}
 use Rattle.std.proofs.lemmas.Bool.{true≢false}
 use Rattle.packing_terms.specs.Packing.{PlainInstance}
 use Rattle.packing_terms.specs.Results.{◌>>=◌}
@@ -18,11 +18,6 @@ use Rattle.refutation_steps.specs.Shortened.{IsNoToken}
 
 -- ---- lines, one after another
 
-next_line : (ls : List Step) (k : ℕ) (d : Step) → k < length ls → take (suc k) (plain_steps ls) ≡ take k (plain_steps ls) ++ plain_step (get_or ls k d) ∷ []
-next_line [] k d h = absurd (omega (arith, h))
-next_line (l ∷ ls) zero d h = refl
-next_line (l ∷ ls) (suc k) d h = ap (λ (m : List PlainStep). plain_step l ∷ m) (next_line ls k d (omega (arith, h)))
-
 left_line : (ls : List Step) (k : ℕ) (d : Step) → k < length ls → drop k (plain_steps ls) ≡ plain_step (get_or ls k d) ∷ drop (suc k) (plain_steps ls)
 left_line [] k d h = absurd (omega (arith, h))
 left_line (l ∷ ls) zero d h = refl
@@ -33,33 +28,6 @@ none_left [] zero h = refl
 none_left [] (suc k) h = refl
 none_left (l ∷ ls) zero h = absurd (omega (arith, h))
 none_left (l ∷ ls) (suc k) h = none_left ls k (omega (arith, h))
-
-pub all_taken : (ls : List Step) (k : ℕ) → length ls ≤ k → take k (plain_steps ls) ≡ plain_steps ls
-all_taken [] zero h = refl
-all_taken [] (suc k) h = refl
-all_taken (l ∷ ls) zero h = absurd (omega (arith, h))
-all_taken (l ∷ ls) (suc k) h = ap (λ (m : List PlainStep). plain_step l ∷ m) (all_taken ls k (omega (arith, h)))
-
-module _ (ls : List Step) (k : ℕ) (d l : Step) (there : k < length ls) (is : l ≡ get_or ls k d) where
-  succ : suc k ≡ k + 1
-  succ = omega arith
-
-  more : tokens_among (take (k + 1) (plain_steps ls)) ≡ tokens_among (take k (plain_steps ls)) ++ tokens_among (plain_step l ∷ [])
-  more =
-      ap (λ (n : ℕ). tokens_among (take n (plain_steps ls))) (sym succ)
-      ∙ (ap tokens_among (next_line ls k d there)
-      ∙ (tokens_joined (take k (plain_steps ls)) (plain_step (get_or ls k d) ∷ [])
-      ∙ ap (λ (m : Step). tokens_among (take k (plain_steps ls)) ++ tokens_among (plain_step m ∷ [])) (sym is)))
-
-  pub line_told : (x y : List PlainStep) → tokens_among y ≡ tokens_among x ++ tokens_among (plain_step l ∷ []) → tokens_among x ≡ tokens_among (take k (plain_steps ls))
-      → tokens_among y ≡ tokens_among (take (k + 1) (plain_steps ls))
-  line_told x y f e = f ∙ (ap (λ (m : List PlainToken). m ++ tokens_among (plain_step l ∷ [])) e ∙ sym more)
-
-pub line_dropped : (x : List PlainStep) (l : PlainStep) → IsNoToken l → tokens_among x ≡ tokens_among x ++ tokens_among (l ∷ [])
-line_dropped x l h = sym (append-nil (tokens_among x)) ∙ ap (λ (m : List PlainToken). tokens_among x ++ m) (sym h)
-
-pub line_kept : (x y : List PlainStep) (l copy : PlainStep) → copy ≡ l → y ≡ x ++ copy ∷ [] → tokens_among y ≡ tokens_among x ++ tokens_among (l ∷ [])
-line_kept x y l copy same f = ap tokens_among (f ∙ ap (λ (m : PlainStep). x ++ m ∷ []) same) ∙ tokens_joined x (l ∷ [])
 
 -- ---- an audit, line by line
 

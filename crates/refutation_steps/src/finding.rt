@@ -1,8 +1,10 @@
 //! An instance of a rule that excludes what is wanted at a place.
 use crate::facts::{Facts, are_apart, are_joined, at_both, container_of, is_sure, side_of};
 use crate::heaviest::{Weights, find_chain};
-use crate::marks::{AFTER, BEFORE, OVERLAP, Spot, at_place, has_all, turned_spot};
-use crate::reasons::Reason;
+use crate::marks::{
+    AFTER, BEFORE, Marked, Marks, OVERLAP, Spot, at_place, has_all, lacking, turned_spot,
+};
+use crate::reasons::{Reason, compose_needs};
 use box_instances::NoMemory;
 
 /// What is wanted at a place, and what an instance may exclude there: what is there, and what came
@@ -28,6 +30,21 @@ fn found_for(reason: Option<Reason>, bits: u8) -> Option<Found> {
     }
 }
 
+// The best instance so far, and how much it needs beside what is needed already.
+#[derive(Clone, Copy)]
+struct Best {
+    found: Option<Found>,
+    cost: u32,
+}
+
+// An instance that is taken where it needs less.
+fn offer(best: &mut Best, reason: Reason, bits: u8, cost: u32) {
+    if cost < best.cost {
+        best.found = Some(Found { reason, bits });
+        best.cost = cost;
+    }
+}
+
 // Whether it is right that these are excluded.
 fn serves(sought: Sought, bits: u8) -> bool {
     has_all(bits, sought.wanted) & has_all(sought.allowed, bits)
@@ -39,16 +56,29 @@ fn is_long(facts: &Facts, at: Spot, more: u64) -> bool {
     container_of(facts, at.dim) < sides.wrapping_add(more)
 }
 
-fn find_triple(facts: &Facts, at: Spot) -> Option<Reason> {
+// How much more is needed for TRIPLE with a third box.
+fn triple_cost(needs: &Marks, at: Spot, x: u32) -> u32 {
+    let first = Marked {
+        at: at_place(at.dim, at.u, x),
+        bits: OVERLAP,
+    };
+    let second = Marked {
+        at: at_place(at.dim, at.v, x),
+        bits: OVERLAP,
+    };
+    lacking(needs, first).wrapping_add(lacking(needs, second))
+}
+
+fn offer_triples(facts: &Facts, needs: &Marks, best: &mut Best, at: Spot) {
     for x in 0..facts.boxes {
         if are_apart(facts, at.dim, at.u, x)
             && are_apart(facts, at.dim, at.v, x)
             && is_long(facts, at, side_of(facts, at.dim, x))
         {
-            return Some(Reason::Triple { at, x });
+            let cost = triple_cost(needs, at, x);
+            offer(best, Reason::Triple { at, x }, BEFORE | AFTER, cost);
         }
     }
-    None
 }
 
 fn find_chord(facts: &Facts, at: Spot, a: u32) -> Option<Reason> {
@@ -74,17 +104,6 @@ fn find_cycle(facts: &Facts, at: Spot) -> Option<Reason> {
     None
 }
 
-// A rule that leaves overlap alone.
-fn find_overlap(facts: &Facts, at: Spot) -> Option<Reason> {
-    if is_long(facts, at, 0) {
-        return Some(Reason::Pair { at });
-    }
-    if let Some(reason) = find_triple(facts, at) {
-        return Some(reason);
-    }
-    find_cycle(facts, at)
-}
-
 // APART.
 fn find_apart(facts: &Facts, at: Spot) -> Option<Reason> {
     for dim in 0..facts.dims {
@@ -95,15 +114,16 @@ fn find_apart(facts: &Facts, at: Spot) -> Option<Reason> {
     Some(Reason::Apart { at })
 }
 
-fn find_compose(facts: &Facts, sought: Sought) -> Option<Found> {
+fn offer_composes(facts: &Facts, needs: &Marks, best: &mut Best, sought: Sought) {
     let at = sought.at;
     for x in 0..facts.boxes {
         let bits = at_both(facts, at, x);
         if x != at.u && x != at.v && serves(sought, bits) {
-            return found_for(Some(Reason::Compose { at, x }), bits);
+            let (first, second) = compose_needs(facts, at, x, sought.wanted);
+            let cost = lacking(needs, first).wrapping_add(lacking(needs, second));
+            offer(best, Reason::Compose { at, x }, bits, cost);
         }
     }
-    None
 }
 
 fn find_last(facts: &Facts, at: Spot, a: u32) -> Option<Reason> {
@@ -143,26 +163,41 @@ fn find_orders(facts: &Facts, sought: Sought) -> Option<Found> {
     None
 }
 
-// PAIR, TRIPLE, CYCLE and APART.
-fn find_joint(facts: &Facts, sought: Sought) -> Option<Found> {
+// CYCLE and ORDER.
+fn find_of_four(facts: &Facts, sought: Sought) -> Option<Found> {
     if serves(sought, BEFORE | AFTER) {
-        return found_for(find_overlap(facts, sought.at), BEFORE | AFTER);
-    }
-    if serves(sought, OVERLAP) {
-        return found_for(find_apart(facts, sought.at), OVERLAP);
-    }
-    None
-}
-
-/// An instance of a rule other than CHAIN for what is wanted.
-pub fn find_plain(facts: &Facts, sought: Sought) -> Option<Found> {
-    if let Some(found) = find_joint(facts, sought) {
-        return Some(found);
-    }
-    if let Some(found) = find_compose(facts, sought) {
-        return Some(found);
+        if let Some(reason) = find_cycle(facts, sought.at) {
+            return found_for(Some(reason), BEFORE | AFTER);
+        }
     }
     find_orders(facts, sought)
+}
+
+/// An instance of a rule other than CHAIN for what is wanted. PAIR and APART come first; of TRIPLE
+/// and COMPOSE one is taken that needs least beside what is needed already.
+pub fn find_plain(facts: &Facts, needs: &Marks, sought: Sought) -> Option<Found> {
+    let at = sought.at;
+    let ends = serves(sought, BEFORE | AFTER);
+    if ends && is_long(facts, at, 0) {
+        return found_for(Some(Reason::Pair { at }), BEFORE | AFTER);
+    }
+    if serves(sought, OVERLAP) {
+        if let Some(reason) = find_apart(facts, at) {
+            return found_for(Some(reason), OVERLAP);
+        }
+    }
+    let mut best = Best {
+        found: None,
+        cost: u32::MAX,
+    };
+    if ends {
+        offer_triples(facts, needs, &mut best, at);
+    }
+    offer_composes(facts, needs, &mut best, sought);
+    if best.found.is_some() {
+        return best.found;
+    }
+    find_of_four(facts, sought)
 }
 
 /// CHAIN for what is wanted; its boxes come behind those of the list.

@@ -123,3 +123,11 @@ impl Marks {
         change(bits, there, turned_bits(more), turned_bits(less));
     }
 }
+
+/// How many of these relations a list of sets doesn't have at their place.
+pub fn lacking(marks: &Marks, marked: Marked) -> u32 {
+    let bits = marked.bits & !marks.at(marked.at);
+    (u32::from(bits & OVERLAP != 0))
+        .wrapping_add(u32::from(bits & BEFORE != 0))
+        .wrapping_add(u32::from(bits & AFTER != 0))
+}

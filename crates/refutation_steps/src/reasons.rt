@@ -1,6 +1,6 @@
 //! Why something is excluded: an instance of a rule, and what it needs.
 use crate::facts::{Facts, composed};
-use crate::marks::{AFTER, BEFORE, Marks, OVERLAP, Spot, at_place, has_all};
+use crate::marks::{AFTER, BEFORE, Marked, Marks, OVERLAP, Spot, at_place, has_all};
 
 /// An instance of a rule that excludes at a place. The boxes of a chain stand in a list from a
 /// position on: so many of the chain that ends in u, from u backwards, then so many of the one that
@@ -78,13 +78,30 @@ fn needed_second(first: u8, second: u8, wanted: u8) -> u8 {
     needed
 }
 
-fn need_compose(facts: &Facts, needs: &mut Marks, at: Spot, x: u32, wanted: u8) {
+/// What COMPOSE by way of a third box needs for what is wanted, at the first box and the third and
+/// at the third and the second.
+pub fn compose_needs(facts: &Facts, at: Spot, x: u32, wanted: u8) -> (Marked, Marked) {
     let left = at_place(at.dim, at.u, x);
     let right = at_place(at.dim, x, at.v);
-    let second = facts.excluded.at(right);
-    let first = needed_first(facts.excluded.at(left), second, wanted);
-    needs.change(left, first, 0);
-    needs.change(right, needed_second(first, second, wanted), 0);
+    let all = facts.excluded.at(right);
+    let first = needed_first(facts.excluded.at(left), all, wanted);
+    let second = needed_second(first, all, wanted);
+    (
+        Marked {
+            at: left,
+            bits: first,
+        },
+        Marked {
+            at: right,
+            bits: second,
+        },
+    )
+}
+
+fn need_compose(facts: &Facts, needs: &mut Marks, at: Spot, x: u32, wanted: u8) {
+    let (first, second) = compose_needs(facts, at, x, wanted);
+    needs.change(first.at, first.bits, 0);
+    needs.change(second.at, second.bits, 0);
 }
 
 fn need_apart(facts: &Facts, needs: &mut Marks, at: Spot) {

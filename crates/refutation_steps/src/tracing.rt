@@ -101,7 +101,7 @@ fn take_wanted(trace: &mut Trace, at: Spot, came: u8) -> u8 {
 
 // A reason for just this.
 fn find_exactly(trace: &mut Trace, sought: Sought) -> Result<Option<Found>, NoMemory> {
-    if let Some(plain) = find_plain(&trace.facts, sought) {
+    if let Some(plain) = find_plain(&trace.facts, &trace.needs, sought) {
         return Ok(Some(plain));
     }
     find_chains(&trace.facts, &mut trace.weights, &mut trace.boxes, sought)
@@ -109,7 +109,7 @@ fn find_exactly(trace: &mut Trace, sought: Sought) -> Result<Option<Found>, NoMe
 
 // A reason for something of what is wanted at a place, for all of it where there is one.
 fn find_some(trace: &mut Trace, sought: Sought) -> Result<Option<Found>, NoMemory> {
-    for bits in [ALL, OVERLAP, BEFORE, AFTER] {
+    for bits in [ALL, BEFORE, AFTER, OVERLAP] {
         let wanted = sought.wanted & bits;
         if wanted != 0 {
             let part = Sought { wanted, ..sought };
