@@ -1,9 +1,9 @@
 -- Bounds stay bounds while they are narrowed, and each answer leaves less to be asked.
-use Rattle.std.proofs.Common.{◌≡◌, ℕ, suc, pred, ◌+◌, ◌-◌, ◌<◌, ◌≤◌, ◌⊎◌, inl, inr, arith, refl, sym, ap, subst, ◌∙◌, Bool, true, false, if◌then◌else◌, nat_lt, List}
-use Rattle.std.proofs.lemmas.Bool.{cases_lt, lt-ltb, le-ltb}
+use Rattle.std.proofs.Common.{◌≡◌, ℕ, suc, ◌+◌, ◌-◌, ◌<◌, ◌≤◌, inl, inr, arith, refl, sym, ap, subst, ◌∙◌, Bool, if◌then◌else◌, nat_lt, List}
+use Rattle.std.proofs.lemmas.Bool.{lt-ltb, le-ltb}
 use Rattle.packing_terms.specs.Tokens.{PlainToken}
 use Rattle.tree_terms.specs.Levels.{PlainLevel, PlacedBy, RefutedBy, SpentAt}
-use Rattle.level_bounds.specs.Bounds.{PlainBounds, first_bounds, afresh, IsInside, IsNear, IsAsked, IsNarrow, narrowed, asked_left, IsRightAnswer, AreSpent, AreBounds, IsClosed}
+use Rattle.level_bounds.specs.Bounds.{PlainBounds, first_bounds, IsAsked, IsNarrow, narrowed, asked_left, IsRightAnswer, AreSpent, AreBounds, IsClosed}
 
 -- a choice by two numbers
 by_less : (a b x y : ℕ) → a < b → (if nat_lt a b then x else y) ≡ x

@@ -2,7 +2,7 @@
 --
 --     refuted      lowest     highest      placed      while they aren't neighbours, the level halfway between refuted and
 --        |-----x------|          |------------|        lowest is asked, and then the one halfway between highest and placed
-use Rattle.std.specs.Prelude.{ℕ, suc, pred, ◌+◌, ◌-◌, ◌/◌, ◌<◌, ◌≤◌, ◌≡◌, ◌⊎◌, List, nat_lt, if◌then◌else◌}
+use Rattle.std.specs.Prelude.{ℕ, suc, pred, ◌+◌, ◌-◌, ◌<◌, ◌≤◌, ◌≡◌, ◌⊎◌, List, nat_lt, if◌then◌else◌}
 use Rattle.packing_terms.specs.Tokens.{PlainToken}
 use Rattle.tree_terms.specs.Levels.{PlainLevel, PlacedBy, RefutedBy, SpentAt}
 use Rattle.proof_tree.specs.Plain.{plain_tokens}

@@ -1,7 +1,7 @@
 -- What the answer for a strip says, from the bounds that were reached.
-use Rattle.std.proofs.Common.{◌≡◌, ℕ, suc, pred, ◌-◌, ◌<◌, ◌≤◌, ◌⊎◌, inl, inr, refl, sym, ap, subst, arith, Bool, List, []}
+use Rattle.std.proofs.Common.{◌≡◌, ℕ, suc, pred, ◌-◌, ◌<◌, ◌≤◌, inl, inr, refl, sym, ap, subst, arith, Bool, List, []}
 use Rattle.packing_terms.specs.Packing.{PlainInstance, Fits}
-use Rattle.packing_terms.specs.Goals.{with_last_side, HasTooWideBox, IsLeastHeight}
+use Rattle.packing_terms.specs.Goals.{with_last_side, HasTooWideBox}
 use Rattle.packing_terms.specs.Limits.{IsInternalInstance, most_height}
 use Rattle.packing_terms.specs.Tokens.{PlainToken}
 use Rattle.packing_terms.proofs.Internal.{internal_sides}
@@ -9,11 +9,10 @@ use Rattle.packing_terms.proofs.Neighbours.{fits_higher, least_height}
 use Rattle.packing_terms.proofs.Refuted.{none_fits}
 use Rattle.scale_terms.proofs.Excess.{excess_law}
 use Rattle.tree_terms.specs.Trees.{PlainOutcome, Decided, Past, Yes, No}
-use Rattle.tree_terms.specs.Levels.{PlainReached, PlainLevel, level_by, height_run}
+use Rattle.tree_terms.specs.Levels.{PlainReached, level_by, height_run}
 use Rattle.tree_terms.proofs.Optima.{stack_small, internal_at}
 use Rattle.tree_terms.proofs.SpentRuns.{height_end}
 use Rattle.text_terms.specs.declared.settings.Settings.{Settings}
-use Rattle.proof_tree.specs.Plain.{plain_tokens}
 use Rattle.class_search.specs.Right.{IsRight}
 use Rattle.level_bounds.specs.Bounds.{PlainBounds, first_bounds, afresh, IsNarrow, IsClosed}
 use Rattle.level_bounds.proofs.Narrowing.{are_first, closed}

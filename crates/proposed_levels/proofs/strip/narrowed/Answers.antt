@@ -1,5 +1,5 @@
 use Rattle.level_bounds.specs.Bounds.{plain_bounds}
-use Rattle.proposed_levels.proofs.Strips.{bounds_true, bounds_named, bounds_limited, bounds_past}
+use Rattle.proposed_levels.proofs.Strips.{bounds_true, bounds_named, bounds_past}
 use Rattle.proposed_levels.proofs.strip.narrowed.Goals as goal
 
 pub returns-clause-right : goal.returns-clause-right
