@@ -47,7 +47,7 @@ module _ (words : List (String Global)) (old new sunk_old sunk_new : Option (Lis
   reading_done task status asks (inr (inr (inl m))) = absurd (no_task words m.number m.settings task m.asked asks)
   reading_done task status asks (inr (inr (inr (inl a)))) = subst (λ t. IsReadingDone t old new sunk_old sunk_new status) (same_task words a.0 task a.1 asks) a.2
   reading_done task status asks (inr (inr (inr (inr (inl f))))) = absurd (front_tasks words f.settings task f.answered.asked asks)
-  reading_done task status asks (inr (inr (inr (inr (inr p))))) = absurd (proposed_tasks words p.settings task p.answered.asked asks)
+  reading_done task status asks (inr (inr (inr (inr (inr p))))) = absurd (proposed_tasks words p.job p.settings task p.answered.asked asks)
 
   pub reading_undone : (task : DocumentTask) (stop : Stop) → AsksTask words task → IsUndone words old new sunk_old sunk_new stop
       → IsWithoutReading task old new sunk_old sunk_new stop ⊎ (stop ≡ NoMemory)
@@ -71,7 +71,7 @@ module _ (words : List (String Global)) (old new sunk_old sunk_new : Option (Lis
   reading_undone task stop asks (inr (inr (inl m))) = absurd (no_task words m.number m.settings task m.asked asks)
   reading_undone task stop asks (inr (inr (inr (inl a)))) = inl (subst (λ t. IsWithoutReading t old new sunk_old sunk_new stop) (same_task words a.0 task a.1 asks) a.2)
   reading_undone task stop asks (inr (inr (inr (inr (inl f))))) = absurd (front_tasks words f.0.0 task f.0.1 asks)
-  reading_undone task stop asks (inr (inr (inr (inr (inr p))))) = absurd (proposed_tasks words p.0.0 task p.0.1 asks)
+  reading_undone task stop asks (inr (inr (inr (inr (inr p))))) = absurd (proposed_tasks words p.0.0 p.0.1 task p.0.2 asks)
 
   -- more bytes than are read have no text
   pub long_read : (task : DocumentTask) (status : ℕ) → IsLongReading words old → IsReadingDone task old new sunk_old sunk_new status → ⊥

@@ -3,6 +3,7 @@ use Rattle.std.proofs.Common.{ℕ, ◌≡◌, ◌≢◌, ◌≤◌, ◌<◌, ◌
 use Rattle.packing_terms.specs.Packing.{PlainInstance}
 use Rattle.text_terms.specs.declared.fault.TextFault.{TextFault}
 use Rattle.text_terms.specs.declared.settings.Settings.{Settings}
+use Rattle.document_terms.specs.declared.claim.SolvingJob.{SolvingJob}
 use Rattle.answer_terms.specs.declared.job.DocumentJob.{DocumentJob}
 use Rattle.document_terms.specs.declared.claim.Claim.{Claim}
 use Rattle.verdict_terms.specs.Documents.{Refusal}
@@ -143,7 +144,7 @@ module _ (words : List (String Global)) (old new sunk_old sunk_new : Option (Lis
   judged_undone stop asks (inr (inr (inl m))) = absurd (no_check words m.number m.settings m.asked asks)
   judged_undone stop asks (inr (inr (inr (inl a)))) = absurd (task_checks words a.0 asks a.1)
   judged_undone stop asks (inr (inr (inr (inr (inl f))))) = absurd (front_checks words f.0.0 f.0.1 asks)
-  judged_undone stop asks (inr (inr (inr (inr (inr p))))) = absurd (proposed_checks words p.0.0 p.0.1 asks)
+  judged_undone stop asks (inr (inr (inr (inr (inr p))))) = absurd (proposed_checks words p.0.0 p.0.1 p.0.2 asks)
 
   -- ---- words and an input that have an answer
 
@@ -221,11 +222,11 @@ module _ (words : List (String Global)) (old new sunk_old sunk_new : Option (Lis
   fronting_stops settings instance s stop undone =
       by_cases stop (front_never_stops words old new sunk_old sunk_new settings instance s stop (fronted_undone words old new sunk_old sunk_new stop settings s.asks undone))
 
-  proposing_stops : (settings : Settings) (instance : PlainInstance) → IsProposing words old settings instance → (stop : Stop)
+  proposing_stops : (job : SolvingJob) (settings : Settings) (instance : PlainInstance) → IsProposing words old job settings instance → (stop : Stop)
       → IsUndone words old new sunk_old sunk_new stop → IsFault stop
-  proposing_stops settings instance s stop undone =
-      by_cases stop (proposed_never_stops words old new sunk_old sunk_new settings instance s stop
-      (proposed_undone words old new sunk_old sunk_new stop settings s.asks undone))
+  proposing_stops job settings instance s stop undone =
+      by_cases stop (proposed_never_stops words old new sunk_old sunk_new job settings instance s stop
+      (proposed_undone words old new sunk_old sunk_new stop job settings s.asks undone))
 
   pub completes : HasAnswer words old → (stop : Stop) (status : ℕ) → status ≡ stop_status stop → IsUndone words old new sunk_old sunk_new stop → IsFaultStatus status
   completes (inl s) stop status e undone = fault_status stop status (solving_stops s.0 s.1 s.2 s.3 stop undone) e
@@ -233,7 +234,7 @@ module _ (words : List (String Global)) (old new sunk_old sunk_new : Option (Lis
   completes (inr (inr (inl s))) stop status e undone = fault_status stop status (making_stops s.0 s.1 s.2 stop undone) e
   completes (inr (inr (inr (inl s)))) stop status e undone = fault_status stop status (reading_stops s.0 s.1 s.2 stop undone) e
   completes (inr (inr (inr (inr (inl s))))) stop status e undone = fault_status stop status (fronting_stops s.0 s.1 s.2 stop undone) e
-  completes (inr (inr (inr (inr (inr s))))) stop status e undone = fault_status stop status (proposing_stops s.0 s.1 s.2 stop undone) e
+  completes (inr (inr (inr (inr (inr s))))) stop status e undone = fault_status stop status (proposing_stops s.0 s.1 s.2 s.3 stop undone) e
 
   -- ---- words and an input that are to be refused
 
@@ -265,7 +266,7 @@ module _ (words : List (String Global)) (old new sunk_old sunk_new : Option (Lis
   refusable_done TooLong (inl l) status done =
       let w = solved_done words old new sunk_old sunk_new status l.job l.settings l.asks done in long_answered l status w.document w.answered
   refusable_done TooLong (inr (inr (inr (inr l)))) status done =
-      long_proposed words old new sunk_old sunk_new status l (proposed_done words old new sunk_old sunk_new status l.settings l.asks done)
+      long_proposed words old new sunk_old sunk_new status l (proposed_done words old new sunk_old sunk_new status l.job l.settings l.asks done)
   refusable_done TooLong (inr (inr (inr (inl l)))) status done = long_fronted words old new sunk_old sunk_new status l (fronted_done words old new sunk_old sunk_new status l.settings l.asks done)
   refusable_done TooLong (inr (inr (inl l))) status done = long_read words old new sunk_old sunk_new l.task status l (reading_done words old new sunk_old sunk_new l.task status l.asks done)
   refusable_done TooLong (inr (inl l)) status (inl w) = one_job words w.answered.job w.answered.settings w.answered.asked l.asks
@@ -273,9 +274,9 @@ module _ (words : List (String Global)) (old new sunk_old sunk_new : Option (Lis
   refusable_done TooLong (inr (inl l)) status (inr (inr (inl m))) = no_check words m.number m.settings m.asked l.asks
   refusable_done TooLong (inr (inl l)) status (inr (inr (inr (inl a)))) = task_checks words a.0 l.asks a.1
   refusable_done TooLong (inr (inl l)) status (inr (inr (inr (inr (inl f))))) = front_checks words f.settings f.answered.asked l.asks
-  refusable_done TooLong (inr (inl l)) status (inr (inr (inr (inr (inr p))))) = proposed_checks words p.settings p.answered.asked l.asks
+  refusable_done TooLong (inr (inl l)) status (inr (inr (inr (inr (inr p))))) = proposed_checks words p.job p.settings p.answered.asked l.asks
   refusable_done (Text fault) (inr (inr l)) status done =
-      faulty_proposed words old new sunk_old sunk_new status fault l (proposed_done words old new sunk_old sunk_new status l.settings l.asks done)
+      faulty_proposed words old new sunk_old sunk_new status fault l (proposed_done words old new sunk_old sunk_new status l.job l.settings l.asks done)
   refusable_done (Text fault) (inr (inl l)) status done =
       faulty_fronted words old new sunk_old sunk_new status fault l (fronted_done words old new sunk_old sunk_new status l.settings l.asks done)
   refusable_done Dimensions l status done = other_fronted words old new sunk_old sunk_new status l (fronted_done words old new sunk_old sunk_new status l.settings l.asks done)
@@ -372,11 +373,11 @@ module _ (words : List (String Global)) (old new sunk_old sunk_new : Option (Lis
   refusable_ends TooLong (inl l) end undone = long_ends l end (solved_undone words old new sunk_old sunk_new end l.job l.settings l.asks undone)
   refusable_ends TooLong (inr (inl l)) end undone = long_document_ends l end (judged_undone end l.asks undone)
   refusable_ends TooLong (inr (inr (inr (inr l)))) end undone =
-      proposed_long_ends words old new sunk_old sunk_new l end (proposed_undone words old new sunk_old sunk_new end l.settings l.asks undone)
+      proposed_long_ends words old new sunk_old sunk_new l end (proposed_undone words old new sunk_old sunk_new end l.job l.settings l.asks undone)
   refusable_ends TooLong (inr (inr (inr (inl l)))) end undone = front_long_ends words old new sunk_old sunk_new l end (fronted_undone words old new sunk_old sunk_new end l.settings l.asks undone)
   refusable_ends TooLong (inr (inr (inl l))) end undone = long_reading_ends l.task l end (reading_undone words old new sunk_old sunk_new l.task end l.asks undone)
   refusable_ends (Text fault) (inr (inr l)) end undone =
-      proposed_faulty_ends words old new sunk_old sunk_new fault l end (proposed_undone words old new sunk_old sunk_new end l.settings l.asks undone)
+      proposed_faulty_ends words old new sunk_old sunk_new fault l end (proposed_undone words old new sunk_old sunk_new end l.job l.settings l.asks undone)
   refusable_ends (Text fault) (inr (inl l)) end undone = front_faulty_ends words old new sunk_old sunk_new fault l end (fronted_undone words old new sunk_old sunk_new end l.settings l.asks undone)
   refusable_ends Dimensions l end undone = front_other_ends words old new sunk_old sunk_new l end (fronted_undone words old new sunk_old sunk_new end l.settings l.asks undone)
   refusable_ends (Text fault) (inl l) end undone = faulty_ends fault l end (solved_undone words old new sunk_old sunk_new end l.job l.settings l.asks undone)

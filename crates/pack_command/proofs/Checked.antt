@@ -41,7 +41,7 @@ solved_done words old new sunk_old sunk_new status job settings asks (inr (inl c
 solved_done words old new sunk_old sunk_new status job settings asks (inr (inr (inl m))) = absurd (no_solve words m.number m.settings job settings m.asked asks)
 solved_done words old new sunk_old sunk_new status job settings asks (inr (inr (inr (inl a)))) = absurd (task_solves words job settings a.0 asks a.1)
 solved_done words old new sunk_old sunk_new status job settings asks (inr (inr (inr (inr (inl f))))) = absurd (front_solves words job settings f.settings asks f.answered.asked)
-solved_done words old new sunk_old sunk_new status job settings asks (inr (inr (inr (inr (inr p))))) = absurd (proposed_solves words job settings p.settings asks p.answered.asked)
+solved_done words old new sunk_old sunk_new status job settings asks (inr (inr (inr (inr (inr p))))) = absurd (proposed_solves words job p.job settings p.settings asks p.answered.asked)
 
 pub solved_undone : (words : List (String Global)) (old new sunk_old sunk_new : Option (List ℕ)) (stop : Stop) (job : DocumentJob) (settings : Settings)
     → AsksToSolve words job settings → IsUndone words old new sunk_old sunk_new stop → IsStopped words old new sunk_old sunk_new stop
@@ -50,7 +50,7 @@ solved_undone words old new sunk_old sunk_new stop job settings asks (inr (inl c
 solved_undone words old new sunk_old sunk_new stop job settings asks (inr (inr (inl u))) = absurd (no_solve words u.number u.settings job settings u.asked asks)
 solved_undone words old new sunk_old sunk_new stop job settings asks (inr (inr (inr (inl a)))) = absurd (task_solves words job settings a.0 asks a.1)
 solved_undone words old new sunk_old sunk_new stop job settings asks (inr (inr (inr (inr (inl f))))) = absurd (front_solves words job settings f.0.0 asks f.0.1)
-solved_undone words old new sunk_old sunk_new stop job settings asks (inr (inr (inr (inr (inr p))))) = absurd (proposed_solves words job settings p.0.0 asks p.0.1)
+solved_undone words old new sunk_old sunk_new stop job settings asks (inr (inr (inr (inr (inr p))))) = absurd (proposed_solves words job p.0.0 settings p.0.1 asks p.0.2)
 
 pub judged_done : (words : List (String Global)) (old new sunk_old sunk_new : Option (List ℕ)) (status : ℕ) → AsksCheck words
     → IsDone words old new sunk_old sunk_new status → IsVerdictWritten old new sunk_old sunk_new status
@@ -59,7 +59,7 @@ judged_done words old new sunk_old sunk_new status asks (inr (inl c)) = c.1
 judged_done words old new sunk_old sunk_new status asks (inr (inr (inl m))) = absurd (no_check words m.number m.settings m.asked asks)
 judged_done words old new sunk_old sunk_new status asks (inr (inr (inr (inl a)))) = absurd (task_checks words a.0 asks a.1)
 judged_done words old new sunk_old sunk_new status asks (inr (inr (inr (inr (inl f))))) = absurd (front_checks words f.settings f.answered.asked asks)
-judged_done words old new sunk_old sunk_new status asks (inr (inr (inr (inr (inr p))))) = absurd (proposed_checks words p.settings p.answered.asked asks)
+judged_done words old new sunk_old sunk_new status asks (inr (inr (inr (inr (inr p))))) = absurd (proposed_checks words p.job p.settings p.answered.asked asks)
 
 -- what was taken, and the rest of the bytes
 told_rest : (old left : Option (List ℕ)) (taken bytes : List ℕ) → old ≡ Some bytes → Gives old left taken → (rest : List ℕ) × (bytes ≡ taken ++ rest)

@@ -86,12 +86,12 @@ strip_solution settings instance strip a t = record {
 }
 
 module _ (instance : PlainInstance) where
-  bins_placed : (bins : FoundBins) (budget : ℕ) (scales : Bool) → IsBinsAnswer instance budget scales bins → AreTrueBins instance bins → ArePlacedBins instance bins
+  pub bins_placed : (bins : FoundBins) (budget : ℕ) (scales : Bool) → IsBinsAnswer instance budget scales bins → AreTrueBins instance bins → ArePlacedBins instance bins
   bins_placed (LeastCount bins numbers tokens) budget scales a t = (t.packed).count
   bins_placed (CountBetween refuted tokens bins numbers) budget scales a t = (t.packed).count
   bins_placed (NoBin v i) budget scales a t = (a.there, a.in_range)
 
-  bins_answered : (bins : FoundBins) (budget : ℕ) (scales : Bool) → IsBinsAnswer instance budget scales bins
+  pub bins_answered : (bins : FoundBins) (budget : ℕ) (scales : Bool) → IsBinsAnswer instance budget scales bins
       → bins_found bins ≡ bins_answer (first_too_large_box instance) (bin_run instance budget scales)
   bins_answered (LeastCount bins numbers tokens) budget scales a =
       sym (ap (λ (p : Option (ℕ × ℕ)). bins_answer p (bin_run instance budget scales)) ((none_large_is instance).1 a.0)
@@ -111,7 +111,7 @@ bins_solution settings instance bins a t = record {
   placed = bins_placed instance bins settings.budget settings.scales a t;
 }
 
-choice_answered : (instance : PlainInstance) (choice : FoundChoice) (budget : ℕ) (scales : Bool) → IsChoiceAnswer instance budget scales choice
+pub choice_answered : (instance : PlainInstance) (choice : FoundChoice) (budget : ℕ) (scales : Bool) → IsChoiceAnswer instance budget scales choice
     → choice_found choice ≡ knapsack_answer (value_run instance budget scales)
 choice_answered instance (Greatest value numbers tokens) budget scales a = sym (ap knapsack_answer a)
 choice_answered instance (WorthBetween placed numbers refuted tokens) budget scales a = sym (ap knapsack_answer a)

@@ -22,7 +22,7 @@ module _ (words : List (String Global)) (old new sunk_old sunk_new : Option (Lis
   fronted_done status settings asks (inr (inr (inl m))) = absurd (front_makes words m.number m.settings settings m.asked asks)
   fronted_done status settings asks (inr (inr (inr (inl a)))) = absurd (front_tasks words settings a.0 asks a.1)
   fronted_done status settings asks (inr (inr (inr (inr (inl f))))) = f
-  fronted_done status settings asks (inr (inr (inr (inr (inr p))))) = absurd (proposed_fronts words settings p.settings asks p.answered.asked)
+  fronted_done status settings asks (inr (inr (inr (inr (inr p))))) = absurd (proposed_fronts words p.job settings p.settings asks p.answered.asked)
 
   pub fronted_undone : (stop : Stop) (settings : Settings) → AsksFront words settings → IsUndone words old new sunk_old sunk_new stop
       → IsWithoutFront words old new sunk_old sunk_new stop ⊎ (stop ≡ NoMemory)
@@ -46,7 +46,7 @@ module _ (words : List (String Global)) (old new sunk_old sunk_new : Option (Lis
   fronted_undone stop settings asks (inr (inr (inl m))) = absurd (front_makes words m.number m.settings settings m.asked asks)
   fronted_undone stop settings asks (inr (inr (inr (inl a)))) = absurd (front_tasks words settings a.0 asks a.1)
   fronted_undone stop settings asks (inr (inr (inr (inr (inl f))))) = inl f.1
-  fronted_undone stop settings asks (inr (inr (inr (inr (inr p))))) = absurd (proposed_fronts words settings p.0.0 asks p.0.1)
+  fronted_undone stop settings asks (inr (inr (inr (inr (inr p))))) = absurd (proposed_fronts words p.0.0 settings p.0.1 asks p.0.2)
 
   -- ---- an input that has an answer
 

@@ -147,7 +147,7 @@ module _ (words : List (String Global)) (old new sunk_old sunk_new : Option (Lis
   made_done status (inr (inr (inl m))) = m
   made_done status (inr (inr (inr (inl a)))) = absurd (no_task words number settings a.0 asks a.1)
   made_done status (inr (inr (inr (inr (inl f))))) = absurd (front_makes words number settings f.settings asks f.answered.asked)
-  made_done status (inr (inr (inr (inr (inr p))))) = absurd (proposed_makes words number settings p.settings asks p.answered.asked)
+  made_done status (inr (inr (inr (inr (inr p))))) = absurd (proposed_makes words number p.job settings p.settings asks p.answered.asked)
 
   same_made : (m : ℕ) (others : Settings) → AsksToMake words m others → made_for m others ≡ made_for number settings
   same_made m others asked =
@@ -196,7 +196,7 @@ module _ (words : List (String Global)) (old new sunk_old sunk_new : Option (Lis
   never_unmade stop (inr (inr (inl u))) = cut stop u.number u.settings u.cut
   never_unmade stop (inr (inr (inr (inl a)))) = λ w m. absurd (no_task words number settings a.0 asks a.1)
   never_unmade stop (inr (inr (inr (inr (inl f))))) = λ w m. absurd (front_makes words number settings f.0.0 asks f.0.1)
-  never_unmade stop (inr (inr (inr (inr (inr p))))) = λ w m. absurd (proposed_makes words number settings p.0.0 asks p.0.1)
+  never_unmade stop (inr (inr (inr (inr (inr p))))) = λ w m. absurd (proposed_makes words number p.0.0 settings p.0.1 asks p.0.2)
 
   -- in particular by no failed read
   pub never_broken_off : (stop : Stop) → IsUndone words old new sunk_old sunk_new stop → ¬ (stop_status stop ≡ 4)

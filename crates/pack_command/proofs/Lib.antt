@@ -16,6 +16,9 @@ pub mod ExplainedAs
 pub mod OneJob
 pub mod Fronted
 pub mod ProposedEnds
+pub mod ProposedOwn
+pub mod ProposedFit
+pub mod ProposedStrip
 pub mod ProposedDecided
 pub mod Sized
 pub mod FrontAnswering

@@ -47,7 +47,7 @@ reduced_answer settings instance limits (Claimed claim numbers tokens) e =
     })
 
 -- the document of the definition
-own_text : (job : DocumentJob) (settings : Settings) (instance : PlainInstance) → IsInstance instance → (sunk_old sunk_new : Option (List ℕ))
+pub own_text : (job : DocumentJob) (settings : Settings) (instance : PlainInstance) → IsInstance instance → (sunk_old sunk_new : Option (List ℕ))
     → Gains sunk_old sunk_new (answer_for job settings instance).text → IsOwnDocument job instance sunk_old sunk_new (answer_for job settings instance).status
 own_text (Solves job) settings instance limits sunk_old sunk_new gains = record {
   document = (answer_for (Solves job) settings instance).text;

@@ -5,6 +5,7 @@ use Rattle.packing_terms.specs.Packing.{PlainInstance, dims}
 use Rattle.text_terms.specs.Texts.{text_instance}
 use Rattle.answer_terms.specs.declared.job.DocumentJob.{DocumentJob}
 use Rattle.answer_terms.specs.declared.job.DocumentJob.TheVariants.{Solving as Solves, Reduced as Reduces}
+use Rattle.document_terms.specs.declared.claim.SolvingJob.{SolvingJob}
 use Rattle.document_terms.specs.declared.claim.SolvingJob.TheVariants.{Fit as SolvesFit, Strip as SolvesStrip, Bins as SolvesBins, Knapsack as SolvesKnapsack}
 use Rattle.pack_words.specs.Job.{job_of_words}
 use Rattle.pack_words.specs.declared.job.Job.{Job}
@@ -33,7 +34,7 @@ document_job Make = None
 document_job Audit = None
 document_job Explain = None
 document_job Front = None
-document_job Proposed = None
+document_job (Proposed job) = None
 
 -- the job of the words, if they are one
 abbrev pub asked_job : List (String Global) → Option JobWords
@@ -77,11 +78,11 @@ pub record AsksFront (words : List (String Global)) (settings : Settings) : Type
   pub job : asked.job ≡ Front
   pub with_settings : asked.settings ≡ settings
 
--- the words are the job `fit` with proposals and these settings
-pub record AsksProposed (words : List (String Global)) (settings : Settings) : Type 0 where
+-- the words are the job with proposals and these settings
+pub record AsksProposed (words : List (String Global)) (job : SolvingJob) (settings : Settings) : Type 0 where
   pub asked : JobWords
   pub is : asked_job words ≡ Some asked
-  pub job : asked.job ≡ Proposed
+  pub job_is : asked.job ≡ Proposed job
   pub with_settings : asked.settings ≡ settings
 
 -- the words are the job `make` with this number and these settings
@@ -104,7 +105,7 @@ IsAsked words (Ok Auditing) = AsksTask words Audits
 IsAsked words (Ok Explaining) = AsksTask words Explains
 IsAsked words (Ok (Making number settings)) = AsksToMake words number settings
 IsAsked words (Ok (Fronting settings)) = AsksFront words settings
-IsAsked words (Ok (Proposing settings)) = AsksProposed words settings
+IsAsked words (Ok (Proposing job settings)) = AsksProposed words job settings
 IsAsked words (Err Words) = AsksNothing words
 IsAsked words (Err NoMemory) = Unit {0}
 IsAsked words (Err TooLong) = ⊥
@@ -150,9 +151,9 @@ pub record IsFronting (words : List (String Global)) (left : Option (List ℕ)) 
   pub read : text_instance bytes ≡ Ok instance
   pub plane : dims instance ≡ 2
 
--- the words ask for `fit` with proposals, and the input is the text of this instance
-pub record IsProposing (words : List (String Global)) (left : Option (List ℕ)) (settings : Settings) (instance : PlainInstance) : Type 0 where
-  pub asks : AsksProposed words settings
+-- the words ask for the job with proposals, and the input is the text of this instance
+pub record IsProposing (words : List (String Global)) (left : Option (List ℕ)) (job : SolvingJob) (settings : Settings) (instance : PlainInstance) : Type 0 where
+  pub asks : AsksProposed words job settings
   pub bytes : List ℕ
   pub told : left ≡ Some bytes
   pub within : length bytes ≤ most_instance_bytes
@@ -166,7 +167,7 @@ HasAnswer words left =
     ⊎ (((number : ℕ) × (settings : Settings) × AsksToMake words number settings)
     ⊎ (((task : DocumentTask) × (bytes : List ℕ) × IsReading words left task bytes)
     ⊎ (((settings : Settings) × (instance : PlainInstance) × IsFronting words left settings instance)
-    ⊎ ((settings : Settings) × (instance : PlainInstance) × IsProposing words left settings instance)))))
+    ⊎ ((job : SolvingJob) × (settings : Settings) × (instance : PlainInstance) × IsProposing words left job settings instance)))))
 
 -- the words are a job that reads nothing, or none
 abbrev pub ReadsNothing : List (String Global) → Type 0
@@ -236,18 +237,20 @@ pub record IsOtherFront (words : List (String Global)) (left : Option (List ℕ)
   pub read : text_instance bytes ≡ Ok instance
   pub other : ¬ (dims instance ≡ 2)
 
--- more bytes come for `fit` with proposals than an instance may have
+-- more bytes come for a job with proposals than an instance may have
 pub record IsLongProposed (words : List (String Global)) (left : Option (List ℕ)) : Type 0 where
+  pub job : SolvingJob
   pub settings : Settings
-  pub asks : AsksProposed words settings
+  pub asks : AsksProposed words job settings
   pub bytes : List ℕ
   pub told : left ≡ Some bytes
   pub past : most_instance_bytes < length bytes
 
--- the words ask for `fit` with proposals, and the input has this fault
+-- the words ask for a job with proposals, and the input has this fault
 pub record IsFaultyProposed (words : List (String Global)) (left : Option (List ℕ)) (fault : TextFault) : Type 0 where
+  pub job : SolvingJob
   pub settings : Settings
-  pub asks : AsksProposed words settings
+  pub asks : AsksProposed words job settings
   pub bytes : List ℕ
   pub told : left ≡ Some bytes
   pub within : length bytes ≤ most_instance_bytes

@@ -12,7 +12,7 @@ use Rattle.pack_command.specs.Run.{IsWritten, IsStopped}
 use Rattle.pack_command.specs.declared.stop.Stop.{Stop}
 
 -- the document of an answer, the line of a check, the summary of `make`, what a whole document comes
--- to, the document of a front, or that of `fit` with proposals, written whole
+-- to, the document of a front, or that of a job with proposals, written whole
 abbrev pub IsDone : List (String Global) → (old new sunk_old sunk_new : Option (List ℕ)) → ℕ → Type 0
 IsDone words old new sunk_old sunk_new status =
     IsWritten words old new sunk_old sunk_new status

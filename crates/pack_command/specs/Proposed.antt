@@ -1,26 +1,36 @@
--- What `fit` with proposals promises.
-use Rattle.std.specs.Prelude.{ℕ, ◌<◌, ◌≡◌, ◌⊎◌, List, [], String, Ok, Err}
+-- What the solving jobs with proposals promise.
+use Rattle.std.specs.Prelude.{ℕ, suc, pred, ◌<◌, ◌≤◌, ◌≡◌, ◌⊎◌, List, [], String, Ok, Err}
 use Rattle.std.specs.declared.option.Option.{Option}
 use Rattle.std.specs.declared.alloc.Global.{Global}
 use Rattle.packing_terms.specs.Packing.{PlainInstance, IsPacking, Fits}
+use Rattle.packing_terms.specs.Goals.{with_last_side, IsLeastHeight}
 use Rattle.packing_terms.specs.Limits.{IsInstance}
 use Rattle.packing_terms.specs.Tokens.{PlainToken}
 use Rattle.packing_terms.specs.Refutation.{Refutes}
 use Rattle.tree_terms.specs.Trees.{PlainOutcome}
 use Rattle.text_terms.specs.Texts.{text_instance}
 use Rattle.text_terms.specs.declared.settings.Settings.{Settings}
-use Rattle.document_terms.specs.declared.claim.Claim.TheVariants.{Fitting, NotFitting}
-use Rattle.answer_terms.specs.Answers.{answer_text, status_of}
+use Rattle.document_terms.specs.Claims.{IsHeightBetween}
+use Rattle.document_terms.specs.declared.claim.SolvingJob.{SolvingJob}
+use Rattle.document_terms.specs.declared.claim.SolvingJob.TheVariants.{Fit as SolvesFit, Strip as SolvesStrip, Bins as SolvesBins, Knapsack as SolvesKnapsack}
+use Rattle.document_terms.specs.declared.claim.Claim.TheVariants.{Fitting, NotFitting, LeastHeight, HeightBetween}
+use Rattle.answer_terms.specs.Answers.{Answer, answer_text, status_of}
 use Rattle.answer_terms.specs.Answers.Answer.{Undecided, Claimed}
-use Rattle.answer_terms.specs.Solved.{fit_answer}
+use Rattle.answer_terms.specs.Solved.{fit_answer, solved}
 use Rattle.answer_streams.specs.declared.solution.Solution.{Solution}
-use Rattle.answer_streams.specs.Solutions.{answer_found, solution_text, IsPlacedSolution}
+use Rattle.answer_streams.specs.Solutions.{answer_found, solution_text, strip_found, IsPlacedSolution}
+use Rattle.strip_solver.specs.declared.strip.Strip.{Strip as FoundStrip}
+use Rattle.strip_solver.specs.Strips.{IsTrueStrip}
 use Rattle.proposed_answers.specs.Behind.{IsBehind}
+use Rattle.proposed_levels.specs.Heights.{height_count, IsNamedStrip, IsLimitedStrip, IsPastBeside}
 use Rattle.pack_streams.specs.Moves.{Gains}
 use Rattle.pack_streams.specs.Writing.{GainsPart}
 use Rattle.pack_command.specs.Answered.{branchings}
 use Rattle.pack_command.specs.Asked.{AsksProposed}
+use Rattle.pack_command.specs.FewestBins.{AreBinsDecided}
+use Rattle.pack_command.specs.GreatestValues.{IsValueDecided}
 use Rattle.pack_command.specs.Inputs.{IsWholeInput, IsPartTaken, IsInputRead}
+use Rattle.pack_command.specs.Strips.{IsNone}
 use Rattle.pack_command.specs.declared.stop.Stop.{Stop}
 use Rattle.pack_command.specs.declared.stop.Stop.TheVariants.{Words, TooLong, Text, Dimensions, ReadFault, WriteFault, NoMemory}
 
@@ -29,44 +39,68 @@ use Rattle.pack_command.specs.declared.stop.Stop.TheVariants.{Words, TooLong, Te
 abbrev pub IsOutcome : Settings → PlainInstance → PlainOutcome → Type 0
 IsOutcome settings instance outcome = IsBehind instance settings.budget settings.scales outcome
 
--- what was found has the status and the document of such an outcome
-pub record IsProposedSolution (settings : Settings) (instance : PlainInstance) (solution : Solution) : Type 0 where
+-- the answer of such an outcome
+pub record IsProposedFit (settings : Settings) (instance : PlainInstance) (answer : Answer) : Type 0 where
   pub outcome : PlainOutcome
   pub is : IsOutcome settings instance outcome
-  pub status : status_of (answer_found solution) ≡ status_of (fit_answer outcome)
-  pub text : solution_text instance solution ≡ answer_text instance (fit_answer outcome)
+  pub answer_is : answer ≡ fit_answer outcome
+
+-- The answer for a strip, which is true; it is two heights only where the class trees of the height above
+-- the refuted one and of the height below the placed one have more branchings than the budget.
+pub record IsProposedStrip (settings : Settings) (instance : PlainInstance) (answer : Answer) : Type 0 where
+  pub strip : FoundStrip
+  pub right : IsTrueStrip instance strip
+  pub named : IsNamedStrip instance strip
+  pub limited : IsLimitedStrip strip
+  pub past : IsPastBeside instance settings.budget settings.scales strip
+  pub answer_is : answer ≡ strip_found strip
+
+-- the answer of a job with proposals; for `bins` and `knapsack` there are none, and it is that of
+-- the job without
+abbrev pub IsProposed : SolvingJob → Settings → PlainInstance → Answer → Type 0
+IsProposed SolvesFit settings instance answer = IsProposedFit settings instance answer
+IsProposed SolvesStrip settings instance answer = IsProposedStrip settings instance answer
+IsProposed SolvesBins settings instance answer = answer ≡ solved SolvesBins settings.budget settings.scales instance
+IsProposed SolvesKnapsack settings instance answer = answer ≡ solved SolvesKnapsack settings.budget settings.scales instance
+
+-- what was found is such an answer, with its document
+pub record IsProposedSolution (job : SolvingJob) (settings : Settings) (instance : PlainInstance) (solution : Solution) : Type 0 where
+  pub is : IsProposed job settings instance (answer_found solution)
+  pub text : solution_text instance solution ≡ answer_text instance (answer_found solution)
   pub placed : IsPlacedSolution instance solution
 
--- the words ask for `fit` with proposals, the whole input is the text of this instance, and this is
--- its outcome
-pub record IsProposedAnswered (words : List (String Global)) (old new : Option (List ℕ)) (settings : Settings) (instance : PlainInstance) (outcome : PlainOutcome) : Type 0 where
-  pub asked : AsksProposed words settings
+-- the words ask for the job with proposals, the whole input is the text of this instance, and this is
+-- its answer
+pub record IsProposedAnswered (words : List (String Global)) (old new : Option (List ℕ)) (job : SolvingJob) (settings : Settings) (instance : PlainInstance) (answer : Answer) : Type 0 where
+  pub asked : AsksProposed words job settings
   pub bytes : List ℕ
   pub input : IsWholeInput old new bytes
   pub read : text_instance bytes ≡ Ok instance
   pub limits : IsInstance instance
-  pub is : IsOutcome settings instance outcome
+  pub is : IsProposed job settings instance answer
 
--- the document of the outcome was written whole, with its status
+-- the document of the answer was written whole, with its status
 pub record IsProposedWritten (words : List (String Global)) (old new sunk_old sunk_new : Option (List ℕ)) (status : ℕ) : Type 0 where
+  pub job : SolvingJob
   pub settings : Settings
   pub instance : PlainInstance
-  pub outcome : PlainOutcome
-  pub answered : IsProposedAnswered words old new settings instance outcome
-  pub status_is : status ≡ status_of (fit_answer outcome)
-  pub written : Gains sunk_old sunk_new (answer_text instance (fit_answer outcome))
+  pub answer : Answer
+  pub answered : IsProposedAnswered words old new job settings instance answer
+  pub status_is : status ≡ status_of answer
+  pub written : Gains sunk_old sunk_new (answer_text instance answer)
 
--- an outcome was found, and a part at the front of its document was written
+-- an answer was found, and a part at the front of its document was written
 pub record IsProposedCut (words : List (String Global)) (old new sunk_old sunk_new : Option (List ℕ)) : Type 0 where
+  pub job : SolvingJob
   pub settings : Settings
   pub instance : PlainInstance
-  pub outcome : PlainOutcome
-  pub answered : IsProposedAnswered words old new settings instance outcome
-  pub part : GainsPart sunk_old sunk_new (answer_text instance (fit_answer outcome))
+  pub answer : Answer
+  pub answered : IsProposedAnswered words old new job settings instance answer
+  pub part : GainsPart sunk_old sunk_new (answer_text instance answer)
 
--- the words ask for `fit` with proposals
+-- the words ask for a job with proposals
 abbrev pub AsksForProposals : List (String Global) → Type 0
-AsksForProposals words = (settings : Settings) × AsksProposed words settings
+AsksForProposals words = (job : SolvingJob) × (settings : Settings) × AsksProposed words job settings
 
 -- why it ended without its document
 abbrev pub IsWithoutProposed : List (String Global) → (old new sunk_old sunk_new : Option (List ℕ)) → Stop → Type 0
@@ -78,7 +112,7 @@ IsWithoutProposed words old new sunk_old sunk_new WriteFault = IsProposedCut wor
 IsWithoutProposed words old new sunk_old sunk_new NoMemory = IsPartTaken old new × (sunk_new ≡ sunk_old)
 IsWithoutProposed words old new sunk_old sunk_new Words = ⊥
 
--- ---- what the answer says
+-- ---- what the answer of `fit` says
 
 -- yes, with the places of a packing
 pub record IsProposedYes (instance : PlainInstance) (sunk_old sunk_new : Option (List ℕ)) (status : ℕ) : Type 0 where
@@ -102,8 +136,8 @@ pub record IsProposedUndecided (instance : PlainInstance) (settings : Settings) 
   pub written : Gains sunk_old sunk_new (answer_text instance Undecided)
 
 -- one of the three
-abbrev pub IsProposedDecided : PlainInstance → Settings → (sunk_old sunk_new : Option (List ℕ)) → ℕ → Type 0
-IsProposedDecided instance settings sunk_old sunk_new status =
+abbrev pub IsProposedFitDecided : PlainInstance → Settings → (sunk_old sunk_new : Option (List ℕ)) → ℕ → Type 0
+IsProposedFitDecided instance settings sunk_old sunk_new status =
     IsProposedYes instance sunk_old sunk_new status
     ⊎ (IsProposedNo instance sunk_old sunk_new status ⊎ IsProposedUndecided instance settings sunk_old sunk_new status)
 
@@ -113,3 +147,57 @@ pub record IsProposedAnswer (instance : PlainInstance) (settings : Settings) (su
   pub is : IsOutcome settings instance outcome
   pub status_is : status ≡ status_of (fit_answer outcome)
   pub written : Gains sunk_old sunk_new (answer_text instance (fit_answer outcome))
+
+-- ---- what the answer of `strip` says
+
+-- the least height over all packings, with places that are a packing in it and tokens that refute
+-- the height below
+pub record IsProposedLeast (instance : PlainInstance) (sunk_old sunk_new : Option (List ℕ)) (status : ℕ) : Type 0 where
+  pub status_is : status ≡ 0
+  pub height : ℕ
+  pub least : IsLeastHeight instance height
+  pub places : List ℕ
+  pub packing : IsPacking (with_last_side instance height) places
+  pub tokens : List PlainToken
+  pub refutation : Refutes (with_last_side instance (pred height)) [] tokens
+  pub written : Gains sunk_old sunk_new (answer_text instance (Claimed (LeastHeight height) places tokens))
+
+-- Two heights between which the least one lies: a refuted one and a placed one, with both certificates.
+-- The class trees of the height above the refuted one and of the height below the placed one have more
+-- branchings than the budget.
+pub record IsProposedBetween (instance : PlainInstance) (settings : Settings) (sunk_old sunk_new : Option (List ℕ)) (status : ℕ) : Type 0 where
+  pub status_is : status ≡ 3
+  pub refuted : ℕ
+  pub placed : ℕ
+  pub order : refuted < placed
+  pub between : IsHeightBetween instance refuted placed
+  pub places : List ℕ
+  pub packing : IsPacking (with_last_side instance placed) places
+  pub tokens : List PlainToken
+  pub refutation : Refutes (with_last_side instance refuted) [] tokens
+  pub past_above : settings.budget < height_count instance settings.scales (suc refuted)
+  pub past_below : settings.budget < height_count instance settings.scales (pred placed)
+  pub written : Gains sunk_old sunk_new (answer_text instance (Claimed (HeightBetween refuted placed) places tokens))
+
+-- one of the two, or none
+abbrev pub IsProposedStripDecided : PlainInstance → Settings → (sunk_old sunk_new : Option (List ℕ)) → ℕ → Type 0
+IsProposedStripDecided instance settings sunk_old sunk_new status =
+    IsProposedLeast instance sunk_old sunk_new status
+    ⊎ (IsProposedBetween instance settings sunk_old sunk_new status ⊎ IsNone instance sunk_old sunk_new status)
+
+-- ---- of each job
+
+abbrev pub IsProposedDecided : SolvingJob → PlainInstance → Settings → (sunk_old sunk_new : Option (List ℕ)) → ℕ → Type 0
+IsProposedDecided SolvesFit instance settings sunk_old sunk_new status =
+    IsProposedFitDecided instance settings sunk_old sunk_new status × IsProposedAnswer instance settings sunk_old sunk_new status
+IsProposedDecided SolvesStrip instance settings sunk_old sunk_new status = IsProposedStripDecided instance settings sunk_old sunk_new status
+IsProposedDecided SolvesBins instance settings sunk_old sunk_new status = AreBinsDecided instance settings sunk_old sunk_new status
+IsProposedDecided SolvesKnapsack instance settings sunk_old sunk_new status = IsValueDecided instance settings sunk_old sunk_new status
+
+-- The budget is enough for the trees that the job decides for the instance, by their counts: for `fit` its
+-- class tree, for `strip` that of each height.
+abbrev pub IsAmple : SolvingJob → Settings → PlainInstance → Type 0
+IsAmple SolvesFit settings instance = branchings settings instance ≤ settings.budget
+IsAmple SolvesStrip settings instance = (h : ℕ) → height_count instance settings.scales h ≤ settings.budget
+IsAmple SolvesBins settings instance = ⊥
+IsAmple SolvesKnapsack settings instance = ⊥

@@ -1,4 +1,4 @@
-//! The job `fit` with proposals: an instance is decided by them first, and then by its tree.
+//! The solving jobs with proposals: an instance is decided by them first, and then by its trees.
 ghost use Rattle.std.specs.Prelude.{◌≡◌, ◌≢◌, List, String, IfOk, IfErr};
 ghost use Rattle.std.specs.declared.alloc.Global.{Global as PlainGlobal};
 ghost use Rattle.packing_terms.specs.Limits.{IsInstance};
@@ -10,9 +10,12 @@ ghost use Rattle.pack_command.specs.Proposed.{IsProposedSolution, IsProposedWrit
 use crate::input::read_input;
 use crate::stop::Stop;
 use answer_streams::{AnswerDocument, Solution, stream};
+use bin_knapsack::{greatest_value, least_bins};
 use box_instances::{Instance, NoMemory};
+use document_terms::SolvingJob;
 use pack_streams::{Sink, Source};
 use proposed_answers::decide_proposed;
+use proposed_levels::least_height_proposed;
 use std::alloc::Global;
 use std::sync::Wait;
 use std::thread::Threads;
@@ -23,14 +26,31 @@ fn found<R: Threads + Wait + Sync, G: Gate + Sync>(
     rt: &R,
     alloc: Global,
     instance: &Instance,
+    job: SolvingJob,
     settings: &Settings,
     gate: &G,
 ) -> Result<Solution, NoMemory>
     requires limits { IsInstance instance.now }
-    ensures { IfOk result (λ s. IsProposedSolution settings.now instance.now s) }
+    ensures { IfOk result (λ s. IsProposedSolution job settings.now instance.now s) }
 {
-    let outcome = decide_proposed(rt, alloc, instance, settings, gate)?;
-    Ok(Solution::Fit(outcome))
+    match job {
+        SolvingJob::Fit => {
+            let outcome = decide_proposed(rt, alloc, instance, settings, gate)?;
+            Ok(Solution::Fit(outcome))
+        }
+        SolvingJob::Strip => {
+            let strip = least_height_proposed(rt, alloc, instance, settings, gate)?;
+            Ok(Solution::Strip(strip))
+        }
+        SolvingJob::Bins => {
+            let bins = least_bins(rt, alloc, instance, settings, gate)?;
+            Ok(Solution::Bins(bins))
+        }
+        SolvingJob::Knapsack => {
+            let choice = greatest_value(rt, alloc, instance, settings, gate)?;
+            Ok(Solution::Knapsack(choice))
+        }
+    }
 }
 
 /// Reads an instance, decides it by proposals first, and writes the document. It answers the status,
@@ -38,16 +58,17 @@ fn found<R: Threads + Wait + Sync, G: Gate + Sync>(
 pub fn tell_proposed<R: Threads + Wait + Sync, S: Source, K: Sink, G: Gate + Sync>(
     rt: &R,
     alloc: Global,
+    job: SolvingJob,
     settings: &Settings,
     input: &mut S,
     out: &mut K,
     gate: &G,
 ) -> Result<u8, Stop>
-    ensures answered { (words : List (String PlainGlobal)) → AsksProposed words settings.now
+    ensures answered { (words : List (String PlainGlobal)) → AsksProposed words job settings.now
         → IfOk result (IsProposedWritten words (S.left input.old) (S.left input.new)
         (K.written out.old) (K.written out.new)) }
     ensures status { IfOk result IsAnswerStatus }
-    ensures stopped { (words : List (String PlainGlobal)) → AsksProposed words settings.now
+    ensures stopped { (words : List (String PlainGlobal)) → AsksProposed words job settings.now
         → IfErr result (IsWithoutProposed words (S.left input.old) (S.left input.new)
         (K.written out.old) (K.written out.new)) }
     ensures unwritten { IfErr result (λ stop. stop ≢ Stop.WriteFault → out.new ≡ out.old) }
@@ -55,7 +76,7 @@ pub fn tell_proposed<R: Threads + Wait + Sync, S: Source, K: Sink, G: Gate + Syn
     ensures writes { CountsWrites (K.faults out.old) (K.faults out.new) result }
 {
     let instance = read_input(alloc, input)?;
-    let Ok(solution) = found(rt, alloc, &instance, settings, gate) else {
+    let Ok(solution) = found(rt, alloc, &instance, job, settings, gate) else {
         return Err(Stop::NoMemory);
     };
     let document = AnswerDocument {

@@ -5,8 +5,9 @@ ghost use Rattle.packing_terms.specs.Packing.{PlainInstance};
 ghost use Rattle.pack_streams.specs.Moves.{Gains};
 ghost use Rattle.answer_terms.specs.declared.job.DocumentJob.{DocumentJob as PlainJob};
 ghost use Rattle.answer_terms.specs.declared.job.DocumentJob.TheVariants.{Solving as Solves};
+ghost use Rattle.document_terms.specs.declared.claim.SolvingJob.{SolvingJob as PlainSolvingJob};
 ghost use Rattle.document_terms.specs.declared.claim.SolvingJob.TheVariants.{Fit as SolvesFit};
-ghost use Rattle.pack_command.specs.Answered.{answer_for, branchings, class_bound, IsAnswerStatus, IsEnough};
+ghost use Rattle.pack_command.specs.Answered.{answer_for, class_bound, IsAnswerStatus, IsEnough};
 ghost use Rattle.pack_command.specs.Asked.{AsksToSolve, AsksCheck, AsksToMake, AsksAudit, IsSolving, IsChecking, IsAuditing, IsExplaining, IsFronting, IsProposing, HasAnswer, ReadsNothing, IsRefusable};
 ghost use Rattle.pack_command.specs.Audits.{IsAuditClaimed};
 ghost use Rattle.pack_command.specs.Readings.{Audits, Explains, IsExactlyRead};
@@ -17,7 +18,7 @@ ghost use Rattle.pack_command.specs.Ends.{IsDone, IsUndone};
 ghost use Rattle.pack_command.specs.Fronts.{front_for, IsFrontDecided, IsOwnFront};
 ghost use Rattle.pack_command.specs.Generated.{IsExactlyMade};
 ghost use Rattle.pack_command.specs.Own.{IsOwnDocument};
-ghost use Rattle.pack_command.specs.Proposed.{IsProposedAnswer, IsProposedDecided};
+ghost use Rattle.pack_command.specs.Proposed.{IsAmple, IsProposedDecided};
 ghost use Rattle.pack_command.specs.Stops.{stop_status, message_of};
 ghost use Rattle.pack_command.specs.Run.{IsWritten, IsStopped, IsTold};
 ghost use Rattle.pack_command.specs.declared.stop.Stop.{Stop as PlainStop};
@@ -144,29 +145,35 @@ pub fn run<R: Threads + Wait + Sync, S: Source, K: Sink, E: Sink, G: Gate + Sync
         → IsFronting words.now (S.left input.old) settings instance → IsAnswerStatus result
         → IsOwnFront instance (K.written out.old) (K.written out.new) result }
 
-    // The answer of `fit` with proposals is true of the instance that the input is the text of: yes
-    // only with a packing, no only with a refutation, and undecided only where the class tree has
-    // more branchings than the budget. It is the answer behind some proposal, in which the number of
-    // workers has no part.
-    ensures proposes { (settings : PlainSettings) (instance : PlainInstance)
-        → IsProposing words.now (S.left input.old) settings instance → IsAnswerStatus result
-        → IsProposedDecided instance settings (K.written out.old) (K.written out.new) result
-        × IsProposedAnswer instance settings (K.written out.old) (K.written out.new) result }
+    // The answer of a job with proposals is true of the instance that the input is the text of. `fit`
+    // is yes only with a packing, no only with a refutation, and undecided only where the class tree
+    // has more branchings than the budget; it is the answer behind some proposal, in which the number
+    // of workers has no part. `strip` is the least height over all packings with both certificates,
+    // none exactly where there is none, or between two heights with both certificates, only where
+    // the class trees of both heights beside the two have more branchings than the budget.
+    ensures proposes { (job : PlainSolvingJob) (settings : PlainSettings)
+        (instance : PlainInstance)
+        → IsProposing words.now (S.left input.old) job settings instance → IsAnswerStatus result
+        → IsProposedDecided job instance settings (K.written out.old) (K.written out.new) result }
 
-    // Where the class tree has at most as many branchings as the budget allows, it is yes or no;
-    // where the budget is enough for every tree, the status says exactly whether the instance fits.
-    ensures settles { (settings : PlainSettings) (instance : PlainInstance)
-        → IsProposing words.now (S.left input.old) settings instance
-        → branchings settings instance ≤ settings.budget → result ≢ 3 }
+    // Where the trees of the job have at most as many branchings as the budget allows, it is decided;
+    // where the budget is enough for every tree, the status of `fit` says exactly whether the
+    // instance fits.
+    ensures settles { (job : PlainSolvingJob) (settings : PlainSettings)
+        (instance : PlainInstance)
+        → IsProposing words.now (S.left input.old) job settings instance
+        → IsAmple job settings instance → result ≢ 3 }
     ensures settled { (settings : PlainSettings) (instance : PlainInstance)
-        → IsProposing words.now (S.left input.old) settings instance → IsAnswerStatus result
+        → IsProposing words.now (S.left input.old) SolvesFit settings instance
+        → IsAnswerStatus result
         → class_bound instance ≤ settings.budget + 1 → IsExactlyFit instance result }
 
-    // The document is one of `fit`: verified with its claim about that instance, or it says undecided
-    // and is verified with none.
-    ensures vouched { (settings : PlainSettings) (instance : PlainInstance)
-        → IsProposing words.now (S.left input.old) settings instance → IsAnswerStatus result
-        → IsOwnDocument (Solves SolvesFit) instance (K.written out.old) (K.written out.new) result }
+    // The document is one of the job: verified with its claim about that instance, or, of `fit` alone,
+    // it says undecided and is verified with none.
+    ensures vouched { (job : PlainSolvingJob) (settings : PlainSettings)
+        (instance : PlainInstance)
+        → IsProposing words.now (S.left input.old) job settings instance → IsAnswerStatus result
+        → IsOwnDocument (Solves job) instance (K.written out.old) (K.written out.new) result }
 
     // `make` writes exactly the summary of the number, with the status of its decision: yes only
     // where the generated instance fits, no only where it doesn't, and undecided exactly where its
@@ -281,7 +288,9 @@ fn job<R: Threads + Wait + Sync, S: Source, K: Sink, G: Gate + Sync>(
         Asked::Auditing => audit(alloc, input, out),
         Asked::Explaining => explain(alloc, input, out),
         Asked::Fronting { settings } => tell_front(rt, alloc, &settings, input, out, gate),
-        Asked::Proposing { settings } => tell_proposed(rt, alloc, &settings, input, out, gate),
+        Asked::Proposing { job, settings } => {
+            tell_proposed(rt, alloc, job, &settings, input, out, gate)
+        }
         Asked::Making { number, settings } => {
             make_and_tell(rt, alloc, number, &settings, out, gate)
         }

@@ -26,8 +26,9 @@ pub enum Asked {
     Fronting {
         settings: Settings,
     },
-    /// `fit` with proposals, and how the tree behind them is to be decided.
+    /// A solving job with proposals, and how the trees behind them are to be decided.
     Proposing {
+        job: SolvingJob,
         settings: Settings,
     },
     /// `make`, the number that it generates from, and how the instance is to be decided.
@@ -57,7 +58,7 @@ pub fn read_job(alloc: Global, words: &[String]) -> Result<Asked, Stop>
         Job::Audit => return Ok(Asked::Auditing),
         Job::Explain => return Ok(Asked::Explaining),
         Job::Front => return Ok(Asked::Fronting { settings }),
-        Job::Proposed => return Ok(Asked::Proposing { settings }),
+        Job::Proposed(job) => return Ok(Asked::Proposing { job, settings }),
         Job::Make => {
             return Ok(Asked::Making {
                 number: asked.number,

@@ -2,6 +2,7 @@
 use Rattle.std.proofs.Common.{◌≡◌, [], ◌∷◌, Some, None, refl, codes, true, false}
 use Rattle.text_terms.specs.Lines.{number_of}
 use Rattle.pack_words.specs.declared.job.Job.TheVariants.{Fit, Make, Audit, Explain, Reduced, Front, Proposed}
+use Rattle.document_terms.specs.declared.claim.SolvingJob.TheVariants.{Fit as SolvesFit, Strip as SolvesStrip}
 use Rattle.pack_words.specs.Job.{job_of_words}
 
 eight_workers : job_of_words (codes "fit" ∷ codes "--workers=08" ∷ [])
@@ -98,7 +99,7 @@ unfolding job_of_words number_of
 front_with_number = refl
 
 proposals_asked : job_of_words (codes "fit" ∷ codes "--proposals=yes" ∷ [])
-    ≡ Some (record { job = Proposed; settings = record { workers = 1; budget = 1000000; scales = true }; number = 0 })
+    ≡ Some (record { job = Proposed SolvesFit; settings = record { workers = 1; budget = 1000000; scales = true }; number = 0 })
 unfolding job_of_words number_of
 proposals_asked = refl
 
@@ -107,7 +108,12 @@ proposals_declined : job_of_words (codes "fit" ∷ codes "--proposals" ∷ codes
 unfolding job_of_words number_of
 proposals_declined = refl
 
-foreign_proposals : job_of_words (codes "strip" ∷ codes "--proposals" ∷ codes "no" ∷ []) ≡ None
+proposals_of_strip : job_of_words (codes "strip" ∷ codes "--proposals" ∷ codes "yes" ∷ [])
+    ≡ Some (record { job = Proposed SolvesStrip; settings = record { workers = 1; budget = 1000000; scales = true }; number = 0 })
+unfolding job_of_words number_of
+proposals_of_strip = refl
+
+foreign_proposals : job_of_words (codes "bins" ∷ codes "--proposals" ∷ codes "no" ∷ []) ≡ None
 unfolding job_of_words number_of
 foreign_proposals = refl
 

@@ -2,6 +2,7 @@
 use Rattle.std.specs.Prelude.{ℕ, ◌≡◌, ◌&&◌, ◌||◌, Bool, true, false, not, nat_le, List, [], ◌∷◌, Option, Some, None, Result, Ok, Err, codes, is_some, if◌then◌else◌}
 use Rattle.std.specs.Str.{bytes_eq}
 use Rattle.text_terms.specs.Lines.{number_of}
+use Rattle.document_terms.specs.declared.claim.SolvingJob.TheVariants.{Fit as SolvesFit, Strip as SolvesStrip, Bins as SolvesBins, Knapsack as SolvesKnapsack}
 use Rattle.pack_words.specs.Items.{Text, Item, option, word, items_from}
 use Rattle.pack_words.specs.declared.job.Job.{Job}
 use Rattle.pack_words.specs.declared.job.Job.TheVariants.{Fit, Strip, Bins, Knapsack, Check, Make, Audit, Explain, Reduced, Front, Proposed}
@@ -65,8 +66,8 @@ job_of_name text =
     else (if bytes_eq text (codes "front") then Some Front
     else None)))))))))
 
--- `check`, `audit` and `explain` take no option, `make` alone takes a number, and `fit` alone takes
--- proposals
+-- `check`, `audit` and `explain` take no option, `make` alone takes a number, and `fit` and `strip`
+-- alone take proposals
 abbrev pub takes_settings : Job → Bool
 takes_settings Check = false
 takes_settings Audit = false
@@ -79,6 +80,7 @@ takes_number _ = false
 
 abbrev pub takes_proposals : Job → Bool
 takes_proposals Fit = true
+takes_proposals Strip = true
 takes_proposals _ = false
 
 -- each option that is given is one that the job takes
@@ -108,9 +110,17 @@ abbrev pub proposals_in : Option Text → Option Bool
 proposals_in None = Some false
 proposals_in (Some text) = if bytes_eq text (codes "yes") then Some true else (if bytes_eq text (codes "no") then Some false else None)
 
--- the job that takes proposals, with them or without
+-- a job with proposals, if it is a solving job
+abbrev pub proposed : Job → Job
+proposed Fit = Proposed SolvesFit
+proposed Strip = Proposed SolvesStrip
+proposed Bins = Proposed SolvesBins
+proposed Knapsack = Proposed SolvesKnapsack
+proposed job = job
+
+-- a job, with proposals or without
 abbrev pub by_proposals : Bool → Job → Job
-by_proposals proposals job = if proposals then Proposed else job
+by_proposals proposals job = if proposals then proposed job else job
 
 -- the settings and the number of a job that these texts give
 abbrev pub settings_of : Job → Texts → Option JobWords

@@ -1,5 +1,6 @@
 //! The job of a command line.
 
+use document_terms::SolvingJob;
 use text_terms::Settings;
 use thiserror::Error;
 
@@ -26,8 +27,8 @@ pub enum Job {
     Reduced,
     /// All least widths and heights of a container that holds the boxes.
     Front,
-    /// Whether the boxes fit the container, decided by proposals first: `fit` with proposals.
-    Proposed,
+    /// A solving job that decides by proposals first.
+    Proposed(SolvingJob),
 }
 
 /// A job with its settings, and the number that `make` generates from. Where the words don't give

@@ -1,10 +1,11 @@
 //! From texts to a job and its settings.
 ghost use Rattle.std.specs.Prelude.{◌≡◌, option_map};
-ghost use Rattle.pack_words.specs.Job.{job_of_name, takes_settings, takes_number, takes_proposals, are_taken, number_or, scales_in, proposals_in, by_proposals, settings_of, job_of_texts};
+ghost use Rattle.pack_words.specs.Job.{job_of_name, takes_settings, takes_number, takes_proposals, are_taken, number_or, scales_in, proposals_in, proposed, by_proposals, settings_of, job_of_texts};
 ghost use Rattle.pack_words.specs.Said.{plain_found};
 
 use crate::job::{Job, JobWords};
 use crate::words::Found;
+use document_terms::SolvingJob;
 use text_terms::{Settings, read_number};
 
 fn job_of_name(word: &str) -> Option<Job>
@@ -36,7 +37,7 @@ fn are_taken(job: Job, found: Found<'_>) -> bool
             !has_settings & found.number.is_none() & unproposed
         }
         Job::Make => unproposed,
-        Job::Fit => found.number.is_none(),
+        Job::Fit | Job::Strip => found.number.is_none(),
         _ => found.number.is_none() & unproposed,
     }
 }
@@ -81,11 +82,24 @@ fn proposals_in(value: Option<&str>) -> Option<bool>
     }
 }
 
-// The job that takes proposals, with them or without.
+// A job with proposals, if it is a solving job.
+fn proposed(job: Job) -> Job
+    ensures { result ≡ proposed job }
+{
+    match job {
+        Job::Fit => Job::Proposed(SolvingJob::Fit),
+        Job::Strip => Job::Proposed(SolvingJob::Strip),
+        Job::Bins => Job::Proposed(SolvingJob::Bins),
+        Job::Knapsack => Job::Proposed(SolvingJob::Knapsack),
+        other => other,
+    }
+}
+
+// A job, with proposals or without.
 fn by_proposals(proposals: bool, job: Job) -> Job
     ensures { result ≡ by_proposals proposals job }
 {
-    if proposals { Job::Proposed } else { job }
+    if proposals { proposed(job) } else { job }
 }
 
 fn settings_of(job: Job, found: Found<'_>) -> Option<JobWords>

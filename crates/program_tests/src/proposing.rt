@@ -10,6 +10,12 @@ const SHARED: &[&str] = &["fit", "--proposals=yes", "--budget=0", "--workers=2"]
 
 const NOT_PROPOSED: &[&str] = &["fit", "--proposals", "no", "--budget", "0"];
 
+const STRIP_PROPOSED: &[&str] = &["strip", "--proposals", "yes", "--budget", "0"];
+
+const STRIP_SHARED: &[&str] = &["strip", "--proposals=yes", "--budget=0", "--workers=2"];
+
+const PINWHEEL: &[u8] = b"format 1\ncontainer 5 1\nbox 1 1\nbox 3 2\nbox 2 3\nbox 3 2\nbox 2 3\n";
+
 const TWO_HALVES: &[u8] = b"format 1\ncontainer 4 4\nbox 2 1\nbox 2 1\n";
 
 const TOO_LARGE: &[u8] = b"format 1\ncontainer 4 4\nbox 5 1\n";
@@ -56,12 +62,26 @@ fn what_is_proposed_is_verified(rt: HostRuntime) -> Result<(), Fail> {
     Ok(())
 }
 
+// The trees of the pinwheel have branchings, so a budget of 0 is spent without proposals.
+#[test]
+fn a_strip_by_proposals_is_verified(rt: HostRuntime) -> Result<(), Fail> {
+    let plain = told_of(&rt, &["strip", "--budget", "0"], PINWHEEL)?;
+    assert_eq!(rt; plain.status, 3);
+    let told = told_of(&rt, STRIP_PROPOSED, PINWHEEL)?;
+    assert_eq!(rt; told.status, 0);
+    let shared = told_of(&rt, STRIP_SHARED, PINWHEEL)?;
+    assert!(rt; shared.is_as_written(0, &told.out));
+    let checked = told_of(&rt, &["check"], &told.out)?;
+    assert!(rt; checked.is_as_written(0, b"verified strip least 5\n"));
+    Ok(())
+}
+
 #[test]
 fn proposals_refuse_what_fit_refuses(rt: HostRuntime) -> Result<(), Fail> {
     let told = told_of(&rt, PROPOSED, b"format 1\ncontainer 5 5\nbox 0 1\n")?;
     assert!(rt; told.is_stop(2, "pack: line 3: code 4\n", b""));
     for words in [
-        ["strip", "--proposals", "yes"],
+        ["bins", "--proposals", "yes"],
         ["reduced", "--proposals", "no"],
         ["check", "--proposals", "no"],
         ["fit", "--proposals", "maybe"],

@@ -8,4 +8,6 @@ mod faults;
 #[cfg(test)]
 mod instances;
 #[cfg(test)]
+mod levels;
+#[cfg(test)]
 mod searches;

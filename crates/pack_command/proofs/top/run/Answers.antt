@@ -7,7 +7,7 @@ use Rattle.pack_command.proofs.Written.{written_answers, written_job, written_fi
 use Rattle.pack_command.proofs.Audited.{reading_done, exactly_read, audited_claimed}
 use Rattle.pack_command.proofs.Fronted.{fronted_done}
 use Rattle.pack_command.proofs.ProposedEnds.{proposed_done}
-use Rattle.pack_command.proofs.ProposedDecided.{proposed_decided, proposed_answer, proposed_own, proposed_within, proposed_exactly}
+use Rattle.pack_command.proofs.ProposedDecided.{proposed_decided, proposed_own, proposed_within, proposed_exactly}
 use Rattle.pack_command.proofs.Sized.{told_decided, told_front, told_whole, told_own}
 use Rattle.pack_command.proofs.Checked.{solved_done, judged_done, judged_exactly, judged_claimed}
 use Rattle.pack_command.proofs.Causes.{answer_counts, completes, never_read, refusable_done, refuses, stop_reads, stop_unanswered, stop_writes}
@@ -61,18 +61,20 @@ pub returns-in-Ok-clause-confirmed : goal.returns-in-Ok-clause-confirmed
 returns-in-Ok-clause-confirmed g c = λ settings instance asked answer. told_own _ _ _ _ _ _ settings instance asked (fronted_done _ _ _ _ _ _ settings asked.asks c.in-Ok.ensures.answered)
 
 pub returns-in-Ok-clause-proposes : goal.returns-in-Ok-clause-proposes
-returns-in-Ok-clause-proposes g c = λ settings instance asked answer.
-    let done = proposed_done _ _ _ _ _ _ settings asked.asks c.in-Ok.ensures.answered in
-    (proposed_decided _ _ _ _ _ _ settings instance asked done, proposed_answer _ _ _ _ _ _ settings instance asked done)
+returns-in-Ok-clause-proposes g c = λ job settings instance asked answer.
+    proposed_decided _ _ _ _ _ _ job settings instance asked (proposed_done _ _ _ _ _ _ job settings asked.asks c.in-Ok.ensures.answered)
 
 pub returns-in-Ok-clause-settles : goal.returns-in-Ok-clause-settles
-returns-in-Ok-clause-settles g c = λ settings instance asked few. proposed_within _ _ _ _ _ _ settings instance asked (proposed_done _ _ _ _ _ _ settings asked.asks c.in-Ok.ensures.answered) few
+returns-in-Ok-clause-settles g c = λ job settings instance asked few.
+    proposed_within _ _ _ _ _ _ job settings instance asked (proposed_done _ _ _ _ _ _ job settings asked.asks c.in-Ok.ensures.answered) few
 
 pub returns-in-Ok-clause-settled : goal.returns-in-Ok-clause-settled
-returns-in-Ok-clause-settled g c = λ settings instance asked answer enough. proposed_exactly _ _ _ _ _ _ settings instance asked (proposed_done _ _ _ _ _ _ settings asked.asks c.in-Ok.ensures.answered) enough
+returns-in-Ok-clause-settled g c = λ settings instance asked answer enough.
+    proposed_exactly _ _ _ _ _ _ settings instance asked (proposed_done _ _ _ _ _ _ _ settings asked.asks c.in-Ok.ensures.answered) enough
 
 pub returns-in-Ok-clause-vouched : goal.returns-in-Ok-clause-vouched
-returns-in-Ok-clause-vouched g c = λ settings instance asked answer. proposed_own _ _ _ _ _ _ settings instance asked (proposed_done _ _ _ _ _ _ settings asked.asks c.in-Ok.ensures.answered)
+returns-in-Ok-clause-vouched g c = λ job settings instance asked answer.
+    proposed_own _ _ _ _ _ _ job settings instance asked (proposed_done _ _ _ _ _ _ job settings asked.asks c.in-Ok.ensures.answered)
 
 pub returns-in-Ok-clause-makes : goal.returns-in-Ok-clause-makes
 returns-in-Ok-clause-makes g c = λ number settings asks answer. made_exactly _ _ _ _ _ number settings asks _ c.in-Ok.ensures.answered
@@ -126,13 +128,13 @@ pub returns-in-Err-clause-confirmed : goal.returns-in-Err-clause-confirmed
 returns-in-Err-clause-confirmed g c = λ settings instance asked answer. absurd (stop_unanswered c.in-Err.stop _ c.status.ensures answer)
 
 pub returns-in-Err-clause-proposes : goal.returns-in-Err-clause-proposes
-returns-in-Err-clause-proposes g c = λ settings instance asked answer. absurd (stop_unanswered c.in-Err.stop _ c.status.ensures answer)
+returns-in-Err-clause-proposes g c = λ job settings instance asked answer. absurd (stop_unanswered c.in-Err.stop _ c.status.ensures answer)
 
 pub returns-in-Err-clause-settled : goal.returns-in-Err-clause-settled
 returns-in-Err-clause-settled g c = λ settings instance asked answer enough. absurd (stop_unanswered c.in-Err.stop _ c.status.ensures answer)
 
 pub returns-in-Err-clause-vouched : goal.returns-in-Err-clause-vouched
-returns-in-Err-clause-vouched g c = λ settings instance asked answer. absurd (stop_unanswered c.in-Err.stop _ c.status.ensures answer)
+returns-in-Err-clause-vouched g c = λ job settings instance asked answer. absurd (stop_unanswered c.in-Err.stop _ c.status.ensures answer)
 
 pub returns-in-Err-clause-makes : goal.returns-in-Err-clause-makes
 returns-in-Err-clause-makes g c = λ number settings asks answer. absurd (stop_unanswered c.in-Err.stop _ c.status.ensures answer)

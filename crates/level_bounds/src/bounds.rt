@@ -1,0 +1,105 @@
+//! A refuted level and a greater one that is placed, and what was asked between them.
+ghost use Rattle.std.specs.Prelude.{◌≡◌, MatchOption};
+ghost use Rattle.proof_tree.specs.Plain.{plain_tokens};
+ghost use Rattle.level_search.specs.Runs.{plain_level};
+ghost use Rattle.level_bounds.specs.Bounds.{plain_bounds, first_bounds, narrowed, afresh, IsAsked, IsNarrow, IsInside, IsNear};
+
+use level_search::Level;
+use proof_tree::Token;
+
+/// A level that the tokens refute, and a greater one that the numbers show.
+///
+/// Between the two, levels may have been asked of which neither was found. `lowest` is the least
+/// level above the refuted one that was asked and not refuted, and `highest` the greatest one below
+/// the placed one that was asked and not placed; where there are none these are the placed level
+/// and the refuted one.
+#[derive(Drop)]
+pub struct Bounds {
+    pub refuted: u64,
+    pub tokens: Vec<Token>,
+    pub placed: u64,
+    pub numbers: Vec<u32>,
+    pub lowest: u64,
+    pub highest: u64,
+}
+
+// The level halfway between two that aren't neighbours.
+fn halfway(below: u64, above: u64) -> Option<u64>
+    ensures { MatchOption result (IsNear below above) (λ level. IsInside below above level) }
+{
+    let gap = above.saturating_sub(below);
+    if gap < 2 {
+        return None;
+    }
+    Some(below + gap / 2)
+}
+
+impl Bounds {
+    /// A refuted level and a greater one that is placed, with nothing asked between them.
+    pub fn new(refuted: u64, tokens: Vec<Token>, placed: u64, numbers: Vec<u32>) -> Bounds
+        ensures { plain_bounds result
+            ≡ first_bounds refuted (plain_tokens tokens.items) placed numbers.items }
+    {
+        Bounds {
+            refuted,
+            tokens,
+            placed,
+            numbers,
+            lowest: placed,
+            highest: refuted,
+        }
+    }
+
+    /// The same two levels, with nothing asked between them.
+    pub fn afresh(self) -> Bounds
+        ensures { plain_bounds result ≡ afresh (plain_bounds self) }
+    {
+        Bounds::new(self.refuted, self.tokens, self.placed, self.numbers)
+    }
+
+    /// The level that is asked next: the one halfway between the refuted level and the lowest, or,
+    /// where these are neighbours, between the highest and the placed one. None comes exactly where
+    /// these are neighbours too.
+    pub fn next_level(&self) -> Option<u64>
+        ensures { MatchOption result (IsNarrow (plain_bounds self.now))
+            (IsAsked (plain_bounds self.now)) }
+    {
+        match halfway(self.refuted, self.lowest) {
+            Some(level) => Some(level),
+            None => halfway(self.highest, self.placed),
+        }
+    }
+
+    /// The bounds after the answer at a level: it is the next placed one, the next refuted one, or
+    /// one of which neither was found.
+    pub fn after(self, level: u64, answer: Level) -> Bounds
+        ensures { plain_bounds result ≡ narrowed (plain_bounds self) level (plain_level answer) }
+    {
+        let mut bounds = self;
+        let is_low = level < bounds.lowest;
+        let is_high = bounds.highest < level;
+        match answer {
+            Level::Fits(numbers) => {
+                bounds.placed = level;
+                bounds.numbers = numbers;
+                bounds.lowest = if is_low { level } else { bounds.lowest };
+                bounds.highest = if is_high {
+                    bounds.highest
+                } else {
+                    bounds.refuted
+                };
+            }
+            Level::Refuted(tokens) => {
+                bounds.refuted = level;
+                bounds.tokens = tokens;
+                bounds.lowest = if is_low { bounds.lowest } else { bounds.placed };
+                bounds.highest = if is_high { level } else { bounds.highest };
+            }
+            Level::Spent => {
+                bounds.lowest = if is_low { level } else { bounds.lowest };
+                bounds.highest = if is_high { level } else { bounds.highest };
+            }
+        }
+        bounds
+    }
+}

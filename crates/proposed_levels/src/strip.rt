@@ -1,0 +1,113 @@
+//! The least height, by proposals first.
+ghost use Rattle.std.specs.Prelude.{◌<◌, ◌≤◌, IfOk};
+ghost use Rattle.packing_terms.specs.Goals.{HasTooWideBox};
+ghost use Rattle.packing_terms.specs.Limits.{most_height};
+ghost use Rattle.level_bounds.specs.Bounds.{plain_bounds};
+ghost use Rattle.strip_solver.specs.Strips.{IsTrueStrip};
+ghost use Rattle.proposed_levels.specs.Heights.{AreHeightBounds, TellsHeights, IsNamedStrip, IsLimitedStrip, IsPastBeside};
+
+use crate::effort::{Effort, rough};
+use crate::heights::narrow_heights;
+use box_instances::{Instance, NoMemory};
+use level_bounds::Bounds;
+use std::alloc::Global;
+use std::sync::Wait;
+use std::thread::Threads;
+use strip_solver::{Strip, least_height};
+use work_share::{Gate, Settings};
+
+// The answer by the bounds that were reached.
+fn told(bounds: Bounds) -> Strip
+    requires order { bounds.refuted < bounds.placed }
+    requires limit { bounds.placed ≤ most_height }
+    ensures { TellsHeights (plain_bounds bounds) result }
+{
+    if bounds.placed - bounds.refuted < 2 {
+        return Strip::Least {
+            height: bounds.placed as u32,
+            places: bounds.numbers,
+            tokens: bounds.tokens,
+        };
+    }
+    Strip::Between {
+        refuted: bounds.refuted as u32,
+        tokens: bounds.tokens,
+        height: bounds.placed as u32,
+        places: bounds.numbers,
+    }
+}
+
+// The answer from first bounds on: they are narrowed by a part of the tree of each height, and then
+// by proposals and the whole tree.
+fn narrowed<R: Threads + Wait + Sync, G: Gate + Sync>(
+    rt: &R,
+    alloc: Global,
+    instance: &Instance,
+    first: Bounds,
+    settings: &Settings,
+    gate: &G,
+) -> Result<Strip, NoMemory>
+    requires bounds { AreHeightBounds instance.now settings.now Effort.Rough (plain_bounds first) }
+    requires narrow { ¬ HasTooWideBox instance.now }
+    ensures right { IfOk result (λ s. IsTrueStrip instance.now s) }
+    ensures named { IfOk result (λ s. IsNamedStrip instance.now s) }
+    ensures limited { IfOk result (λ s. IsLimitedStrip s) }
+    ensures past { IfOk result
+        (λ s. IsPastBeside instance.now settings.now.budget settings.now.scales s) }
+{
+    // For the proof alone: tells the limits of the instance.
+    let _limits = instance.len();
+    let near = narrow_heights(rt, alloc, instance, first, Effort::Rough, settings, gate)?;
+    let from = near.afresh();
+    let bounds = narrow_heights(rt, alloc, instance, from, Effort::Whole, settings, gate)?;
+    Ok(told(bounds))
+}
+
+/// The least height at which the boxes fit, with both certificates, by proposals first. The
+/// container's last side isn't looked at.
+///
+/// It begins at bounds that the first branchings of the heights' trees give, whose roots the scale
+/// functions refute. Each height between is decided by proposals and then by its class tree under
+/// the budget, from both ends on. `Between` comes only
+/// where the trees of both heights beside the two have more branchings than the budget: the one
+/// above the refuted height and the one below the placed height. `NoneFits` comes exactly where a
+/// box is longer than the container in a dimension other than the last, and names the first. Which
+/// packing, which refutation and how many heights are decided isn't promised.
+pub fn least_height_proposed<R: Threads + Wait + Sync, G: Gate + Sync>(
+    rt: &R,
+    alloc: Global,
+    instance: &Instance,
+    settings: &Settings,
+    gate: &G,
+) -> Result<Strip, NoMemory>
+    ensures right { IfOk result (λ s. IsTrueStrip instance.now s) }
+    ensures named { IfOk result (λ s. IsNamedStrip instance.now s) }
+    ensures limited { IfOk result (λ s. IsLimitedStrip s) }
+    ensures past { IfOk result
+        (λ s. IsPastBeside instance.now settings.now.budget settings.now.scales s) }
+{
+    // For the proof alone: tells the limits of the instance.
+    let _limits = instance.len();
+    let found = least_height(rt, alloc, instance, &rough(settings), gate)?;
+    match found {
+        Strip::Between {
+            refuted,
+            tokens,
+            height,
+            places,
+        } => {
+            let first = Bounds::new(u64::from(refuted), tokens, u64::from(height), places);
+            narrowed(rt, alloc, instance, first, settings, gate)
+        }
+        Strip::Least {
+            height,
+            places,
+            tokens,
+        } => Ok(Strip::Least {
+            height,
+            places,
+            tokens,
+        }),
+        Strip::NoneFits { box_no, dim } => Ok(Strip::NoneFits { box_no, dim }),
+    }
+}
