@@ -1,8 +1,8 @@
 -- What is kept of the children of a node, by their paths.
-use Rattle.std.proofs.Common.{◌≡◌, ℕ, refl, sym, ap, subst, ◌∙◌, List, [], ◌∷◌, ◌++◌, Option, Some, None, IfSome, IsSome, false, true}
+use Rattle.std.proofs.Common.{◌≡◌, ℕ, refl, sym, ap, subst, ◌∙◌, List, [], ◌∷◌, ◌++◌, Option, Some, None, IfSome, IsSome}
 use Rattle.std.proofs.lemmas.Bool.{true≢false}
 use Rattle.packing_terms.specs.Packing.{PlainInstance}
-use Rattle.tree_terms.specs.Trees.{SearchTree, PlainOutcome, node_at, child_at, outcome, told}
+use Rattle.tree_terms.specs.Trees.{SearchTree, PlainOutcome, node_at, outcome, told}
 use Rattle.tree_terms.specs.Paths.{outcome_of}
 use Rattle.tree_terms.proofs.Reached.{node_parts}
 use Rattle.class_search.specs.declared.kept.Kept.{Kept}

@@ -1,5 +1,5 @@
 -- A walk seen from the child of its root in which it stands.
-use Rattle.std.proofs.Common.{◌≡◌, ℕ, zero, suc, ◌+◌, ◌-◌, ◌<◌, ◌≤◌, refl, sym, ap, ap₂, subst, ◌∙◌, arith, List, [], ◌∷◌, ◌++◌, length, take, drop, map, reverse, get_or, Option, Some, None, append_assoc, append-nil}
+use Rattle.std.proofs.Common.{◌≡◌, ℕ, zero, suc, ◌+◌, ◌<◌, ◌≤◌, refl, sym, ap, ap₂, subst, ◌∙◌, arith, List, [], ◌∷◌, ◌++◌, length, take, drop, map, reverse, get_or, Option, Some, None, append_assoc, append-nil}
 use Rattle.std.specs.List.{remove}
 use Rattle.std.proofs.lemmas.List.{reverse-append, length-append}
 use Rattle.packing_terms.specs.declared.Exclusion.{Exclusion}
@@ -7,10 +7,9 @@ use Rattle.packing_terms.specs.Packing.{PlainInstance}
 use Rattle.packing_terms.specs.Tokens.{PlainToken}
 use Rattle.edge_state.specs.Edges.{oldest}
 use Rattle.proof_tree.specs.Plain.{plain_token}
-use Rattle.tree_terms.specs.Trees.{SearchTree, No, outcome, child_at}
+use Rattle.tree_terms.specs.Trees.{SearchTree, No, child_at}
 use Rattle.tree_terms.specs.InnerTree.{tree_below}
-use Rattle.class_search.specs.declared.splits.Child.TheVariants.{First, Second}
-use Rattle.class_search.specs.declared.visit.NodeKind.TheVariants.{Divided}
+use Rattle.class_search.specs.declared.splits.Child.TheVariants.{First}
 use Rattle.class_search.specs.declared.walk.Size.{Size}
 use Rattle.class_search.specs.declared.walk.Frame.{Frame}
 use Rattle.class_search.specs.declared.walk.Walk.{Walk}
@@ -18,7 +17,7 @@ use Rattle.class_search.specs.declared.kept.Standing.{Standing}
 use Rattle.class_search.specs.declared.kept.Refuted.{Refuted as RefutedNode}
 use Rattle.class_search.specs.Splits.{plain_split, added}
 use Rattle.class_search.specs.Visits.{kind_tree}
-use Rattle.class_search.specs.Walks.{child_in, child_tree, frame_tree, root_of, IsFirst, IsFrame, AreMet, IsWalk}
+use Rattle.class_search.specs.Walks.{child_in, child_tree, frame_tree, root_of, IsFirst, AreMet}
 use Rattle.class_search.specs.Kept.{IsStanding, standing_tree, IsWalkOf, IsAllOf, HasChild}
 
 -- the first of a list, and what is left of it

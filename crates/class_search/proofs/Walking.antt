@@ -1,5 +1,5 @@
 -- Lists that grow, and the pairs that are settled as they do.
-use Rattle.std.proofs.Common.{◌≡◌, ℕ, zero, suc, ◌+◌, ◌<◌, ◌≤◌, inl, inr, refl, sym, ap, ap₂, subst, ◌∙◌, arith, Bool, true, false, not, cond, List, [], ◌∷◌, ◌++◌, length, Some, None, append_assoc, add-zero}
+use Rattle.std.proofs.Common.{◌≡◌, ℕ, zero, suc, ◌<◌, ◌≤◌, inl, inr, refl, sym, ap, subst, ◌∙◌, arith, Bool, true, false, not, cond, List, [], ◌∷◌, ◌++◌, length, Some, None, append_assoc}
 use Rattle.std.specs.List.{find}
 use Rattle.std.proofs.lemmas.Bool.{true≢false, not_from_true, not_from_false}
 use Rattle.packing_terms.specs.declared.Exclusion.{Exclusion}

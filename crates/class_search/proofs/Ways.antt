@@ -7,7 +7,7 @@ use Rattle.packing_terms.specs.Tokens.{PlainToken}
 use Rattle.packing_terms.specs.Tokens.PlainToken.{Rules}
 use Rattle.edge_state.specs.Edges.{oldest}
 use Rattle.edge_state.proofs.Oldest.{oldest_more, oldest_all, oldest_count}
-use Rattle.tree_terms.specs.Trees.{SearchTree, Verdict, Yes, No, no_tokens, join, outcome, count_of, told, Decided, Past}
+use Rattle.tree_terms.specs.Trees.{SearchTree, Verdict, Yes, No, no_tokens, join, outcome, count_of, told, Decided}
 use Rattle.tree_terms.specs.InnerTree.{tree_below}
 use Rattle.tree_terms.proofs.Joins.{join_assoc, join_nothing, nothing_join, split_joins, count_join_no}
 use Rattle.tree_terms.proofs.NodeSteps.{set_tree}
@@ -19,7 +19,7 @@ use Rattle.class_search.specs.declared.visit.NodeKind.TheVariants.{Conflict, Set
 use Rattle.class_search.specs.declared.walk.Size.{Size}
 use Rattle.class_search.specs.declared.walk.Frame.{Frame}
 use Rattle.class_search.specs.Splits.{plain_split, added, with_all}
-use Rattle.class_search.specs.Visits.{Grows, kind_tree, IsMet, IsDivided}
+use Rattle.class_search.specs.Visits.{Grows, kind_tree, IsMet}
 use Rattle.class_search.specs.Walks.{size_of_both, child_in, child_tree, frame_tree, root_of, IsFirst, IsFrame, AreMet, IsAtNode, IsBehind}
 use Rattle.class_search.proofs.Closings.{with_sets}
 use Rattle.class_search.proofs.Walking.{length_more, cut_back, with_grows, grows_on}

@@ -8,7 +8,7 @@ use Rattle.rule_terms.specs.Places.{HasNoEmptyMask}
 use Rattle.edge_state.specs.Edges.{oldest}
 use Rattle.packing_terms.specs.Rank.{ranked_pairs}
 use Rattle.packing_terms.specs.Tokens.{PlainToken}
-use Rattle.tree_terms.specs.Trees.{SearchTree, Verdict, No, outcome, count_of, told}
+use Rattle.tree_terms.specs.Trees.{SearchTree, No, outcome, count_of, told}
 use Rattle.tree_terms.specs.InnerTree.{tree_below}
 use Rattle.proof_tree.specs.Plain.{plain_token}
 use Rattle.work_share.specs.Outcomes.{plain_outcome}

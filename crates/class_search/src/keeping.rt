@@ -243,8 +243,8 @@ impl<'a> ClassTree<'a> {
     /// splits on its way and what it has met. As the task is split, what it has finished of the
     /// first child stands ready for whoever takes that child, and the walk waits for whoever takes
     /// the child in which it stands, and goes on there. So at most one state waits for each task
-    /// that waits or was given up. Without memory to keep a walk, or where others are in the room of
-    /// the walks for long, its node is begun anew, and nothing else is lost.
+    /// that waits or was given up. Without memory to keep a walk, or where others are in the room
+    /// of the walks for long, its node is begun anew, and nothing else is lost.
     pub fn solve<R: Threads + Wait + Sync, G: Gate + Sync>(
         &self,
         rt: &R,

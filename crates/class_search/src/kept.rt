@@ -162,7 +162,8 @@ impl<'a> Standing<'a> {
 impl Refuted {
     // What is told of it under a cap.
     fn told(self, cap: u64) -> Outcome
-        ensures { (tree : SearchTree) → outcome tree ≡ No (map plain_token self.tokens.items) self.count
+        ensures { (tree : SearchTree)
+            → outcome tree ≡ No (map plain_token self.tokens.items) self.count
             → plain_outcome result ≡ told cap (outcome tree) }
     {
         let Refuted { tokens, count } = self;

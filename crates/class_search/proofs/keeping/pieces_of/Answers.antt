@@ -1,5 +1,3 @@
-use Rattle.std.proofs.Common.{IfSome, Some}
-use Rattle.tree_terms.specs.Trees.{SearchTree, node_at}
 use Rattle.class_search.specs.declared.kept.Kept.TheVariants.{Refuted, Standing}
 use Rattle.class_search.specs.declared.kept.Parts.TheVariants.{First, Second}
 use Rattle.class_search.specs.Kept.{ArePartsOf}

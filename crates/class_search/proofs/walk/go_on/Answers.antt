@@ -1,15 +1,10 @@
-use Rattle.std.proofs.Common.{◌≡◌, ◌≤◌, ◌+◌, ap, sym, subst, ◌∙◌, arith, refl, map, length, reverse, List, Option, Some, None, ◌∷◌}
+use Rattle.std.proofs.Common.{ap, sym, ◌∙◌, arith, refl, map, reverse, Some, None}
 use Rattle.std.proofs.lemmas.List.{map_push, length-map}
-use Rattle.packing_terms.specs.declared.Exclusion.{Exclusion}
-use Rattle.packing_terms.specs.Tokens.{PlainToken}
 use Rattle.edge_state.specs.Edges.{PlainEdges, oldest}
-use Rattle.proof_tree.specs.declared.token.Token.TheVariants.{Rules as RulesToken}
 use Rattle.proof_tree.specs.Plain.{plain_token}
 use Rattle.class_search.specs.declared.walk.Frame.{Frame}
 use Rattle.tree_terms.specs.Trees.{Yes}
-use Rattle.class_search.specs.declared.visit.NodeKind.TheVariants.{Settled, Divided}
-use Rattle.class_search.specs.Visits.{kind_tree}
-use Rattle.class_search.specs.Walks.{walk_tree, IsAtPlace, IsBehind, size_of_both}
+use Rattle.class_search.specs.Walks.{walk_tree, size_of_both}
 use Rattle.class_search.proofs.Lists.{reverse_last}
 use Rattle.class_search.proofs.Sizes.{sizes_of, same_sizes}
 use Rattle.class_search.proofs.Walking.{pairs_settled}

@@ -1,4 +1,4 @@
-use Rattle.std.proofs.Common.{◌≡◌, ◌+◌, ◌-◌, ◌<◌, ◌≤◌, ℕ, length, map, List, [], ◌∷◌, take, drop, ap, sym, refl, ◌∙◌, arith}
+use Rattle.std.proofs.Common.{◌≡◌, ◌+◌, ◌-◌, ◌≤◌, length, map, List, [], ◌∷◌, take, drop, ap, sym, refl, ◌∙◌, arith}
 use Rattle.std.proofs.lemmas.List.{length-map, drop-map, take-map}
 use Rattle.packing_terms.specs.Tokens.{PlainToken}
 use Rattle.proof_tree.specs.Plain.{plain_token}
