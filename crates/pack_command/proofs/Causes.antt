@@ -308,7 +308,7 @@ module _ (words : List (String Global)) (old new sunk_old sunk_new : Option (Lis
   nothing_ends none end (inr (inr (inl m))) = let i = (m.asked).is in absurd (cc (none, i))
   nothing_ends none end (inr (inr (inr (inl a)))) = let i = a.1.is in absurd (cc (none, i))
   nothing_ends none end (inr (inr (inr (inr (inl f))))) = let i = f.0.1.is in absurd (cc (none, i))
-  nothing_ends none end (inr (inr (inr (inr (inr p))))) = let i = p.0.1.is in absurd (cc (none, i))
+  nothing_ends none end (inr (inr (inr (inr (inr p))))) = let i = p.0.2.is in absurd (cc (none, i))
 
   long_ends : IsLongInstance words old → (end : Stop) → IsStopped words old new sunk_old sunk_new end → EndsFor TooLong end
   long_ends l Words s = let i = (l.asks).is in absurd (cc (s.0, i))
@@ -411,7 +411,7 @@ module _ (words : List (String Global)) (old new sunk_old sunk_new : Option (Lis
   nothing_broken none (inr (inr (inl m))) = m.cut
   nothing_broken none (inr (inr (inr (inl a)))) = let i = a.1.is in absurd (cc (none, i))
   nothing_broken none (inr (inr (inr (inr (inl f))))) = let i = f.0.1.is in absurd (cc (none, i))
-  nothing_broken none (inr (inr (inr (inr (inr p))))) = let i = p.0.1.is in absurd (cc (none, i))
+  nothing_broken none (inr (inr (inr (inr (inr p))))) = let i = p.0.2.is in absurd (cc (none, i))
 
   pub never_read : ReadsNothing words → (end : Stop) (status : ℕ) → status ≡ stop_status end → IsUndone words old new sunk_old sunk_new end → ¬ (status ≡ 4)
   never_read (inl none) end status is undone four = go (nothing_ends none end undone)
