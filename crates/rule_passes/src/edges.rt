@@ -1,5 +1,5 @@
-//! What follows from a changed edge: the instances of the rules that read its mask, in both orders of
-//! its boxes.
+//! What follows from a changed edge: the instances of the rules that read its mask, in both orders
+//! of its boxes.
 //!
 //! Each call applies some instances one after another and answers whether a mask is empty; it stops
 //! there. The mask of the edge is given as it stood before: where a relation was in it, an instance
@@ -19,7 +19,8 @@ ghost use Rattle.rule_passes.specs.Reached.{HasNoLonger, IsReachedApart, IsReach
 
 use crate::orders::{orders_crossed, orders_first, orders_second};
 use crate::rows::beyond_compositions;
-use crate::work::{aparts, chords, composes, cycles, triples};
+use crate::triples::triples;
+use crate::work::{aparts, chords, composes, cycles};
 use box_instances::Instance;
 use edge_state::{BitRow, EdgeState, Mask, Rel};
 use relation_table::flip;

@@ -3,7 +3,7 @@ use Rattle.packing_terms.specs.Packing.{box_count}
 use Rattle.packing_terms.specs.Rules.{Triple}
 use Rattle.edge_state.specs.BitRows.{row_has, members_below}
 use Rattle.closure_terms.specs.Work.{IsWorked}
-use Rattle.rule_passes.proofs.work.triples_among.Given as goal
+use Rattle.rule_passes.proofs.triples.triples_among.Given as goal
 
 abbrev pub invariant-loop-v : goal.invariant-loop-v
 invariant-loop-v g l = record {

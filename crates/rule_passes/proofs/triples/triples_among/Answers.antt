@@ -6,7 +6,7 @@ use Rattle.edge_state.specs.BitRows.{row_has}
 use Rattle.closure_terms.proofs.Worked.{worked_as, worked_lost, worked_kept, sizes_worked}
 use Rattle.edge_state.proofs.RowBits.{members_fewer}
 use Rattle.closure_terms.proofs.Members.{worked_rest, worked_row, worked_all}
-use Rattle.rule_passes.proofs.work.triples_among.Goals as goal
+use Rattle.rule_passes.proofs.triples.triples_among.Goals as goal
 
 pub loop-v-init : goal.loop-v-init
 loop-v-init g c = record {

@@ -10,7 +10,7 @@ use Rattle.closure_terms.proofs.Filters.{covered_never}
 use Rattle.closure_terms.proofs.Members.{covered_named}
 use Rattle.closure_terms.proofs.Worked.{worked_none, worked_kept, worked_then, worked_lost, worked_lost_first, sizes_worked}
 use Rattle.rule_passes.proofs.Guards.{Among, worked_rows, worked_no_rows}
-use Rattle.rule_passes.proofs.work.triples.Goals as goal
+use Rattle.rule_passes.proofs.triples.triples.Goals as goal
 
 pub returns-then-is_empty : goal.returns-then-is_empty
 returns-then-is_empty g c =
