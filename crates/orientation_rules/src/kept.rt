@@ -108,10 +108,10 @@ fn still_holds<const K: usize>(
         let at = v as usize;
         let kept = rows[at];
         let now = leads_row(state, dim, Direction::Forwards, v);
-        if sides[at] != u64::from(instance.side(v, dim)) {
+        if !has_none(kept.minus(now)) {
             return false;
         }
-        if !has_none(kept.minus(now)) {
+        if sides[at] != u64::from(instance.side(v, dim)) {
             return false;
         }
         let more = now.minus(kept);

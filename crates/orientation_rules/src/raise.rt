@@ -13,6 +13,7 @@ use rule_terms::Direction;
 
 // Raises the weight of v, whose own side is given, to that of a chain which goes on to x, where
 // that is more.
+#[inline(always)]
 pub fn raise_by(
     instance: &Instance,
     state: &EdgeState,
@@ -45,6 +46,7 @@ pub fn raise_by(
 }
 
 // Raises the weight of v by each box of the row, to which a chain of it goes on.
+#[inline(always)]
 pub fn raise_along<const K: usize>(
     instance: &Instance,
     state: &EdgeState,

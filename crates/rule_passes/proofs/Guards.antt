@@ -1,15 +1,17 @@
 -- Instances that are left out, since the edge doesn't have what they ask for.
-use Rattle.std.proofs.Common.{◌≡◌, ℕ, ◌<◌, ◌⊎◌, inl, inr, sym, subst, ◌∙◌, Bool, true, false, not}
+use Rattle.std.proofs.Common.{◌≡◌, ℕ, ◌<◌, ◌⊎◌, inl, inr, sym, subst, refl, ◌∙◌, Bool, true, false, not}
 use Rattle.std.proofs.lemmas.Bool.{true≢false, cases_Bool}
 use Rattle.packing_terms.specs.declared.Rel.TheVariants.{Overlap, Before, After}
 use Rattle.packing_terms.specs.Packing.{PlainInstance, dims}
 use Rattle.packing_terms.specs.Exclusions.{Exclusions, excludes}
 use Rattle.packing_terms.specs.Rules.{Rule, IsRuleInstance, Premises}
 use Rattle.edge_state.specs.Edges.{PlainEdges}
-use Rattle.closure_terms.specs.Work.{IsWorked, IsCovered}
+use Rattle.closure_terms.specs.Work.{IsWorked, IsCovered, IsAppliedAt}
 use Rattle.closure_terms.specs.Instances.{AppliedAll, Composes, OrdersCrossed}
-use Rattle.closure_terms.proofs.Worked.{covered_if, covered_not}
-use Rattle.rule_passes.specs.Reached.{IsReachedApart, IsReachedJoined, IsReachedOrdered}
+use Rattle.closure_terms.proofs.Instances.{worked_reached}
+use Rattle.closure_terms.proofs.Members.{covered_named}
+use Rattle.closure_terms.proofs.Worked.{covered_if, covered_not, worked_as, worked_none}
+use Rattle.rule_passes.specs.Reached.{IsReachedApart, IsReachedJoined, IsReachedOrdered, IsReachedFrom}
 
 -- more instances, where those that come in have no premises
 worked_unless : (instance : PlainInstance) (a b : PlainEdges) (lost : Bool) (R S : Rule → Type 0)
@@ -29,12 +31,33 @@ worked_unless instance a b lost R S f h = record {
     go e rule is (inl r) = h.done e rule r
     go e rule is (inr fails) = covered_not instance (excludes a.trail) b.trail rule (fails is)
 
+-- more instances, where those that come in had nothing to add before
+pub worked_beside : (instance : PlainInstance) (a b : PlainEdges) (lost : Bool) (R S : Rule → Type 0)
+    → ((rule : Rule) → S rule → R rule ⊎ IsCovered instance (excludes a.trail) a.trail rule) → IsWorked instance a b lost R → IsWorked instance a b lost S
+worked_beside instance a b lost R S f h = record {
+  same_dims = h.same_dims;
+  same_boxes = h.same_boxes;
+  same_room = h.same_room;
+  extends = h.extends;
+  empty = h.empty;
+  done = λ e rule s. go e rule (f rule s);
+}
+  where
+    go : lost ≡ false → (rule : Rule) → R rule ⊎ IsCovered instance (excludes a.trail) a.trail rule → IsCovered instance (excludes a.trail) b.trail rule
+    go e rule (inl r) = h.done e rule r
+    go e rule (inr k) = record { holds = λ i u v r add. h.extends.kept i u v r (k.holds i u v r add) }
+
 clash : (b x : Bool) → b ≡ not x → b ≡ true → x ≡ true → ⊥
 clash b true e h g = true≢false (sym h ∙ e)
 clash b false e h g = true≢false (sym g)
 
+-- a relation that isn't left is excluded
+pub shut_off : (b x : Bool) → b ≡ not x → b ≡ false → x ≡ true
+shut_off b true e h = refl
+shut_off b false e h = absurd (true≢false (sym e ∙ h))
+
 -- the instances of an edge, each group where what it asks for isn't told off by what is left there
-abbrev pub Guarded : PlainInstance → ℕ → ℕ → ℕ → Bool → Bool → Bool → Rule → Type 0
+abbrev Guarded : PlainInstance → ℕ → ℕ → ℕ → Bool → Bool → Bool → Rule → Type 0
 Guarded instance j p q o b a rule =
     (((Composes instance j p q rule ⊎ ((o ≡ false) × IsReachedApart instance j p q rule))
     ⊎ (((b ≡ false) × (a ≡ false)) × IsReachedJoined instance j p q rule))
@@ -85,15 +108,109 @@ module _ (instance : PlainInstance) (X : Exclusions) (j p q : ℕ) (o b a : Bool
       go (inl h) = inr (crossed_fails h rule r)
       go (inr h) = inl (inr (h, r))
 
-pub worked_guarded : (instance : PlainInstance) (s t : PlainEdges) (lost : Bool) (j p q : ℕ) (o b a : Bool) → j < dims instance
-    → o ≡ not (excludes s.trail j p q Overlap) → b ≡ not (excludes s.trail j p q Before) → a ≡ not (excludes s.trail j p q After)
-    → IsWorked instance s t lost (Guarded instance j p q o b a) → IsWorked instance s t lost (AppliedAll instance j p q)
-worked_guarded instance s t lost j p q o b a there ho hb ha h =
-    worked_unless instance s t lost (Guarded instance j p q o b a) (AppliedAll instance j p q) (sorted instance (excludes s.trail) j p q o b a there ho hb ha) h
+-- the instances of an edge in both orders of its boxes, in the order in which they are applied
+abbrev pub GuardedBoth : PlainInstance → ℕ → ℕ → ℕ → (o b a o2 b2 a2 : Bool) → Rule → Type 0
+GuardedBoth instance j u v o b a o2 b2 a2 rule =
+    (((Composes instance j u v rule ⊎ Composes instance j v u rule) ⊎ ((o ≡ false) × (IsReachedApart instance j u v rule ⊎ IsReachedApart instance j v u rule)))
+    ⊎ IsReachedFrom instance j u v o b a rule) ⊎ IsReachedFrom instance j v u o2 b2 a2 rule
 
--- none has to be crossed where the first box may still be before the last
-pub without_crossed : (instance : PlainInstance) (j p q : ℕ) (o b a : Bool) → b ≡ true → (rule : Rule) → Guarded instance j p q o b a rule
-    → ((Composes instance j p q rule ⊎ ((o ≡ false) × IsReachedApart instance j p q rule))
-    ⊎ (((b ≡ false) × (a ≡ false)) × IsReachedJoined instance j p q rule)) ⊎ (((o ≡ false) × (a ≡ false)) × IsReachedOrdered instance j p q rule)
-without_crossed instance j p q o b a on rule (inl r) = r
-without_crossed instance j p q o b a on rule (inr r) = absurd (true≢false (sym on ∙ r.0))
+module _ (instance : PlainInstance) (j u v : ℕ) (o b a o2 b2 a2 : Bool) where
+  there : (rule : Rule) → Guarded instance j u v o b a rule → GuardedBoth instance j u v o b a o2 b2 a2 rule
+  there rule (inl (inl (inl (inl r)))) = inl (inl (inl (inl r)))
+  there rule (inl (inl (inl (inr (h, r))))) = inl (inl (inr (h, inl r)))
+  there rule (inl (inl (inr r))) = inl (inr (inl (inl r)))
+  there rule (inl (inr r)) = inl (inr (inl (inr r)))
+  there rule (inr r) = inl (inr (inr r))
+
+  back : o2 ≡ o → (rule : Rule) → Guarded instance j v u o2 b2 a2 rule → GuardedBoth instance j u v o b a o2 b2 a2 rule
+  back e rule (inl (inl (inl (inl r)))) = inl (inl (inl (inr r)))
+  back e rule (inl (inl (inl (inr (h, r))))) = inl (inl (inr (sym e ∙ h, inr r)))
+  back e rule (inl (inl (inr r))) = inr (inl (inl r))
+  back e rule (inl (inr r)) = inr (inl (inr r))
+  back e rule (inr r) = inr (inr r)
+
+-- the instances that are applied for the edge are those that it reaches, in both orders
+worked_applied_both : (instance : PlainInstance) (s t : PlainEdges) (lost : Bool) (j u v : ℕ)
+    → IsWorked instance s t lost (λ rule. AppliedAll instance j u v rule ⊎ AppliedAll instance j v u rule)
+    → IsWorked instance s t lost (λ rule. IsAppliedAt j u v rule ⊎ IsAppliedAt j v u rule)
+worked_applied_both instance s t lost j u v h =
+    let one = worked_reached instance s t lost j u v (worked_as instance s t lost (λ rule. AppliedAll instance j u v rule ⊎ AppliedAll instance j v u rule) (AppliedAll instance j u v) (λ rule r. inl r) h) in
+    let two = worked_reached instance s t lost j v u (worked_as instance s t lost (λ rule. AppliedAll instance j u v rule ⊎ AppliedAll instance j v u rule) (AppliedAll instance j v u) (λ rule r. inr r) h) in
+    record {
+      same_dims = h.same_dims;
+      same_boxes = h.same_boxes;
+      same_room = h.same_room;
+      extends = h.extends;
+      empty = h.empty;
+      done = λ e rule r. go (one.done e) (two.done e) rule r;
+    }
+  where
+    go : ((rule : Rule) → IsAppliedAt j u v rule → IsCovered instance (excludes s.trail) t.trail rule)
+        → ((rule : Rule) → IsAppliedAt j v u rule → IsCovered instance (excludes s.trail) t.trail rule)
+        → (rule : Rule) → IsAppliedAt j u v rule ⊎ IsAppliedAt j v u rule → IsCovered instance (excludes s.trail) t.trail rule
+    go f k rule (inl r) = f rule r
+    go f k rule (inr r) = k rule r
+
+-- each instance of an edge is among them, or has no premises
+pub worked_guarded : (instance : PlainInstance) (s t : PlainEdges) (lost : Bool) (j u v : ℕ) (o b a o2 b2 a2 : Bool) → j < dims instance
+    → o ≡ not (excludes s.trail j u v Overlap) → b ≡ not (excludes s.trail j u v Before) → a ≡ not (excludes s.trail j u v After)
+    → o2 ≡ not (excludes s.trail j v u Overlap) → b2 ≡ not (excludes s.trail j v u Before) → a2 ≡ not (excludes s.trail j v u After) → o2 ≡ o
+    → IsWorked instance s t lost (GuardedBoth instance j u v o b a o2 b2 a2)
+    → IsWorked instance s t lost (λ rule. IsAppliedAt j u v rule ⊎ IsAppliedAt j v u rule)
+worked_guarded instance s t lost j u v o b a o2 b2 a2 at ho hb ha ho2 hb2 ha2 e h =
+    worked_applied_both instance s t lost j u v (worked_unless instance s t lost (GuardedBoth instance j u v o b a o2 b2 a2)
+    (λ rule. AppliedAll instance j u v rule ⊎ AppliedAll instance j v u rule) (λ rule r. go rule r) h)
+  where
+    first : (rule : Rule) → Guarded instance j u v o b a rule ⊎ (IsRuleInstance instance rule → Premises instance (excludes s.trail) rule → ⊥) → GuardedBoth instance j u v o b a o2 b2 a2 rule ⊎ (IsRuleInstance instance rule → Premises instance (excludes s.trail) rule → ⊥)
+    first rule (inl r) = inl (there instance j u v o b a o2 b2 a2 rule r)
+    first rule (inr f) = inr f
+
+    second : (rule : Rule) → Guarded instance j v u o2 b2 a2 rule ⊎ (IsRuleInstance instance rule → Premises instance (excludes s.trail) rule → ⊥) → GuardedBoth instance j u v o b a o2 b2 a2 rule ⊎ (IsRuleInstance instance rule → Premises instance (excludes s.trail) rule → ⊥)
+    second rule (inl r) = inl (back instance j u v o b a o2 b2 a2 e rule r)
+    second rule (inr f) = inr f
+
+    go : (rule : Rule) → AppliedAll instance j u v rule ⊎ AppliedAll instance j v u rule → GuardedBoth instance j u v o b a o2 b2 a2 rule ⊎ (IsRuleInstance instance rule → Premises instance (excludes s.trail) rule → ⊥)
+    go rule (inl r) = first rule (sorted instance (excludes s.trail) j u v o b a at ho hb ha rule r)
+    go rule (inr r) = second rule (sorted instance (excludes s.trail) j v u o2 b2 a2 at ho2 hb2 ha2 rule r)
+
+-- rules of each box of a row, and of those of another
+abbrev pub Among : ℕ → (ℕ → Bool) → (ℕ → Rule) → Rule → Type 0
+Among n row named rule = (x : ℕ) × (x < n) × ((row x ≡ true) × (rule ≡ named x))
+
+-- the same of all boxes, in two orders, where the others have nothing to add
+pub worked_rows : (instance : PlainInstance) (a b : PlainEdges) (lost : Bool) (n : ℕ) (row other : ℕ → Bool) (named also : ℕ → Rule)
+    → ((x : ℕ) → x < n → row x ≡ false → IsCovered instance (excludes a.trail) a.trail (named x))
+    → ((x : ℕ) → x < n → other x ≡ false → IsCovered instance (excludes a.trail) a.trail (also x))
+    → IsWorked instance a b lost (λ rule. Among n row named rule ⊎ Among n other also rule)
+    → IsWorked instance a b lost (λ rule. ((x : ℕ) × (x < n) × (rule ≡ named x)) ⊎ ((x : ℕ) × (x < n) × (rule ≡ also x)))
+worked_rows instance a b lost n row other named also f k h =
+    worked_beside instance a b lost (λ rule. Among n row named rule ⊎ Among n other also rule)
+    (λ rule. ((x : ℕ) × (x < n) × (rule ≡ named x)) ⊎ ((x : ℕ) × (x < n) × (rule ≡ also x))) (λ rule r. go rule r) h
+  where
+    first : (rule : Rule) (x : ℕ) → x < n → rule ≡ named x → (row x ≡ true) ⊎ (row x ≡ false)
+        → (Among n row named rule ⊎ Among n other also rule) ⊎ IsCovered instance (excludes a.trail) a.trail rule
+    first rule x l e (inl on) = inl (inl (x, l, (on, e)))
+    first rule x l e (inr off) = inr (covered_named instance a.trail rule (named x) e (f x l off))
+
+    second : (rule : Rule) (x : ℕ) → x < n → rule ≡ also x → (other x ≡ true) ⊎ (other x ≡ false)
+        → (Among n row named rule ⊎ Among n other also rule) ⊎ IsCovered instance (excludes a.trail) a.trail rule
+    second rule x l e (inl on) = inl (inr (x, l, (on, e)))
+    second rule x l e (inr off) = inr (covered_named instance a.trail rule (also x) e (k x l off))
+
+    go : (rule : Rule) → ((x : ℕ) × (x < n) × (rule ≡ named x)) ⊎ ((x : ℕ) × (x < n) × (rule ≡ also x))
+        → (Among n row named rule ⊎ Among n other also rule) ⊎ IsCovered instance (excludes a.trail) a.trail rule
+    go rule (inl r) = first rule r.0 r.1 r.2 (cases_Bool (row r.0))
+    go rule (inr r) = second rule r.0 r.1 r.2 (cases_Bool (other r.0))
+
+-- nothing was done where neither row has a box
+pub worked_no_rows : (instance : PlainInstance) (s : PlainEdges) (n : ℕ) (row other : ℕ → Bool) (named also : ℕ → Rule)
+    → ((x : ℕ) → x < n → row x ≡ false → IsCovered instance (excludes s.trail) s.trail (named x))
+    → ((x : ℕ) → x < n → other x ≡ false → IsCovered instance (excludes s.trail) s.trail (also x))
+    → ((x : ℕ) → (row x ≡ false) × (other x ≡ false))
+    → IsWorked instance s s false (λ rule. ((x : ℕ) × (x < n) × (rule ≡ named x)) ⊎ ((x : ℕ) × (x < n) × (rule ≡ also x)))
+worked_no_rows instance s n row other named also f k none =
+    worked_none instance s (λ rule. ((x : ℕ) × (x < n) × (rule ≡ named x)) ⊎ ((x : ℕ) × (x < n) × (rule ≡ also x))) (λ rule r. go rule r)
+  where
+    go : (rule : Rule) → ((x : ℕ) × (x < n) × (rule ≡ named x)) ⊎ ((x : ℕ) × (x < n) × (rule ≡ also x)) → IsCovered instance (excludes s.trail) s.trail rule
+    go rule (inl r) = covered_named instance s.trail rule (named r.0) r.2 (f r.0 r.1 (none r.0).0)
+    go rule (inr r) = covered_named instance s.trail rule (also r.0) r.2 (k r.0 r.1 (none r.0).1)

@@ -1,3 +1,4 @@
 mod Compositions
+mod Cycles
 mod Guards
 pub mod Levels

@@ -1,7 +1,8 @@
 -- The instances that are applied for one edge, in one order of its boxes, by what they ask of it.
-use Rattle.std.specs.Prelude.{ℕ, ◌≡◌, ◌≢◌, ◌<◌, ◌≤◌, ◌⊎◌}
+use Rattle.std.specs.Prelude.{ℕ, ◌≡◌, ◌≢◌, ◌<◌, ◌≤◌, ◌⊎◌, Bool, false}
 use Rattle.packing_terms.specs.Packing.{PlainInstance, dims, box_count, side}
 use Rattle.packing_terms.specs.Rules.{Rule, Apart, Triple, Cycle, Order}
+use Rattle.closure_terms.specs.Instances.{OrdersCrossed}
 
 -- no box is longer
 abbrev pub HasNoLonger : PlainInstance → ℕ → ℕ → Type 0
@@ -24,3 +25,11 @@ abbrev pub IsReachedOrdered : PlainInstance → ℕ → ℕ → ℕ → Rule →
 IsReachedOrdered instance j p q rule =
     ((d : ℕ) × (d < box_count instance) × ((c : ℕ) × (c < box_count instance) × (rule ≡ Order j p q c d)))
     ⊎ ((a : ℕ) × (a < box_count instance) × ((b : ℕ) × (b < box_count instance) × (rule ≡ Order j a b p q)))
+
+-- those that ask for joined, for ordered or for not before, each group where what is left of the edge
+-- doesn't tell it off
+abbrev pub IsReachedFrom : PlainInstance → ℕ → ℕ → ℕ → (overlap before after : Bool) → Rule → Type 0
+IsReachedFrom instance j p q overlap before after rule =
+    ((((before ≡ false) × (after ≡ false)) × IsReachedJoined instance j p q rule)
+    ⊎ (((overlap ≡ false) × (after ≡ false)) × IsReachedOrdered instance j p q rule))
+    ⊎ ((before ≡ false) × OrdersCrossed instance j p q rule)

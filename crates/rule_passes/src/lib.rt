@@ -12,6 +12,7 @@ mod room;
 mod rows;
 mod settle;
 mod sides;
+mod triples;
 mod work;
 
 pub use room::ClosingRoom;

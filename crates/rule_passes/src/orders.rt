@@ -267,6 +267,7 @@ pub fn orders_second<const K: usize>(
 }
 
 /// ORDER with the first and the last box given: it asks that the first isn't before the last.
+#[inline(always)]
 pub fn orders_crossed<const K: usize>(
     instance: &Instance,
     state: &mut EdgeState,

@@ -8,6 +8,7 @@ ghost use Rattle.packing_terms.specs.Limits.{IsBoxCount};
 ghost use Rattle.packing_terms.specs.Rules.{Triple, Compose, Cycle, Order};
 ghost use Rattle.relation_table.specs.Masks.{mask_has};
 ghost use Rattle.edge_state.specs.BitRows.{IsRowWidth, HoldsBoxes, row_has};
+ghost use Rattle.edge_state.specs.Edges.{is_other_box};
 ghost use Rattle.closure_terms.specs.States.{IsSized};
 ghost use Rattle.closure_terms.specs.Work.{IsCovered};
 
@@ -35,6 +36,19 @@ pub fn is_empty<const K: usize>(row: BitRow<K>) -> bool
     }
 }
 
+/// Whether a row has at most one member.
+#[inline]
+pub fn has_no_two<const K: usize>(row: BitRow<K>) -> bool
+    requires { IsRowWidth K }
+    ensures { result ≡ true → (x y : ℕ) → row_has row.entry x ≡ true → row_has row.entry y ≡ true
+        → x ≡ y }
+{
+    match row.first() {
+        Some(x) => is_empty(row.without(x)),
+        None => true,
+    }
+}
+
 // What is in one of three rows.
 #[inline]
 fn one_of<const K: usize>(first: BitRow<K>, second: BitRow<K>, third: BitRow<K>) -> BitRow<K>
@@ -45,18 +59,28 @@ fn one_of<const K: usize>(first: BitRow<K>, second: BitRow<K>, third: BitRow<K>)
     first.or(second).or(third)
 }
 
-// What is in the row and not in the other, where that is wanted, and else nothing.
+// The boxes to which a relation of `u` is left and that aren't in the row, where they are wanted,
+// and else none.
 #[inline]
-fn outside<const K: usize>(row: BitRow<K>, other: BitRow<K>, wanted: bool) -> BitRow<K>
-    requires { IsRowWidth K }
-    ensures { (x : ℕ) → row_has result x
-        ≡ (row_has row.entry x && not (row_has other.entry x)) && wanted }
+fn left_outside<const K: usize>(
+    state: &EdgeState,
+    dim: u32,
+    u: u32,
+    rel: Rel,
+    row: BitRow<K>,
+    wanted: bool,
+) -> BitRow<K>
+    requires words { HoldsBoxes K state.now.boxes }
+    requires dim { dim < state.now.dims }
+    requires u { u < state.now.boxes }
+    ensures { (x : ℕ) → row_has result x ≡ ((is_other_box state.now.boxes u x
+        && not (excludes state.now.trail dim u x rel)) && not (row_has row.entry x)) && wanted }
 {
-    if wanted {
-        row.minus(other)
-    } else {
-        BitRow::empty()
+    if !wanted {
+        return BitRow::empty();
     }
+    let left = state.row_in::<K>(dim, u, rel);
+    left.minus(row)
 }
 
 /// The boxes x at which COMPOSE at `u`, `v`, x may exclude something, where the mask of `u`, `v` is
@@ -99,13 +123,10 @@ pub fn beyond_compositions<const K: usize>(
     let near = pick(overlap, is_overlap);
     let may_precede = near.or(before);
     let may_follow = near.or(after);
-    let here_overlap = state.row_in::<K>(dim, u, Rel::Overlap);
-    let here_before = state.row_in::<K>(dim, u, Rel::Before);
-    let here_after = state.row_in::<K>(dim, u, Rel::After);
     let beyond = one_of(
-        outside(here_overlap, may_overlap, !is_overlap),
-        outside(here_before, may_precede, !is_before),
-        outside(here_after, may_follow, !is_after),
+        left_outside(state, dim, u, Rel::Overlap, may_overlap, !is_overlap),
+        left_outside(state, dim, u, Rel::Before, may_precede, !is_before),
+        left_outside(state, dim, u, Rel::After, may_follow, !is_after),
     );
     beyond.or(lost).without(v)
 }
@@ -125,7 +146,7 @@ pub fn all_boxes<const K: usize>(boxes: u32) -> BitRow<K>
 
 // The boxes for which one of two relations to `u` isn't excluded.
 #[inline]
-fn either<const K: usize>(
+pub fn either<const K: usize>(
     instance: &Instance,
     state: &EdgeState,
     dim: u32,
@@ -192,6 +213,28 @@ pub fn beyond_triples<const K: usize>(
     let free = either::<K>(instance, state, dim, u, Rel::Before, Rel::After);
     let near = state.row_in::<K>(dim, x, Rel::Overlap);
     free.minus(near).without(x)
+}
+
+/// The boxes d at which CYCLE may exclude something at `b`, d, whatever the third box is: those that
+/// are joined with `a` and not with `b`.
+#[inline]
+pub fn cycle_fourths<const K: usize>(
+    instance: &Instance,
+    state: &EdgeState,
+    dim: u32,
+    a: u32,
+    b: u32,
+) -> BitRow<K>
+    requires words { HoldsBoxes K (box_count instance.now) }
+    requires sizes { IsSized instance.now state.now dim }
+    requires a { a < box_count instance.now }
+    requires b { b < box_count instance.now }
+    ensures others { (d : ℕ) → d < box_count instance.now → row_has result d ≡ false → (c : ℕ)
+        → IsCovered instance.now (excludes state.now.trail) state.now.trail (Cycle dim a b c d) }
+{
+    let free = either::<K>(instance, state, dim, b, Rel::Before, Rel::After);
+    let first = either::<K>(instance, state, dim, a, Rel::Before, Rel::After);
+    free.minus(first)
 }
 
 /// The boxes d at which CYCLE may exclude something at `b`, d.

@@ -1,26 +1,23 @@
-//! COMPOSE, TRIPLE, APART and CYCLE at what a changed edge tells.
+//! COMPOSE, APART and CYCLE at what a changed edge tells.
 //!
 //! Each call applies some instances one after another and answers whether a mask is empty; it stops
 //! there.
-ghost use Rattle.std.specs.Prelude.{◌≡◌, ◌≢◌, ◌<◌, ◌≤◌, ◌+◌, ℕ, not, nat_lt, [], ◌∷◌};
-ghost use Rattle.packing_terms.specs.declared.Rel.{Rel as PlainRel};
-ghost use Rattle.packing_terms.specs.Exclusions.{excludes};
-ghost use Rattle.packing_terms.specs.Packing.{dims, box_count, side, container_side};
-ghost use Rattle.packing_terms.specs.Rules.{Apart, Triple, Compose, Cycle, Order, AreBoxes};
-ghost use Rattle.relation_table.specs.Masks.{mask_has};
+ghost use Rattle.std.specs.Prelude.{◌≡◌, ◌≢◌, ◌<◌, ◌⊎◌, ℕ, true, nat_lt, [], ◌∷◌};
+ghost use Rattle.packing_terms.specs.Packing.{dims, box_count};
+ghost use Rattle.packing_terms.specs.Rules.{Apart, Compose, Cycle, AreBoxes};
 ghost use Rattle.edge_state.specs.BitRows.{HoldsBoxes, row_has};
+ghost use Rattle.closure_terms.specs.Instances.{Chords};
 ghost use Rattle.closure_terms.specs.States.{IsSized};
 ghost use Rattle.closure_terms.specs.Work.{IsWorked};
-ghost use Rattle.rule_passes.specs.Reached.{HasNoLonger};
 
 use crate::empties::is_empty_at;
 use crate::rows::{
-    beyond_compositions, beyond_cycles, beyond_triples, cycle_seconds, cycle_thirds, gone, is_empty,
+    beyond_cycles, cycle_fourths, cycle_seconds, cycle_thirds, has_no_two, is_empty,
 };
 use box_instances::Instance;
 use cycle_rules::apply_cycle;
-use edge_state::{BitRow, EdgeState, Mask, Rel};
-use orientation_rules::{apply_apart, apply_compose, apply_triple};
+use edge_state::{BitRow, EdgeState, Rel};
+use orientation_rules::{apply_apart, apply_compose};
 
 // APART in a dimension other than the one that changed.
 fn apart_at(instance: &Instance, state: &mut EdgeState, dim: u32, i: u32, u: u32, v: u32) -> bool
@@ -35,13 +32,16 @@ fn apart_at(instance: &Instance, state: &mut EdgeState, dim: u32, i: u32, u: u32
     if i == dim {
         return false;
     }
+    if !state.mask(i, u, v).has(Rel::Overlap) {
+        return false;
+    }
     if !apply_apart(state, i, u, v) {
         return false;
     }
     is_empty_at(instance, state, i, u, v)
 }
 
-/// APART in each other dimension, where two boxes are joined in this one.
+/// APART in each other dimension.
 #[inline]
 pub fn aparts(instance: &Instance, state: &mut EdgeState, dim: u32, u: u32, v: u32) -> bool
     requires sizes { IsSized instance.now state.old dim }
@@ -51,123 +51,12 @@ pub fn aparts(instance: &Instance, state: &mut EdgeState, dim: u32, u: u32, v: u
     ensures { IsWorked instance.now state.old state.new result
         (λ rule. (i : ℕ) × (i < dims instance.now) × ((dim ≢ i) × (rule ≡ Apart i u v))) }
 {
-    if !state.joined(dim, u, v) {
-        return false;
-    }
     for i in 0..instance.dims() {
         if apart_at(instance, state, dim, i, u, v) {
             return true;
         }
     }
     false
-}
-
-// TRIPLE at three boxes.
-fn triple_at(instance: &Instance, state: &mut EdgeState, dim: u32, u: u32, v: u32, x: u32) -> bool
-    requires sizes { IsSized instance.now state.old dim }
-    requires u { u < box_count instance.now }
-    requires v { v < box_count instance.now }
-    requires x { x < box_count instance.now }
-    ensures { IsWorked instance.now state.old state.new result (λ rule. rule ≡ Triple dim u v x) }
-{
-    if u == v || u == x || v == x {
-        return false;
-    }
-    if !apply_triple(instance, state, dim, u, v, x) {
-        return false;
-    }
-    is_empty_at(instance, state, dim, u, v)
-}
-
-// The least side of a third box with which two boxes are together longer than the container.
-#[inline]
-fn least_third(instance: &Instance, dim: u32, u: u32, x: u32) -> u64
-    requires dim { dim < dims instance.now }
-    requires u { u < box_count instance.now }
-    requires x { x < box_count instance.now }
-    ensures { (w : ℕ) → w < result
-        → side instance.now u dim + w + side instance.now x dim ≤ container_side instance.now dim }
-{
-    let together = u64::from(instance.side(u, dim)) + u64::from(instance.side(x, dim));
-    (u64::from(instance.container_side(dim)) + 1).saturating_sub(together)
-}
-
-// TRIPLE at three boxes, where the side of the second one isn't less than the least with which the
-// three are too long.
-#[inline(always)]
-fn triple_over(
-    instance: &Instance,
-    state: &mut EdgeState,
-    dim: u32,
-    u: u32,
-    v: u32,
-    x: u32,
-    least: u64,
-) -> bool
-    requires sizes { IsSized instance.now state.old dim }
-    requires u { u < box_count instance.now }
-    requires v { v < box_count instance.now }
-    requires x { x < box_count instance.now }
-    requires least { (w : ℕ) → w < least
-        → side instance.now u dim + w + side instance.now x dim ≤ container_side instance.now dim }
-    ensures { IsWorked instance.now state.old state.new result (λ rule. rule ≡ Triple dim u v x) }
-{
-    if u64::from(instance.side(v, dim)) < least {
-        return false;
-    }
-    triple_at(instance, state, dim, u, v, x)
-}
-
-// TRIPLE with two boxes, for each third that is apart from the second.
-fn triples_through<const K: usize>(
-    instance: &Instance,
-    state: &mut EdgeState,
-    dim: u32,
-    u: u32,
-    x: u32,
-) -> bool
-    requires words { HoldsBoxes K (box_count instance.now) }
-    requires sizes { IsSized instance.now state.old dim }
-    requires u { u < box_count instance.now }
-    requires x { x < box_count instance.now }
-    requires distinct { u ≡ x → ⊥ }
-    ensures { IsWorked instance.now state.old state.new result
-        (λ rule. (v : ℕ) × (v < box_count instance.now) × (rule ≡ Triple dim u v x)) }
-{
-    let least = least_third(instance, dim, u, x);
-    let mut rest = beyond_triples::<K>(instance, state, dim, u, x);
-    while let Some(v) = rest.first() {
-        rest = rest.without(v);
-        if triple_over(instance, state, dim, u, v, x, least) {
-            return true;
-        }
-    }
-    false
-}
-
-/// The same, where a box may be long enough: none is longer than `most`.
-#[inline]
-pub fn triples<const K: usize>(
-    instance: &Instance,
-    state: &mut EdgeState,
-    dim: u32,
-    u: u32,
-    x: u32,
-    most: u32,
-) -> bool
-    requires words { HoldsBoxes K (box_count instance.now) }
-    requires sizes { IsSized instance.now state.old dim }
-    requires u { u < box_count instance.now }
-    requires x { x < box_count instance.now }
-    requires distinct { u ≡ x → ⊥ }
-    requires most { HasNoLonger instance.now dim most }
-    ensures { IsWorked instance.now state.old state.new result
-        (λ rule. (v : ℕ) × (v < box_count instance.now) × (rule ≡ Triple dim u v x)) }
-{
-    if u64::from(most) < least_third(instance, dim, u, x) {
-        return false;
-    }
-    triples_through::<K>(instance, state, dim, u, x)
 }
 
 // COMPOSE at three boxes.
@@ -187,27 +76,26 @@ fn compose_at(instance: &Instance, state: &mut EdgeState, dim: u32, u: u32, v: u
     is_empty_at(instance, state, dim, u, x)
 }
 
-/// COMPOSE at two boxes whose mask is given, for each third.
+/// COMPOSE at two boxes, for each third of a row.
+#[inline]
 pub fn composes<const K: usize>(
     instance: &Instance,
     state: &mut EdgeState,
-    all: BitRow<K>,
     dim: u32,
     u: u32,
     v: u32,
-    left: Mask,
+    thirds: BitRow<K>,
 ) -> bool
     requires words { HoldsBoxes K (box_count instance.now) }
     requires sizes { IsSized instance.now state.old dim }
     requires u { u < box_count instance.now }
     requires v { v < box_count instance.now }
-    requires distinct { u ≡ v → ⊥ }
-    requires all { (x : ℕ) → row_has all x ≡ nat_lt x (box_count instance.now) }
-    requires left { (r : PlainRel) → mask_has left r ≡ not (excludes state.old.trail dim u v r) }
+    requires within { (x : ℕ) → row_has thirds x ≡ true → x < box_count instance.now }
     ensures { IsWorked instance.now state.old state.new result
-        (λ rule. (x : ℕ) × (x < box_count instance.now) × (rule ≡ Compose dim u v x)) }
+        (λ rule. (x : ℕ) × (x < box_count instance.now)
+        × ((row_has thirds.entry x ≡ true) × (rule ≡ Compose dim u v x))) }
 {
-    let mut rest = beyond_compositions(instance, state, all, dim, u, v, left);
+    let mut rest = thirds;
     while let Some(x) = rest.first() {
         rest = rest.without(x);
         if compose_at(instance, state, dim, u, v, x) {
@@ -320,6 +208,9 @@ pub fn cycles<const K: usize>(
         (λ rule. (c : ℕ) × (c < box_count instance.now)
         × ((d : ℕ) × (d < box_count instance.now) × (rule ≡ Cycle dim a b c d))) }
 {
+    if is_empty(cycle_fourths::<K>(instance, state, dim, a, b)) {
+        return false;
+    }
     let mut rest = cycle_thirds(instance, state, all, dim, a, b);
     while let Some(c) = rest.first() {
         rest = rest.without(c);
@@ -330,7 +221,36 @@ pub fn cycles<const K: usize>(
     false
 }
 
-/// CYCLE with the first and the third box given.
+// CYCLE with the first and the third box given.
+fn chords_from<const K: usize>(
+    instance: &Instance,
+    state: &mut EdgeState,
+    all: BitRow<K>,
+    dim: u32,
+    a: u32,
+    c: u32,
+) -> bool
+    requires words { HoldsBoxes K (box_count instance.now) }
+    requires sizes { IsSized instance.now state.old dim }
+    requires a { a < box_count instance.now }
+    requires c { c < box_count instance.now }
+    requires distinct { a ≡ c → ⊥ }
+    requires all { (x : ℕ) → row_has all x ≡ nat_lt x (box_count instance.now) }
+    ensures { IsWorked instance.now state.old state.new result (Chords instance.now dim a c) }
+{
+    let mut rest = cycle_seconds(instance, state, all, dim, a, c);
+    while let Some(b) = rest.first() {
+        rest = rest.without(b);
+        if cycles_from::<K>(instance, state, dim, a, b, c) {
+            return true;
+        }
+    }
+    false
+}
+
+/// CYCLE with the first and the third box given, in both orders, where two boxes are joined with
+/// both.
+#[inline]
 pub fn chords<const K: usize>(
     instance: &Instance,
     state: &mut EdgeState,
@@ -346,15 +266,13 @@ pub fn chords<const K: usize>(
     requires distinct { a ≡ c → ⊥ }
     requires all { (x : ℕ) → row_has all x ≡ nat_lt x (box_count instance.now) }
     ensures { IsWorked instance.now state.old state.new result
-        (λ rule. (b : ℕ) × (b < box_count instance.now)
-        × ((d : ℕ) × (d < box_count instance.now) × (rule ≡ Cycle dim a b c d))) }
+        (λ rule. Chords instance.now dim a c rule ⊎ Chords instance.now dim c a rule) }
 {
-    let mut rest = cycle_seconds(instance, state, all, dim, a, c);
-    while let Some(b) = rest.first() {
-        rest = rest.without(b);
-        if cycles_from::<K>(instance, state, dim, a, b, c) {
-            return true;
-        }
+    if has_no_two(cycle_seconds(instance, state, all, dim, a, c)) {
+        return false;
     }
-    false
+    if chords_from(instance, state, all, dim, a, c) {
+        return true;
+    }
+    chords_from(instance, state, all, dim, c, a)
 }

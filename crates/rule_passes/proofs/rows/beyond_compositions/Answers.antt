@@ -1,4 +1,4 @@
-use Rattle.std.proofs.Common.{◌≡◌, ◌∙◌, refl, sym, not, ◌&&◌, ◌||◌, eqb}
+use Rattle.std.proofs.Common.{◌≡◌, Bool, ◌∙◌, refl, sym, not, ◌&&◌, ◌||◌, eqb}
 use Rattle.std.proofs.lemmas.Bool.{and_parts, lt-ltb}
 use Rattle.packing_terms.specs.declared.Rel.{Rel}
 use Rattle.packing_terms.specs.declared.Rel.TheVariants.{Overlap, Before, After}
@@ -15,10 +15,10 @@ use Rattle.rule_passes.proofs.rows.beyond_compositions.Goals as goal
 pub returns-clause-within : goal.returns-clause-within
 returns-clause-within g c x on =
     let n = box_count c.args.instance.now in
-    let to = rw c.requires.sizes.same_boxes at c.row_in-here_overlap.ensures in
-    let tb = rw c.requires.sizes.same_boxes at c.row_in-here_before.ensures in
-    let ta = rw c.requires.sizes.same_boxes at c.row_in-here_after.ensures in
-    within_found n c.args.u x _ _ _ _ _ _ _ _ _ _ _ _ _ _ _ (to x) (tb x) (ta x) (c.outside.ensures x) (c.outside-2.ensures x) (c.outside-3.ensures x)
+    let lo = rw c.requires.sizes.same_boxes at c.left_outside.ensures in
+    let lb = rw c.requires.sizes.same_boxes at c.left_outside-2.ensures in
+    let la = rw c.requires.sizes.same_boxes at c.left_outside-3.ensures in
+    within_found n c.args.u x _ _ _ _ _ _ _ _ _ _ _ _ _ _ _ refl refl refl (lo x) (lb x) (la x)
     _ _ _ _ _ (c.one_of-beyond.ensures x) (c.requires.all x) (c.minus-lost.ensures x) (c.or.ensures x) (and_parts _ _ (sym (c.without.ensures x) ∙ on)).0
 
 pub returns-clause-others : goal.returns-clause-others
@@ -30,11 +30,10 @@ returns-clause-others g c x small off =
     let v = c.args.v in
     let q = in_each_relation c.has-is_overlap.result c.has-is_before.result c.has-is_after.result in
     let s = in_each_relation (row_has c.row_in-overlap.result x) (row_has c.row_in-before.result x) (row_has c.row_in-after.result x) in
-    let t = in_each_relation (row_has c.row_in-here_overlap.result x) (row_has c.row_in-here_before.result x) (row_has c.row_in-here_after.result x) in
-    let to = rw c.requires.sizes.same_boxes at c.row_in-here_overlap.ensures in
-    let tb = rw c.requires.sizes.same_boxes at c.row_in-here_before.ensures in
-    let ta = rw c.requires.sizes.same_boxes at c.row_in-here_after.ensures in
-    let ht : (r : Rel) → t r ≡ is_other_box (box_count instance) u x && not (excludes es j u x r) = by_rel t _ (to x) (tb x) (ta x) in
+    let t : Rel → Bool = λ r. is_other_box (box_count instance) u x && not (excludes es j u x r) in
+    let lo = rw c.requires.sizes.same_boxes at c.left_outside.ensures in
+    let lb = rw c.requires.sizes.same_boxes at c.left_outside-2.ensures in
+    let la = rw c.requires.sizes.same_boxes at c.left_outside-3.ensures in
     let so = rw c.requires.sizes.same_boxes at c.row_in-overlap.ensures in
     let sb = rw c.requires.sizes.same_boxes at c.row_in-before.ensures in
     let sa = rw c.requires.sizes.same_boxes at c.row_in-after.ensures in
@@ -45,9 +44,9 @@ returns-clause-others g c x small off =
       c.without.ensures x,
       c.or.ensures x,
       c.one_of-beyond.ensures x,
-      c.outside.ensures x,
-      c.outside-2.ensures x,
-      c.outside-3.ensures x,
+      lo x,
+      lb x,
+      la x,
       c.one_of-may_overlap.ensures x,
       c.or-may_precede.ensures x,
       c.or-may_follow.ensures x,
@@ -60,4 +59,4 @@ returns-clause-others g c x small off =
     ) refl in
     let none = none_left_out (q Overlap) (q Before) (q After) (s Overlap) (s Before) (s After) (t Overlap) (t Before) (t After) (row_has c.args.all x) (eqb x v)
     (c.requires.all x ∙ lt-ltb x _ small) (sym e ∙ off) in
-    covered_beyond instance es j u v x _ q s t c.requires.distinct hq hs ht refl none
+    covered_beyond instance es j u v x _ q s t c.requires.distinct hq hs (λ r. refl) refl none

@@ -18,12 +18,16 @@ loop-change-init g c = record {
   still = λ e. refl;
 }
 
-pub is_empty_in-requires : goal.is_empty_in-requires
-is_empty_in-requires g c =
+pub mask_in-left-requires-clause-edge : goal.mask_in-left-requires-clause-edge
+mask_in-left-requires-clause-edge g c =
+    let s = c.loop-change.state in
+    change_edge s.dims s.boxes s.trail c.loop-change.next _ c.in-Some.change c.dims-sizes.ensures.limits.trail c.in-Some.ensures
+
+pub is_empty_left-requires : goal.is_empty_left-requires
+is_empty_left-requires g c =
     let s = c.loop-change.state in
     let edge = change_edge s.dims s.boxes s.trail c.loop-change.next _ c.in-Some.change c.dims-sizes.ensures.limits.trail c.in-Some.ensures in
     record {
-      words = c.requires.words;
       sizes = record {
         same_dims = c.loop-change.invariant.same_dims ∙ c.requires.dims;
         same_boxes = c.loop-change.invariant.same_boxes ∙ c.requires.boxes;
@@ -31,12 +35,8 @@ is_empty_in-requires g c =
       };
       u = omega (arith, edge.first, c.loop-change.invariant.same_boxes, c.requires.boxes);
       v = omega (arith, edge.second, c.loop-change.invariant.same_boxes, c.requires.boxes);
+      left = c.mask_in-left.ensures;
     }
-
-pub dirtied-more-requires-clause-edge : goal.dirtied-more-requires-clause-edge
-dirtied-more-requires-clause-edge g c =
-    let s = c.loop-change.state in
-    change_edge s.dims s.boxes s.trail c.loop-change.next _ c.in-Some.change c.dims-sizes.ensures.limits.trail c.in-Some.ensures
 
 pub dirtied-more-requires-clause-dim : goal.dirtied-more-requires-clause-dim
 dirtied-more-requires-clause-dim g c =
@@ -69,7 +69,7 @@ spread-requires g c =
               omega (arith, edge.second, c.loop-change.invariant.same_boxes, c.requires.boxes),
               (
                 edge.distinct,
-                (c.requires.all, c.requires.longest _ (omega (arith, edge.dim, c.loop-change.invariant.same_dims, c.requires.dims))),
+                (c.requires.all, (c.mask_in-left.ensures, c.requires.longest _ (omega (arith, edge.dim, c.loop-change.invariant.same_dims, c.requires.dims)))),
               ),
             ),
           ),
@@ -103,7 +103,7 @@ loop-change-preserved g c =
       extends = extends_trans _ _ _ _ c.loop-change.invariant.extends work.extends;
       later = omega (arith, c.loop-change.invariant.later, past.0);
       within = grown_past c.args.instance.now _ _ _ _ _ work.extends change.before_last c.behind-after.ensures;
-      looked = looked_step c.args.instance.now _ _ c.in-Some.change _ _ _ _ here c.if-is_empty_in.ensures work change c.behind-after.ensures
+      looked = looked_step c.args.instance.now _ _ c.in-Some.change _ _ _ _ here c.if-is_empty_left.ensures work change c.behind-after.ensures
           c.dirtied-more.ensures.clean c.dirtied-more.ensures.unordered c.dirtied-more.ensures.within c.loop-change.invariant.looked;
       still = λ e. absurd (omega (arith, e, c.loop-change.invariant.later, past.0));
     }

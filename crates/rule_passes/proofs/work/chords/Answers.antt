@@ -1,40 +1,33 @@
-use Rattle.std.proofs.Common.{◌*◌, ◌≡◌, ◌<◌, ◌∙◌, ℕ, sym}
-use Rattle.std.proofs.lemmas.Bool.{and_parts}
-use Rattle.packing_terms.specs.Packing.{box_count}
-use Rattle.packing_terms.specs.Rules.{Cycle}
+use Rattle.std.proofs.Common.{◌≡◌, ◌⊎◌, inl, inr, sym}
+use Rattle.packing_terms.specs.Rules.{Rule, Cycle}
 use Rattle.edge_state.specs.BitRows.{row_has}
-use Rattle.closure_terms.proofs.Worked.{worked_lost, worked_kept, sizes_worked}
-use Rattle.edge_state.proofs.RowBits.{members_fewer}
-use Rattle.closure_terms.proofs.Filters.{covered_never}
-use Rattle.closure_terms.proofs.Members.{worked_rest, worked_row, worked_all, covered_named}
+use Rattle.closure_terms.specs.Instances.{Chords}
+use Rattle.closure_terms.specs.Work.{IsCovered}
+use Rattle.packing_terms.specs.Exclusions.{excludes}
+use Rattle.closure_terms.proofs.Members.{covered_named}
+use Rattle.closure_terms.proofs.Worked.{worked_none, worked_then, worked_kept, worked_lost_first}
+use Rattle.rule_passes.proofs.Cycles.{covered_chord, joined_back}
 use Rattle.rule_passes.proofs.work.chords.Goals as goal
 
-pub loop-b-init : goal.loop-b-init
-loop-b-init g c = record {
-  work = worked_rest _ _ (box_count c.args.instance.now) (row_has c.cycle_seconds-rest.result) (λ x rule. (y : ℕ) × (y < box_count c.args.instance.now) × (rule ≡ Cycle c.args.dim c.args.a x c.args.c y)) (λ x small off rule e. covered_named _ _ rule (Cycle c.args.dim c.args.a x c.args.c e.0) e.2 (covered_never c.args.instance.now _ (Cycle c.args.dim c.args.a x c.args.c e.0) (λ is p. c.cycle_seconds-rest.ensures.others x small is.1.1.0 (λ q. is.1.2.1.0 (sym q)) off p.0 p.1)));
-  within = c.cycle_seconds-rest.ensures.within;
-}
+pub returns-then-has_no_two : goal.returns-then-has_no_two
+returns-then-has_no_two g c = worked_none c.args.instance.now _ _ (λ rule e. go rule e)
+  where
+    go : (rule : Rule) → Chords c.args.instance.now c.args.dim c.args.a c.args.c rule ⊎ Chords c.args.instance.now c.args.dim c.args.c c.args.a rule
+        → IsCovered c.args.instance.now (excludes c.args.state.now.trail) c.args.state.now.trail rule
+    go rule (inl e) = covered_named c.args.instance.now _ rule (Cycle c.args.dim c.args.a e.0 c.args.c e.2.0) e.2.2
+        (covered_chord c.args.instance.now c.args.state.now.trail c.args.dim c.args.a e.0 c.args.c e.2.0 (row_has c.cycle_seconds.result) c.cycle_seconds.ensures.others
+        (c.has_no_two.ensures c.if-has_no_two.true))
+    go rule (inr e) = covered_named c.args.instance.now _ rule (Cycle c.args.dim c.args.c e.0 c.args.a e.2.0) e.2.2
+        (covered_chord c.args.instance.now c.args.state.now.trail c.args.dim c.args.c e.0 c.args.a e.2.0 (row_has c.cycle_seconds.result)
+        (λ x small ca aa off one two. c.cycle_seconds.ensures.others x small aa ca off (joined_back c.args.state.now.trail c.args.dim x c.args.a two) (joined_back c.args.state.now.trail c.args.dim c.args.c x one))
+        (c.has_no_two.ensures c.if-has_no_two.true))
 
-pub loop-b-smaller : goal.loop-b-smaller
-loop-b-smaller g c =
-    members_fewer (row_has c.loop-b.rest) (row_has c.without-rest.result) c.in-Some.b (64 * g.row.K) c.without-rest.ensures c.in-Some.ensures.least.there c.in-Some.ensures.limit
-
-pub cycles_from-requires-clause-sizes : goal.cycles_from-requires-clause-sizes
-cycles_from-requires-clause-sizes g c = sizes_worked _ _ _ _ _ _ c.loop-b.invariant.work c.requires.sizes
-
-pub cycles_from-requires-clause-b : goal.cycles_from-requires-clause-b
-cycles_from-requires-clause-b g c = c.loop-b.invariant.within _ c.in-Some.ensures.least.there
-
-pub returns-then-cycles_from : goal.returns-then-cycles_from
-returns-then-cycles_from g c = worked_lost _ _ _ _ _ _ _ _ c.if-cycles_from.true c.loop-b.invariant.work c.cycles_from.ensures
-
-pub loop-b-preserved : goal.loop-b-preserved
-loop-b-preserved g c = record {
-  work = worked_row _ _ _ _ _ (box_count c.args.instance.now) c.in-Some.b (row_has c.loop-b.rest) (row_has c.without-rest.result) (λ x rule. (y : ℕ) × (y < box_count c.args.instance.now) × (rule ≡ Cycle c.args.dim c.args.a x c.args.c y))
-      c.without-rest.ensures c.loop-b.invariant.work (worked_kept _ _ _ _ _ c.if-cycles_from.false c.cycles_from.ensures);
-  within = λ x h. c.loop-b.invariant.within x (and_parts _ _ (sym (c.without-rest.ensures x) ∙ h)).0;
-}
+pub returns-then-chords_from : goal.returns-then-chords_from
+returns-then-chords_from g c = worked_lost_first _ _ _ _ _ _ c.if-chords_from.true c.chords_from.ensures
 
 pub returns : goal.returns
 returns g c =
-    worked_all _ _ _ (box_count c.args.instance.now) (row_has c.loop-b.rest) (λ x rule. (y : ℕ) × (y < box_count c.args.instance.now) × (rule ≡ Cycle c.args.dim c.args.a x c.args.c y)) c.in_default.ensures.least c.loop-b.invariant.work
+    let instance = c.args.instance.now in
+    let one : Rule → Type 0 = Chords instance c.args.dim c.args.a c.args.c in
+    let two : Rule → Type 0 = Chords instance c.args.dim c.args.c c.args.a in
+    worked_then instance _ _ _ _ one two (worked_kept instance _ _ _ one c.if-chords_from.false c.chords_from.ensures) c.chords_from-2.ensures

@@ -1,17 +1,17 @@
-use Rattle.std.proofs.Common.{◌*◌, ◌≡◌, ◌∙◌, sym}
-use Rattle.std.proofs.lemmas.Bool.{and_parts}
+use Rattle.std.proofs.Common.{◌*◌, ◌≡◌, ◌∙◌, sym, true}
+use Rattle.std.proofs.lemmas.Bool.{and_parts, true≢false}
 use Rattle.packing_terms.specs.Packing.{box_count}
 use Rattle.packing_terms.specs.Rules.{Compose}
 use Rattle.edge_state.specs.BitRows.{row_has}
-use Rattle.closure_terms.proofs.Worked.{worked_lost, worked_kept, sizes_worked}
+use Rattle.closure_terms.proofs.Worked.{worked_as, worked_lost, worked_kept, sizes_worked}
 use Rattle.edge_state.proofs.RowBits.{members_fewer}
-use Rattle.closure_terms.proofs.Members.{worked_rest, worked_row, worked_all, covered_named}
+use Rattle.closure_terms.proofs.Members.{worked_rest, worked_row, worked_all}
 use Rattle.rule_passes.proofs.work.composes.Goals as goal
 
 pub loop-x-init : goal.loop-x-init
 loop-x-init g c = record {
-  work = worked_rest _ _ (box_count c.args.instance.now) (row_has c.beyond_compositions-rest.result) (λ x rule. rule ≡ Compose c.args.dim c.args.u c.args.v x) (λ x small off rule e. covered_named _ _ rule (Compose c.args.dim c.args.u c.args.v x) e (c.beyond_compositions-rest.ensures.others x small off));
-  within = c.beyond_compositions-rest.ensures.within;
+  work = worked_rest _ _ (box_count c.args.instance.now) (row_has c.args.thirds) (λ x rule. (row_has c.args.thirds x ≡ true) × (rule ≡ Compose c.args.dim c.args.u c.args.v x)) (λ x small off rule e. absurd (true≢false (sym e.0 ∙ off)));
+  within = c.requires.within;
 }
 
 pub loop-x-smaller : goal.loop-x-smaller
@@ -29,11 +29,11 @@ returns-then-compose_at g c = worked_lost _ _ _ _ _ _ _ _ c.if-compose_at.true c
 
 pub loop-x-preserved : goal.loop-x-preserved
 loop-x-preserved g c = record {
-  work = worked_row _ _ _ _ _ (box_count c.args.instance.now) c.in-Some.x (row_has c.loop-x.rest) (row_has c.without-rest.result) (λ x rule. rule ≡ Compose c.args.dim c.args.u c.args.v x)
-      c.without-rest.ensures c.loop-x.invariant.work (worked_kept _ _ _ _ _ c.if-compose_at.false c.compose_at.ensures);
+  work = worked_row _ _ _ _ _ (box_count c.args.instance.now) c.in-Some.x (row_has c.loop-x.rest) (row_has c.without-rest.result) (λ x rule. (row_has c.args.thirds x ≡ true) × (rule ≡ Compose c.args.dim c.args.u c.args.v x))
+      c.without-rest.ensures c.loop-x.invariant.work (worked_kept _ _ _ _ _ c.if-compose_at.false (worked_as _ _ _ _ _ _ (λ rule e. e.1) c.compose_at.ensures));
   within = λ x h. c.loop-x.invariant.within x (and_parts _ _ (sym (c.without-rest.ensures x) ∙ h)).0;
 }
 
 pub returns : goal.returns
 returns g c =
-    worked_all _ _ _ (box_count c.args.instance.now) (row_has c.loop-x.rest) (λ x rule. rule ≡ Compose c.args.dim c.args.u c.args.v x) c.in_default.ensures.least c.loop-x.invariant.work
+    worked_all _ _ _ (box_count c.args.instance.now) (row_has c.loop-x.rest) (λ x rule. (row_has c.args.thirds x ≡ true) × (rule ≡ Compose c.args.dim c.args.u c.args.v x)) c.in_default.ensures.least c.loop-x.invariant.work

@@ -3,7 +3,7 @@ use Rattle.packing_terms.specs.Packing.{box_count}
 use Rattle.packing_terms.specs.Rules.{Cycle}
 use Rattle.edge_state.specs.BitRows.{row_has, members_below}
 use Rattle.closure_terms.specs.Work.{IsWorked}
-use Rattle.rule_passes.proofs.work.chords.Given as goal
+use Rattle.rule_passes.proofs.work.chords_from.Given as goal
 
 abbrev pub invariant-loop-b : goal.invariant-loop-b
 invariant-loop-b g l = record {

@@ -1,0 +1,141 @@
+//! TRIPLE at what a changed edge tells.
+//!
+//! Each call applies some instances one after another and answers whether a mask is empty; it stops
+//! there.
+ghost use Rattle.std.specs.Prelude.{◌≡◌, ◌<◌, ◌≤◌, ◌+◌, ◌⊎◌, ℕ, true};
+ghost use Rattle.packing_terms.specs.Packing.{dims, box_count, side, container_side};
+ghost use Rattle.packing_terms.specs.Rules.{Triple};
+ghost use Rattle.edge_state.specs.BitRows.{HoldsBoxes, row_has};
+ghost use Rattle.closure_terms.specs.Instances.{Triples};
+ghost use Rattle.closure_terms.specs.States.{IsSized};
+ghost use Rattle.closure_terms.specs.Work.{IsWorked};
+ghost use Rattle.rule_passes.specs.Reached.{HasNoLonger};
+
+use crate::empties::is_empty_at;
+use crate::rows::{beyond_triples, is_empty};
+use box_instances::Instance;
+use edge_state::{BitRow, EdgeState};
+use orientation_rules::apply_triple;
+
+// TRIPLE at three boxes.
+fn triple_at(instance: &Instance, state: &mut EdgeState, dim: u32, u: u32, v: u32, x: u32) -> bool
+    requires sizes { IsSized instance.now state.old dim }
+    requires u { u < box_count instance.now }
+    requires v { v < box_count instance.now }
+    requires x { x < box_count instance.now }
+    ensures { IsWorked instance.now state.old state.new result (λ rule. rule ≡ Triple dim u v x) }
+{
+    if u == v || u == x || v == x {
+        return false;
+    }
+    if !apply_triple(instance, state, dim, u, v, x) {
+        return false;
+    }
+    is_empty_at(instance, state, dim, u, v)
+}
+
+// The least side of a third box with which two boxes are together longer than the container.
+#[inline]
+fn least_third(instance: &Instance, dim: u32, u: u32, x: u32) -> u64
+    requires dim { dim < dims instance.now }
+    requires u { u < box_count instance.now }
+    requires x { x < box_count instance.now }
+    ensures { (w : ℕ) → w < result
+        → side instance.now u dim + w + side instance.now x dim ≤ container_side instance.now dim }
+{
+    let together = u64::from(instance.side(u, dim)) + u64::from(instance.side(x, dim));
+    (u64::from(instance.container_side(dim)) + 1).saturating_sub(together)
+}
+
+// TRIPLE at three boxes, where the side of the second one isn't less than the least with which the
+// three are too long.
+#[inline(always)]
+fn triple_over(
+    instance: &Instance,
+    state: &mut EdgeState,
+    dim: u32,
+    u: u32,
+    v: u32,
+    x: u32,
+    least: u64,
+) -> bool
+    requires sizes { IsSized instance.now state.old dim }
+    requires u { u < box_count instance.now }
+    requires v { v < box_count instance.now }
+    requires x { x < box_count instance.now }
+    requires least { (w : ℕ) → w < least
+        → side instance.now u dim + w + side instance.now x dim ≤ container_side instance.now dim }
+    ensures { IsWorked instance.now state.old state.new result (λ rule. rule ≡ Triple dim u v x) }
+{
+    if u64::from(instance.side(v, dim)) < least {
+        return false;
+    }
+    triple_at(instance, state, dim, u, v, x)
+}
+
+// TRIPLE with two boxes, for each third of a row whose side isn't less than the least with which the
+// three are too long.
+#[inline(always)]
+fn triples_among<const K: usize>(
+    instance: &Instance,
+    state: &mut EdgeState,
+    dim: u32,
+    u: u32,
+    x: u32,
+    thirds: BitRow<K>,
+    least: u64,
+) -> bool
+    requires words { HoldsBoxes K (box_count instance.now) }
+    requires sizes { IsSized instance.now state.old dim }
+    requires u { u < box_count instance.now }
+    requires x { x < box_count instance.now }
+    requires within { (v : ℕ) → row_has thirds v ≡ true → v < box_count instance.now }
+    requires least { (w : ℕ) → w < least
+        → side instance.now u dim + w + side instance.now x dim ≤ container_side instance.now dim }
+    ensures { IsWorked instance.now state.old state.new result
+        (λ rule. (v : ℕ) × (v < box_count instance.now)
+        × ((row_has thirds.entry v ≡ true) × (rule ≡ Triple dim u v x))) }
+{
+    let mut rest = thirds;
+    while let Some(v) = rest.first() {
+        rest = rest.without(v);
+        if triple_over(instance, state, dim, u, v, x, least) {
+            return true;
+        }
+    }
+    false
+}
+
+/// TRIPLE with two boxes in both orders, for each third that is apart from the one that comes
+/// second, where there are such boxes, and one may be long enough: none is longer than `most`.
+pub fn triples<const K: usize>(
+    instance: &Instance,
+    state: &mut EdgeState,
+    dim: u32,
+    u: u32,
+    x: u32,
+    most: u32,
+) -> bool
+    requires words { HoldsBoxes K (box_count instance.now) }
+    requires sizes { IsSized instance.now state.old dim }
+    requires u { u < box_count instance.now }
+    requires x { x < box_count instance.now }
+    requires distinct { u ≡ x → ⊥ }
+    requires most { HasNoLonger instance.now dim most }
+    ensures { IsWorked instance.now state.old state.new result (λ rule.
+        Triples instance.now dim u x rule ⊎ Triples instance.now dim x u rule) }
+{
+    let there = beyond_triples::<K>(instance, state, dim, u, x);
+    let back = beyond_triples::<K>(instance, state, dim, x, u);
+    if is_empty(there.or(back)) {
+        return false;
+    }
+    let least = least_third(instance, dim, u, x);
+    if u64::from(most) < least {
+        return false;
+    }
+    if triples_among(instance, state, dim, u, x, there, least) {
+        return true;
+    }
+    triples_among(instance, state, dim, x, u, back, least)
+}
