@@ -6,11 +6,13 @@ ghost use Rattle.bin_search.specs.Lists.{lists_of};
 use box_instances::NoMemory;
 use std::alloc::Global;
 
-// Equal lists.
+// Equal lists, with room for one more.
 fn copied(alloc: Global, lists: &[Vec<u32>]) -> Result<Vec<Vec<u32>>, NoMemory>
     ensures { IfOk result (λ all. lists_of all.items ≡ lists_of lists.now) }
 {
-    let mut all = Vec::new(alloc);
+    let Ok(mut all) = Vec::with_capacity(alloc, lists.len().saturating_add(1)) else {
+        return Err(NoMemory);
+    };
     for list in lists {
         let Ok(copy) = Vec::from_slice(alloc, list.as_slice()) else {
             return Err(NoMemory);

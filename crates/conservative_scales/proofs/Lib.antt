@@ -4,3 +4,4 @@ pub mod Named
 pub mod Tuples
 pub mod Searching
 mod PartialProducts
+mod Shares

@@ -5,6 +5,7 @@
 #![tactic(auto)]
 
 mod excess;
+mod fastest;
 mod functions;
 mod listed;
 mod partial;

@@ -9,9 +9,10 @@ ghost use Rattle.packing_terms.specs.Tuples.{first_excess, has_excess};
 ghost use Rattle.conservative_scales.specs.Within.{within, AreLegalFrom};
 ghost use Rattle.conservative_scales.specs.Partials.{IsPartial};
 
+use crate::fastest::search_fastest;
 use crate::functions::whole;
 use crate::listed::next_function;
-use crate::partial::{exceeds, scale};
+use crate::partial::scale;
 use box_instances::Instance;
 use packing_terms::ScaleFn;
 use smallvec::SmallVec;
@@ -48,6 +49,7 @@ fn search(
     requires fit { SidesFit instance.now }
     requires few { copies ≤ 128 }
     requires count { length tuple.old ≡ dims instance.now }
+    requires some { 1 ≤ dim }
     requires there { dim ≤ dims instance.now }
     requires room { at + box_count instance.now + dim * box_count instance.now
         ≤ length images.old }
@@ -64,8 +66,8 @@ fn search(
     ensures products { (k : ℕ) → k < at + box_count instance.now
         → slice_index images.new k ≡ slice_index images.old k }
 {
-    if dim == 0 {
-        return exceeds(instance, copies, images, at, whole_product);
+    if dim == 1 {
+        return search_fastest(instance, copies, left, tuple, images, at, whole_product);
     }
     let below = dim - 1;
     let next_at = at + instance.len() as usize;

@@ -13,14 +13,13 @@ pub record PlainSetSearch : Type 0 where
 abbrev pub no_closer : PlainCloser
 no_closer = record { dims = 0; boxes = 0 }
 
--- for each number of boxes up to this one the room of a closing
-pub record AreClosers (d boxes : ℕ) (closers : List PlainCloser) : Type 0 where
-  pub many : length closers ≡ boxes
-  pub each : (k : ℕ) → k < boxes → slice_index_or closers k no_closer ≡ record { dims = d; boxes = k + 1 }
+-- one after another the room of a closing for each number of boxes, from 1 on
+abbrev pub AreClosers : ℕ → List PlainCloser → Type 0
+AreClosers d closers = (k : ℕ) → k < length closers → slice_index_or closers k no_closer ≡ record { dims = d; boxes = k + 1 }
 
 -- the set, the state and the rooms are for the boxes of the instance
 pub record HasRoom (instance whole : PlainInstance) (state : PlainEdges) (closers : List PlainCloser) : Type 0 where
   pub same : whole ≡ instance
   pub same_dims : state.dims ≡ dims instance
   pub room : state.room ≡ box_count instance
-  pub closes : AreClosers (dims instance) (box_count instance) closers
+  pub closes : AreClosers (dims instance) closers

@@ -15,6 +15,10 @@ use std::marker::Model;
 // So many sets are kept at most, each at a place of its own.
 const PLACES: usize = 65_536;
 
+// A set stands at the place of its key, or at one of the next ones, so many in all. With one place
+// for each key, sets whose keys agree would drive one another out, at each level anew.
+const REACH: usize = 8;
+
 // So many numbers and tokens are kept at most.
 const MOST_KEPT: usize = 4_194_304;
 
@@ -27,9 +31,10 @@ pub struct Entry {
 
 /// Decided sets with their outcomes. It is seen as its entries, in no order.
 ///
-/// A set has one place by its key, and a newer set takes it from an older one. So it holds at most
-/// 65,536 sets, with at most 4,194,304 numbers and tokens together; what would be more, and for
-/// what there is no memory, isn't kept. It takes no memory before the first set is kept.
+/// A set has eight places by its key. Where other sets have all of them, it takes the first from an
+/// older one. So at most 65,536 sets are held, with at most 4,194,304 numbers and tokens together;
+/// what would be more, and for what there is no memory, isn't kept. It takes no memory before the
+/// first set is kept.
 #[derive(Drop)]
 pub struct SetMemory {
     // The number of the entry at each place, from 1 on, and 0 where there is none.
@@ -69,6 +74,24 @@ impl SetMemory {
         }
     }
 
+    // Whether an entry's number is that of a set.
+    fn is_number_of(&self, number: usize, key: &SetKey) -> bool {
+        number > 0 && number <= self.entries.len() && self.entries[number - 1].boxes == key.boxes
+    }
+
+    // The place of a set that is kept, or else the place for it: the first that is free among those
+    // of its key, or, where none is, the first of them.
+    fn place_of(&self, key: &SetKey) -> usize {
+        for k in 0..REACH {
+            let place = key.place.wrapping_add(k) % PLACES;
+            let number = self.number_at(place);
+            if number == 0 || self.is_number_of(number, key) {
+                return place;
+            }
+        }
+        key.place
+    }
+
     /// The outcome of a set under a budget, if the set is kept.
     pub fn recall(
         &self,
@@ -79,7 +102,7 @@ impl SetMemory {
         ensures { IfOk result (λ found. IfSome found
             (λ r. IsRecalled self.now key.now.boxes budget (plain_outcome r))) }
     {
-        let number = self.number_at(key.place);
+        let number = self.number_at(self.place_of(key));
         if number == 0 || number > self.entries.len() {
             return Ok(None);
         }
@@ -155,11 +178,12 @@ impl SetMemory {
             boxes: key.boxes,
             outcome,
         };
-        let number = self.number_at(key.place);
+        let place = self.place_of(key);
+        let number = self.number_at(place);
         if number > 0 {
             self.replace(number - 1, entry);
         } else {
-            self.add(key.place, entry);
+            self.add(place, entry);
         }
     }
 }

@@ -1,5 +1,5 @@
 //! The decision of sets of the boxes of one instance.
-ghost use Rattle.std.specs.Prelude.{◌≡◌, ◌≤◌, length, IfOk, []};
+ghost use Rattle.std.specs.Prelude.{◌≡◌, ◌≤◌, length, IfOk, OnOk, []};
 ghost use Rattle.packing_terms.specs.Goals.{subset, IsBoxSet};
 ghost use Rattle.packing_terms.specs.Limits.{IsDimCount, most_boxes};
 ghost use Rattle.set_search.specs.Searches.{AreClosers};
@@ -25,10 +25,11 @@ pub const MOST_BUDGET: u64 = 10_000_000;
 /// Decides sets of the boxes of one instance, one after another, each by its class tree.
 ///
 /// It is seen as the instance and the choice of scales. An outer search makes thousands of small
-/// decisions; so the instance of a set, its state and the room of a closing are taken once, for all
-/// of them. And most of its sets come again and again, in one tree for bins, and in the trees of
-/// many values: what was found of a set is kept, and told again without a search, at most 65,536
-/// sets with at most 4,194,304 numbers and tokens. Sets for which there is no memory aren't kept.
+/// decisions; so the instance of a set and its state are taken once, for all of them, and the room
+/// of a closing once for each number of boxes, up to the greatest that came. And most of its sets
+/// come again and again, in one tree for bins, and in the trees of many values: what was found of a
+/// set is kept, and told again without a search, at most 65,536 sets with at most 4,194,304 numbers
+/// and tokens. Sets for which there is no memory aren't kept.
 #[derive(Drop)]
 pub struct SetSearch<'a> {
     whole: &'a Instance,
@@ -51,20 +52,26 @@ impl<'a> Model for SetSearch<'a> {
         × AreVerdicts s.whole.now s.scales s.memory };
 }
 
-// The room of a closing, for each number of boxes up to this one.
-fn closers_up_to(alloc: Global, dims: u32, boxes: u32) -> Result<Vec<Closer>, NoMemory>
+// Makes the room of a closing, for each number of boxes up to this one that has none.
+fn reach_closers(
+    alloc: Global,
+    dims: u32,
+    boxes: u32,
+    closers: &mut Vec<Closer>,
+) -> Result<(), NoMemory>
     requires dims { IsDimCount dims }
     requires few { boxes ≤ most_boxes }
-    ensures { IfOk result (λ closers. AreClosers dims boxes closers.items) }
+    requires rooms { AreClosers dims closers.old.items }
+    ensures rooms { AreClosers dims closers.new.items }
+    ensures enough { OnOk result (boxes ≤ length closers.new.items) }
 {
-    let mut closers = Vec::new(alloc);
-    for last in 0..boxes {
-        let closer = Closer::new(alloc, dims, last + 1)?;
+    while closers.len() < boxes as usize {
+        let closer = Closer::new(alloc, dims, closers.len() as u32 + 1)?;
         let Ok(()) = closers.push(closer) else {
             return Err(NoMemory);
         };
     }
-    Ok(closers)
+    Ok(())
 }
 
 impl<'a> SetSearch<'a> {
@@ -78,13 +85,12 @@ impl<'a> SetSearch<'a> {
     {
         let set = BoxSet::all(alloc, instance)?;
         let state = EdgeState::new(alloc, instance.dims(), instance.len())?;
-        let closers = closers_up_to(alloc, instance.dims(), instance.len())?;
         Ok(SetSearch {
             whole: instance,
             scales,
             set,
             state,
-            closers,
+            closers: Vec::new(alloc),
             memory: SetMemory::new(alloc),
         })
     }
@@ -99,8 +105,10 @@ impl<'a> SetSearch<'a> {
     {
         // For the proof alone: tells the limits of the instance.
         let _limits = self.whole.len();
+        let boxes = keep.len() as u32;
+        reach_closers(alloc, self.whole.dims(), boxes, &mut self.closers)?;
         self.set.set_to(keep);
-        self.state.resize(keep.len() as u32);
+        self.state.resize(boxes);
         let closer = &mut self.closers[keep.len() - 1];
         let instance = self.set.instance();
         decide_in(

@@ -1,7 +1,7 @@
 use Rattle.std.proofs.Common.{◌-◌, ◌+◌, ◌*◌, ◌<◌, arith, refl, ap, ◌∙◌, length, length-set, get_or}
 use Rattle.packing_terms.specs.Packing.{box_count}
 use Rattle.packing_terms.specs.declared.ScaleFn.TheVariants.{Id}
-use Rattle.conservative_scales.proofs.Searching.{at_written, legal_written, partial_written, chosen_is, few_left, kept_written, open_found, open_next, id_found, id_none, whole_least}
+use Rattle.conservative_scales.proofs.Searching.{at_written, legal_written, partial_written, few_left, kept_written, open_found, open_next, id_found, id_none, whole_least}
 use Rattle.conservative_scales.proofs.PartialProducts.{few_small, few_whole, scaled_small, rows_less}
 use Rattle.conservative_scales.proofs.search.+search.Goals as goal
 
@@ -28,10 +28,6 @@ overflow_mul-scaled t c =
     (few_left c.args.instance.now c.args.dim c.args.tuple.now c.requires.limits c.requires.count (omega arith)) in
     omega (arith, scaled_small _ _ w c.whole_of-in-Some.ensures.limit)
 
-pub returns-then-dim-eq0-clause-found : goal.returns-then-dim-eq0-clause-found
-returns-then-dim-eq0-clause-found t c =
-    chosen_is c.args.instance.now c.args.copies c.args.dim c.args.left c.args.tuple.now _ _ _ (omega arith) c.requires.count c.requires.partial c.exceeds.ensures
-
 pub search-requires : goal.search-requires
 search-requires t c =
     let k : c.args.dim - 1 < length c.args.tuple.now = omega arith in (
@@ -47,15 +43,18 @@ search-requires t c =
               (
                 omega arith,
                 (
-                  (let r = rows_less c.args.dim (c.args.dim - 1) (box_count c.args.instance.now) (omega arith) in
-                      omega (arith, r, c.scale.ensures.length, c.len.ensures.value, c.requires.room)),
+                  omega arith,
                   (
-                    legal_written c.args.instance.now 0 c.args.dim (c.args.dim - 1) 0 _ c.args.tuple.now Id (omega arith) k refl tt c.requires.legal,
-                    partial_written c.args.instance.now 0 c.args.dim (c.args.dim - 1) 0 _ c.args.tuple.now Id (omega arith) k refl
-                        (λ v. get_or c.args.images.now (c.args.at + v) 0) (λ v. get_or c.scale.new.images (c.args.at + c.len.result + v) 0) _ _
-                        c.requires.limits c.requires.fit (omega arith) tt
-                        (λ v l. rw c.len.ensures.value (c.scale.ensures.scaled v l))
-                        (ap (λ w. c.args.whole_product * w) c.whole_of.ensures.value) c.requires.partial,
+                    (let r = rows_less c.args.dim (c.args.dim - 1) (box_count c.args.instance.now) (omega arith) in
+                        omega (arith, r, c.scale.ensures.length, c.len.ensures.value, c.requires.room)),
+                    (
+                      legal_written c.args.instance.now 0 c.args.dim (c.args.dim - 1) 0 _ c.args.tuple.now Id (omega arith) k refl tt c.requires.legal,
+                      partial_written c.args.instance.now 0 c.args.dim (c.args.dim - 1) 0 _ c.args.tuple.now Id (omega arith) k refl
+                          (λ v. get_or c.args.images.now (c.args.at + v) 0) (λ v. get_or c.scale.new.images (c.args.at + c.len.result + v) 0) _ _
+                          c.requires.limits c.requires.fit (omega arith) tt
+                          (λ v l. rw c.len.ensures.value (c.scale.ensures.scaled v l))
+                          (ap (λ w. c.args.whole_product * w) c.whole_of.ensures.value) c.requires.partial,
+                    ),
                   ),
                 ),
               ),
@@ -114,16 +113,19 @@ search-requires-in-Some t c =
               (
                 omega arith,
                 (
-                  (let r = rows_less c.args.dim (c.args.dim - 1) (box_count c.args.instance.now) (omega arith) in
-                      omega (arith, r, c.scale-in-Some.ensures.length, c.loop-next.invariant.length, c.len.ensures.value, c.requires.room)),
+                  omega arith,
                   (
-                    legal_written c.args.instance.now 0 c.args.dim (c.args.dim - 1) 0 _ c.loop-next.tuple c.in-Some.f (omega arith) k c.loop-next.invariant.open_at.kept
-                        (rw c.in-Some.is at c.loop-next.invariant.open_at.legal) c.requires.legal,
-                    partial_written c.args.instance.now 0 c.args.dim (c.args.dim - 1) 0 _ c.loop-next.tuple c.in-Some.f (omega arith) k c.loop-next.invariant.open_at.kept
-                        (λ v. get_or c.args.images.now (c.args.at + v) 0) (λ v. get_or c.scale-in-Some.new.images (c.args.at + c.len.result + v) 0) _ _
-                        c.requires.limits c.requires.fit (omega arith) (rw c.in-Some.is at c.loop-next.invariant.open_at.legal)
-                        (λ v l. rw (c.len.ensures.value, ← c.loop-next.invariant.products (c.args.at + v) (omega (arith, l))) (c.scale-in-Some.ensures.scaled v l))
-                        (ap (λ w. c.args.whole_product * w) c.whole_of-in-Some.ensures.value) c.requires.partial,
+                    (let r = rows_less c.args.dim (c.args.dim - 1) (box_count c.args.instance.now) (omega arith) in
+                        omega (arith, r, c.scale-in-Some.ensures.length, c.loop-next.invariant.length, c.len.ensures.value, c.requires.room)),
+                    (
+                      legal_written c.args.instance.now 0 c.args.dim (c.args.dim - 1) 0 _ c.loop-next.tuple c.in-Some.f (omega arith) k c.loop-next.invariant.open_at.kept
+                          (rw c.in-Some.is at c.loop-next.invariant.open_at.legal) c.requires.legal,
+                      partial_written c.args.instance.now 0 c.args.dim (c.args.dim - 1) 0 _ c.loop-next.tuple c.in-Some.f (omega arith) k c.loop-next.invariant.open_at.kept
+                          (λ v. get_or c.args.images.now (c.args.at + v) 0) (λ v. get_or c.scale-in-Some.new.images (c.args.at + c.len.result + v) 0) _ _
+                          c.requires.limits c.requires.fit (omega arith) (rw c.in-Some.is at c.loop-next.invariant.open_at.legal)
+                          (λ v l. rw (c.len.ensures.value, ← c.loop-next.invariant.products (c.args.at + v) (omega (arith, l))) (c.scale-in-Some.ensures.scaled v l))
+                          (ap (λ w. c.args.whole_product * w) c.whole_of-in-Some.ensures.value) c.requires.partial,
+                    ),
                   ),
                 ),
               ),

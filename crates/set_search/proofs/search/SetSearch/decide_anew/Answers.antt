@@ -1,4 +1,4 @@
-use Rattle.std.proofs.Common.{◌≡◌, ◌+◌, ◌-◌, ◌<◌, ◌∙◌, ℕ, refl, subst, arith, length, IfOk, []}
+use Rattle.std.proofs.Common.{◌≡◌, ◌+◌, ◌-◌, ◌<◌, ◌∙◌, ℕ, refl, ap, subst, arith, length, IfOk, []}
 use Rattle.std.proofs.lemmas.List.{get_or_default}
 use Rattle.packing_terms.specs.Packing.{PlainInstance, dims}
 use Rattle.packing_terms.specs.Goals.{subset}
@@ -9,8 +9,15 @@ use Rattle.box_instances.proofs.BoxSets.{set_few}
 use Rattle.set_search.specs.Searches.{no_closer}
 use Rattle.set_search.proofs.search.SetSearch.decide_anew.Goals as goal
 
-pub overflow_cast-keep : goal.overflow_cast-keep
-overflow_cast-keep c =
+pub overflow_cast-boxes : goal.overflow_cast-boxes
+overflow_cast-boxes c =
+    let v = c.self.view_is in
+    let few = set_few _ _ (rw (← v) at c.requires.set) in
+    let most = c.len-limits.ensures.limits.boxes.count.1 in
+    omega (arith, few, most)
+
+pub reach_closers-requires-clause-few : goal.reach_closers-requires-clause-few
+reach_closers-requires-clause-few c =
     let v = c.self.view_is in
     let few = set_few _ _ (rw (← v) at c.requires.set) in
     let most = c.len-limits.ensures.limits.boxes.count.1 in
@@ -30,19 +37,14 @@ resize-requires-clause-room c =
     omega (arith, few, c.self.invariant.0.room)
 
 pub index_mut-closer-requires : goal.index_mut-closer-requires
-index_mut-closer-requires c =
-    let v = c.self.view_is in
-    let few = set_few _ _ (rw (← v) at c.requires.set) in
-    omega (arith, few, c.self.invariant.0.closes.many, c.requires.some)
+index_mut-closer-requires c = omega (arith, c.in_ok-reach_closers.ensures.enough, c.requires.some)
 
 pub decide_in-requires-clause-room : goal.decide_in-requires-clause-room
 decide_in-requires-clause-room c =
-    let v = c.self.view_is in
-    let few = set_few _ _ (rw (← v) at c.requires.set) in
-    let k = c.self.invariant.0.closes.each (length c.args.keep.now - 1) (omega (arith, few, c.requires.some)) in
-    let there : length c.args.keep.now - 1 < length c.self.inside.closers.items = omega (arith, few, c.self.invariant.0.closes.many, c.requires.some) in
+    let there : length c.args.keep.now - 1 < length c.reach_closers.new.closers.items = omega (arith, c.in_ok-reach_closers.ensures.enough, c.requires.some) in
+    let k = c.in_ok-reach_closers.ensures.rooms (length c.args.keep.now - 1) there in
     let count : length c.args.keep.now - 1 + 1 ≡ length c.args.keep.now = omega (arith, c.requires.some) in
-    let h = c.index_mut-closer.ensures.value ∙ (get_or_default c.self.inside.closers.items (length c.args.keep.now - 1) c.index_mut-closer.result.now no_closer there ∙ k) in
+    let h = c.index_mut-closer.ensures.value ∙ (get_or_default c.reach_closers.new.closers.items (length c.args.keep.now - 1) c.index_mut-closer.result.now no_closer there ∙ (k ∙ ap (λ (d : ℕ). record { dims = d; boxes = length c.args.keep.now - 1 + 1 }) c.dims.ensures.value)) in
     rw (c.resize.ensures, c.self.invariant.0.same_dims)
     (subst (λ (n : ℕ). c.index_mut-closer.result.now ≡ record { dims = dims c.self.inside.whole.now; boxes = n }) count h)
 

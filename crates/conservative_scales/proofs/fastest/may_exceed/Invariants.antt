@@ -1,0 +1,6 @@
+use Rattle.std.proofs.Common.{◌+◌, get_or}
+use Rattle.conservative_scales.proofs.Shares.{AreShared}
+use Rattle.conservative_scales.proofs.fastest.may_exceed.Given as goal
+
+abbrev pub invariant-loop-box_no : goal.invariant-loop-box_no
+invariant-loop-box_no l = AreShared l.instance (λ v. get_or l.images (l.at + v) 0) l.box_no l.total

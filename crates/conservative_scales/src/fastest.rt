@@ -1,0 +1,136 @@
+//! The functions of dimension 0, which vary fastest.
+ghost use Rattle.std.specs.Prelude.{◌≡◌, ◌<◌, ◌≤◌, ◌+◌, ◌*◌, ◌/◌, ◌^◌, ℕ, length, drop, slice_index, nat_lt, MatchBool, ⊤, None, Some};
+ghost use Rattle.std.specs.List.{find};
+ghost use Rattle.packing_terms.specs.Packing.{dims, box_count, container_side, side};
+ghost use Rattle.packing_terms.specs.Limits.{most_boxes, IsInternalInstance};
+ghost use Rattle.packing_terms.specs.Scales.{IsLegalScale, SidesFit, scale_image, scale_whole};
+ghost use Rattle.packing_terms.specs.Sums.{sum_below};
+ghost use Rattle.packing_terms.specs.Tuples.{has_excess};
+ghost use Rattle.conservative_scales.specs.Within.{within};
+ghost use Rattle.conservative_scales.specs.Partials.{IsPartial, HoldEach};
+
+use crate::functions::{image, whole};
+use crate::listed::next_function;
+use box_instances::Instance;
+use packing_terms::ScaleFn;
+
+// A whole has so many parts: a multiple of each number up to 16, so that up to 16 equal shares of
+// it are exact.
+const PARTS: u32 = 720_720;
+
+// The most that a function makes of a width, in parts of a whole, rounded up: as many of them as
+// stand beside one another have images that fit in the whole, whichever the function is.
+fn share(whole_side: u32, x: u32) -> u32
+    requires some { 1 ≤ x }
+    requires within { x ≤ whole_side }
+    ensures most { 720720 ≤ result * (whole_side / x) }
+    ensures limit { result ≤ 720720 }
+{
+    let beside = whole_side / x;
+    (PARTS - 1) / beside + 1
+}
+
+// Whether a function in dimension 0 could make products that are together greater than those of so
+// many containers, by the most that any could make of each box. Where none could, none is tried.
+fn may_exceed(instance: &Instance, copies: u32, images: &[u128], at: usize, whole: u128) -> bool
+    requires limits { IsInternalInstance instance.now }
+    requires there { 1 ≤ dims instance.now }
+    requires fit { SidesFit instance.now }
+    requires few { copies ≤ most_boxes }
+    requires room { at + box_count instance.now ≤ length images.now }
+    requires small { (v : ℕ) → v < box_count instance.now
+        → slice_index images.now (at + v) ≤ 2 ^ 79 }
+    requires whole_small { whole ≤ 2 ^ 79 }
+    ensures { MatchBool result ⊤
+        (HoldEach instance.now copies (λ v. slice_index images.now (at + v)) whole) }
+{
+    let whole_side = instance.container_side(0);
+    let mut total: u128 = 0;
+    for box_no in 0..instance.len() {
+        let share = share(whole_side, instance.side(box_no, 0));
+        total += images[at + box_no as usize] * share as u128;
+    }
+    total > copies as u128 * whole * PARTS as u128
+}
+
+// Whether a function in dimension 0 makes products that are together greater than those of so many
+// containers.
+fn exceeds_with(
+    instance: &Instance,
+    copies: u32,
+    f: ScaleFn,
+    images: &[u128],
+    at: usize,
+    whole_product: u128,
+) -> bool
+    requires limits { IsInternalInstance instance.now }
+    requires there { 1 ≤ dims instance.now }
+    requires legal { IsLegalScale f (container_side instance.now 0) }
+    requires fit { SidesFit instance.now }
+    requires few { copies ≤ most_boxes }
+    requires room { at + box_count instance.now ≤ length images.now }
+    requires small { (v : ℕ) → v < box_count instance.now
+        → slice_index images.now (at + v) ≤ 2 ^ 79 }
+    requires whole_small { whole_product ≤ 2 ^ 79 }
+    ensures { result ≡ nat_lt
+        (copies * (whole_product * scale_whole f (container_side instance.now 0)))
+        (sum_below (box_count instance.now) (λ v. slice_index images.now (at + v)
+        * scale_image f (container_side instance.now 0) (side instance.now v 0))) }
+{
+    let whole_side = instance.container_side(0);
+    let mut total: u128 = 0;
+    for box_no in 0..instance.len() {
+        let scaled = image(f, whole_side, instance.side(box_no, 0));
+        total += images[at + box_no as usize] * scaled as u128;
+    }
+    let held = whole_product * whole(f, whole_side) as u128;
+    total > copies as u128 * held
+}
+
+// Whether a tuple exceeds that ends in the functions from dimension 1 on, whose products begin at a
+// place of the table, and whose function of dimension 0 is id where `left` is 0. The first one is
+// left in `tuple`.
+pub fn search_fastest(
+    instance: &Instance,
+    copies: u32,
+    left: u32,
+    tuple: &mut [ScaleFn],
+    images: &[u128],
+    at: usize,
+    whole_product: u128,
+) -> bool
+    requires limits { IsInternalInstance instance.now }
+    requires fit { SidesFit instance.now }
+    requires few { copies ≤ 128 }
+    requires count { length tuple.old ≡ dims instance.now }
+    requires there { 1 ≤ dims instance.now }
+    requires room { at + box_count instance.now ≤ length images.now }
+    requires partial { IsPartial instance.now 1 (drop 1 tuple.old)
+        (λ v. slice_index images.now (at + v)) whole_product }
+    ensures found { MatchBool result
+        (find (has_excess instance.now copies) (within instance.now 1 left (drop 1 tuple.old))
+        ≡ Some tuple.new)
+        (find (has_excess instance.now copies) (within instance.now 1 left (drop 1 tuple.old))
+        ≡ None) }
+    ensures kept { drop 1 tuple.new ≡ drop 1 tuple.old }
+{
+    if !may_exceed(instance, copies, images, at, whole_product) {
+        return false;
+    }
+    tuple[0] = ScaleFn::Id;
+    if exceeds_with(instance, copies, ScaleFn::Id, images, at, whole_product) {
+        return true;
+    }
+    if left == 0 {
+        return false;
+    }
+    let mut next = next_function(instance, 0, ScaleFn::Id);
+    while let Some(f) = next {
+        tuple[0] = f;
+        if exceeds_with(instance, copies, f, images, at, whole_product) {
+            return true;
+        }
+        next = next_function(instance, 0, f);
+    }
+    false
+}
