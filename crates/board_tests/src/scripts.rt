@@ -4,7 +4,7 @@ ghost use Rattle.std.specs.Prelude.{◌≡◌};
 use crate::compare::is_same;
 use crate::rows::{EIGHT, FOUR, instance_of};
 use crate::runner::{Met, complete, drive, finish, split};
-use box_instances::NoMemory;
+use box_instances::{Instance, NoMemory};
 use class_search::ClassTree;
 use proof_tree::Outcome;
 use std::alloc::Global;
@@ -44,30 +44,81 @@ fn join<T: Tree>(alloc: Global, board: Board<'_, T>) -> Result<Option<Outcome>, 
     Ok(Some(board.joined(alloc)?))
 }
 
+// Takes the root and splits it. Answers whether the root was there.
+fn split_root<T: Tree>(
+    alloc: Global,
+    tree: &T,
+    budget: u64,
+    board: &mut Board<'_, T>,
+    met: &mut Met,
+) -> Result<bool, NoMemory>
+    requires tree { board.old.tree ≡ tree.now }
+    requires budget { board.old.budget ≡ budget }
+    ensures { board.new ≡ record board.old { state = board.new.state } }
+{
+    let Some(root) = take_task(board, 0, &[]) else {
+        return Ok(false);
+    };
+    split(alloc, tree, budget, board, met, root)?;
+    Ok(true)
+}
+
+// Takes the first child and finishes it. Answers whether the board is over then.
+fn finish_first<T: Tree>(
+    alloc: Global,
+    tree: &T,
+    budget: u64,
+    board: &mut Board<'_, T>,
+    met: &mut Met,
+) -> Result<bool, NoMemory>
+    requires tree { board.old.tree ≡ tree.now }
+    requires budget { board.old.budget ≡ budget }
+    ensures { board.new ≡ record board.old { state = board.new.state } }
+{
+    let Some(first) = take_task(board, 1, &[0]) else {
+        return Ok(false);
+    };
+    finish(alloc, tree, budget, board, met, first)?;
+    Ok(is_over(board))
+}
+
+// Takes both children, and finishes the second before the first. Answers whether no task waited
+// meanwhile, and the board is over then.
+fn finish_backwards<T: Tree>(
+    alloc: Global,
+    tree: &T,
+    budget: u64,
+    board: &mut Board<'_, T>,
+    met: &mut Met,
+) -> Result<bool, NoMemory>
+    requires tree { board.old.tree ≡ tree.now }
+    requires budget { board.old.budget ≡ budget }
+    ensures { board.new ≡ record board.old { state = board.new.state } }
+{
+    let Some(first) = take_task(board, 1, &[0]) else {
+        return Ok(false);
+    };
+    let Some(second) = take_task(board, 2, &[1]) else {
+        return Ok(false);
+    };
+    let none_waits = is_empty(board);
+    finish(alloc, tree, budget, board, met, second)?;
+    let still_none = is_empty(board);
+    finish(alloc, tree, budget, board, met, first)?;
+    let is_over = is_over(board);
+    Ok(none_waits && still_none && is_over)
+}
+
 // Under a budget of 5: the second child is finished before the first, and the pieces join to the
 // whole refutation.
 fn run_whole(alloc: Global, tree: &ClassTree<'_>) -> Result<Option<Outcome>, NoMemory> {
     let mut met = Met::new(alloc);
     let mut board = Board::start(alloc, tree, 5)?;
-    let Some(root) = take_task(&mut board, 0, &[]) else {
-        return Ok(None);
-    };
-    split(alloc, tree, 5, &mut board, &mut met, root)?;
-    let Some(first) = take_task(&mut board, 1, &[0]) else {
-        return Ok(None);
-    };
-    let Some(second) = take_task(&mut board, 2, &[1]) else {
-        return Ok(None);
-    };
-    if !is_empty(&mut board) {
+    if !split_root(alloc, tree, 5, &mut board, &mut met)? {
         return Ok(None);
     }
-    finish(alloc, tree, 5, &mut board, &mut met, second)?;
-    if !is_empty(&mut board) {
-        return Ok(None);
-    }
-    finish(alloc, tree, 5, &mut board, &mut met, first)?;
-    if !is_over(&mut board) || board.history().len() != 6 {
+    let is_whole = finish_backwards(alloc, tree, 5, &mut board, &mut met)?;
+    if !is_whole || board.history().len() != 6 {
         return Ok(None);
     }
     join(alloc, board)
@@ -77,15 +128,10 @@ fn run_whole(alloc: Global, tree: &ClassTree<'_>) -> Result<Option<Outcome>, NoM
 fn run_past(alloc: Global, tree: &ClassTree<'_>) -> Result<Option<Outcome>, NoMemory> {
     let mut met = Met::new(alloc);
     let mut board = Board::start(alloc, tree, 2)?;
-    let Some(root) = take_task(&mut board, 0, &[]) else {
+    if !split_root(alloc, tree, 2, &mut board, &mut met)? {
         return Ok(None);
-    };
-    split(alloc, tree, 2, &mut board, &mut met, root)?;
-    let Some(first) = take_task(&mut board, 1, &[0]) else {
-        return Ok(None);
-    };
-    finish(alloc, tree, 2, &mut board, &mut met, first)?;
-    if !is_over(&mut board) {
+    }
+    if !finish_first(alloc, tree, 2, &mut board, &mut met)? {
         return Ok(None);
     }
     join(alloc, board)
@@ -142,25 +188,36 @@ fn a_leftmost_run_past_the_budget_ends_the_search(rt: HostRuntime) -> Result<(),
     Ok(())
 }
 
-// Whether a board for this tree is for that one, under that budget.
+// Whether a board for this tree, under a budget of 5, is for the one with or without scales, under
+// that budget.
 fn is_for(
     alloc: Global,
+    instance: &Instance,
     tree: &ClassTree<'_>,
-    other: &ClassTree<'_>,
+    scales: bool,
     budget: u64,
 ) -> Result<bool, NoMemory> {
-    Ok(Board::start(alloc, tree, 5)?.is_for(other, budget))
+    let other = ClassTree::new(alloc, instance, scales)?;
+    Ok(Board::start(alloc, tree, 5)?.is_for(&other, budget))
+}
+
+// Whether another tree has scales, a budget, and whether a board for the first is for them.
+const OTHERS: [(bool, u64, bool); 3] = [(false, 5, true), (false, 4, false), (true, 5, false)];
+
+// Whether that is so for each of them.
+fn is_for_its_own(alloc: Global, instance: &Instance) -> Result<bool, NoMemory> {
+    let tree = ClassTree::new(alloc, instance, false)?;
+    for (scales, budget, wanted) in OTHERS {
+        if is_for(alloc, instance, &tree, scales, budget)? != wanted {
+            return Ok(false);
+        }
+    }
+    Ok(true)
 }
 
 #[test]
 fn a_board_is_for_its_tree_and_budget(rt: HostRuntime) -> Result<(), Fail> {
-    let alloc = rt.alloc();
-    let instance = instance_of(alloc, &FOUR)?;
-    let tree = ClassTree::new(alloc, &instance, false)?;
-    let same = ClassTree::new(alloc, &instance, false)?;
-    let other = ClassTree::new(alloc, &instance, true)?;
-    assert!(rt; is_for(alloc, &tree, &same, 5)?);
-    assert!(rt; !is_for(alloc, &tree, &same, 4)?);
-    assert!(rt; !is_for(alloc, &tree, &other, 5)?);
+    let instance = instance_of(rt.alloc(), &FOUR)?;
+    assert!(rt; is_for_its_own(rt.alloc(), &instance)?);
     Ok(())
 }

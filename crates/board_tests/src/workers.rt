@@ -47,24 +47,57 @@ fn share_anew<R: Threads + Wait + Sync>(
     solve_shared(rt, alloc, tree, &settings, &NoGate)
 }
 
-// Whether each number of workers gives the outcome of one thread, under each budget of a row.
-fn is_shared<R: Threads + Wait + Sync>(rt: &R, alloc: Global, row: &Row) -> Result<bool, Fail> {
-    let instance = instance_of(alloc, row)?;
-    let tree = ClassTree::new(alloc, &instance, row.scales)?;
-    for budget in row.budgets {
-        let alone = tree.explore(alloc, &[], budget)?;
-        for workers in WORKERS {
-            let shared = share(rt, alloc, &tree, budget, workers, &NoGate)?;
-            if !is_same(&alone, &shared) {
-                return Ok(false);
-            }
-            let anew = share_anew(rt, alloc, &tree, budget, workers)?;
-            if !is_same(&alone, &anew) {
-                return Ok(false);
-            }
+// Whether so many workers give this outcome, both ways.
+fn is_shared_by<R: Threads + Wait + Sync>(
+    rt: &R,
+    alloc: Global,
+    tree: &ClassTree<'_>,
+    budget: u64,
+    workers: u32,
+    alone: &Outcome,
+) -> Result<bool, NoMemory> {
+    if !is_same(alone, &share(rt, alloc, tree, budget, workers, &NoGate)?) {
+        return Ok(false);
+    }
+    Ok(is_same(alone, &share_anew(rt, alloc, tree, budget, workers)?))
+}
+
+// Whether each number of workers gives this outcome.
+fn is_shared_by_all<R: Threads + Wait + Sync>(
+    rt: &R,
+    alloc: Global,
+    tree: &ClassTree<'_>,
+    budget: u64,
+    alone: &Outcome,
+) -> Result<bool, NoMemory> {
+    for workers in WORKERS {
+        if !is_shared_by(rt, alloc, tree, budget, workers, alone)? {
+            return Ok(false);
         }
     }
     Ok(true)
+}
+
+// Whether each number of workers gives the outcome of one thread, under each of the budgets.
+fn is_shared_under<R: Threads + Wait + Sync>(
+    rt: &R,
+    alloc: Global,
+    tree: &ClassTree<'_>,
+    budgets: [u64; 4],
+) -> Result<bool, NoMemory> {
+    for budget in budgets {
+        if !is_shared_by_all(rt, alloc, tree, budget, &tree.explore(alloc, &[], budget)?)? {
+            return Ok(false);
+        }
+    }
+    Ok(true)
+}
+
+// The same for the tree of a row, under its budgets.
+fn is_shared<R: Threads + Wait + Sync>(rt: &R, alloc: Global, row: &Row) -> Result<bool, Fail> {
+    let instance = instance_of(alloc, row)?;
+    let tree = ClassTree::new(alloc, &instance, row.scales)?;
+    Ok(is_shared_under(rt, alloc, &tree, row.budgets)?)
 }
 
 #[test]
@@ -87,32 +120,49 @@ fn a_late_yes_is_shared(rt: HostRuntime) -> Result<(), Fail> {
     Ok(())
 }
 
-// What 8 workers give under a budget.
-fn share_by_eight<R: Threads + Wait + Sync>(
+// What an outcome is: a yes or a no with this count, or past the budget.
+enum Told {
+    Yes(u64),
+    No(u64),
+    Past,
+}
+
+// Whether the outcome is so.
+fn is_told(outcome: &Outcome, wanted: &Told) -> bool {
+    match (outcome, wanted) {
+        (Outcome::Yes { count, .. }, Told::Yes(branchings)) => count == branchings,
+        (Outcome::No { count, .. }, Told::No(branchings)) => count == branchings,
+        (Outcome::Past, Told::Past) => true,
+        _ => false,
+    }
+}
+
+// Whether 8 workers give that under a budget.
+fn is_told_by_eight<R: Threads + Wait + Sync>(
     rt: &R,
     alloc: Global,
     row: &Row,
     budget: u64,
-) -> Result<Outcome, Fail> {
+    wanted: &Told,
+) -> Result<bool, Fail> {
     let instance = instance_of(alloc, row)?;
     let tree = ClassTree::new(alloc, &instance, row.scales)?;
-    Ok(share(rt, alloc, &tree, budget, 8, &NoGate)?)
+    Ok(is_told(&share(rt, alloc, &tree, budget, 8, &NoGate)?, wanted))
 }
+
+// Each tree under the least budget that is enough, and under one less.
+const BUDGETS: [(Row, u64, Told); 4] = [
+    (EIGHT, 5039, Told::No(5039)),
+    (EIGHT, 5038, Told::Past),
+    (LATE, 5062, Told::Yes(5062)),
+    (LATE, 5061, Told::Past),
+];
 
 #[test]
 fn the_budget_is_exact_for_eight_workers(rt: HostRuntime) -> Result<(), Fail> {
-    let no = share_by_eight(&rt, rt.alloc(), &EIGHT, 5039)?;
-    let is_no = matches!(no, Outcome::No { count: 5039, .. });
-    assert!(rt; is_no);
-    let past = share_by_eight(&rt, rt.alloc(), &EIGHT, 5038)?;
-    let is_past = matches!(past, Outcome::Past);
-    assert!(rt; is_past);
-    let yes = share_by_eight(&rt, rt.alloc(), &LATE, 5062)?;
-    let is_yes = matches!(yes, Outcome::Yes { count: 5062, .. });
-    assert!(rt; is_yes);
-    let past = share_by_eight(&rt, rt.alloc(), &LATE, 5061)?;
-    let is_past = matches!(past, Outcome::Past);
-    assert!(rt; is_past);
+    for (row, budget, wanted) in &BUDGETS {
+        assert!(rt; is_told_by_eight(&rt, rt.alloc(), row, *budget, wanted)?);
+    }
     Ok(())
 }
 
@@ -234,6 +284,6 @@ fn two_tasks_are_explored_at_the_same_time(rt: HostRuntime) -> Result<(), Fail> 
         was_met: AtomicU64::new(0),
     };
     share(&rt, alloc, &tree, 5039, 2, &hold)?;
-    assert_eq!(rt; hold.was_met.load(Ordering::SeqCst), 1);
+    assert!(rt; hold.was_met.load(Ordering::SeqCst) == 1);
     Ok(())
 }

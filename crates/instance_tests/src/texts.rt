@@ -51,7 +51,7 @@ const TEXTS: [(&[u8], u64, u8); 18] = [
 fn the_first_faulty_line_is_told_with_its_code(rt: HostRuntime) -> Result<(), Fail> {
     let alloc = rt.alloc();
     for (text, number, code) in TEXTS {
-        assert_eq!(rt; told(alloc, text), (number, code));
+        assert!(rt; told(alloc, text) == (number, code));
     }
     Ok(())
 }
@@ -63,9 +63,9 @@ fn there_are_at_most_128_boxes(rt: HostRuntime) -> Result<(), Fail> {
     for _ in 0..128 {
         text.extend_from_slice(b"box 1 1\n")?;
     }
-    assert_eq!(rt; told(alloc, &text), (128, 0));
+    assert!(rt; told(alloc, &text) == (128, 0));
     text.extend_from_slice(b"box 1 1\n")?;
-    assert_eq!(rt; told(alloc, &text), (131, 9));
+    assert!(rt; told(alloc, &text) == (131, 9));
     Ok(())
 }
 
@@ -73,7 +73,7 @@ fn there_are_at_most_128_boxes(rt: HostRuntime) -> Result<(), Fail> {
 fn a_text_of_spaces_is_one_blank_line(rt: HostRuntime) -> Result<(), Fail> {
     let alloc = rt.alloc();
     let spaces = vec![in alloc; 32u8; 1048576]?;
-    assert_eq!(rt; told(alloc, &spaces), (2, 7));
+    assert!(rt; told(alloc, &spaces) == (2, 7));
     Ok(())
 }
 
@@ -107,7 +107,7 @@ fn the_tests_of_a_line_have_their_order(rt: HostRuntime) -> Result<(), Fail> {
     for (line, number, code) in THIRD_LINES {
         let mut text = Vec::from_slice(alloc, b"format 1\ncontainer 5 5\n")?;
         text.extend_from_slice(line)?;
-        assert_eq!(rt; told(alloc, &text), (number, code));
+        assert!(rt; told(alloc, &text) == (number, code));
     }
     Ok(())
 }
@@ -151,7 +151,7 @@ fn a_kerf_and_repeats_are_read_in_format_2(rt: HostRuntime) -> Result<(), Fail> 
     for (lines, number, code) in FORMAT_2 {
         let mut text = Vec::from_slice(alloc, b"format 2\ncontainer 5 7\n")?;
         text.extend_from_slice(lines)?;
-        assert_eq!(rt; told(alloc, &text), (number, code));
+        assert!(rt; told(alloc, &text) == (number, code));
     }
     Ok(())
 }
@@ -211,7 +211,7 @@ fn each_line_left_out_doubled_or_swapped_gives_its_code(rt: HostRuntime) -> Resu
     let alloc = rt.alloc();
     for (order, number, code) in ORDERS {
         let text = of_lines(alloc, order)?;
-        assert_eq!(rt; told(alloc, &text), (number, code));
+        assert!(rt; told(alloc, &text) == (number, code));
     }
     Ok(())
 }
@@ -276,8 +276,8 @@ fn a_write_fault_leaves_a_part_from_the_front(rt: HostRuntime) -> Result<(), Fai
     plan.push(WriteStep::Take(11))?;
     plan.push(WriteStep::Fail)?;
     let mut sink = MemorySink::new(alloc, 1000, plan)?;
-    assert_eq!(rt; write_instance(&instance, &mut sink), Err(WriteFault));
-    assert_eq!(rt; sink.written(), b"format 1\nco".as_slice());
+    assert!(rt; write_instance(&instance, &mut sink) == Err(WriteFault));
+    assert!(rt; sink.written() == b"format 1\nco".as_slice());
     Ok(())
 }
 
@@ -301,21 +301,21 @@ fn has_word(lexer: &LineLexer, k: u32, word: &[u8]) -> bool {
 #[test]
 fn a_lexer_tells_its_line(rt: HostRuntime) -> Result<(), Fail> {
     let line = lexer_after(b"ab \tc12345678901234567890x d # e \xff\r");
-    assert_eq!(rt; (line.line_number(), line.word_count()), (1, 3));
+    assert!(rt; (line.line_number(), line.word_count()) == (1, 3));
     assert!(rt; !line.bad_byte());
     assert!(rt; has_word(&line, 0, b"ab"));
     assert!(rt; has_word(&line, 1, b"c12345678901234567890"));
     assert!(rt; has_word(&line, 2, b"d"));
     let long = lexer_after(b"1 2 3 4 5 6 7 8 9 10 11 12 13 14\r");
-    assert_eq!(rt; long.word_count(), 13);
+    assert!(rt; long.word_count() == 13);
     assert!(rt; has_word(&long, 11, b"12"));
     assert!(rt; lexer_after(b"a\r\r").bad_byte());
     assert!(rt; lexer_after(b"a\r#").bad_byte());
     assert!(rt; !lexer_after(b"#\r\r").bad_byte());
     let mut empty = LineLexer::new();
-    assert_eq!(rt; empty.finish(), LexStep::More);
-    assert_eq!(rt; empty.feed(b'\n'), LexStep::Line);
-    assert_eq!(rt; (empty.line_number(), empty.word_count()), (1, 0));
+    assert!(rt; empty.finish() == LexStep::More);
+    assert!(rt; empty.feed(b'\n') == LexStep::Line);
+    assert!(rt; (empty.line_number(), empty.word_count()) == (1, 0));
     Ok(())
 }
 
@@ -324,14 +324,14 @@ fn a_reader_keeps_its_error(rt: HostRuntime) -> Result<(), Fail> {
     let alloc = rt.alloc();
     let mut reader = InstanceReader::new(alloc);
     let error = ReadTextError::Fault(TextFault { line: 1, code: 5 });
-    assert_eq!(rt; reader.line(&lexer_after(b"box 1 1")), Err(error));
-    assert_eq!(rt; reader.line(&lexer_after(b"format 1")), Err(error));
-    assert_eq!(rt; reader.finish(2).err(), Some(error));
+    assert!(rt; reader.line(&lexer_after(b"box 1 1")) == Err(error));
+    assert!(rt; reader.line(&lexer_after(b"format 1")) == Err(error));
+    assert!(rt; reader.finish(2).err() == Some(error));
     let mut other = InstanceReader::new(alloc);
-    assert_eq!(rt; other.line(&lexer_after(b"format 1")), Ok(()));
-    assert_eq!(rt; other.line(&lexer_after(b"")), Ok(()));
-    assert_eq!(rt; other.line(&lexer_after(b"container 3 3")), Ok(()));
-    assert_eq!(rt; other.line(&lexer_after(b"box 1 1")), Ok(()));
-    assert_eq!(rt; other.finish(4)?.len(), 1);
+    assert!(rt; other.line(&lexer_after(b"format 1")) == Ok(()));
+    assert!(rt; other.line(&lexer_after(b"")) == Ok(()));
+    assert!(rt; other.line(&lexer_after(b"container 3 3")) == Ok(()));
+    assert!(rt; other.line(&lexer_after(b"box 1 1")) == Ok(()));
+    assert!(rt; other.finish(4)?.len() == 1);
     Ok(())
 }

@@ -5,6 +5,8 @@
 #[cfg(test)]
 mod cycles;
 #[cfg(test)]
+mod given;
+#[cfg(test)]
 mod relations;
 #[cfg(test)]
 mod rules;

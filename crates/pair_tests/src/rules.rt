@@ -1,11 +1,11 @@
 //! Tests of the rules of pairs, triples and chains.
-ghost use Rattle.std.specs.Prelude.{◌≡◌, [], ◌∷◌, length, IfOk};
-ghost use Rattle.packing_terms.specs.Limits.{IsDimCount, IsBoxCount};
+ghost use Rattle.std.specs.Prelude.{◌≡◌, ◌<◌, [], ◌∷◌, IfOk};
 ghost use Rattle.packing_terms.specs.Packing.{dims, box_count};
 ghost use Rattle.packing_terms.specs.declared.Rel.TheVariants.{Overlap, After};
 ghost use Rattle.packing_terms.specs.Exclusions.{exclusion_at};
 
-use box_instances::{BoxItem, Instance, NoMemory, Sides};
+use crate::given::{instance_of, state_without};
+use box_instances::{Instance, NoMemory};
 use edge_state::{EdgeState, Rel};
 use orientation_rules::{
     apply_apart, apply_chain, apply_compose, apply_pair, apply_triple, heads, tails,
@@ -14,58 +14,15 @@ use std::alloc::Global;
 use std::process::Abort;
 use std::test::Fail;
 
-// An instance of these boxes, in a container of sides 10.
-fn instance_of(rt: &impl Abort, alloc: Global, boxes: &[[u32; 2]]) -> Result<Instance, Fail>
-    ensures { IfOk result (λ instance. (dims instance ≡ 2)
-        × (box_count instance ≡ length boxes.now)) }
-{
-    let mut items = Vec::new(alloc);
-    for sides in boxes {
-        items.push(BoxItem {
-            sides: Sides::from_slice(alloc, sides)?,
-            value: 0,
-        })?;
-    }
-    let container = Sides::from_slice(alloc, &[10, 10])?;
-    let instance = Instance::new(container, items)?;
-    assert!(rt; instance.dims() == 2 && instance.len() as usize == boxes.len());
-    Ok(instance)
-}
-
-// A state with these exclusions but the one at `skipped`.
-fn state_without(
-    rt: &impl Abort,
-    alloc: Global,
-    dims: u32,
-    boxes: u32,
-    gone: &[(u32, u32, u32, Rel)],
-    skipped: usize,
-) -> Result<EdgeState, Fail>
-    requires dims { IsDimCount dims }
-    requires boxes { IsBoxCount boxes }
-    ensures { IfOk result (λ state. (state.dims ≡ dims) × (state.boxes ≡ boxes)) }
-{
-    let mut state = EdgeState::new(alloc, dims, boxes)?;
-    for i in 0..gone.len() {
-        let (dim, u, v, rel) = gone[i];
-        assert!(rt; dim < state.dims() && u < state.boxes() && v < state.boxes() && u != v);
-        if i != skipped {
-            state.exclude(dim, u, v, rel);
-        }
-    }
-    assert!(rt; state.dims() == dims && state.boxes() == boxes);
-    Ok(state)
-}
-
 #[test]
 fn boxes_too_long_together_overlap(rt: HostRuntime) -> Result<(), Fail> {
     let instance = instance_of(&rt, rt.alloc(), &[[6, 6], [5, 4]])?;
     let mut state = state_without(&rt, rt.alloc(), 2, 2, &[], 0)?;
     assert!(rt; apply_pair(&instance, &mut state, 0, 0, 1));
-    assert_eq!(rt; state.mask(0, 0, 1).bits(), 1);
+    assert!(rt; state.mask(0, 0, 1).bits() == 1);
     assert!(rt; !apply_pair(&instance, &mut state, 0, 1, 0));
     assert!(rt; !apply_pair(&instance, &mut state, 1, 0, 1));
-    assert_eq!(rt; state.mask(1, 0, 1).bits(), 7);
+    assert!(rt; state.mask(1, 0, 1).bits() == 7);
     Ok(())
 }
 
@@ -80,13 +37,32 @@ fn boxes_joined_elsewhere_are_apart(rt: HostRuntime) -> Result<(), Fail> {
     for skipped in 0..4 {
         let mut state = state_without(&rt, rt.alloc(), 3, 2, &joined, skipped)?;
         assert!(rt; !apply_apart(&mut state, 0, 0, 1));
-        assert_eq!(rt; state.mask(0, 0, 1).bits(), 7);
+        assert!(rt; state.mask(0, 0, 1).bits() == 7);
     }
     let mut state = state_without(&rt, rt.alloc(), 3, 2, &joined, 4)?;
     assert!(rt; apply_apart(&mut state, 0, 0, 1));
-    assert_eq!(rt; state.mask(0, 0, 1).bits(), 6);
+    assert!(rt; state.mask(0, 0, 1).bits() == 6);
     assert!(rt; !apply_apart(&mut state, 0, 1, 0));
     Ok(())
+}
+
+// What TRIPLE leaves of the first pair of three boxes in a dimension, where it takes something away.
+fn left_by_triple(
+    rt: &impl Abort,
+    alloc: Global,
+    instance: &Instance,
+    dim: u32,
+    gone: &[(u32, u32, u32, Rel)],
+    skipped: usize,
+) -> Result<Option<u8>, Fail>
+    requires sizes { (dims instance.now ≡ 2) × (box_count instance.now ≡ 3) }
+    requires dim { dim < 2 }
+{
+    let mut state = state_without(rt, alloc, 2, 3, gone, skipped)?;
+    if !apply_triple(instance, &mut state, dim, 0, 1, 2) {
+        return Ok(None);
+    }
+    Ok(Some(state.mask(dim, 0, 1).bits()))
 }
 
 #[test]
@@ -94,16 +70,28 @@ fn two_of_three_boxes_too_long_together_overlap(rt: HostRuntime) -> Result<(), F
     let instance = instance_of(&rt, rt.alloc(), &[[4, 4], [4, 3], [3, 3]])?;
     let apart = [(0, 0, 2, Rel::Overlap), (0, 1, 2, Rel::Overlap)];
     for skipped in 0..2 {
-        let mut state = state_without(&rt, rt.alloc(), 2, 3, &apart, skipped)?;
-        assert!(rt; !apply_triple(&instance, &mut state, 0, 0, 1, 2));
+        assert!(rt; left_by_triple(&rt, rt.alloc(), &instance, 0, &apart, skipped)? == None);
     }
-    let mut state = state_without(&rt, rt.alloc(), 2, 3, &apart, 2)?;
-    assert!(rt; apply_triple(&instance, &mut state, 0, 0, 1, 2));
-    assert_eq!(rt; state.mask(0, 0, 1).bits(), 1);
+    assert!(rt; left_by_triple(&rt, rt.alloc(), &instance, 0, &apart, 2)? == Some(1));
     let short = [(1, 0, 2, Rel::Overlap), (1, 1, 2, Rel::Overlap)];
-    let mut state = state_without(&rt, rt.alloc(), 2, 3, &short, 2)?;
-    assert!(rt; !apply_triple(&instance, &mut state, 1, 0, 1, 2));
+    assert!(rt; left_by_triple(&rt, rt.alloc(), &instance, 1, &short, 2)? == None);
     Ok(())
+}
+
+// What COMPOSE leaves of two of three boxes by way of the second, where it takes something away.
+fn left_by_compose(
+    rt: &impl Abort,
+    alloc: Global,
+    gone: &[(u32, u32, u32, Rel)],
+    skipped: usize,
+) -> Result<Option<u8>, Fail> {
+    let mut state = state_without(rt, alloc, 2, 3, gone, skipped)?;
+    if !apply_compose(&mut state, 0, 0, 1, 2) {
+        return Ok(None);
+    }
+    let left = state.mask(0, 0, 2).bits();
+    assert!(rt; !apply_compose(&mut state, 0, 2, 1, 0));
+    Ok(Some(left))
 }
 
 #[test]
@@ -114,15 +102,9 @@ fn relations_to_a_third_box_compose(rt: HostRuntime) -> Result<(), Fail> {
         (0, 1, 2, Rel::Overlap),
         (0, 1, 2, Rel::After),
     ];
-    let mut state = state_without(&rt, rt.alloc(), 2, 3, &ordered, 4)?;
-    assert!(rt; apply_compose(&mut state, 0, 0, 1, 2));
-    assert_eq!(rt; state.mask(0, 0, 2).bits(), 2);
-    assert!(rt; !apply_compose(&mut state, 0, 2, 1, 0));
-    let mut state = state_without(&rt, rt.alloc(), 2, 3, &ordered, 0)?;
-    assert!(rt; apply_compose(&mut state, 0, 0, 1, 2));
-    assert_eq!(rt; state.mask(0, 0, 2).bits(), 3);
-    let mut state = state_without(&rt, rt.alloc(), 2, 3, &ordered, 1)?;
-    assert!(rt; !apply_compose(&mut state, 0, 0, 1, 2));
+    assert!(rt; left_by_compose(&rt, rt.alloc(), &ordered, 4)? == Some(2));
+    assert!(rt; left_by_compose(&rt, rt.alloc(), &ordered, 0)? == Some(3));
+    assert!(rt; left_by_compose(&rt, rt.alloc(), &ordered, 1)? == None);
     Ok(())
 }
 
@@ -149,11 +131,11 @@ fn heaviest_chains_exclude_before(rt: HostRuntime) -> Result<(), Fail> {
     let mut tail = [0; 3];
     heads(&instance, &state, 0, &mut head);
     tails(&instance, &state, 0, &mut tail);
-    assert_eq!(rt; head, [4, 8, 3]);
-    assert_eq!(rt; tail, [8, 4, 3]);
+    assert!(rt; head == [4, 8, 3]);
+    assert!(rt; tail == [8, 4, 3]);
     assert!(rt; !apply_chain(&instance, &mut state, 0, 0, 2, &head, &tail));
     assert!(rt; apply_chain(&instance, &mut state, 0, 1, 2, &head, &tail));
-    assert_eq!(rt; state.mask(0, 1, 2).bits(), 5);
+    assert!(rt; state.mask(0, 1, 2).bits() == 5);
     assert!(rt; !apply_chain(&instance, &mut state, 0, 1, 2, &head, &tail));
     Ok(())
 }

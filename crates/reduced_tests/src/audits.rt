@@ -31,45 +31,62 @@ fn is_verified(alloc: Global, document: &[u8], claim: Claim) -> bool {
     audit_document(alloc, Heading::Reduced, document) == Audit::Verified(claim)
 }
 
+// Documents that are verified, with their claims.
+const VERIFIED: [(&[u8], Claim); 2] = [
+    (
+        b"reduced fit\nformat 1\ncontainer 10 10\nbox 3 6\nbox 3 6\nbox 3 6\nbox 3 6\nresult no\nx\nend\n",
+        Claim::NotFitting,
+    ),
+    (
+        b"reduced fit\nformat 1\ncontainer 10 10\nbox 6 4\nbox 6 6\nresult yes\nplace 0 0\nplace 0 4\nend\n",
+        Claim::Fitting,
+    ),
+];
+
+// Documents that are refused, with the line and why.
+const REFUSED: [(&[u8], u64, RefuseCode); 2] = [
+    (PLAIN, 1, RefuseCode::Kind),
+    (
+        b"reduced fit\nformat 1\ncontainer 10 10\nbox 3 6\nbox 3 6\nbox 3 6\nresult no\nx\nend\n",
+        8,
+        RefuseCode::Conflict,
+    ),
+];
+
+// An answer, which has a heading of its own.
+const PLAIN: &[u8] =
+    b"answer fit\nformat 1\ncontainer 10 10\nbox 3 6\nresult yes\nplace 0 0\nend\n";
+
 #[test]
 fn rows_are_audited(rt: HostRuntime) -> Result<(), Fail> {
-    let alloc = rt.alloc();
-    let four =
-        b"reduced fit\nformat 1\ncontainer 10 10\nbox 3 6\nbox 3 6\nbox 3 6\nbox 3 6\nresult no\nx\nend\n";
-    assert!(rt; is_verified(alloc, four, Claim::NotFitting));
-    let two =
-        b"reduced fit\nformat 1\ncontainer 10 10\nbox 6 4\nbox 6 6\nresult yes\nplace 0 0\nplace 0 4\nend\n";
-    assert!(rt; is_verified(alloc, two, Claim::Fitting));
-    let plain = b"answer fit\nformat 1\ncontainer 10 10\nbox 3 6\nresult yes\nplace 0 0\nend\n";
-    assert!(rt; refuses(alloc, plain, 1, RefuseCode::Kind));
-    let three =
-        b"reduced fit\nformat 1\ncontainer 10 10\nbox 3 6\nbox 3 6\nbox 3 6\nresult no\nx\nend\n";
-    assert!(rt; refuses(alloc, three, 8, RefuseCode::Conflict));
+    for (document, claim) in VERIFIED {
+        assert!(rt; is_verified(rt.alloc(), document, claim));
+    }
+    for (document, at, why) in REFUSED {
+        assert!(rt; refuses(rt.alloc(), document, at, why));
+    }
     Ok(())
 }
 
 #[test]
 fn an_answer_is_audited_under_its_own_heading(rt: HostRuntime) -> Result<(), Fail> {
-    let alloc = rt.alloc();
-    let plain = b"answer fit\nformat 1\ncontainer 10 10\nbox 3 6\nresult yes\nplace 0 0\nend\n";
-    assert!(rt; audit_document(alloc, Heading::Answer, plain) == Audit::Verified(Claim::Fitting));
+    let audit = audit_document(rt.alloc(), Heading::Answer, PLAIN);
+    assert!(rt; audit == Audit::Verified(Claim::Fitting));
     Ok(())
 }
 
+// Documents with a tree.
+const TREES: [&[u8]; 4] = [
+    b"reduced fit\nformat 1\ncontainer 17 17\nbox 9 9\nbox 8 8\nbox 7 7\nbox 6 6\nbox 5 5\nbox 4 4\nbox 3 3\nbox 2 2\nbox 1 1\nresult no\na 1 1 2\na 1 1 3\nd 2 2 3\na 1 1 4\nx\nd 2 1 4\na 1 2 4\na 1 1 5\nx\nx\na 1 1 5\nx\nx\na 1 1 5\nx\nx\na 1 1 4\nx\nd 2 1 4\na 1 3 4\na 1 1 5\nx\nx\na 1 1 5\nx\nx\na 1 2 4\na 1 1 5\nx\nx\na 1 1 5\nx\nx\nd 2 1 3\na 1 2 3\na 1 1 4\nd 2 2 4\na 1 1 5\nx\nx\na 1 3 4\na 1 1 5\nx\nx\na 1 1 5\nx\nx\na 1 1 5\nx\nx\na 1 1 4\na 1 1 5\nx\nx\na 1 2 4\na 1 1 5\nx\nx\nx\na 1 2 3\na 1 1 4\nd 2 2 4\na 1 1 5\nx\nx\na 1 1 5\nx\nx\na 1 1 5\nx\nx\na 1 1 4\na 1 1 5\nx\nx\na 1 2 4\na 1 1 5\nx\nx\nx\na 1 1 3\nd 1 1 3\na 1 2 3\na 1 1 4\na 1 2 4\nd 2 3 4\na 1 1 5\nx\nx\na 1 1 5\nx\nx\na 1 1 5\nx\nx\na 1 1 5\nx\nx\na 1 1 4\na 1 1 5\nx\nx\nd 1 2 4\nx\na 1 1 5\nx\nx\na 1 2 3\na 1 1 4\na 1 2 4\nd 2 3 4\na 1 1 5\nx\nx\na 1 1 5\nx\nx\na 1 1 5\nx\nx\na 1 1 5\nx\nx\na 1 1 4\na 1 1 5\nx\nx\nd 1 2 4\na 1 1 5\nx\nx\nx\nd 1 2 3\na 1 1 4\nd 1 1 4\na 1 1 5\nx\nx\na 1 1 5\nx\nx\nx\na 1 1 4\nd 1 1 4\na 1 1 5\nx\nx\na 1 1 5\nx\nx\nx\nend\n",
+    b"reduced fit\nformat 1\ncontainer 20 20\nbox 1 13\nbox 11 7\nbox 1 9\nbox 10 11\nbox 1 8\nbox 2 9\nbox 8 9\nbox 10 5\nbox 6 1\nbox 6 4\nbox 3 3\nbox 2 1\nbox 2 1\nresult no\na 1 4 7\nd 1 4 7\na 1 4 10\na 1 2 10\nd 2 7 10\na 1 4 6\nx\nx\nx\na 1 4 6\nx\nx\nx\na 1 4 10\na 1 2 10\nd 2 7 10\na 1 4 6\nx\nx\nx\na 1 4 6\nx\nx\nx\nd 1 2 7\nd 1 4 8\nx\na 1 4 10\na 1 4 6\nx\nx\nx\nd 1 4 8\na 1 4 10\na 1 4 6\nx\nx\nx\nx\nend\n",
+    b"reduced fit\nformat 1\ncontainer 24 22\nbox 4 5\nbox 1 9\nbox 23 1\nbox 5 13\nbox 3 2\nbox 10 21\nbox 9 21\nbox 5 1\nresult no\nd 1 4 6\nx\nd 1 4 7\nx\nx\nend\n",
+    b"reduced fit\nformat 1\ncontainer 20 20\nbox 8 12\nbox 3 11\nbox 12 8\nbox 2 2\nbox 3 11\nbox 6 1\nbox 4 7\nbox 11 4\nbox 14 2\nbox 4 8\nresult no\nd 2 1 8\na 1 1 10\nx\nx\na 1 1 10\nx\nx\nend\n",
+];
+
 #[test]
 fn trees_with_splits_are_verified(rt: HostRuntime) -> Result<(), Fail> {
-    let alloc = rt.alloc();
-    let document =
-        b"reduced fit\nformat 1\ncontainer 17 17\nbox 9 9\nbox 8 8\nbox 7 7\nbox 6 6\nbox 5 5\nbox 4 4\nbox 3 3\nbox 2 2\nbox 1 1\nresult no\na 1 1 2\na 1 1 3\nd 2 2 3\na 1 1 4\nx\nd 2 1 4\na 1 2 4\na 1 1 5\nx\nx\na 1 1 5\nx\nx\na 1 1 5\nx\nx\na 1 1 4\nx\nd 2 1 4\na 1 3 4\na 1 1 5\nx\nx\na 1 1 5\nx\nx\na 1 2 4\na 1 1 5\nx\nx\na 1 1 5\nx\nx\nd 2 1 3\na 1 2 3\na 1 1 4\nd 2 2 4\na 1 1 5\nx\nx\na 1 3 4\na 1 1 5\nx\nx\na 1 1 5\nx\nx\na 1 1 5\nx\nx\na 1 1 4\na 1 1 5\nx\nx\na 1 2 4\na 1 1 5\nx\nx\nx\na 1 2 3\na 1 1 4\nd 2 2 4\na 1 1 5\nx\nx\na 1 1 5\nx\nx\na 1 1 5\nx\nx\na 1 1 4\na 1 1 5\nx\nx\na 1 2 4\na 1 1 5\nx\nx\nx\na 1 1 3\nd 1 1 3\na 1 2 3\na 1 1 4\na 1 2 4\nd 2 3 4\na 1 1 5\nx\nx\na 1 1 5\nx\nx\na 1 1 5\nx\nx\na 1 1 5\nx\nx\na 1 1 4\na 1 1 5\nx\nx\nd 1 2 4\nx\na 1 1 5\nx\nx\na 1 2 3\na 1 1 4\na 1 2 4\nd 2 3 4\na 1 1 5\nx\nx\na 1 1 5\nx\nx\na 1 1 5\nx\nx\na 1 1 5\nx\nx\na 1 1 4\na 1 1 5\nx\nx\nd 1 2 4\na 1 1 5\nx\nx\nx\nd 1 2 3\na 1 1 4\nd 1 1 4\na 1 1 5\nx\nx\na 1 1 5\nx\nx\nx\na 1 1 4\nd 1 1 4\na 1 1 5\nx\nx\na 1 1 5\nx\nx\nx\nend\n";
-    assert!(rt; is_verified(alloc, document, Claim::NotFitting));
-    let document =
-        b"reduced fit\nformat 1\ncontainer 20 20\nbox 1 13\nbox 11 7\nbox 1 9\nbox 10 11\nbox 1 8\nbox 2 9\nbox 8 9\nbox 10 5\nbox 6 1\nbox 6 4\nbox 3 3\nbox 2 1\nbox 2 1\nresult no\na 1 4 7\nd 1 4 7\na 1 4 10\na 1 2 10\nd 2 7 10\na 1 4 6\nx\nx\nx\na 1 4 6\nx\nx\nx\na 1 4 10\na 1 2 10\nd 2 7 10\na 1 4 6\nx\nx\nx\na 1 4 6\nx\nx\nx\nd 1 2 7\nd 1 4 8\nx\na 1 4 10\na 1 4 6\nx\nx\nx\nd 1 4 8\na 1 4 10\na 1 4 6\nx\nx\nx\nx\nend\n";
-    assert!(rt; is_verified(alloc, document, Claim::NotFitting));
-    let document =
-        b"reduced fit\nformat 1\ncontainer 24 22\nbox 4 5\nbox 1 9\nbox 23 1\nbox 5 13\nbox 3 2\nbox 10 21\nbox 9 21\nbox 5 1\nresult no\nd 1 4 6\nx\nd 1 4 7\nx\nx\nend\n";
-    assert!(rt; is_verified(alloc, document, Claim::NotFitting));
-    let document =
-        b"reduced fit\nformat 1\ncontainer 20 20\nbox 8 12\nbox 3 11\nbox 12 8\nbox 2 2\nbox 3 11\nbox 6 1\nbox 4 7\nbox 11 4\nbox 14 2\nbox 4 8\nresult no\nd 2 1 8\na 1 1 10\nx\nx\na 1 1 10\nx\nx\nend\n";
-    assert!(rt; is_verified(alloc, document, Claim::NotFitting));
+    for document in TREES {
+        assert!(rt; is_verified(rt.alloc(), document, Claim::NotFitting));
+    }
     Ok(())
 }

@@ -21,40 +21,63 @@ fn flat(alloc: Global, container: [u32; 2], sides: &[[u32; 2]]) -> Result<Instan
     Ok(Instance::new(Sides::from_slice(alloc, container.as_slice())?, boxes)?)
 }
 
-// The facts are these, by dimension and pair.
-fn has_facts(alloc: Global, instance: &Instance, wanted: &[[u32; 3]]) -> Result<bool, Fail> {
-    let found = facts(alloc, instance)?;
-    if found.len() != wanted.len() {
-        return Ok(false);
+// Whether the exclusion is the fact of this dimension and pair.
+fn is_fact(e: &Exclusion, place: &[u32; 3]) -> bool {
+    let [dim, u, v] = *place;
+    e.dim == dim && e.u == u && e.v == v && e.rel == Rel::After
+}
+
+// Whether these are the facts, in this order.
+fn are_facts(found: &[Exclusion], places: &[[u32; 3]]) -> bool {
+    if found.len() != places.len() {
+        return false;
     }
-    for k in 0..wanted.len() {
-        let e: Exclusion = found[k];
-        let [dim, u, v] = wanted[k];
-        if e.dim != dim || e.u != u || e.v != v || e.rel != Rel::After {
-            return Ok(false);
+    for (e, place) in found.iter().zip(places) {
+        if !is_fact(e, place) {
+            return false;
         }
     }
-    Ok(true)
+    true
+}
+
+// A container, its boxes, and their facts by dimension and pair.
+type Case = ([u32; 2], &'static [[u32; 2]], &'static [[u32; 3]]);
+
+const CASES: [Case; 3] = [
+    (
+        [10, 10],
+        FOUR_TWINS,
+        &[
+            [0, 0, 1],
+            [0, 0, 2],
+            [0, 0, 3],
+            [0, 1, 2],
+            [0, 1, 3],
+            [0, 2, 3],
+            [1, 0, 1],
+        ],
+    ),
+    (
+        [10, 10],
+        &[[2, 2], [3, 6], [6, 3], [3, 6]],
+        &[[0, 1, 3], [0, 0, 2], [1, 1, 2]],
+    ),
+    ([1, 1], &[[1, 1]], &[]),
+];
+
+const FOUR_TWINS: &[[u32; 2]] = &[[3, 6], [3, 6], [3, 6], [3, 6]];
+
+fn has_facts(alloc: Global, case: &Case) -> Result<bool, Fail> {
+    let (container, sides, places) = case;
+    let instance = flat(alloc, *container, sides)?;
+    Ok(are_facts(facts(alloc, &instance)?.as_slice(), places))
 }
 
 #[test]
 fn facts_stand_in_their_order(rt: HostRuntime) -> Result<(), Fail> {
-    let alloc = rt.alloc();
-    let four = flat(alloc, [10, 10], &[[3, 6], [3, 6], [3, 6], [3, 6]])?;
-    let wanted = [
-        [0, 0, 1],
-        [0, 0, 2],
-        [0, 0, 3],
-        [0, 1, 2],
-        [0, 1, 3],
-        [0, 2, 3],
-        [1, 0, 1],
-    ];
-    assert!(rt; has_facts(alloc, &four, &wanted)?);
-    let mixed = flat(alloc, [10, 10], &[[2, 2], [3, 6], [6, 3], [3, 6]])?;
-    assert!(rt; has_facts(alloc, &mixed, &[[0, 1, 3], [0, 0, 2], [1, 1, 2]])?);
-    let one = flat(alloc, [1, 1], &[[1, 1]])?;
-    assert!(rt; has_facts(alloc, &one, &[])?);
+    for case in &CASES {
+        assert!(rt; has_facts(rt.alloc(), case)?);
+    }
     Ok(())
 }
 
@@ -66,19 +89,27 @@ fn settings(workers: u32, scales: bool) -> Settings {
     }
 }
 
+// Whether the outcome is a no by the facts alone.
+fn is_no_at_once(outcome: &Outcome) -> bool {
+    match outcome {
+        Outcome::No { tokens, count } => {
+            *count == 0 && tokens.len() == 1 && matches!(&tokens[0], Token::Rules)
+        }
+        _ => false,
+    }
+}
+
 // Whether the instance is refuted by its facts alone, by so many workers.
 fn is_refuted<R: Threads + Wait + Sync>(
     rt: &R,
     alloc: Global,
-    instance: &Instance,
+    container: [u32; 2],
+    sides: &[[u32; 2]],
     workers: u32,
 ) -> Result<bool, Fail> {
-    match decide_reduced(rt, alloc, instance, &settings(workers, false), &NoGate)? {
-        Outcome::No { tokens, count } => Ok(
-            count == 0 && tokens.len() == 1 && matches!(&tokens[0], Token::Rules),
-        ),
-        _ => Ok(false),
-    }
+    let instance = flat(alloc, container, sides)?;
+    let outcome = decide_reduced(rt, alloc, &instance, &settings(workers, false), &NoGate)?;
+    Ok(is_no_at_once(&outcome))
 }
 
 // Whether the outcome is a yes with these places, without a branching.
@@ -89,29 +120,35 @@ fn is_yes(outcome: &Outcome, places: &[u32]) -> bool {
     }
 }
 
+// Whether two boxes that stand on one another are placed, by so many workers.
+fn is_placed<R: Threads + Wait + Sync>(rt: &R, alloc: Global, workers: u32) -> Result<bool, Fail> {
+    let two = flat(alloc, [10, 10], &[[6, 4], [6, 6]])?;
+    let outcome = decide_reduced(rt, alloc, &two, &settings(workers, true), &NoGate)?;
+    Ok(is_yes(&outcome, &[0, 0, 0, 4]))
+}
+
 #[test]
 fn twins_in_a_row_are_refuted_at_once(rt: HostRuntime) -> Result<(), Fail> {
-    let alloc = rt.alloc();
     for workers in [1, 2] {
-        let four = flat(alloc, [10, 10], &[[3, 6], [3, 6], [3, 6], [3, 6]])?;
-        assert!(rt; is_refuted(&rt, alloc, &four, workers)?);
-        let eight = flat(alloc, [23, 10], &[[3, 6]; 8])?;
-        assert!(rt; is_refuted(&rt, alloc, &eight, workers)?);
-        let two = flat(alloc, [10, 10], &[[6, 4], [6, 6]])?;
-        let outcome = decide_reduced(&rt, alloc, &two, &settings(workers, true), &NoGate)?;
-        assert!(rt; is_yes(&outcome, &[0, 0, 0, 4]));
+        assert!(rt; is_refuted(&rt, rt.alloc(), [10, 10], FOUR_TWINS, workers)?);
+        assert!(rt; is_refuted(&rt, rt.alloc(), [23, 10], &[[3, 6]; 8], workers)?);
+        assert!(rt; is_placed(&rt, rt.alloc(), workers)?);
     }
     Ok(())
 }
 
-// Two equal boxes in a container of twice their width: the facts alone settle nothing.
+// Whether the budget is spent on two equal boxes in a container of twice their width, by so many
+// workers: the facts alone settle nothing.
+fn is_past<R: Threads + Wait + Sync>(rt: &R, alloc: Global, workers: u32) -> Result<bool, Fail> {
+    let crossing = flat(alloc, [4, 4], &[[2, 1], [2, 1]])?;
+    let outcome = decide_reduced(rt, alloc, &crossing, &settings(workers, true), &NoGate)?;
+    Ok(matches!(&outcome, Outcome::Past))
+}
+
 #[test]
 fn a_budget_that_is_spent_is_told(rt: HostRuntime) -> Result<(), Fail> {
-    let alloc = rt.alloc();
-    let crossing = flat(alloc, [4, 4], &[[2, 1], [2, 1]])?;
     for workers in [1, 2] {
-        let outcome = decide_reduced(&rt, alloc, &crossing, &settings(workers, true), &NoGate)?;
-        assert!(rt; matches!(&outcome, Outcome::Past));
+        assert!(rt; is_past(&rt, rt.alloc(), workers)?);
     }
     Ok(())
 }

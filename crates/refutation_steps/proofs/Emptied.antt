@@ -1,5 +1,6 @@
 -- Whether a mask is empty.
-use Rattle.std.proofs.Common.{◌≡◌, ◌<◌, ◌+◌, ◌≤◌, ℕ, ◌⊎◌, inl, inr, refl, sym, ◌∙◌, subst, arith, Bool, true, false, not, List}
+use Rattle.std.proofs.Common.{◌≡◌, ◌<◌, ◌+◌, ◌≤◌, ℕ, ◌⊎◌, inl, inr, refl, sym, ◌∙◌, subst, arith, Bool, true, false}
+use Rattle.std.proofs.Common.{not, List}
 use Rattle.std.proofs.lemmas.Bool.{true≢false, cases_lt}
 use Rattle.packing_terms.specs.declared.Rel.TheVariants.{Overlap, Before, After}
 use Rattle.packing_terms.specs.declared.Exclusion.{Exclusion}
@@ -18,7 +19,8 @@ pub gone_there : (has m x : Bool) → has ≡ m → m ≡ not x → has ≡ fals
 gone_there has m true e f h = refl
 gone_there has m false e f h = absurd (true≢false (sym (e ∙ f) ∙ h))
 
-pub emptied : (X : Exclusions) (i u v : ℕ) (h1 m1 h2 m2 h3 m3 : Bool) → h1 ≡ m1 → m1 ≡ not (X i u v Overlap) → h1 ≡ false → h2 ≡ m2 → m2 ≡ not (X i u v Before) → h2 ≡ false
+pub emptied : (X : Exclusions) (i u v : ℕ) (h1 m1 h2 m2 h3 m3 : Bool) → h1 ≡ m1 → m1 ≡ not (X i u v Overlap)
+    → h1 ≡ false → h2 ≡ m2 → m2 ≡ not (X i u v Before) → h2 ≡ false
     → h3 ≡ m3 → m3 ≡ not (X i u v After) → h3 ≡ false → IsEmptyAt X i u v
 emptied X i u v h1 m1 h2 m2 h3 m3 a b c d e f g h k Overlap = gone_there h1 m1 (X i u v Overlap) a b c
 emptied X i u v h1 m1 h2 m2 h3 m3 a b c d e f g h k Before = gone_there h2 m2 (X i u v Before) d e f
@@ -34,7 +36,8 @@ below_next P n h p k l = go (cases_lt k n)
 
 -- no mask is empty, where none is that is read from its lower box
 pub none_empty : (instance : PlainInstance) (es : List Exclusion)
-    → ((i : ℕ) → i < dims instance → (v : ℕ) → v < box_count instance → (u : ℕ) → u < v → IsLeft (excludes es) i u v) → HasNoEmptyMask instance (excludes es)
+    → ((i : ℕ) → i < dims instance → (v : ℕ) → v < box_count instance → (u : ℕ) → u < v → IsLeft (excludes es) i u v)
+    → HasNoEmptyMask instance (excludes es)
 none_empty instance es h i u v edge = go (cases_lt u v)
   where
     turned : IsLeft (excludes es) i v u → IsLeft (excludes es) i u v

@@ -1,5 +1,6 @@
 -- What a closing and the steps to it come to.
-use Rattle.std.proofs.Common.{◌≡◌, ◌≤◌, ℕ, inl, sym, ap, subst, ◌∙◌, arith, true, false, Bool, List, [], ◌∷◌, ◌++◌, length, Some, None}
+use Rattle.std.proofs.Common.{◌≡◌, ◌≤◌, ℕ, inl, sym, ap, subst, ◌∙◌, arith, true, false, Bool, List, [], ◌∷◌, ◌++◌}
+use Rattle.std.proofs.Common.{length, Some, None}
 use Rattle.std.proofs.lemmas.List.{length-append}
 use Rattle.packing_terms.specs.declared.Exclusion.{Exclusion}
 use Rattle.packing_terms.specs.Packing.{PlainInstance}
@@ -24,26 +25,32 @@ module _ (instance : PlainInstance) where
     given_list E es (λ i u v r k. h i u v r (excludes_rest e es i u v r k)),
   )
 
-  pub derived_from_held : (old new : List Exclusion) (E : Exclusions) → Extends instance old new → IsSubset (excludes old) E → IsDerivation instance E new
+  pub derived_from_held : (old new : List Exclusion) (E : Exclusions) → Extends instance old new
+      → IsSubset (excludes old) E → IsDerivation instance E new
   derived_from_held old new E x h = x.derived E (given_list E old h)
 
-  pub held_before : (old new held : List Exclusion) (from : ℕ) → Extends instance old new → IsSubset (excludes old) (excludes held) → from ≡ length old
+  pub held_before : (old new held : List Exclusion) (from : ℕ) → Extends instance old new
+      → IsSubset (excludes old) (excludes held) → from ≡ length old
       → IsSubset (excludes (oldest from new)) (excludes held)
   held_before old new held from x h e =
-      let same : oldest from new ≡ old = oldest_grown x.more old new from x.grown (omega (arith, e)) ∙ oldest_all old from e in
+      let same : oldest from new ≡ old = oldest_grown x.more old new from x.grown (omega (arith, e)) ∙ oldest_all old
+      from e in
       subst (λ (l : List Exclusion). IsSubset (excludes l) (excludes held)) (sym same) h
 
-  pub mark_within : (old new : List Exclusion) (from : ℕ) → Extends instance old new → from ≡ length old → from ≤ length new
+  pub mark_within : (old new : List Exclusion) (from : ℕ) → Extends instance old new → from ≡ length old
+      → from ≤ length new
   mark_within old new from x e =
       let l : length new ≡ length (x.more ++ old) = ap length x.grown in
       let m = length-append x.more old in
       omega (arith, l, m, e)
 
-  pub settled_stopped : (a b : PlainEdges) (x y : List PlainStep) (given : List Exclusion) (stopped : Bool) → stopped ≡ true → IsReplayed instance a b x y given stopped
+  pub settled_stopped : (a b : PlainEdges) (x y : List PlainStep) (given : List Exclusion) (stopped : Bool)
+      → stopped ≡ true → IsReplayed instance a b x y given stopped
       → IsSettled instance a b x y given None
   settled_stopped a b x y given stopped h r = record { goes = r.goes; ended = r.empty h }
 
-  pub settled_stable : (a b : PlainEdges) (x y : List PlainStep) (old given : List Exclusion) (mark : ℕ) (stopped : Bool) → stopped ≡ false → IsReplayed instance a b x y given stopped
+  pub settled_stable : (a b : PlainEdges) (x y : List PlainStep) (old given : List Exclusion) (mark : ℕ)
+      (stopped : Bool) → stopped ≡ false → IsReplayed instance a b x y given stopped
       → IsClosureOf instance (excludes old) given → mark ≡ length given → IsSettled instance a b x y given (Some mark)
   settled_stable a b x y old given mark stopped h r c e =
       let same : oldest mark given ≡ given = oldest_all given mark e in
@@ -60,9 +67,17 @@ module _ (instance : PlainInstance) where
         );
       }
 
-  pub settled_conflict : (a b : PlainEdges) (x y : List PlainStep) (old given : List Exclusion) (stopped : Bool) → stopped ≡ false → IsReplayed instance a b x y given stopped
+  pub settled_conflict : (a b : PlainEdges) (x y : List PlainStep) (old given : List Exclusion) (stopped : Bool)
+      → stopped ≡ false → IsReplayed instance a b x y given stopped
       → IsConflictOf instance (excludes old) given → IsSettled instance a b x y given None
   settled_conflict a b x y old given stopped h r c = record {
     goes = r.goes;
-    ended = record { dim = c.empty.dim; u = c.empty.u; v = c.empty.v; edge = c.empty.edge; each = λ q. r.holds h c.empty.dim c.empty.u c.empty.v q (c.empty.each q) };
+    ended = record {
+      dim = c.empty.dim;
+      u = c.empty.u;
+      v = c.empty.v;
+      edge = c.empty.edge;
+      each =
+          λ q. r.holds h c.empty.dim c.empty.u c.empty.v q (c.empty.each q);
+    };
   }

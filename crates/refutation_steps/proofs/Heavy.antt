@@ -1,5 +1,6 @@
 -- CHAIN by heaviest chains, as a step.
-use Rattle.std.proofs.Common.{◌≡◌, ◌≢◌, ◌+◌, ◌<◌, ◌≤◌, ℕ, suc, refl, sym, ap, ap₂, subst, ◌∙◌, arith, true, false, Bool, List, [], ◌∷◌, ◌++◌, append-nil, length, slice_index, IsTrue}
+use Rattle.std.proofs.Common.{◌≡◌, ◌≢◌, ◌+◌, ◌<◌, ◌≤◌, ℕ, suc, refl, sym, ap, ap₂, subst, ◌∙◌, arith, true, false, Bool}
+use Rattle.std.proofs.Common.{List, [], ◌∷◌, ◌++◌, append-nil, length, slice_index, IsTrue}
 use Rattle.std.proofs.lemmas.Bool.{true≢false}
 use Rattle.packing_terms.specs.declared.Rel.TheVariants.{Before}
 use Rattle.packing_terms.specs.declared.Exclusion.{Exclusion}
@@ -31,7 +32,8 @@ abbrev chain_lines : ℕ → List ℕ → List ℕ → List PlainStep
 chain_lines i to from = ChainLine (suc i) (length to) (length from) ∷ (box_lines to ++ box_lines from)
 
 module _ (instance : PlainInstance) where
-  pub chain_found : (s : PlainEdges) (i u v h t : ℕ) (to from : List ℕ) → i < dims instance → u ≢ v → IsChainTo instance s i u h to → IsChainFrom instance s i v t from
+  pub chain_found : (s : PlainEdges) (i u v h t : ℕ) (to from : List ℕ) → i < dims instance → u ≢ v
+      → IsChainTo instance s i u h to → IsChainFrom instance s i v t from
       → container_side instance i < h + t → IsChainFound instance s.trail i u v to from
   chain_found s i u v h t to from hi ne a b wide = record {
     before = a.before;
@@ -42,17 +44,21 @@ module _ (instance : PlainInstance) where
     premises = (a.chain, b.chain, (let x = a.heavy in let y = b.heavy in omega (arith, x, y, wide)));
   }
 
-  pub chain_stepped : (old new : PlainEdges) (i u v : ℕ) (x y : List PlainStep) (to from : List ℕ) → IsChainFound instance old.trail i u v to from
-      → excludes old.trail i u v Before ≡ false → new ≡ record old { trail = with_exclusion old.trail (exclusion_at i u v Before) }
+  pub chain_stepped : (old new : PlainEdges) (i u v : ℕ) (x y : List PlainStep) (to from : List ℕ)
+      → IsChainFound instance old.trail i u v to from
+      → excludes old.trail i u v Before ≡ false
+      → new ≡ record old { trail = with_exclusion old.trail (exclusion_at i u v Before) }
       → y ≡ x ++ chain_lines i to from → IsChainStepped instance old new x y i u v
   chain_stepped old new i u v x y to from f left e lines = record {
     goes = record {
       rules = rule ∷ [];
       steps = (step, trails);
       sizes = e ∙ ap (λ (l : List Exclusion). record old { trail = l }) trails;
-      lines = lines ∙ (ap₂ (λ a b. x ++ chain_lines i a b) f.to_items f.from_items ∙ ap (λ l. x ++ l) (sym (append-nil (lines_of rule))));
+      lines = lines ∙ (ap₂ (λ a b. x ++ chain_lines i a b) f.to_items f.from_items ∙ ap (λ l. x ++ l)
+          (sym (append-nil (lines_of rule))));
     };
-    there = subst (λ (l : List Exclusion). IsTrue (excludes l i u v Before)) trails (with_own old.trail (exclusion_at i u v Before));
+    there = subst (λ (l : List Exclusion). IsTrue (excludes l i u v Before)) trails
+        (with_own old.trail (exclusion_at i u v Before));
   }
     where
       rule : Rule
@@ -65,42 +71,52 @@ module _ (instance : PlainInstance) where
       trails = ap (λ (s : PlainEdges). s.trail) (sym e)
 
   -- chains weigh too little for CHAIN to give the exclusion
-  too_light : (s : PlainEdges) (e : Exclusion) (head tail : List ℕ) → AreWeighed instance s e.dim Backwards head → AreWeighed instance s e.dim Forwards tail
-      → slice_index head e.u + slice_index tail e.v ≤ container_side instance e.dim → (rule : Rule) → IsChainRule rule → Gives instance (excludes s.trail) rule e → ⊥
+  too_light : (s : PlainEdges) (e : Exclusion) (head tail : List ℕ) → AreWeighed instance s e.dim Backwards head
+      → AreWeighed instance s e.dim Forwards tail
+      → slice_index head e.u + slice_index tail e.v ≤ container_side instance e.dim → (rule : Rule) → IsChainRule rule
+      → Gives instance (excludes s.trail) rule e → ⊥
   too_light s e head tail heads tails low (Pair i u v) k g = k
   too_light s e head tail heads tails low (Apart i u v) k g = k
   too_light s e head tail heads tails low (Triple i u v x) k g = k
   too_light s e head tail heads tails low (Compose i u v x) k g = k
   too_light s e head tail heads tails low (Cycle i a b c d) k g = k
   too_light s e head tail heads tails low (Order i a b c d) k g = k
-  too_light s e head tail heads tails low (Chain i before u v after) k g = go e.dim e.u e.v g.dim g.first g.second heads tails low
+  too_light s e head tail heads tails low (Chain i before u v after) k g =
+      go e.dim e.u e.v g.dim g.first g.second heads tails low
     where
-      go : (j a b : ℕ) → i ≡ j → u ≡ a → v ≡ b → AreWeighed instance s j Backwards head → AreWeighed instance s j Forwards tail
+      go : (j a b : ℕ) → i ≡ j → u ≡ a → v ≡ b → AreWeighed instance s j Backwards head
+          → AreWeighed instance s j Forwards tail
           → slice_index head a + slice_index tail b ≤ container_side instance j → ⊥
       go j a b p q r hs ts l =
           let hs' = subst (λ (m : ℕ). AreWeighed instance s m Backwards head) (sym p) hs in
           let ts' = subst (λ (m : ℕ). AreWeighed instance s m Forwards tail) (sym p) ts in
           let l' : slice_index head u + slice_index tail v ≤ container_side instance i = rw (p, q, r) l in
           let hu = last_there instance before u g.is.1 in
-          let one = (head_of (excludes s.trail) i instance u (slice_index head u) (hs'.heaviest u hu)).most before g.is.1 g.premises.0 in
-          let two = (tail_of (excludes s.trail) i instance v (slice_index tail v) (ts'.heaviest v g.is.2.0)).most after g.is.2 g.premises.1 in
+          let one = (head_of (excludes s.trail) i instance u (slice_index head u) (hs'.heaviest u hu)).most before
+          g.is.1 g.premises.0 in
+          let two = (tail_of (excludes s.trail) i instance v (slice_index tail v) (ts'.heaviest v g.is.2.0)).most after
+          g.is.2 g.premises.1 in
           let wide = g.premises.2 in
           omega (arith, l', one, two, wide)
 
-  pub light_sought : (s : PlainEdges) (x : List PlainStep) (e : Exclusion) (head tail : List ℕ) → AreWeighed instance s e.dim Backwards head → AreWeighed instance s e.dim Forwards tail
-      → slice_index head e.u + slice_index tail e.v ≤ container_side instance e.dim → IsSought instance s s x x e (λ rule. IsChainRule rule)
+  pub light_sought : (s : PlainEdges) (x : List PlainStep) (e : Exclusion) (head tail : List ℕ)
+      → AreWeighed instance s e.dim Backwards head → AreWeighed instance s e.dim Forwards tail
+      → slice_index head e.u + slice_index tail e.v ≤ container_side instance e.dim
+      → IsSought instance s s x x e (λ rule. IsChainRule rule)
   light_sought s x e head tail heads tails low = record {
     goes = goes_nowhere instance s x;
     tried = λ rule k g. absurd (too_light s e head tail heads tails low rule k g);
   }
 
-  pub heavy_sought : (a b : PlainEdges) (x y : List PlainStep) (e : Exclusion) → e.rel ≡ Before → IsChainStepped instance a b x y e.dim e.u e.v
+  pub heavy_sought : (a b : PlainEdges) (x y : List PlainStep) (e : Exclusion) → e.rel ≡ Before
+      → IsChainStepped instance a b x y e.dim e.u e.v
       → IsSought instance a b x y e (λ rule. IsChainRule rule)
   heavy_sought a b x y e f s = record { goes = s.goes; tried = λ rule k g. rw f s.there }
 
 module _ (instance : PlainInstance) where
   -- CHAIN gives nothing but before
-  not_before : (X : Exclusions) (e : Exclusion) (rule : Rule) → IsChainRule rule → Gives instance X rule e → e.rel ≡ Before
+  not_before : (X : Exclusions) (e : Exclusion) (rule : Rule) → IsChainRule rule → Gives instance X rule e
+      → e.rel ≡ Before
   not_before X e (Pair i u v) k g = absurd k
   not_before X e (Apart i u v) k g = absurd k
   not_before X e (Triple i u v x) k g = absurd k
@@ -109,18 +125,26 @@ module _ (instance : PlainInstance) where
   not_before X e (Order i a b c d) k g = absurd k
   not_before X e (Chain i before u v after) k g = g.concluded
 
-  pub try_other : (s : PlainEdges) (x : List PlainStep) (e : Exclusion) (b : Bool) → (e.rel ≡ Before → IsTrue b) → b ≡ false → IsChainTry instance s s x x e false
+  pub try_other : (s : PlainEdges) (x : List PlainStep) (e : Exclusion) (b : Bool) → (e.rel ≡ Before → IsTrue b)
+      → b ≡ false → IsChainTry instance s s x x e false
   try_other s x e b f h = record {
     goes = goes_nowhere instance s x;
     empty = λ k. absurd (true≢false (sym k));
     tried = λ _ rule k g. absurd (true≢false (sym (f (not_before (excludes s.trail) e rule k g)) ∙ h));
   }
 
-  pub try_there : (a b : PlainEdges) (x y : List PlainStep) (e : Exclusion) (there : Bool) → Goes instance a b x y → there ≡ excludes b.trail e.dim e.u e.v e.rel → there ≡ true
+  pub try_there : (a b : PlainEdges) (x y : List PlainStep) (e : Exclusion) (there : Bool) → Goes instance a b x y
+      → there ≡ excludes b.trail e.dim e.u e.v e.rel → there ≡ true
       → IsChainTry instance a b x y e false
-  try_there a b x y e there g f h = record { goes = g; empty = λ k. absurd (true≢false (sym k)); tried = λ _ rule k given. sym f ∙ h }
+  try_there a b x y e there g f h = record {
+    goes = g;
+    empty = λ k. absurd (true≢false (sym k));
+    tried =
+        λ _ rule k given. sym f ∙ h;
+  }
 
-  pub empty_mask : (s : PlainEdges) (p : Place) → s.dims ≡ dims instance → s.boxes ≡ box_count instance → IsEmptyPlace s p → HasEmptyMask instance (excludes s.trail)
+  pub empty_mask : (s : PlainEdges) (p : Place) → s.dims ≡ dims instance → s.boxes ≡ box_count instance
+      → IsEmptyPlace s p → HasEmptyMask instance (excludes s.trail)
   empty_mask s p d n h = record {
     dim = p.dim;
     u = p.u;
@@ -134,13 +158,15 @@ module _ (instance : PlainInstance) where
     each = h.each;
   }
 
-  pub try_empty : (a b : PlainEdges) (x y : List PlainStep) (e : Exclusion) (p : Place) → IsPlaced instance a e → Goes instance a b x y → IsEmptyPlace b p
+  pub try_empty : (a b : PlainEdges) (x y : List PlainStep) (e : Exclusion) (p : Place) → IsPlaced instance a e
+      → Goes instance a b x y → IsEmptyPlace b p
       → IsChainTry instance a b x y e true
   try_empty a b x y e p placed g h =
       let later = placed_by instance a b x y e placed g in
       record { goes = g; empty = λ _. empty_mask b p later.dims later.boxes h; tried = λ k. absurd (true≢false k) }
 
-  pub try_taken : (a b c : PlainEdges) (x y z : List PlainStep) (e : Exclusion) → Goes instance a b x y → IsSought instance b c y z e (λ rule. IsChainRule rule)
+  pub try_taken : (a b c : PlainEdges) (x y z : List PlainStep) (e : Exclusion) → Goes instance a b x y
+      → IsSought instance b c y z e (λ rule. IsChainRule rule)
       → IsChainTry instance a c x z e false
   try_taken a b c x y z e g s = record {
     goes = goes_on instance a b c x y z g s.goes;
@@ -149,5 +175,7 @@ module _ (instance : PlainInstance) where
   }
 
   pub no_empty : (s : PlainEdges) → s.dims ≡ dims instance → s.boxes ≡ box_count instance
-      → ((i : ℕ) → i < s.dims → (v : ℕ) → v < s.boxes → (u : ℕ) → u < v → IsLeft (excludes s.trail) i u v) → HasNoEmptyMask instance (excludes s.trail)
-  no_empty s d n h = none_empty instance s.trail (λ i hi v hv. h i (subst (λ (k : ℕ). i < k) (sym d) hi) v (subst (λ (k : ℕ). v < k) (sym n) hv))
+      → ((i : ℕ) → i < s.dims → (v : ℕ) → v < s.boxes → (u : ℕ) → u < v → IsLeft (excludes s.trail) i u v)
+      → HasNoEmptyMask instance (excludes s.trail)
+  no_empty s d n h = none_empty instance s.trail
+      (λ i hi v hv. h i (subst (λ (k : ℕ). i < k) (sym d) hi) v (subst (λ (k : ℕ). v < k) (sym n) hv))

@@ -15,17 +15,20 @@ use Rattle.refutation_steps.specs.Goes.{Goes, IsTried}
 use Rattle.refutation_steps.specs.Replays.{IsChainRule}
 
 -- each number is the weight of the heaviest chain of the box, in this direction
-pub record AreWeighed (instance : PlainInstance) (s : PlainEdges) (i : ℕ) (direction : Direction) (ks : List ℕ) : Type 0 where
-  pub sizes : IsSized instance s i
-  pub positive : (v : ℕ) → v < box_count instance → 1 ≤ side instance v i
-  pub count : length ks ≡ box_count instance
-  pub transitive : IsTransitive (box_count instance) (Leads (excludes s.trail) i direction)
-  pub one_way : IsOneWay (box_count instance) (Leads (excludes s.trail) i direction)
-  pub heaviest : (v : ℕ) → v < box_count instance
-      → IsHeaviestRun (box_count instance) (Leads (excludes s.trail) i direction) (λ u. side instance u i) v (slice_index ks v)
+pub record AreWeighed (instance : PlainInstance) (s : PlainEdges) (i : ℕ) (direction : Direction) (ks : List ℕ) : Type 0
+  where
+    pub sizes : IsSized instance s i
+    pub positive : (v : ℕ) → v < box_count instance → 1 ≤ side instance v i
+    pub count : length ks ≡ box_count instance
+    pub transitive : IsTransitive (box_count instance) (Leads (excludes s.trail) i direction)
+    pub one_way : IsOneWay (box_count instance) (Leads (excludes s.trail) i direction)
+    pub heaviest : (v : ℕ) → v < box_count instance
+        → IsHeaviestRun (box_count instance) (Leads (excludes s.trail) i direction) (λ u. side instance u i) v
+        (slice_index ks v)
 
 -- a chain of the box goes on to w, and those from w on weigh at least so much
-pub record IsNextBox (instance : PlainInstance) (s : PlainEdges) (i : ℕ) (direction : Direction) (ks : List ℕ) (least v w : ℕ) : Type 0 where
+pub record IsNextBox (instance : PlainInstance) (s : PlainEdges) (i : ℕ) (direction : Direction) (ks : List ℕ)
+    (least v w : ℕ) : Type 0 where
   pub there : w < box_count instance
   pub distinct : v ≢ w
   pub leads : Leads (excludes s.trail) i direction v w
@@ -37,7 +40,8 @@ IsNoNextBox instance s i direction ks least v w =
     v ≢ w → Leads (excludes s.trail) i direction v w → slice_index ks w < least
 
 -- behind the list came the boxes of a chain of this box, which weighs at least as much as its number
-pub record IsRunPushed (instance : PlainInstance) (s : PlainEdges) (i : ℕ) (direction : Direction) (ks : List ℕ) (v : ℕ) (old new : List ℕ) : Type 0 where
+pub record IsRunPushed (instance : PlainInstance) (s : PlainEdges) (i : ℕ) (direction : Direction) (ks : List ℕ) (v : ℕ)
+    (old new : List ℕ) : Type 0 where
   pub rest : List ℕ
   pub items : new ≡ old ++ v ∷ rest
   pub boxes : AreBoxesAmong (box_count instance) (v ∷ rest)
@@ -62,7 +66,8 @@ pub record IsChainFrom (instance : PlainInstance) (s : PlainEdges) (i v least : 
 
 -- steps were taken, after which some mask is empty, or the exclusion is there if CHAIN gives it
 -- before
-pub record IsChainTry (instance : PlainInstance) (old new : PlainEdges) (before after : List PlainStep) (e : Exclusion) (stopped : Bool) : Type 0 where
+pub record IsChainTry (instance : PlainInstance) (old new : PlainEdges) (before after : List PlainStep) (e : Exclusion)
+    (stopped : Bool) : Type 0 where
   pub goes : Goes instance old new before after
   pub empty : IsTrue stopped → HasEmptyMask instance (excludes new.trail)
   pub tried : stopped ≡ false → (rule : Rule) → IsChainRule rule → IsTried instance old new rule e
@@ -82,6 +87,7 @@ pub record IsChainFound (instance : PlainInstance) (es : List Exclusion) (i u v 
   pub premises : Premises instance (excludes es) (Chain i before u v after)
 
 -- it was written as a step
-pub record IsChainStepped (instance : PlainInstance) (old new : PlainEdges) (before after : List PlainStep) (i u v : ℕ) : Type 0 where
+pub record IsChainStepped (instance : PlainInstance) (old new : PlainEdges) (before after : List PlainStep)
+    (i u v : ℕ) : Type 0 where
   pub goes : Goes instance old new before after
   pub there : IsTrue (excludes new.trail i u v Before)

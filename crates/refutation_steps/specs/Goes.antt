@@ -39,6 +39,7 @@ abbrev pub IsTried : PlainInstance → PlainEdges → PlainEdges → Rule → Ex
 IsTried instance old new rule e = Gives instance (excludes old.trail) rule e → IsThere new.trail e
 
 -- the rule was taken as a step where it changes a mask; so all that it gives is there
-pub record IsStepped (instance : PlainInstance) (old new : PlainEdges) (before after : List PlainStep) (rule : Rule) : Type 0 where
+pub record IsStepped (instance : PlainInstance) (old new : PlainEdges) (before after : List PlainStep)
+    (rule : Rule) : Type 0 where
   pub goes : Goes instance old new before after
   pub tried : (e : Exclusion) → IsTried instance old new rule e

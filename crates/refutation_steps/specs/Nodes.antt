@@ -32,10 +32,12 @@ IsKnown instance es (Some mark) = IsClosedAt instance es mark
 -- what is given is closed and held; or a mask of what is held is empty
 abbrev pub IsEnd : PlainInstance → List Exclusion → List Exclusion → Option ℕ → Type 0
 IsEnd instance given held None = HasEmptyMask instance (excludes held)
-IsEnd instance given held (Some mark) = (mark ≡ length given) × IsClosedAt instance given mark × IsSubset (excludes given) (excludes held)
+IsEnd instance given held (Some mark) = (mark ≡ length given) × IsClosedAt instance given mark × IsSubset
+    (excludes given) (excludes held)
 
 -- steps were taken to what a closing adds
-pub record IsSettled (instance : PlainInstance) (old new : PlainEdges) (before after : List PlainStep) (given : List Exclusion) (end_ : Option ℕ) : Type 0 where
+pub record IsSettled (instance : PlainInstance) (old new : PlainEdges) (before after : List PlainStep)
+    (given : List Exclusion) (end_ : Option ℕ) : Type 0 where
   pub goes : Goes instance old new before after
   pub ended : IsEnd instance given new.trail end_
 
@@ -50,7 +52,8 @@ pub record IsDrawn (instance : PlainInstance) (es given held : List Exclusion) (
   pub known : IsKnown instance given closed
 
 -- the tokens refute under them
-pub record IsOpenNode (instance : PlainInstance) (es given held : List Exclusion) (closed : Option ℕ) (tokens : List PlainToken) : Type 0 where
+pub record IsOpenNode (instance : PlainInstance) (es given held : List Exclusion) (closed : Option ℕ)
+    (tokens : List PlainToken) : Type 0 where
   pub refutes : Refutes instance es tokens
   pub drawn : IsDrawn instance es given held closed
 
@@ -69,7 +72,8 @@ entered p es = with_some (with_some es p.second) p.first
 
 -- The tokens begin with those of a node that is entered from these exclusions of its parent, and
 -- the others are right for the nodes behind it.
-pub record IsAwaited (instance : PlainInstance) (given held : List Exclusion) (p : Pending) (rest : List PlainToken → Type 0) (tokens : List PlainToken) : Type 0 where
+pub record IsAwaited (instance : PlainInstance) (given held : List Exclusion) (p : Pending)
+    (rest : List PlainToken → Type 0) (tokens : List PlainToken) : Type 0 where
   pub es : List Exclusion
   pub own : List PlainToken
   pub others : List PlainToken
@@ -84,7 +88,8 @@ abbrev pub AreAwaiting : PlainInstance → List Exclusion → List Exclusion →
 AreAwaiting instance given held [] tokens = tokens ≡ []
 AreAwaiting instance given held (p ∷ ps) tokens =
     (p.given ≤ length given) × (p.held ≤ length held)
-    × IsAwaited instance (oldest p.given given) (oldest p.held held) p (AreAwaiting instance (oldest p.given given) (oldest p.held held) ps) tokens
+    × IsAwaited instance (oldest p.given given) (oldest p.held held) p
+    (AreAwaiting instance (oldest p.given given) (oldest p.held held) ps) tokens
 
 -- what is held at each of them
 abbrev pub held_of : List Exclusion → List Pending → List (List Exclusion)
@@ -92,7 +97,8 @@ held_of held [] = []
 held_of held (p ∷ ps) = entered p (oldest p.held held) ∷ held_of (oldest p.held held) ps
 
 -- the lines begin with some that explain under the exclusions, and the others are right
-pub record ExplainsFirst (instance : PlainInstance) (es : List Exclusion) (rest : List PlainStep → Type 0) (lines : List PlainStep) : Type 0 where
+pub record ExplainsFirst (instance : PlainInstance) (es : List Exclusion) (rest : List PlainStep → Type 0)
+    (lines : List PlainStep) : Type 0 where
   pub own : List PlainStep
   pub others : List PlainStep
   pub parts : lines ≡ own ++ others
@@ -106,17 +112,20 @@ ExplainsEach instance (es ∷ ess) lines = ExplainsFirst instance es (ExplainsEa
 
 -- the lines so far explain the instance before those that explain under these lists
 abbrev pub LeadsOn : PlainInstance → List (List Exclusion) → List PlainStep → Type 0
-LeadsOn instance ess lines = (more : List PlainStep) → ExplainsEach instance ess more → Explains instance [] (lines ++ more)
+LeadsOn instance ess lines = (more : List PlainStep) → ExplainsEach instance ess more
+    → Explains instance [] (lines ++ more)
 
 -- ---- the walk
 
 -- between two nodes: the tokens that are left are those of the nodes that wait
-pub record IsWalking (instance : PlainInstance) (given held : List Exclusion) (ps : List Pending) (lines : List PlainStep) (tokens : List PlainToken) : Type 0 where
+pub record IsWalking (instance : PlainInstance) (given held : List Exclusion) (ps : List Pending)
+    (lines : List PlainStep) (tokens : List PlainToken) : Type 0 where
   pub awaits : AreAwaiting instance given held ps tokens
   pub leads : LeadsOn instance (held_of held ps) lines
 
 -- at a node: the tokens that are left are its own, and then those of the nodes that wait
-pub record IsAtNode (instance : PlainInstance) (given held : List Exclusion) (closed : Option ℕ) (ps : List Pending) (lines : List PlainStep) (tokens : List PlainToken) : Type 0 where
+pub record IsAtNode (instance : PlainInstance) (given held : List Exclusion) (closed : Option ℕ) (ps : List Pending)
+    (lines : List PlainStep) (tokens : List PlainToken) : Type 0 where
   pub es : List Exclusion
   pub own : List PlainToken
   pub others : List PlainToken

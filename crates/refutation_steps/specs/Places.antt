@@ -15,7 +15,8 @@ pub record IsPlaced (instance : PlainInstance) (s : PlainEdges) (e : Exclusion) 
   pub edge : IsEdgeAmong s.dims s.boxes e.dim e.u e.v
 
 -- steps were taken, after which the exclusion is there if a rule of this kind gives it before
-pub record IsSought (instance : PlainInstance) (old new : PlainEdges) (before after : List PlainStep) (e : Exclusion) (kind : Rule → Type 0) : Type 0 where
+pub record IsSought (instance : PlainInstance) (old new : PlainEdges) (before after : List PlainStep) (e : Exclusion)
+    (kind : Rule → Type 0) : Type 0 where
   pub goes : Goes instance old new before after
   pub tried : (rule : Rule) → kind rule → IsTried instance old new rule e
 

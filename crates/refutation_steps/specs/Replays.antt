@@ -18,7 +18,8 @@ turned_of e = record { dim = e.dim; u = e.v; v = e.u; rel = mirror e.rel }
 
 -- steps were taken, after which the exclusion is there if a rule other than CHAIN gives it or its
 -- mirror before
-pub record IsPlainSought (instance : PlainInstance) (old new : PlainEdges) (before after : List PlainStep) (e : Exclusion) : Type 0 where
+pub record IsPlainSought (instance : PlainInstance) (old new : PlainEdges) (before after : List PlainStep)
+    (e : Exclusion) : Type 0 where
   pub goes : Goes instance old new before after
   pub here : (rule : Rule) → IsPlain rule → IsTried instance old new rule e
   pub mirrored : (rule : Rule) → IsPlain rule → IsTried instance old new rule (turned_of e)
@@ -33,7 +34,8 @@ IsChainRule (Cycle i a b c d) = ⊥
 IsChainRule (Order i a b c d) = ⊥
 
 -- the same of CHAIN, unless some mask is empty
-pub record AreChainsTried (instance : PlainInstance) (old new : PlainEdges) (before after : List PlainStep) (e : Exclusion) (stopped : Bool) : Type 0 where
+pub record AreChainsTried (instance : PlainInstance) (old new : PlainEdges) (before after : List PlainStep)
+    (e : Exclusion) (stopped : Bool) : Type 0 where
   pub goes : Goes instance old new before after
   pub empty : IsTrue stopped → HasEmptyMask instance (excludes new.trail)
   pub here : stopped ≡ false → (rule : Rule) → IsChainRule rule → IsTried instance old new rule e
@@ -41,13 +43,16 @@ pub record AreChainsTried (instance : PlainInstance) (old new : PlainEdges) (bef
 
 -- steps were taken, after which the exclusion is there if it follows by a rule before, or some mask
 -- is empty
-pub record IsMade (instance : PlainInstance) (old new : PlainEdges) (before after : List PlainStep) (e : Exclusion) (stopped : Bool) : Type 0 where
+pub record IsMade (instance : PlainInstance) (old new : PlainEdges) (before after : List PlainStep) (e : Exclusion)
+    (stopped : Bool) : Type 0 where
   pub goes : Goes instance old new before after
   pub empty : IsTrue stopped → HasEmptyMask instance (excludes new.trail)
-  pub made : stopped ≡ false → IsTrue (excludes old.trail e.dim e.u e.v e.rel) ⊎ Follows instance (excludes old.trail) e.dim e.u e.v e.rel → IsThere new.trail e
+  pub made : stopped ≡ false → IsTrue (excludes old.trail e.dim e.u e.v e.rel) ⊎ Follows instance (excludes old.trail)
+      e.dim e.u e.v e.rel → IsThere new.trail e
 
 -- steps were taken, after which all is there that the closed list has, or some mask is empty
-pub record IsReplayed (instance : PlainInstance) (old new : PlainEdges) (before after : List PlainStep) (closed : List Exclusion) (stopped : Bool) : Type 0 where
+pub record IsReplayed (instance : PlainInstance) (old new : PlainEdges) (before after : List PlainStep)
+    (closed : List Exclusion) (stopped : Bool) : Type 0 where
   pub goes : Goes instance old new before after
   pub empty : IsTrue stopped → HasEmptyMask instance (excludes new.trail)
   pub holds : stopped ≡ false → IsSubset (excludes closed) (excludes new.trail)

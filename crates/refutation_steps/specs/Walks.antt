@@ -25,11 +25,13 @@ pub record IsFor (instance : PlainInstance) (w : Walk) : Type 0 where
 
 -- between two nodes, before these tokens
 abbrev pub IsBetween : PlainInstance → Walk → List PlainToken → Type 0
-IsBetween instance w tokens = IsWalking instance w.given.trail w.state.trail (reverse w.pending.items) (plain_steps w.lines.items) tokens
+IsBetween instance w tokens = IsWalking instance w.given.trail w.state.trail (reverse w.pending.items)
+    (plain_steps w.lines.items) tokens
 
 -- at a node, before these tokens
 abbrev pub IsAt : PlainInstance → Walk → Option ℕ → List PlainToken → Type 0
-IsAt instance w closed tokens = IsAtNode instance w.given.trail w.state.trail closed (reverse w.pending.items) (plain_steps w.lines.items) tokens
+IsAt instance w closed tokens = IsAtNode instance w.given.trail w.state.trail closed (reverse w.pending.items)
+    (plain_steps w.lines.items) tokens
 
 -- a line came, and two nodes
 pub record IsSplit (old new : Walk) (token : PlainToken) (near far : Pending) : Type 0 where
@@ -43,7 +45,14 @@ pub record IsSplit (old new : Walk) (token : PlainToken) (near far : Pending) : 
 -- a child of the node that the walk is at
 abbrev pub child_of : Walk → ℕ → Exclusion → Option Exclusion → Pending
 child_of w closed first second =
-    record { given = length w.given.trail; held = length w.state.trail; closed = Some closed; first = Some first; second = second }
+    record {
+      given = length w.given.trail;
+      held = length w.state.trail;
+      closed = Some closed;
+      first =
+          Some first;
+      second = second;
+    }
 
 -- the two splits, by the numbers of the text
 abbrev pub IsApartSplit : Walk → Walk → ℕ → ℕ → ℕ → ℕ → Type 0

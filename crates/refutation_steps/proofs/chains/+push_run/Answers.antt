@@ -5,7 +5,8 @@ use Rattle.refutation_steps.proofs.chains.+push_run.Goals as goal
 
 pub push_run-requires : goal.push_run-requires
 push_run-requires t c = (
-  (let l = falls c.args.instance.now c.args.state.now c.args.dim c.args.direction c.args.weights.now c.requires.weighed c.args.v c.in-Some.w _ c.requires.v c.in-Some.ensures in
+  (let l = falls c.args.instance.now c.args.state.now c.args.dim c.args.direction c.args.weights.now c.requires.weighed
+      c.args.v c.in-Some.w _ c.requires.v c.in-Some.ensures in
       let d = c.decreases in
       omega (arith, l, d)),
   (c.requires.weighed, c.in-Some.ensures.there),
@@ -13,13 +14,17 @@ push_run-requires t c = (
 
 pub returns-in-Some : goal.returns-in-Some
 returns-in-Some t c =
-    let low = least_side c.args.instance.now c.args.state.now c.args.dim c.args.direction c.args.weights.now c.requires.weighed c.args.v c.requires.v in
+    let low = least_side c.args.instance.now c.args.state.now c.args.dim c.args.direction c.args.weights.now
+    c.requires.weighed c.args.v c.requires.v in
     on_ok c.push_run.result
-    (λ p. pushed_next c.args.instance.now c.args.state.now c.args.dim c.args.direction c.args.weights.now c.requires.weighed c.args.v c.in-Some.w _ _ _ _ c.requires.v
+    (λ p. pushed_next c.args.instance.now c.args.state.now c.args.dim c.args.direction c.args.weights.now
+    c.requires.weighed c.args.v c.in-Some.w _ _ _ _ c.requires.v
     (omega (arith, low)) c.in-Some.ensures c.in-Ok.ensures.items p) c.push_run.ensures
 
 pub returns-in-None : goal.returns-in-None
 returns-in-None t c =
-    let low = least_side c.args.instance.now c.args.state.now c.args.dim c.args.direction c.args.weights.now c.requires.weighed c.args.v c.requires.v in
-    pushed_last c.args.instance.now c.args.state.now c.args.dim c.args.direction c.args.weights.now c.requires.weighed c.args.v _ _ _ c.requires.v
+    let low = least_side c.args.instance.now c.args.state.now c.args.dim c.args.direction c.args.weights.now
+    c.requires.weighed c.args.v c.requires.v in
+    pushed_last c.args.instance.now c.args.state.now c.args.dim c.args.direction c.args.weights.now c.requires.weighed
+    c.args.v _ _ _ c.requires.v
     (omega (arith, low)) c.in-None.ensures c.in-Ok.ensures.items

@@ -5,7 +5,8 @@ use Rattle.refutation_steps.proofs.closings.enter_node.Goals as goal
 
 pub returns : goal.returns
 returns c =
-    let n = next_waits c.args.instance.now c.args.walk.now.state.trail c.enter-2.new.state.trail c.args.walk.now.waiting.items c.pop.new.self.items c.in-Some.node c.in-Some.ensures.items
+    let n = next_waits c.args.instance.now c.args.walk.now.state.trail c.enter-2.new.state.trail
+    c.args.walk.now.waiting.items c.pop.new.self.items c.in-Some.node c.in-Some.ensures.items
     (ap (λ (s : PlainEdges). s.trail) c.enter-2.ensures) c.requires.waits in (
       record {
         same_dims = ap (λ (s : PlainEdges). s.dims) c.enter-2.ensures ∙ c.requires.same_dims;

@@ -5,4 +5,5 @@ use Rattle.refutation_steps.proofs.Emptied.{below_next}
 use Rattle.refutation_steps.proofs.empties.empty_in.Goals as goal
 
 pub loop-v-preserved : goal.loop-v-preserved
-loop-v-preserved c = below_next (λ k. (u : ℕ) → u < k → IsLeft (excludes c.args.state.now.trail) c.args.dim u k) c.loop-v.v c.loop-v.invariant c.in_default.ensures
+loop-v-preserved c = below_next (λ k. (u : ℕ) → u < k → IsLeft (excludes c.args.state.now.trail) c.args.dim u k)
+    c.loop-v.v c.loop-v.invariant c.in_default.ensures

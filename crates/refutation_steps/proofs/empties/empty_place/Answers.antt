@@ -5,4 +5,5 @@ use Rattle.refutation_steps.proofs.Emptied.{below_next}
 use Rattle.refutation_steps.proofs.empties.empty_place.Goals as goal
 
 pub loop-dim-preserved : goal.loop-dim-preserved
-loop-dim-preserved c = below_next (λ k. (v : ℕ) → v < c.args.state.now.boxes → (u : ℕ) → u < v → IsLeft (excludes c.args.state.now.trail) k u v) c.loop-dim.dim c.loop-dim.invariant c.in_default.ensures
+loop-dim-preserved c = below_next (λ k. (v : ℕ) → v < c.args.state.now.boxes → (u : ℕ) → u < v
+    → IsLeft (excludes c.args.state.now.trail) k u v) c.loop-dim.dim c.loop-dim.invariant c.in_default.ensures

@@ -13,4 +13,6 @@ pub returns-then-has-3 : goal.returns-then-has-3
 returns-then-has-3 c = (After, left_there _ _ _ c.has-3.ensures (c.mask-mask.ensures After) c.if-has-3.true)
 
 pub returns : goal.returns
-returns c = emptied (excludes c.args.state.now.trail) c.args.dim c.args.u c.args.v _ _ _ _ _ _ c.has.ensures (c.mask-mask.ensures Overlap) c.if-has.false c.has-2.ensures (c.mask-mask.ensures Before) c.if-has-2.false c.has-3.ensures (c.mask-mask.ensures After) c.if-has-3.false
+returns c = emptied (excludes c.args.state.now.trail) c.args.dim c.args.u c.args.v _ _ _ _ _ _ c.has.ensures
+    (c.mask-mask.ensures Overlap) c.if-has.false c.has-2.ensures (c.mask-mask.ensures Before) c.if-has-2.false
+    c.has-3.ensures (c.mask-mask.ensures After) c.if-has-3.false

@@ -7,4 +7,6 @@ use Rattle.refutation_steps.proofs.Linked.{IsTrying}
 use Rattle.refutation_steps.proofs.links.link_any.Given as goal
 
 abbrev pub invariant-loop-u : goal.invariant-loop-u
-invariant-loop-u l = IsTrying l.instance l.fn.state l.state (plain_steps l.fn.lines.items) (plain_steps l.lines.items) (λ s k. (v : ℕ) → v < box_count l.instance → (x : ℕ) → x < box_count l.instance → IsLinkedAt (box_count l.instance) (excludes s.trail) l.dim k v x) l.u
+invariant-loop-u l = IsTrying l.instance l.fn.state l.state (plain_steps l.fn.lines.items) (plain_steps l.lines.items)
+    (λ s k. (v : ℕ) → v < box_count l.instance → (x : ℕ) → x < box_count l.instance
+    → IsLinkedAt (box_count l.instance) (excludes s.trail) l.dim k v x) l.u

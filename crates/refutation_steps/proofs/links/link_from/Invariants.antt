@@ -7,4 +7,5 @@ use Rattle.refutation_steps.proofs.Linked.{IsTrying}
 use Rattle.refutation_steps.proofs.links.link_from.Given as goal
 
 abbrev pub invariant-loop-v : goal.invariant-loop-v
-invariant-loop-v l = IsTrying l.instance l.fn.state l.state (plain_steps l.fn.lines.items) (plain_steps l.lines.items) (λ s k. (x : ℕ) → x < box_count l.instance → IsLinkedAt (box_count l.instance) (excludes s.trail) l.dim l.u k x) l.v
+invariant-loop-v l = IsTrying l.instance l.fn.state l.state (plain_steps l.fn.lines.items) (plain_steps l.lines.items)
+    (λ s k. (x : ℕ) → x < box_count l.instance → IsLinkedAt (box_count l.instance) (excludes s.trail) l.dim l.u k x) l.v

@@ -6,4 +6,5 @@ use Rattle.refutation_steps.proofs.Linked.{IsTrying}
 use Rattle.refutation_steps.proofs.links.link_row.Given as goal
 
 abbrev pub invariant-loop-x : goal.invariant-loop-x
-invariant-loop-x l = IsTrying l.instance l.fn.state l.state (plain_steps l.fn.lines.items) (plain_steps l.lines.items) (λ s k. IsLinkedAt (box_count l.instance) (excludes s.trail) l.dim l.u l.v k) l.x
+invariant-loop-x l = IsTrying l.instance l.fn.state l.state (plain_steps l.fn.lines.items) (plain_steps l.lines.items)
+    (λ s k. IsLinkedAt (box_count l.instance) (excludes s.trail) l.dim l.u l.v k) l.x

@@ -5,13 +5,19 @@ use Rattle.refutation_steps.proofs.Seeking.{sought_start, sought_next, placed_on
 use Rattle.refutation_steps.proofs.places.seek_triple.Goals as goal
 
 pub triple_with-requires-clause-placed : goal.triple_with-requires-clause-placed
-triple_with-requires-clause-placed c = placed_on c.args.instance.now _ _ _ _ c.args.e _ c.requires.placed c.loop-x.invariant
+triple_with-requires-clause-placed c = placed_on c.args.instance.now _ _ _ _ c.args.e _ c.requires.placed
+    c.loop-x.invariant
 
 pub loop-x-init : goal.loop-x-init
-loop-x-init c = sought_start c.args.instance.now _ _ c.args.e (λ k rule. rule ≡ Triple c.args.e.dim c.args.e.u c.args.e.v k)
+loop-x-init c = sought_start c.args.instance.now _ _ c.args.e
+    (λ k rule. rule ≡ Triple c.args.e.dim c.args.e.u c.args.e.v k)
 
 pub loop-x-preserved : goal.loop-x-preserved
-loop-x-preserved c = sought_next c.args.instance.now _ _ _ _ _ _ c.args.e (λ k rule. rule ≡ Triple c.args.e.dim c.args.e.u c.args.e.v k) c.loop-x.x c.loop-x.invariant c.in_ok-triple_with.ensures
+loop-x-preserved c = sought_next c.args.instance.now _ _ _ _ _ _ c.args.e
+    (λ k rule. rule ≡ Triple c.args.e.dim c.args.e.u c.args.e.v k) c.loop-x.x c.loop-x.invariant
+    c.in_ok-triple_with.ensures
 
 pub returns : goal.returns
-returns c = sought_all c.args.instance.now _ _ _ _ c.args.e (λ k rule. rule ≡ Triple c.args.e.dim c.args.e.u c.args.e.v k) c.loop-x.x (box_count c.args.instance.now) (let l = c.loop-x-test.false in let f = c.len-x-end.ensures.value in omega (arith, l, f)) c.loop-x.invariant
+returns c = sought_all c.args.instance.now _ _ _ _ c.args.e
+    (λ k rule. rule ≡ Triple c.args.e.dim c.args.e.u c.args.e.v k) c.loop-x.x (box_count c.args.instance.now)
+    (let l = c.loop-x-test.false in let f = c.len-x-end.ensures.value in omega (arith, l, f)) c.loop-x.invariant

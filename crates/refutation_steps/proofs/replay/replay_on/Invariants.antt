@@ -8,7 +8,8 @@ use Rattle.refutation_steps.proofs.replay.replay_on.Given as goal
 abbrev pub invariant-loop-change : goal.invariant-loop-change
 invariant-loop-change l =
     record {
-      so_far : IsSoFar l.instance l.fn.state l.state (plain_steps l.fn.lines.items) (plain_steps l.lines.items) l.closed.trail l.fn.from l.at;
+      so_far : IsSoFar l.instance l.fn.state l.state (plain_steps l.fn.lines.items) (plain_steps l.lines.items)
+          l.closed.trail l.fn.from l.at;
       room : HasWeights (box_count l.instance) l.room.head.items l.room.tail.items;
     }
 

@@ -9,7 +9,9 @@ use Rattle.refutation_steps.proofs.replay.seek_chains.Goals as goal
 pub returns-clause-sought : goal.returns-clause-sought
 returns-clause-sought c = if_ok c.seek_chain-2.result
     (λ stopped t. chains_tried c.args.instance.now _ _ _ _ _ _ c.args.e stopped
-    (subst (λ b. IsChainTry c.args.instance.now c.args.state.now c.seek_chain.new.state (plain_steps c.args.lines.now.items) (plain_steps c.seek_chain.new.lines.items) c.args.e b)
+    (subst (λ b. IsChainTry c.args.instance.now c.args.state.now c.seek_chain.new.state
+    (plain_steps c.args.lines.now.items) (plain_steps c.seek_chain.new.lines.items) c.args.e b)
     c.if-stopped.false c.in_ok-stopped.ensures.sought)
-    (subst (λ (k : Exclusion). IsChainTry c.args.instance.now c.seek_chain.new.state c.seek_chain-2.new.state (plain_steps c.seek_chain.new.lines.items) (plain_steps c.seek_chain-2.new.lines.items) k stopped)
+    (subst (λ (k : Exclusion). IsChainTry c.args.instance.now c.seek_chain.new.state c.seek_chain-2.new.state
+    (plain_steps c.seek_chain.new.lines.items) (plain_steps c.seek_chain-2.new.lines.items) k stopped)
     c.turned_exclusion-turned.ensures t)) c.seek_chain-2.ensures.sought

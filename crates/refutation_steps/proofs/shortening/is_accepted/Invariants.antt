@@ -8,5 +8,6 @@ abbrev pub invariant-loop-line : goal.invariant-loop-line
 invariant-loop-line l =
     record {
       same : l.auditor.instance ≡ l.instance;
-      rest : run l.instance l.auditor.audited (drop l.line-index (plain_steps l.lines)) ≡ run l.instance starting (plain_steps l.lines);
+      rest : run l.instance l.auditor.audited (drop l.line-index (plain_steps l.lines)) ≡ run l.instance starting
+          (plain_steps l.lines);
     }

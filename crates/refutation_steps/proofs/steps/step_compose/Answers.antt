@@ -8,6 +8,9 @@ use Rattle.refutation_steps.proofs.steps.step_compose.Goals as goal
 pub returns : goal.returns
 returns c =
     on_ok c.write_taken.result
-    (λ e. stepped c.args.instance.now c.args.state.now c.take_compose-taken.new.state (Compose c.args.dim c.args.u c.args.v c.args.x) c.take_compose-taken.result (plain_steps c.args.lines.now.items) (plain_steps c.write_taken.new.lines.items)
-    (instance_of c.args.instance.now c.args.state.now c.args.dim (c.args.u ∷ c.args.v ∷ c.args.x ∷ []) c.requires.dims c.requires.count c.requires.dim c.requires.boxes) (c.take_compose-taken.ensures c.args.instance.now) e)
+    (λ e. stepped c.args.instance.now c.args.state.now c.take_compose-taken.new.state
+    (Compose c.args.dim c.args.u c.args.v c.args.x) c.take_compose-taken.result (plain_steps c.args.lines.now.items)
+    (plain_steps c.write_taken.new.lines.items)
+    (instance_of c.args.instance.now c.args.state.now c.args.dim (c.args.u ∷ c.args.v ∷ c.args.x ∷ []) c.requires.dims
+    c.requires.count c.requires.dim c.requires.boxes) (c.take_compose-taken.ensures c.args.instance.now) e)
     (simp unary_clauses at c.write_taken.ensures)

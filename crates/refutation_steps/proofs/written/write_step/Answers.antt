@@ -6,4 +6,5 @@ use Rattle.refutation_steps.proofs.written.write_step.Goals as goal
 
 pub returns : goal.returns
 returns c = on_ok c.write_line.result
-    (λ e. line_passed (plain_steps c.args.lines.now.items) (plain_steps c.write_line.new.lines.items) (plain_step c.args.step) c.requires e) c.write_line.ensures
+    (λ e. line_passed (plain_steps c.args.lines.now.items) (plain_steps c.write_line.new.lines.items)
+    (plain_step c.args.step) c.requires e) c.write_line.ensures

@@ -7,5 +7,6 @@ use Rattle.refutation_steps.proofs.written.write_token.Goals as goal
 
 pub returns : goal.returns
 returns c = on_ok c.write_line.result
-    (λ e. line_taken (plain_steps c.args.lines.now.items) (plain_steps c.write_reasons.new.lines.items) (plain_steps c.write_line.new.lines.items) (plain_step c.in_ok-line.line)
+    (λ e. line_taken (plain_steps c.args.lines.now.items) (plain_steps c.write_reasons.new.lines.items)
+    (plain_steps c.write_line.new.lines.items) (plain_step c.in_ok-line.line)
     (plain_token c.args.token.now) c.in_ok-write_reasons.ensures e c.in_ok-line.ensures) c.write_line.ensures
