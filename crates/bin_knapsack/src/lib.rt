@@ -14,5 +14,6 @@ pub use bin_search::BinTree;
 pub use bins::Bins;
 pub use choice::Choice;
 pub use choice_search::ChoiceTree;
+pub use counts::decide_bins;
 pub use greatest::greatest_value;
 pub use least::least_bins;

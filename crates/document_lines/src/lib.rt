@@ -17,6 +17,7 @@ mod taking;
 mod tree;
 mod words;
 
+pub use bins::bins_reason;
 pub use ending::EndReader;
 pub use exceeding::ExceedingReader;
 pub use head::{Claimed, HeadReader};

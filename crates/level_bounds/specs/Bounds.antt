@@ -2,7 +2,7 @@
 --
 --     refuted      lowest     highest      placed      while they aren't neighbours, the level halfway between refuted and
 --        |-----x------|          |------------|        lowest is asked, and then the one halfway between highest and placed
-use Rattle.std.specs.Prelude.{ℕ, suc, pred, ◌+◌, ◌-◌, ◌<◌, ◌≤◌, ◌≡◌, ◌⊎◌, List, nat_lt, if◌then◌else◌}
+use Rattle.std.specs.Prelude.{ℕ, suc, pred, ◌+◌, ◌-◌, ◌/◌, ◌<◌, ◌≤◌, ◌≡◌, ◌⊎◌, List, nat_lt, if◌then◌else◌}
 use Rattle.packing_terms.specs.Tokens.{PlainToken}
 use Rattle.tree_terms.specs.Levels.{PlainLevel, PlacedBy, RefutedBy, SpentAt}
 use Rattle.proof_tree.specs.Plain.{plain_tokens}
@@ -54,6 +54,17 @@ IsNear below above = above ≤ suc below
 -- the level may be asked: it is beside one of the two ends
 abbrev pub IsAsked : PlainBounds → ℕ → Type 0
 IsAsked b level = IsInside b.refuted b.lowest level ⊎ IsInside b.highest b.placed level
+
+-- the level halfway between two, rounded down
+abbrev pub middle : ℕ → ℕ → ℕ
+middle below above = below + (above - below) / 2
+
+-- the level is asked next: halfway between the refuted one and the lowest, or, where these are
+-- neighbours, between the highest and the placed one
+abbrev pub IsAskedNext : PlainBounds → ℕ → Type 0
+IsAskedNext b level =
+    ((suc b.refuted < b.lowest) × (level ≡ middle b.refuted b.lowest))
+    ⊎ (IsNear b.refuted b.lowest × ((suc b.highest < b.placed) × (level ≡ middle b.highest b.placed)))
 
 -- nothing is left to be asked
 abbrev pub IsNarrow : PlainBounds → Type 0

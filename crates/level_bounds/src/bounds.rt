@@ -1,8 +1,8 @@
 //! A refuted level and a greater one that is placed, and what was asked between them.
-ghost use Rattle.std.specs.Prelude.{◌≡◌, MatchOption};
+ghost use Rattle.std.specs.Prelude.{◌≡◌, ◌<◌, suc, MatchOption};
 ghost use Rattle.proof_tree.specs.Plain.{plain_tokens};
 ghost use Rattle.level_search.specs.Runs.{plain_level};
-ghost use Rattle.level_bounds.specs.Bounds.{plain_bounds, first_bounds, narrowed, afresh, IsAsked, IsNarrow, IsInside, IsNear};
+ghost use Rattle.level_bounds.specs.Bounds.{plain_bounds, first_bounds, narrowed, afresh, middle, IsAsked, IsAskedNext, IsNarrow, IsInside, IsNear};
 
 use level_search::Level;
 use proof_tree::Token;
@@ -25,7 +25,10 @@ pub struct Bounds {
 
 // The level halfway between two that aren't neighbours.
 fn halfway(below: u64, above: u64) -> Option<u64>
-    ensures { MatchOption result (IsNear below above) (λ level. IsInside below above level) }
+    ensures inside { MatchOption result (IsNear below above)
+        (λ level. IsInside below above level) }
+    ensures halfway { MatchOption result (Unit {0})
+        (λ level. (suc below < above) × (level ≡ middle below above)) }
 {
     let gap = above.saturating_sub(below);
     if gap < 2 {
@@ -61,8 +64,9 @@ impl Bounds {
     /// where these are neighbours, between the highest and the placed one. None comes exactly where
     /// these are neighbours too.
     pub fn next_level(&self) -> Option<u64>
-        ensures { MatchOption result (IsNarrow (plain_bounds self.now))
+        ensures asked { MatchOption result (IsNarrow (plain_bounds self.now))
             (IsAsked (plain_bounds self.now)) }
+        ensures next { MatchOption result (Unit {0}) (IsAskedNext (plain_bounds self.now)) }
     {
         match halfway(self.refuted, self.lowest) {
             Some(level) => Some(level),

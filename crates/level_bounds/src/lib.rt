@@ -1,5 +1,5 @@
-//! Bounds of an optimum: a refuted level and a placed one, narrowed from both ends, whatever answers
-//! a level.
+//! Bounds of an optimum: a refuted level and a placed one, narrowed from both ends, whatever
+//! answers a level.
 #![tactic(auto)]
 
 mod bounds;

@@ -19,6 +19,7 @@ pub mod ProposedEnds
 pub mod ProposedOwn
 pub mod ProposedFit
 pub mod ProposedStrip
+pub mod ProposedBins
 pub mod ProposedDecided
 pub mod Sized
 pub mod FrontAnswering

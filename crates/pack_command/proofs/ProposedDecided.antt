@@ -9,10 +9,8 @@ use Rattle.document_terms.specs.declared.claim.SolvingJob.TheVariants.{Fit as So
 use Rattle.answer_terms.specs.declared.job.DocumentJob.TheVariants.{Solving as Solves}
 use Rattle.answer_terms.specs.Answers.{Answer, answer_text, status_of}
 use Rattle.answer_terms.specs.Solved.{solved}
-use Rattle.bin_knapsack.specs.declared.bins.Bins.{Bins as FoundBins}
 use Rattle.bin_knapsack.specs.declared.choice.Choice.{Choice as FoundChoice}
-use Rattle.answer_streams.specs.declared.solution.Solution.TheVariants.{Bins, Knapsack}
-use Rattle.bin_knapsack.specs.BinAnswers.{IsAnswer as IsBinsAnswer, AreTrueBins}
+use Rattle.answer_streams.specs.declared.solution.Solution.TheVariants.{Knapsack}
 use Rattle.bin_knapsack.specs.Choices.{IsAnswer as IsChoiceAnswer}
 use Rattle.pack_streams.specs.Moves.{Gains}
 use Rattle.pack_streams.specs.Writing.{GainsPart}
@@ -22,26 +20,17 @@ use Rattle.pack_command.specs.Decides.{IsExactlyFit}
 use Rattle.pack_command.specs.Inputs.{IsInputRead}
 use Rattle.pack_command.specs.Own.{IsOwnDocument}
 use Rattle.pack_command.specs.Proposed.{IsProposed, IsProposedSolution, IsProposedAnswered, IsProposedWritten, IsProposedCut, IsProposedDecided, IsAmple}
-use Rattle.pack_command.proofs.BinsDecided.{bins_decided}
 use Rattle.pack_command.proofs.ValueDecided.{value_decided}
-use Rattle.pack_command.proofs.Found.{bins_placed, bins_answered, choice_answered}
+use Rattle.pack_command.proofs.Found.{choice_answered}
 use Rattle.pack_command.proofs.OneJob.{proposed_settings, proposed_job}
 use Rattle.pack_command.proofs.OwnWritten.{own_text}
+use Rattle.pack_command.proofs.ProposedBins.{bins_own, bins_proposed_decided, bins_within}
 use Rattle.pack_command.proofs.ProposedFit.{fit_own, fit_proposed_decided, fit_within, fit_proposed_exactly}
 use Rattle.pack_command.proofs.ProposedOwn.{own_proposed}
 use Rattle.pack_command.proofs.ProposedStrip.{strip_own, strip_proposed_decided, strip_within}
 use Rattle.pack_command.proofs.Written.{taken_all}
 
 -- ---- what is found without proposals
-
-pub bins_proposed : (settings : Settings) (instance : PlainInstance) (bins : FoundBins) → IsBinsAnswer instance settings.budget settings.scales bins → AreTrueBins instance bins
-    → IsProposedSolution SolvesBins settings instance (Bins bins)
-unfolding solved
-bins_proposed settings instance bins a t = record {
-  is = bins_answered instance bins settings.budget settings.scales a;
-  text = refl;
-  placed = bins_placed instance bins settings.budget settings.scales a t;
-}
 
 pub choice_proposed : (settings : Settings) (instance : PlainInstance) (choice : FoundChoice) → IsChoiceAnswer instance settings.budget settings.scales choice
     → IsProposedSolution SolvesKnapsack settings instance (Knapsack choice)
@@ -60,9 +49,7 @@ module _ (settings : Settings) (instance : PlainInstance) (limits : IsInstance i
   unfolding solved
   job_decided SolvesFit is = fit_proposed_decided settings instance limits answer is old new written
   job_decided SolvesStrip is = strip_proposed_decided settings instance answer is old new written
-  job_decided SolvesBins is =
-      subst (λ (a : Answer). IsProposedDecided SolvesBins instance settings old new (status_of a)) (sym is)
-      (bins_decided settings instance limits old new (subst (λ (a : Answer). Gains old new (answer_text instance a)) is written))
+  job_decided SolvesBins is = bins_proposed_decided settings instance answer is old new written
   job_decided SolvesKnapsack is =
       subst (λ (a : Answer). IsProposedDecided SolvesKnapsack instance settings old new (status_of a)) (sym is)
       (value_decided settings instance limits old new (subst (λ (a : Answer). Gains old new (answer_text instance a)) is written))
@@ -71,9 +58,7 @@ module _ (settings : Settings) (instance : PlainInstance) (limits : IsInstance i
   unfolding solved
   job_own SolvesFit is = own_proposed SolvesFit instance limits answer (fit_own settings instance limits answer is) old new written
   job_own SolvesStrip is = own_proposed SolvesStrip instance limits answer (strip_own settings instance answer is) old new written
-  job_own SolvesBins is =
-      subst (λ (a : Answer). IsOwnDocument (Solves SolvesBins) instance old new (status_of a)) (sym is)
-      (own_text (Solves SolvesBins) settings instance limits old new (subst (λ (a : Answer). Gains old new (answer_text instance a)) is written))
+  job_own SolvesBins is = own_proposed SolvesBins instance limits answer (bins_own settings instance answer is) old new written
   job_own SolvesKnapsack is =
       subst (λ (a : Answer). IsOwnDocument (Solves SolvesKnapsack) instance old new (status_of a)) (sym is)
       (own_text (Solves SolvesKnapsack) settings instance limits old new (subst (λ (a : Answer). Gains old new (answer_text instance a)) is written))
@@ -133,7 +118,7 @@ within_by : (job : SolvingJob) (settings : Settings) (instance : PlainInstance) 
     → IsAmple job settings instance → ¬ (status ≡ 3)
 within_by SolvesFit settings instance old new status d ample = fit_within settings instance old new status d.0 ample
 within_by SolvesStrip settings instance old new status d ample = strip_within settings instance old new status d ample
-within_by SolvesBins settings instance old new status d ample = absurd ample
+within_by SolvesBins settings instance old new status d ample = bins_within settings instance old new status d ample
 within_by SolvesKnapsack settings instance old new status d ample = absurd ample
 
 module _ (words : List (String Global)) (old new sunk_old sunk_new : Option (List ℕ)) (status : ℕ) where

@@ -3,31 +3,36 @@ use Rattle.std.specs.Prelude.{ℕ, suc, pred, ◌<◌, ◌≤◌, ◌≡◌, ◌
 use Rattle.std.specs.declared.option.Option.{Option}
 use Rattle.std.specs.declared.alloc.Global.{Global}
 use Rattle.packing_terms.specs.Packing.{PlainInstance, IsPacking, Fits}
-use Rattle.packing_terms.specs.Goals.{with_last_side, IsLeastHeight}
+use Rattle.packing_terms.specs.Goals.{with_last_side, IsLeastHeight, IsLeastBins}
 use Rattle.packing_terms.specs.Limits.{IsInstance}
 use Rattle.packing_terms.specs.Tokens.{PlainToken}
 use Rattle.packing_terms.specs.Refutation.{Refutes}
+use Rattle.packing_terms.specs.OuterRefutation.{IsBinRefutation}
+use Rattle.tree_terms.specs.OuterSearch.{AreBinNumbers}
 use Rattle.tree_terms.specs.Trees.{PlainOutcome}
 use Rattle.text_terms.specs.Texts.{text_instance}
 use Rattle.text_terms.specs.declared.settings.Settings.{Settings}
-use Rattle.document_terms.specs.Claims.{IsHeightBetween}
+use Rattle.document_terms.specs.Claims.{IsHeightBetween, IsBinsBetween}
 use Rattle.document_terms.specs.declared.claim.SolvingJob.{SolvingJob}
 use Rattle.document_terms.specs.declared.claim.SolvingJob.TheVariants.{Fit as SolvesFit, Strip as SolvesStrip, Bins as SolvesBins, Knapsack as SolvesKnapsack}
-use Rattle.document_terms.specs.declared.claim.Claim.TheVariants.{Fitting, NotFitting, LeastHeight, HeightBetween}
+use Rattle.document_terms.specs.declared.claim.Claim.TheVariants.{Fitting, NotFitting, LeastHeight, HeightBetween, LeastBins, BinsBetween}
 use Rattle.answer_terms.specs.Answers.{Answer, answer_text, status_of}
 use Rattle.answer_terms.specs.Answers.Answer.{Undecided, Claimed}
 use Rattle.answer_terms.specs.Solved.{fit_answer, solved}
 use Rattle.answer_streams.specs.declared.solution.Solution.{Solution}
-use Rattle.answer_streams.specs.Solutions.{answer_found, solution_text, strip_found, IsPlacedSolution}
+use Rattle.answer_streams.specs.Solutions.{answer_found, solution_text, strip_found, bins_found, IsPlacedSolution}
 use Rattle.strip_solver.specs.declared.strip.Strip.{Strip as FoundStrip}
 use Rattle.strip_solver.specs.Strips.{IsTrueStrip}
+use Rattle.bin_knapsack.specs.declared.bins.Bins.{Bins as FoundBins}
+use Rattle.bin_knapsack.specs.BinAnswers.{AreTrueBins}
 use Rattle.proposed_answers.specs.Behind.{IsBehind}
 use Rattle.proposed_levels.specs.Heights.{height_count, IsNamedStrip, IsLimitedStrip, IsPastBeside}
+use Rattle.proposed_bins.specs.Counts.{bins_count, AreNamedBins, AreLimitedBins, IsPastBeside as IsPastBins}
 use Rattle.pack_streams.specs.Moves.{Gains}
 use Rattle.pack_streams.specs.Writing.{GainsPart}
 use Rattle.pack_command.specs.Answered.{branchings}
 use Rattle.pack_command.specs.Asked.{AsksProposed}
-use Rattle.pack_command.specs.FewestBins.{AreBinsDecided}
+use Rattle.pack_command.specs.FewestBins.{IsNone as HasNoBins}
 use Rattle.pack_command.specs.GreatestValues.{IsValueDecided}
 use Rattle.pack_command.specs.Inputs.{IsWholeInput, IsPartTaken, IsInputRead}
 use Rattle.pack_command.specs.Strips.{IsNone}
@@ -55,12 +60,21 @@ pub record IsProposedStrip (settings : Settings) (instance : PlainInstance) (ans
   pub past : IsPastBeside instance settings.budget settings.scales strip
   pub answer_is : answer ≡ strip_found strip
 
--- the answer of a job with proposals; for `bins` and `knapsack` there are none, and it is that of
--- the job without
+-- The answer for bins, which is true; it is two numbers only where the bin trees of the number above the
+-- refuted one and of the number below the placed one have more branchings than the budget.
+pub record AreProposedBins (settings : Settings) (instance : PlainInstance) (answer : Answer) : Type 0 where
+  pub bins : FoundBins
+  pub right : AreTrueBins instance bins
+  pub named : AreNamedBins instance bins
+  pub limited : AreLimitedBins instance bins
+  pub past : IsPastBins instance settings.budget settings.scales bins
+  pub answer_is : answer ≡ bins_found bins
+
+-- the answer of a job with proposals; for `knapsack` there are none, and it is that of the job without
 abbrev pub IsProposed : SolvingJob → Settings → PlainInstance → Answer → Type 0
 IsProposed SolvesFit settings instance answer = IsProposedFit settings instance answer
 IsProposed SolvesStrip settings instance answer = IsProposedStrip settings instance answer
-IsProposed SolvesBins settings instance answer = answer ≡ solved SolvesBins settings.budget settings.scales instance
+IsProposed SolvesBins settings instance answer = AreProposedBins settings instance answer
 IsProposed SolvesKnapsack settings instance answer = answer ≡ solved SolvesKnapsack settings.budget settings.scales instance
 
 -- what was found is such an answer, with its document
@@ -185,19 +199,56 @@ IsProposedStripDecided instance settings sunk_old sunk_new status =
     IsProposedLeast instance sunk_old sunk_new status
     ⊎ (IsProposedBetween instance settings sunk_old sunk_new status ⊎ IsNone instance sunk_old sunk_new status)
 
+-- ---- what the answer of `bins` says
+
+-- the least number of bins over all packings, with each box's bin and place, and tokens that refute one
+-- bin less
+pub record IsProposedFewest (instance : PlainInstance) (sunk_old sunk_new : Option (List ℕ)) (status : ℕ) : Type 0 where
+  pub status_is : status ≡ 0
+  pub bins : ℕ
+  pub least : IsLeastBins instance bins
+  pub numbers : List ℕ
+  pub packing : AreBinNumbers instance bins numbers
+  pub tokens : List PlainToken
+  pub refutation : IsBinRefutation instance (pred bins) tokens
+  pub written : Gains sunk_old sunk_new (answer_text instance (Claimed (LeastBins bins) numbers tokens))
+
+-- Two numbers of bins between which the least one lies: a refuted one and a placed one, with both
+-- certificates. The bin trees of the number above the refuted one and of the number below the placed one
+-- have more branchings than the budget.
+pub record AreProposedBetween (instance : PlainInstance) (settings : Settings) (sunk_old sunk_new : Option (List ℕ)) (status : ℕ) : Type 0 where
+  pub status_is : status ≡ 3
+  pub refuted : ℕ
+  pub placed : ℕ
+  pub order : refuted < placed
+  pub between : IsBinsBetween instance refuted placed
+  pub numbers : List ℕ
+  pub packing : AreBinNumbers instance placed numbers
+  pub tokens : List PlainToken
+  pub refutation : IsBinRefutation instance refuted tokens
+  pub past_above : settings.budget < bins_count instance settings.scales (suc refuted)
+  pub past_below : settings.budget < bins_count instance settings.scales (pred placed)
+  pub written : Gains sunk_old sunk_new (answer_text instance (Claimed (BinsBetween refuted placed) numbers tokens))
+
+-- one of the two, or none
+abbrev pub AreProposedBinsDecided : PlainInstance → Settings → (sunk_old sunk_new : Option (List ℕ)) → ℕ → Type 0
+AreProposedBinsDecided instance settings sunk_old sunk_new status =
+    IsProposedFewest instance sunk_old sunk_new status
+    ⊎ (AreProposedBetween instance settings sunk_old sunk_new status ⊎ HasNoBins instance sunk_old sunk_new status)
+
 -- ---- of each job
 
 abbrev pub IsProposedDecided : SolvingJob → PlainInstance → Settings → (sunk_old sunk_new : Option (List ℕ)) → ℕ → Type 0
 IsProposedDecided SolvesFit instance settings sunk_old sunk_new status =
     IsProposedFitDecided instance settings sunk_old sunk_new status × IsProposedAnswer instance settings sunk_old sunk_new status
 IsProposedDecided SolvesStrip instance settings sunk_old sunk_new status = IsProposedStripDecided instance settings sunk_old sunk_new status
-IsProposedDecided SolvesBins instance settings sunk_old sunk_new status = AreBinsDecided instance settings sunk_old sunk_new status
+IsProposedDecided SolvesBins instance settings sunk_old sunk_new status = AreProposedBinsDecided instance settings sunk_old sunk_new status
 IsProposedDecided SolvesKnapsack instance settings sunk_old sunk_new status = IsValueDecided instance settings sunk_old sunk_new status
 
 -- The budget is enough for the trees that the job decides for the instance, by their counts: for `fit` its
--- class tree, for `strip` that of each height.
+-- class tree, for `strip` that of each height, for `bins` the bin tree of each number of bins.
 abbrev pub IsAmple : SolvingJob → Settings → PlainInstance → Type 0
 IsAmple SolvesFit settings instance = branchings settings instance ≤ settings.budget
 IsAmple SolvesStrip settings instance = (h : ℕ) → height_count instance settings.scales h ≤ settings.budget
-IsAmple SolvesBins settings instance = ⊥
+IsAmple SolvesBins settings instance = (k : ℕ) → bins_count instance settings.scales k ≤ settings.budget
 IsAmple SolvesKnapsack settings instance = ⊥

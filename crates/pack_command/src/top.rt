@@ -150,7 +150,8 @@ pub fn run<R: Threads + Wait + Sync, S: Source, K: Sink, E: Sink, G: Gate + Sync
     // has more branchings than the budget; it is the answer behind some proposal, in which the number
     // of workers has no part. `strip` is the least height over all packings with both certificates,
     // none exactly where there is none, or between two heights with both certificates, only where
-    // the class trees of both heights beside the two have more branchings than the budget.
+    // the class trees of both heights beside the two have more branchings than the budget. `bins` is
+    // the same of numbers of bins and their bin trees.
     ensures proposes { (job : PlainSolvingJob) (settings : PlainSettings)
         (instance : PlainInstance)
         → IsProposing words.now (S.left input.old) job settings instance → IsAnswerStatus result

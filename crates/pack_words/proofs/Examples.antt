@@ -2,7 +2,7 @@
 use Rattle.std.proofs.Common.{◌≡◌, [], ◌∷◌, Some, None, refl, codes, true, false}
 use Rattle.text_terms.specs.Lines.{number_of}
 use Rattle.pack_words.specs.declared.job.Job.TheVariants.{Fit, Make, Audit, Explain, Reduced, Front, Proposed}
-use Rattle.document_terms.specs.declared.claim.SolvingJob.TheVariants.{Fit as SolvesFit, Strip as SolvesStrip}
+use Rattle.document_terms.specs.declared.claim.SolvingJob.TheVariants.{Fit as SolvesFit, Strip as SolvesStrip, Bins as SolvesBins}
 use Rattle.pack_words.specs.Job.{job_of_words}
 
 eight_workers : job_of_words (codes "fit" ∷ codes "--workers=08" ∷ [])
@@ -113,7 +113,12 @@ proposals_of_strip : job_of_words (codes "strip" ∷ codes "--proposals" ∷ cod
 unfolding job_of_words number_of
 proposals_of_strip = refl
 
-foreign_proposals : job_of_words (codes "bins" ∷ codes "--proposals" ∷ codes "no" ∷ []) ≡ None
+proposals_of_bins : job_of_words (codes "bins" ∷ codes "--proposals" ∷ codes "yes" ∷ [])
+    ≡ Some (record { job = Proposed SolvesBins; settings = record { workers = 1; budget = 1000000; scales = true }; number = 0 })
+unfolding job_of_words number_of
+proposals_of_bins = refl
+
+foreign_proposals : job_of_words (codes "knapsack" ∷ codes "--proposals" ∷ codes "no" ∷ []) ≡ None
 unfolding job_of_words number_of
 foreign_proposals = refl
 

@@ -66,8 +66,8 @@ job_of_name text =
     else (if bytes_eq text (codes "front") then Some Front
     else None)))))))))
 
--- `check`, `audit` and `explain` take no option, `make` alone takes a number, and `fit` and `strip`
--- alone take proposals
+-- `check`, `audit` and `explain` take no option, `make` alone takes a number, and `fit`, `strip` and
+-- `bins` alone take proposals
 abbrev pub takes_settings : Job → Bool
 takes_settings Check = false
 takes_settings Audit = false
@@ -81,6 +81,7 @@ takes_number _ = false
 abbrev pub takes_proposals : Job → Bool
 takes_proposals Fit = true
 takes_proposals Strip = true
+takes_proposals Bins = true
 takes_proposals _ = false
 
 -- each option that is given is one that the job takes

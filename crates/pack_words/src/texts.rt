@@ -37,7 +37,7 @@ fn are_taken(job: Job, found: Found<'_>) -> bool
             !has_settings & found.number.is_none() & unproposed
         }
         Job::Make => unproposed,
-        Job::Fit | Job::Strip => found.number.is_none(),
+        Job::Fit | Job::Strip | Job::Bins => found.number.is_none(),
         _ => found.number.is_none() & unproposed,
     }
 }

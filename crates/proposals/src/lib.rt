@@ -1,11 +1,14 @@
-//! Proposals: places and refutations of an instance, of which nothing is promised but their sizes.
+//! Proposals: places, bins and refutations of an instance, of which nothing is promised but their
+//! sizes.
 //!
 //! Whoever takes one tests it. So a search here is free to be clever: it is proved to be safe and
 //! to end, and nothing else.
 #![tactic(auto)]
 
+mod bins;
 mod corners;
 mod descent;
+mod filling;
 mod gaps;
 mod looking;
 mod luby;
@@ -20,6 +23,7 @@ mod splits;
 mod turned;
 mod weights;
 
+pub use bins::{ProposedBins, propose_bins};
 pub use places::propose_places;
 pub use proposal::Proposal;
 pub use refuting::propose_refutation;

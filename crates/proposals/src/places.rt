@@ -6,8 +6,8 @@ use crate::corners::CornerSearch;
 use crate::gaps::{Ended, GapSearch};
 use crate::luby::Luby;
 use crate::orders::{Draws, find_twins, order_round};
-use crate::slots::{at, put, zeros};
-use crate::turned::Turned;
+use crate::slots::{at, first_numbers, put, zeros};
+use crate::turned::{Turned, count_of};
 use box_instances::{Instance, NoMemory};
 use std::alloc::Global;
 
@@ -65,12 +65,12 @@ fn turn_back(turned: &Turned, searches: &Searches, into: &mut [u32]) {
     }
 }
 
-// The instance with each dimension upwards in turn, the last one first.
-fn turns_of(alloc: Global, instance: &Instance) -> Result<Vec<Turned>, NoMemory> {
+// The boxes with each dimension upwards in turn, the last one first.
+fn turns_of(alloc: Global, instance: &Instance, boxes: &[u32]) -> Result<Vec<Turned>, NoMemory> {
     let mut turns = Vec::new(alloc);
     let dims = instance.dims();
     for k in 0..dims {
-        let turned = Turned::new(alloc, instance, dims - 1 - k)?;
+        let turned = Turned::of_boxes(alloc, instance, boxes, dims - 1 - k)?;
         let Ok(()) = turns.push(turned) else {
             return Err(NoMemory);
         };
@@ -96,10 +96,10 @@ struct Orders {
 }
 
 impl Orders {
-    fn new(alloc: Global, instance: &Instance) -> Result<Orders, NoMemory> {
-        let count = instance.len() as usize;
+    fn new(alloc: Global, rank: Vec<u32>) -> Result<Orders, NoMemory> {
+        let count = rank.len();
         Ok(Orders {
-            rank: instance.rank_order(alloc)?,
+            rank,
             order: zeros(alloc, count)?,
             twins: zeros(alloc, count)?,
         })
@@ -161,6 +161,41 @@ fn search(
     None
 }
 
+// Searches places for some boxes, which are tried by rank first, and writes them box after box. It
+// answers whether it found any; else nothing is written.
+fn find_places(
+    alloc: Global,
+    instance: &Instance,
+    boxes: &[u32],
+    rank: Vec<u32>,
+    nodes: u64,
+    into: &mut [u32],
+) -> Result<bool, NoMemory> {
+    let turns = turns_of(alloc, instance, boxes)?;
+    let mut orders = Orders::new(alloc, rank)?;
+    let mut searches = Searches::new(alloc, instance.dims(), count_of(boxes))?;
+    let Some(direction) = search(&mut orders, &turns, &mut searches, nodes) else {
+        return Ok(false);
+    };
+    if direction < turns.len() {
+        turn_back(&turns[direction], &searches, into);
+    }
+    Ok(true)
+}
+
+/// Searches places for some boxes, which are tried as they stand first, by so many steps in each
+/// direction. It writes them box after box, and answers whether it found any.
+pub fn place_boxes(
+    alloc: Global,
+    instance: &Instance,
+    boxes: &[u32],
+    nodes: u64,
+    into: &mut [u32],
+) -> Result<bool, NoMemory> {
+    let rank = first_numbers(alloc, count_of(boxes))?;
+    find_places(alloc, instance, boxes, rank, nodes, into)
+}
+
 /// Places for all boxes, the coordinates of box 0 in all dimensions first, or none.
 ///
 /// Nothing is promised of them but that there is one coordinate for each box and dimension: whoever
@@ -173,17 +208,14 @@ pub fn propose_places(
     ensures { IfOk result (λ found. IfSome found
         (λ places. length places.items ≡ box_count instance.now * dims instance.now)) }
 {
-    let turns = turns_of(alloc, instance)?;
-    let mut orders = Orders::new(alloc, instance)?;
-    let mut searches = Searches::new(alloc, instance.dims(), instance.len())?;
-    let Some(direction) = search(&mut orders, &turns, &mut searches, nodes) else {
-        return Ok(None);
-    };
+    let boxes = first_numbers(alloc, instance.len())?;
+    let rank = instance.rank_order(alloc)?;
     let Ok(mut places) = vec![in alloc; 0u32; (instance.len() * instance.dims()) as usize] else {
         return Err(NoMemory);
     };
-    if direction < turns.len() {
-        turn_back(&turns[direction], &searches, &mut places);
+    if find_places(alloc, instance, &boxes, rank, nodes, &mut places)? {
+        Ok(Some(places))
+    } else {
+        Ok(None)
     }
-    Ok(Some(places))
 }

@@ -35,6 +35,15 @@ pub fn zeros(alloc: Global, count: usize) -> Result<Vec<u32>, NoMemory> {
     Ok(list)
 }
 
+/// The numbers below a count, from 0 on.
+pub fn first_numbers(alloc: Global, count: u32) -> Result<Vec<u32>, NoMemory> {
+    let mut list = zeros(alloc, count as usize)?;
+    for k in 0..count {
+        put(&mut list, k as usize, k);
+    }
+    Ok(list)
+}
+
 /// A working side of a box, and 0 where there is none.
 #[inline]
 pub fn side(instance: &Instance, box_no: u32, dim: u32) -> u32 {

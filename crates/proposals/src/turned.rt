@@ -1,6 +1,6 @@
 //! An instance as it is seen with one of its dimensions upwards.
 
-use crate::slots::{at, container_side, put, side, zeros};
+use crate::slots::{at, container_side, first_numbers, put, side, zeros};
 use box_instances::{Instance, NoMemory};
 use std::alloc::Global;
 
@@ -31,10 +31,26 @@ fn order_of(alloc: Global, dims: u32, up: u32) -> Result<Vec<u32>, NoMemory> {
     Ok(order)
 }
 
+/// How many boxes a list has; no list has more than an instance may have.
+pub fn count_of(boxes: &[u32]) -> u32 {
+    boxes.len().min(128) as u32
+}
+
 impl Turned {
     /// The instance with this dimension upwards.
     pub fn new(alloc: Global, instance: &Instance, up: u32) -> Result<Turned, NoMemory> {
-        let (dims, count) = (instance.dims(), instance.len());
+        let boxes = first_numbers(alloc, instance.len())?;
+        Turned::of_boxes(alloc, instance, &boxes, up)
+    }
+
+    /// Some boxes of the instance, in their order, with this dimension upwards.
+    pub fn of_boxes(
+        alloc: Global,
+        instance: &Instance,
+        boxes: &[u32],
+        up: u32,
+    ) -> Result<Turned, NoMemory> {
+        let (dims, count) = (instance.dims(), count_of(boxes));
         let original = order_of(alloc, dims, up)?;
         let mut container = zeros(alloc, dims as usize)?;
         let mut sides = zeros(alloc, dims as usize * count as usize)?;
@@ -43,7 +59,8 @@ impl Turned {
             put(&mut container, k, container_side(instance, dim));
             for v in 0..count {
                 let index = v as usize * dims as usize + k;
-                put(&mut sides, index, side(instance, v, dim));
+                let box_no = at(boxes, v as usize);
+                put(&mut sides, index, side(instance, box_no, dim));
             }
         }
         Ok(Turned {
@@ -78,5 +95,23 @@ impl Turned {
             }
         }
         true
+    }
+
+    /// The volume of a box.
+    pub fn volume(&self, v: u32) -> u128 {
+        let mut volume = 1u128;
+        for place in 0..self.dims {
+            volume = volume.saturating_mul(u128::from(self.side(v, place)));
+        }
+        volume
+    }
+
+    /// The volume of the container.
+    pub fn room(&self) -> u128 {
+        let mut room = 1u128;
+        for place in 0..self.dims {
+            room = room.saturating_mul(u128::from(self.container(place)));
+        }
+        room
     }
 }

@@ -4,7 +4,8 @@ use Rattle.answer_streams.specs.declared.solution.Solution.TheVariants.{Fit, Str
 use Rattle.pack_command.specs.Proposed.{IsProposedSolution}
 use Rattle.pack_command.proofs.ProposedFit.{fit_proposed}
 use Rattle.pack_command.proofs.ProposedStrip.{strip_proposed}
-use Rattle.pack_command.proofs.ProposedDecided.{bins_proposed, choice_proposed}
+use Rattle.pack_command.proofs.ProposedBins.{bins_proposed}
+use Rattle.pack_command.proofs.ProposedDecided.{choice_proposed}
 use Rattle.pack_command.proofs.proposing.found.Goals as goal
 
 pub returns-in_ok-outcome-in-Fit : goal.returns-in_ok-outcome-in-Fit
@@ -21,7 +22,8 @@ returns-in_ok-strip-in-Strip g c =
 pub returns-in_ok-bins-in-Bins : goal.returns-in_ok-bins-in-Bins
 returns-in_ok-bins-in-Bins g c =
     subst (λ (job : SolvingJob). IsProposedSolution job c.args.settings.now c.args.instance.now (Bins c.in_ok-bins-in-Bins.bins)) (sym c.in-Bins.is)
-    (bins_proposed c.args.settings.now c.args.instance.now c.in_ok-bins-in-Bins.bins c.in_ok-bins-in-Bins.ensures.answer c.in_ok-bins-in-Bins.ensures.right)
+    (bins_proposed c.args.settings.now c.args.instance.now c.in_ok-bins-in-Bins.bins c.in_ok-bins-in-Bins.ensures.right c.in_ok-bins-in-Bins.ensures.named
+    c.in_ok-bins-in-Bins.ensures.limited c.in_ok-bins-in-Bins.ensures.past)
 
 pub returns-in_ok-choice-in-Knapsack : goal.returns-in_ok-choice-in-Knapsack
 returns-in_ok-choice-in-Knapsack g c =

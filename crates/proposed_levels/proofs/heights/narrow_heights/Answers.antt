@@ -10,4 +10,4 @@ pub loop-level-preserved : goal.loop-level-preserved
 loop-level-preserved g c =
     subst (λ (b : PlainBounds). AreHeightBounds c.args.instance.now c.args.settings.now c.args.effort b) (sym c.after-bounds.ensures)
     (step (IsPackedAt c.args.instance.now) (IsRefutedAt c.args.instance.now) (IsPastHeight c.args.instance.now c.args.settings.now c.args.effort) most_height
-    (plain_bounds c.loop-level.bounds) c.loop-level.invariant c.in-Some.level (plain_level c.in_ok-answer.answer) c.in-Some.ensures c.in_ok-answer.ensures).are
+    (plain_bounds c.loop-level.bounds) c.loop-level.invariant c.in-Some.level (plain_level c.in_ok-answer.answer) c.in-Some.ensures.asked c.in_ok-answer.ensures).are
