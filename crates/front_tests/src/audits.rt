@@ -49,15 +49,9 @@ fn verdict(alloc: Global, lines: &[FrontLine]) -> Result<FrontVerdict, Fail> {
 #[test]
 fn good_lines_and_those_that_end_early(rt: HostRuntime) -> Result<(), Fail> {
     let alloc = rt.alloc();
-    assert_eq!(rt;
-        verdict(alloc, &lines(alloc, 3, 2, 0)?)?,
-        FrontVerdict::Good
-    );
+    assert!(rt; verdict(alloc, &lines(alloc, 3, 2, 0)?)? == FrontVerdict::Good);
     for missing in 1..10 {
-        assert_eq!(rt;
-            verdict(alloc, &lines(alloc, 3, 2, missing)?)?,
-            FrontVerdict::Short
-        );
+        assert!(rt; verdict(alloc, &lines(alloc, 3, 2, missing)?)? == FrontVerdict::Short);
     }
     Ok(())
 }
@@ -70,7 +64,7 @@ fn the_first_line_that_is_not_allowed_is_named(rt: HostRuntime) -> Result<(), Fa
         index: 7,
         reason: FrontReason::Tree(RefuseCode::Range),
     };
-    assert_eq!(rt; verdict(alloc, &lines(alloc, 2, 2, 0)?)?, narrow);
+    assert!(rt; verdict(alloc, &lines(alloc, 2, 2, 0)?)? == narrow);
     let crossing = FrontVerdict::Refused {
         index: 9,
         reason: FrontReason::Places(PlaceVerdict::Overlap {
@@ -78,6 +72,6 @@ fn the_first_line_that_is_not_allowed_is_named(rt: HostRuntime) -> Result<(), Fa
             second: 1,
         }),
     };
-    assert_eq!(rt; verdict(alloc, &lines(alloc, 3, 1, 0)?)?, crossing);
+    assert!(rt; verdict(alloc, &lines(alloc, 3, 1, 0)?)? == crossing);
     Ok(())
 }

@@ -38,7 +38,7 @@ fn are_points(points: &[Point]) -> bool {
 fn a_pair_has_two_least_sizes(rt: HostRuntime) -> Result<(), Fail> {
     let alloc = rt.alloc();
     let pair = pair(alloc)?;
-    assert_eq!(rt; pair.dims(), 2);
+    assert!(rt; pair.dims() == 2);
     for workers in [1, 2] {
         let front = least_sizes(&rt, alloc, &pair, &settings(workers, 2), &NoGate)?;
         assert!(rt; front.complete);
@@ -53,7 +53,7 @@ fn a_pair_has_two_least_sizes(rt: HostRuntime) -> Result<(), Fail> {
 fn a_budget_that_is_spent_ends_the_walk(rt: HostRuntime) -> Result<(), Fail> {
     let alloc = rt.alloc();
     let pair = pair(alloc)?;
-    assert_eq!(rt; pair.dims(), 2);
+    assert!(rt; pair.dims() == 2);
     for workers in [1, 2] {
         let front = least_sizes(&rt, alloc, &pair, &settings(workers, 1), &NoGate)?;
         assert!(rt; !front.complete);

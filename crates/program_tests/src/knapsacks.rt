@@ -73,8 +73,8 @@ const MANY: &[u8] = b"format 2\ncontainer 1 1\nbox 1 1 value 9\nbox 1 1 value 0 
 #[test]
 fn one_of_128_boxes_is_taken(rt: HostRuntime) -> Result<(), Fail> {
     let told = told_of(&rt, &["knapsack", "--budget", "1"], MANY)?;
-    assert_eq!(rt; told.status, 0);
-    assert_eq!(rt; told.lines_from(b'b'), 128);
+    assert!(rt; told.status == 0);
+    assert!(rt; told.lines_from(b'b') == 128);
     assert!(rt;
         told.out
             .ends_with(b"result greatest 9\ntake 1 0 0\nproof\nw\nend\n")

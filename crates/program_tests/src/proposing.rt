@@ -14,6 +14,12 @@ const STRIP_PROPOSED: &[&str] = &["strip", "--proposals", "yes", "--budget", "0"
 
 const STRIP_SHARED: &[&str] = &["strip", "--proposals=yes", "--budget=0", "--workers=2"];
 
+const BINS_PROPOSED: &[&str] = &["bins", "--proposals", "yes", "--budget", "0"];
+
+const BINS_SHARED: &[&str] = &["bins", "--proposals=yes", "--budget=0", "--workers=2"];
+
+const FOUR: &[u8] = b"format 1\ncontainer 10 6\nbox 3 6\nbox 3 6\nbox 3 6\nbox 3 6\n";
+
 const PINWHEEL: &[u8] = b"format 1\ncontainer 5 1\nbox 1 1\nbox 3 2\nbox 2 3\nbox 3 2\nbox 2 3\n";
 
 const TWO_HALVES: &[u8] = b"format 1\ncontainer 4 4\nbox 2 1\nbox 2 1\n";
@@ -66,13 +72,29 @@ fn what_is_proposed_is_verified(rt: HostRuntime) -> Result<(), Fail> {
 #[test]
 fn a_strip_by_proposals_is_verified(rt: HostRuntime) -> Result<(), Fail> {
     let plain = told_of(&rt, &["strip", "--budget", "0"], PINWHEEL)?;
-    assert_eq!(rt; plain.status, 3);
+    assert!(rt; plain.status == 3);
     let told = told_of(&rt, STRIP_PROPOSED, PINWHEEL)?;
-    assert_eq!(rt; told.status, 0);
+    assert!(rt; told.status == 0);
     let shared = told_of(&rt, STRIP_SHARED, PINWHEEL)?;
     assert!(rt; shared.is_as_written(0, &told.out));
     let checked = told_of(&rt, &["check"], &told.out)?;
     assert!(rt; checked.is_as_written(0, b"verified strip least 5\n"));
+    Ok(())
+}
+
+// Three of the four boxes go into one bin, and the trees have branchings.
+#[test]
+fn bins_by_proposals_are_verified(rt: HostRuntime) -> Result<(), Fail> {
+    let plain = told_of(&rt, &["bins", "--budget", "0"], FOUR)?;
+    assert!(rt; plain.status == 3);
+    let told = told_of(&rt, BINS_PROPOSED, FOUR)?;
+    assert!(rt; told.status == 0);
+    let shared = told_of(&rt, BINS_SHARED, FOUR)?;
+    assert!(rt; shared.is_as_written(0, &told.out));
+    let checked = told_of(&rt, &["check"], &told.out)?;
+    assert!(rt; checked.is_as_written(0, b"verified bins least 2\n"));
+    let none = told_of(&rt, BINS_PROPOSED, TOO_LARGE)?;
+    assert!(rt; none.status == 1);
     Ok(())
 }
 
@@ -81,7 +103,7 @@ fn proposals_refuse_what_fit_refuses(rt: HostRuntime) -> Result<(), Fail> {
     let told = told_of(&rt, PROPOSED, b"format 1\ncontainer 5 5\nbox 0 1\n")?;
     assert!(rt; told.is_stop(2, "pack: line 3: code 4\n", b""));
     for words in [
-        ["bins", "--proposals", "yes"],
+        ["knapsack", "--proposals", "yes"],
         ["reduced", "--proposals", "no"],
         ["check", "--proposals", "no"],
         ["fit", "--proposals", "maybe"],

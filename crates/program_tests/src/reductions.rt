@@ -146,8 +146,8 @@ fn reduced_refuses_what_fit_refuses(rt: HostRuntime) -> Result<(), Fail> {
     let told = told_of(&rt, &["reduced"], b"format 1\ncontainer 5 5\nbox 0 1\n")?;
     assert!(rt; told.is_stop(2, "pack: line 3: code 4\n", b""));
     let told = told_of(&rt, &["reduced", "--number", "3"], UNIT)?;
-    assert_eq!(rt; told.status, 2);
+    assert!(rt; told.status == 2);
     let told = told_of(&rt, &["audit", "--budget", "3"], UNIT)?;
-    assert_eq!(rt; told.status, 2);
+    assert!(rt; told.status == 2);
     Ok(())
 }

@@ -33,7 +33,7 @@ fn a_write_that_fails_at_each_byte_leaves_the_bytes_before(rt: HostRuntime) -> R
 #[test]
 fn a_write_that_would_fail_behind_the_document_is_no_fault(rt: HostRuntime) -> Result<(), Fail> {
     let told = told_written_to(&rt, &["fit"], TWO_BOXES, 87)?;
-    assert_eq!(rt; told.out.len(), 87);
+    assert!(rt; told.out.len() == 87);
     assert!(rt; told.is_stop(0, "", TWO_BOXES_FIT));
     Ok(())
 }
@@ -66,8 +66,8 @@ fn a_long_document_is_given_in_pieces_of_4096_bytes(rt: HostRuntime) -> Result<(
     ];
     for plan in plans {
         let told = told_with(&rt, &["fit", "--scales", "no"], EIGHT_IN_A_ROW, &[], plan)?;
-        assert_eq!(rt; told.status, 5);
-        assert_eq!(rt; told.out.len(), 4096);
+        assert!(rt; told.status == 5);
+        assert!(rt; told.out.len() == 4096);
     }
     Ok(())
 }
@@ -95,7 +95,7 @@ fn input_in_single_bytes_gives_the_same_answer(rt: HostRuntime) -> Result<(), Fa
         &[ReadStep::Give(1); 40],
         &[WriteStep::Take(1); 99],
     )?;
-    assert_eq!(rt; told.status, 0);
+    assert!(rt; told.status == 0);
     assert!(rt;
         told.out.as_slice()
             == b"answer fit\nformat 1\ncontainer 1 1\nbox 1 1\nresult yes\nplace 0 0\nend\n".as_slice()

@@ -45,6 +45,15 @@ pub fn settings(workers: u32, budget: u64) -> Settings {
     }
 }
 
+/// Settings with scales and no branching, so that only roots and proposals decide.
+pub fn at_roots(workers: u32) -> Settings {
+    Settings {
+        workers,
+        budget: 0,
+        scales: true,
+    }
+}
+
 /// Whether two outcomes are the same, as far as places, counts and the number of tokens tell.
 pub fn are_same(first: &Outcome, second: &Outcome) -> bool {
     match (first, second) {

@@ -1,5 +1,5 @@
 //! Optima by proposals first.
-use crate::instances::{instance_of, pinwheel};
+use crate::instances::{at_roots, instance_of, pinwheel};
 use box_instances::Instance;
 use check_terms::PlaceVerdict;
 use placement_check::check_places;
@@ -8,16 +8,7 @@ use proposed_levels::{Strip, least_height_proposed};
 use std::alloc::Global;
 use std::test::Fail;
 use strip_solver::least_height;
-use work_share::{NoGate, Settings};
-
-// With scales and no branching, so that only roots and proposals decide.
-fn at_roots(workers: u32) -> Settings {
-    Settings {
-        workers,
-        budget: 0,
-        scales: true,
-    }
-}
+use work_share::NoGate;
 
 // Whether the answer is this least height, with a packing in it and a refutation of the one below.
 fn is_least(alloc: Global, instance: &Instance, least: u32, strip: &Strip) -> Result<bool, Fail> {

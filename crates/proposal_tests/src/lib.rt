@@ -2,6 +2,8 @@
 #![tactic(auto)]
 
 #[cfg(test)]
+mod bins;
+#[cfg(test)]
 mod decisions;
 #[cfg(test)]
 mod faults;

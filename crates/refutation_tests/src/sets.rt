@@ -136,6 +136,6 @@ fn another_tree_begins_without_exclusions(rt: HostRuntime) -> Result<(), Fail> {
     let none = FeedVerdict::Refused {
         code: RefuseCode::Conflict,
     };
-    assert_eq!(rt; two_leaves(alloc, &boxes)?, Some((FeedVerdict::Done, none)));
+    assert!(rt; two_leaves(alloc, &boxes)? == Some((FeedVerdict::Done, none)));
     Ok(())
 }

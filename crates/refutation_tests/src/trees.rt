@@ -46,7 +46,7 @@ fn what_the_search_refutes_is_accepted(rt: HostRuntime) -> Result<(), Fail> {
 fn a_tree_of_ten_thousand_tokens_is_accepted(rt: HostRuntime) -> Result<(), Fail> {
     let alloc = rt.alloc();
     let row = instance_of(alloc, &[23, 10], &[(&[3, 6], 8)])?;
-    assert_eq!(rt; is_checked(alloc, &row, false, 10_079)?, Some(true));
+    assert!(rt; is_checked(alloc, &row, false, 10_079)? == Some(true));
     Ok(())
 }
 
@@ -54,9 +54,9 @@ fn a_tree_of_ten_thousand_tokens_is_accepted(rt: HostRuntime) -> Result<(), Fail
 fn as_many_boxes_as_there_may_be_are_checked(rt: HostRuntime) -> Result<(), Fail> {
     let alloc = rt.alloc();
     let large = instance_of(alloc, &[10, 10, 10, 10], &[(&[6, 6, 6, 6], 128)])?;
-    assert_eq!(rt; is_checked(alloc, &large, false, 1)?, Some(true));
+    assert!(rt; is_checked(alloc, &large, false, 1)? == Some(true));
     let small = instance_of(alloc, &[127, 10], &[(&[1, 6], 128)])?;
-    assert_eq!(rt; is_checked(alloc, &small, true, 1)?, Some(true));
+    assert!(rt; is_checked(alloc, &small, true, 1)? == Some(true));
     Ok(())
 }
 
@@ -131,7 +131,7 @@ fn other_trees_than_those_of_the_search_are_accepted(rt: HostRuntime) -> Result<
             answer = extend(alloc, &row, &mut tokens, list.as_slice())?;
         }
     }
-    assert_eq!(rt; answer, Some(FeedVerdict::Done));
+    assert!(rt; answer == Some(FeedVerdict::Done));
     assert!(rt; tokens.len() > 10);
     Ok(())
 }
@@ -142,13 +142,13 @@ fn nothing_is_taken_behind_a_whole_tree(rt: HostRuntime) -> Result<(), Fail> {
     let boxes = instance_of(alloc, &[10, 10], &[(&[6, 4], 3)])?;
     let mut refuter = Refuter::new(alloc, &boxes)?;
     assert!(rt; !refuter.whole());
-    assert_eq!(rt; refuter.feed(&Token::Rules), FeedVerdict::Done);
+    assert!(rt; refuter.feed(&Token::Rules) == FeedVerdict::Done);
     assert!(rt; refuter.whole());
     let after = FeedVerdict::Refused {
         code: RefuseCode::After,
     };
     for _ in 0..2u32 {
-        assert_eq!(rt; refuter.feed(&Token::Rules), after);
+        assert!(rt; refuter.feed(&Token::Rules) == after);
         assert!(rt; !refuter.whole());
     }
     Ok(())
@@ -162,8 +162,8 @@ fn a_refusal_stays(rt: HostRuntime) -> Result<(), Fail> {
     let range = FeedVerdict::Refused {
         code: RefuseCode::Range,
     };
-    assert_eq!(rt; refuter.feed(&Token::Order { dim: 9, u: 1, v: 2 }), range);
-    assert_eq!(rt; refuter.feed(&Token::Rules), range);
+    assert!(rt; refuter.feed(&Token::Order { dim: 9, u: 1, v: 2 }) == range);
+    assert!(rt; refuter.feed(&Token::Rules) == range);
     assert!(rt; !refuter.whole());
     Ok(())
 }

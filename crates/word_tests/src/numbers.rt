@@ -4,15 +4,12 @@ use text_terms::read_number;
 
 #[test]
 fn a_number_has_1_to_20_digits(rt: HostRuntime) -> Result<(), Fail> {
-    assert_eq!(rt; read_number(b"0"), Some(0));
-    assert_eq!(rt; read_number(b"0042"), Some(42));
-    assert_eq!(rt;
-        read_number(b"99999999999999999999"),
-        Some(99_999_999_999_999_999_999)
-    );
-    assert_eq!(rt; read_number(b"000000000000000000042"), None);
-    assert_eq!(rt; read_number(b""), None);
-    assert_eq!(rt; read_number(b"4x"), None);
-    assert_eq!(rt; read_number(b"-4"), None);
+    assert!(rt; read_number(b"0") == Some(0));
+    assert!(rt; read_number(b"0042") == Some(42));
+    assert!(rt; read_number(b"99999999999999999999") == Some(99_999_999_999_999_999_999));
+    assert!(rt; read_number(b"000000000000000000042") == None);
+    assert!(rt; read_number(b"") == None);
+    assert!(rt; read_number(b"4x") == None);
+    assert!(rt; read_number(b"-4") == None);
     Ok(())
 }

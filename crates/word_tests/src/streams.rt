@@ -15,13 +15,13 @@ fn a_planned_source_gives_what_its_steps_say(rt: HostRuntime) -> Result<(), Fail
         Vec::from_slice(alloc, &plan)?,
     );
     let mut room = [0u8; 5];
-    assert_eq!(rt; source.read(&mut room), ReadAnswer::Got(1));
-    assert_eq!(rt; source.read(&mut room), ReadAnswer::Failed);
-    assert_eq!(rt; source.read(&mut room), ReadAnswer::Got(3));
-    assert_eq!(rt; room, *b"bcd\0\0");
-    assert_eq!(rt; source.read(&mut room), ReadAnswer::Got(4));
-    assert_eq!(rt; room, *b"efgh\0");
-    assert_eq!(rt; source.read(&mut room), ReadAnswer::End);
+    assert!(rt; source.read(&mut room) == ReadAnswer::Got(1));
+    assert!(rt; source.read(&mut room) == ReadAnswer::Failed);
+    assert!(rt; source.read(&mut room) == ReadAnswer::Got(3));
+    assert!(rt; room == *b"bcd\0\0");
+    assert!(rt; source.read(&mut room) == ReadAnswer::Got(4));
+    assert!(rt; room == *b"efgh\0");
+    assert!(rt; source.read(&mut room) == ReadAnswer::End);
     Ok(())
 }
 
@@ -30,12 +30,12 @@ fn a_planned_sink_takes_what_its_steps_say(rt: HostRuntime) -> Result<(), Fail> 
     let alloc = rt.alloc();
     let plan = [WriteStep::Take(0), WriteStep::Fail, WriteStep::Take(2)];
     let mut sink = MemorySink::new(alloc, 5, Vec::from_slice(alloc, &plan)?)?;
-    assert_eq!(rt; sink.write(b"abc"), WriteAnswer::Took(1));
-    assert_eq!(rt; sink.write(b"bcd"), WriteAnswer::Failed);
-    assert_eq!(rt; sink.write(b"bcd"), WriteAnswer::Took(2));
-    assert_eq!(rt; sink.write(b"defg"), WriteAnswer::Took(2));
-    assert_eq!(rt; sink.write(b"f"), WriteAnswer::Failed);
-    assert_eq!(rt; sink.written(), b"abcde".as_slice());
+    assert!(rt; sink.write(b"abc") == WriteAnswer::Took(1));
+    assert!(rt; sink.write(b"bcd") == WriteAnswer::Failed);
+    assert!(rt; sink.write(b"bcd") == WriteAnswer::Took(2));
+    assert!(rt; sink.write(b"defg") == WriteAnswer::Took(2));
+    assert!(rt; sink.write(b"f") == WriteAnswer::Failed);
+    assert!(rt; sink.written() == b"abcde".as_slice());
     Ok(())
 }
 
@@ -43,24 +43,15 @@ fn a_planned_sink_takes_what_its_steps_say(rt: HostRuntime) -> Result<(), Fail> 
 fn reading_ends_at_the_limit_and_at_a_failure(rt: HostRuntime) -> Result<(), Fail> {
     let alloc = rt.alloc();
     let mut whole = MemorySource::new(Vec::from_slice(alloc, b"abc")?, Vec::new(alloc));
-    assert_eq!(rt;
-        read_up_to(alloc, &mut whole, 3)?.as_slice(),
-        b"abc".as_slice()
-    );
+    assert!(rt; read_up_to(alloc, &mut whole, 3)?.as_slice() == b"abc".as_slice());
     let mut long = MemorySource::new(Vec::from_slice(alloc, b"abc")?, Vec::new(alloc));
-    assert_eq!(rt;
-        read_up_to(alloc, &mut long, 2).err(),
-        Some(ReadStop::TooLong)
-    );
+    assert!(rt; read_up_to(alloc, &mut long, 2).err() == Some(ReadStop::TooLong));
     let plan = [ReadStep::Give(2), ReadStep::Fail];
     let mut broken = MemorySource::new(
         Vec::from_slice(alloc, b"abc")?,
         Vec::from_slice(alloc, &plan)?,
     );
-    assert_eq!(rt;
-        read_up_to(alloc, &mut broken, 3).err(),
-        Some(ReadStop::ReadFault)
-    );
+    assert!(rt; read_up_to(alloc, &mut broken, 3).err() == Some(ReadStop::ReadFault));
     Ok(())
 }
 
@@ -69,15 +60,15 @@ fn writing_ends_at_the_first_failure(rt: HostRuntime) -> Result<(), Fail> {
     let alloc = rt.alloc();
     let plan = [WriteStep::Take(2), WriteStep::Take(1), WriteStep::Fail];
     let mut sink = MemorySink::new(alloc, 9, Vec::from_slice(alloc, &plan)?)?;
-    assert_eq!(rt; write_all(&mut sink, b"abcde"), Err(WriteFault));
-    assert_eq!(rt; sink.written(), b"abc".as_slice());
-    assert_eq!(rt; write_on(&mut sink, Err(WriteFault), b"x"), Err(WriteFault));
-    assert_eq!(rt; sink.written(), b"abc".as_slice());
-    assert_eq!(rt; write_on(&mut sink, Ok(()), b"de"), Ok(()));
-    assert_eq!(rt; sink.written(), b"abcde".as_slice());
-    assert_eq!(rt; write_number(&mut sink, Ok(()), 2073), Ok(()));
-    assert_eq!(rt; sink.written(), b"abcde2073".as_slice());
-    assert_eq!(rt; DropSink::new().write(b"abc"), WriteAnswer::Took(3));
+    assert!(rt; write_all(&mut sink, b"abcde") == Err(WriteFault));
+    assert!(rt; sink.written() == b"abc".as_slice());
+    assert!(rt; write_on(&mut sink, Err(WriteFault), b"x") == Err(WriteFault));
+    assert!(rt; sink.written() == b"abc".as_slice());
+    assert!(rt; write_on(&mut sink, Ok(()), b"de") == Ok(()));
+    assert!(rt; sink.written() == b"abcde".as_slice());
+    assert!(rt; write_number(&mut sink, Ok(()), 2073) == Ok(()));
+    assert!(rt; sink.written() == b"abcde2073".as_slice());
+    assert!(rt; DropSink::new().write(b"abc") == WriteAnswer::Took(3));
     Ok(())
 }
 
@@ -134,10 +125,10 @@ impl io::Write for ShortWriter {
 fn a_reader_gives_its_bytes_its_end_and_its_failures(rt: HostRuntime) {
     let mut source = StdSource::new(ShortReader { calls: 0 });
     let mut room = [0u8; 4];
-    assert_eq!(rt; source.read(&mut room), ReadAnswer::Got(1));
-    assert_eq!(rt; room[0], b'a');
-    assert_eq!(rt; source.read(&mut room), ReadAnswer::End);
-    assert_eq!(rt; source.read(&mut room), ReadAnswer::Failed);
+    assert!(rt; source.read(&mut room) == ReadAnswer::Got(1));
+    assert!(rt; room[0] == b'a');
+    assert!(rt; source.read(&mut room) == ReadAnswer::End);
+    assert!(rt; source.read(&mut room) == ReadAnswer::Failed);
 }
 
 #[test]
@@ -146,10 +137,10 @@ fn a_writer_that_takes_nothing_or_cannot_flush_fails(rt: HostRuntime) {
         calls: 0,
         flushes: 0,
     });
-    assert_eq!(rt; sink.write(b"ab"), WriteAnswer::Took(1));
-    assert_eq!(rt; sink.write(b"b"), WriteAnswer::Failed);
-    assert_eq!(rt; sink.write(b"b"), WriteAnswer::Failed);
-    assert_eq!(rt; sink.write(b"b"), WriteAnswer::Failed);
+    assert!(rt; sink.write(b"ab") == WriteAnswer::Took(1));
+    assert!(rt; sink.write(b"b") == WriteAnswer::Failed);
+    assert!(rt; sink.write(b"b") == WriteAnswer::Failed);
+    assert!(rt; sink.write(b"b") == WriteAnswer::Failed);
 }
 
 // Gives one byte, then the end, and then another byte.
@@ -174,11 +165,11 @@ impl io::Read for PausedReader {
 fn a_reader_is_asked_once_for_each_read(rt: HostRuntime) {
     let mut source = StdSource::new(PausedReader { calls: 0 });
     let mut room = [0u8; 4];
-    assert_eq!(rt; source.read(&mut room), ReadAnswer::Got(1));
-    assert_eq!(rt; source.read(&mut room), ReadAnswer::End);
+    assert!(rt; source.read(&mut room) == ReadAnswer::Got(1));
+    assert!(rt; source.read(&mut room) == ReadAnswer::End);
     room[0] = 0;
-    assert_eq!(rt; source.read(&mut room), ReadAnswer::Got(1));
-    assert_eq!(rt; room[0], b'a');
+    assert!(rt; source.read(&mut room) == ReadAnswer::Got(1));
+    assert!(rt; room[0] == b'a');
 }
 
 // Can be flushed where something was written since it was flushed last.
@@ -205,8 +196,8 @@ impl io::Write for FlushedWriter {
 #[test]
 fn bytes_are_flushed_behind_each_write(rt: HostRuntime) {
     let mut sink = StdSink::new(FlushedWriter { is_written: false });
-    assert_eq!(rt; sink.write(b"ab"), WriteAnswer::Took(2));
-    assert_eq!(rt; sink.write(b"c"), WriteAnswer::Took(1));
+    assert!(rt; sink.write(b"ab") == WriteAnswer::Took(2));
+    assert!(rt; sink.write(b"c") == WriteAnswer::Took(1));
 }
 
 // Is at its end, and counts its calls.
@@ -234,6 +225,6 @@ fn nothing_is_read_behind_the_end(rt: HostRuntime) -> Result<(), Fail> {
     let mut source = EndedSource { calls: 0 };
     let bytes = read_up_to(alloc, &mut source, 9)?;
     assert!(rt; bytes.is_empty());
-    assert_eq!(rt; source.calls, 1);
+    assert!(rt; source.calls == 1);
     Ok(())
 }

@@ -42,33 +42,27 @@ const REFUSED: Result<JobWords, WordsError> = Err(WordsError::Refused);
 #[test]
 fn each_job_has_its_name_and_defaults(rt: HostRuntime) -> Result<(), Fail> {
     let alloc = rt.alloc();
-    assert_eq!(rt; job_of(alloc, "fit"), by_default(Job::Fit));
-    assert_eq!(rt; job_of(alloc, "strip"), by_default(Job::Strip));
-    assert_eq!(rt; job_of(alloc, "bins"), by_default(Job::Bins));
-    assert_eq!(rt; job_of(alloc, "knapsack"), by_default(Job::Knapsack));
-    assert_eq!(rt; job_of(alloc, "check"), by_default(Job::Check));
-    assert_eq!(rt; job_of(alloc, "make"), by_default(Job::Make));
+    assert!(rt; job_of(alloc, "fit") == by_default(Job::Fit));
+    assert!(rt; job_of(alloc, "strip") == by_default(Job::Strip));
+    assert!(rt; job_of(alloc, "bins") == by_default(Job::Bins));
+    assert!(rt; job_of(alloc, "knapsack") == by_default(Job::Knapsack));
+    assert!(rt; job_of(alloc, "check") == by_default(Job::Check));
+    assert!(rt; job_of(alloc, "make") == by_default(Job::Make));
     Ok(())
 }
 
 #[test]
 fn options_stand_in_one_word_or_in_two(rt: HostRuntime) -> Result<(), Fail> {
     let alloc = rt.alloc();
-    assert_eq!(rt;
-        job_of(alloc, "fit --workers=08"),
-        with(Job::Fit, 8, 1_000_000, true)
+    assert!(rt; job_of(alloc, "fit --workers=08") == with(Job::Fit, 8, 1_000_000, true));
+    assert!(rt; job_of(alloc, "fit --budget=5") == with(Job::Fit, 1, 5, true));
+    assert!(rt;
+        job_of(alloc, "--scales no --workers 64 bins --budget 10000000")
+            == with(Job::Bins, 64, 10_000_000, false)
     );
-    assert_eq!(rt; job_of(alloc, "fit --budget=5"), with(Job::Fit, 1, 5, true));
-    assert_eq!(rt;
-        job_of(alloc, "--scales no --workers 64 bins --budget 10000000"),
-        with(Job::Bins, 64, 10_000_000, false)
-    );
-    assert_eq!(rt;
-        job_of(alloc, "--budget 0 -- strip"),
-        with(Job::Strip, 1, 0, true)
-    );
+    assert!(rt; job_of(alloc, "--budget 0 -- strip") == with(Job::Strip, 1, 0, true));
     let made = job_of(alloc, "make --number 2147483647 --scales=yes")?;
-    assert_eq!(rt; (made.job, made.number), (Job::Make, 2_147_483_647));
+    assert!(rt; (made.job, made.number) == (Job::Make, 2_147_483_647));
     Ok(())
 }
 
@@ -76,48 +70,45 @@ fn options_stand_in_one_word_or_in_two(rt: HostRuntime) -> Result<(), Fail> {
 fn words_that_name_no_job_are_refused(rt: HostRuntime) -> Result<(), Fail> {
     let alloc = rt.alloc();
     let none: Vec<String> = Vec::new(alloc);
-    assert_eq!(rt; read_words(alloc, &none), REFUSED);
-    assert_eq!(rt; job_of(alloc, "pile"), REFUSED);
-    assert_eq!(rt; job_of(alloc, "fit fit"), REFUSED);
-    assert_eq!(rt; job_of(alloc, "fit --workers 65"), REFUSED);
-    assert_eq!(rt; job_of(alloc, "fit --workers 0"), REFUSED);
-    assert_eq!(rt; job_of(alloc, "fit --number 3"), REFUSED);
-    assert_eq!(rt; job_of(alloc, "check --budget 5"), REFUSED);
-    assert_eq!(rt; job_of(alloc, "fit --budget 5 --budget 5"), REFUSED);
-    assert_eq!(rt; job_of(alloc, "fit --scales maybe"), REFUSED);
-    assert_eq!(rt; job_of(alloc, "fit --work 2"), REFUSED);
-    assert_eq!(rt; job_of(alloc, "fit --budget"), REFUSED);
+    assert!(rt; read_words(alloc, &none) == REFUSED);
+    assert!(rt; job_of(alloc, "pile") == REFUSED);
+    assert!(rt; job_of(alloc, "fit fit") == REFUSED);
+    assert!(rt; job_of(alloc, "fit --workers 65") == REFUSED);
+    assert!(rt; job_of(alloc, "fit --workers 0") == REFUSED);
+    assert!(rt; job_of(alloc, "fit --number 3") == REFUSED);
+    assert!(rt; job_of(alloc, "check --budget 5") == REFUSED);
+    assert!(rt; job_of(alloc, "fit --budget 5 --budget 5") == REFUSED);
+    assert!(rt; job_of(alloc, "fit --scales maybe") == REFUSED);
+    assert!(rt; job_of(alloc, "fit --work 2") == REFUSED);
+    assert!(rt; job_of(alloc, "fit --budget") == REFUSED);
     Ok(())
 }
 
 #[test]
 fn words_that_are_almost_a_job_are_refused(rt: HostRuntime) -> Result<(), Fail> {
     let alloc = rt.alloc();
-    assert_eq!(rt; job_of(alloc, ""), REFUSED);
-    assert_eq!(rt; job_of(alloc, "--help"), REFUSED);
-    assert_eq!(rt; job_of(alloc, "fit --help"), REFUSED);
-    assert_eq!(rt; job_of(alloc, "fit -h"), REFUSED);
-    assert_eq!(rt; job_of(alloc, "--version"), REFUSED);
-    assert_eq!(rt; job_of(alloc, "Fit"), REFUSED);
-    assert_eq!(rt; job_of(alloc, "fit --"), by_default(Job::Fit));
-    assert_eq!(rt; job_of(alloc, "fit -- --budget 5"), REFUSED);
-    assert_eq!(rt; job_of(alloc, "fit -- --"), REFUSED);
-    assert_eq!(rt; job_of(alloc, "fit --budget="), REFUSED);
-    assert_eq!(rt; job_of(alloc, "fit --budget=-5"), REFUSED);
-    assert_eq!(rt; job_of(alloc, "fit --budget -5"), REFUSED);
-    assert_eq!(rt; job_of(alloc, "fit --budget --scales"), REFUSED);
-    assert_eq!(rt; job_of(alloc, "fit --budget -"), REFUSED);
-    assert_eq!(rt; job_of(alloc, "-"), REFUSED);
-    assert_eq!(rt; job_of(alloc, "fit --budget=5 --budget 5"), REFUSED);
-    assert_eq!(rt; job_of(alloc, "fit --budget=5=5"), REFUSED);
-    assert_eq!(rt; job_of(alloc, "fit --budget 10000001"), REFUSED);
-    assert_eq!(rt;
-        job_of(alloc, "fit --budget 000000000000000000005"),
-        REFUSED
-    );
-    assert_eq!(rt; job_of(alloc, "make --number 2147483648"), REFUSED);
-    assert_eq!(rt; job_of(alloc, "fit --scales="), REFUSED);
-    assert_eq!(rt; job_of(alloc, "fit --Budget 5"), REFUSED);
-    assert_eq!(rt; job_of(alloc, "fit --job strip"), REFUSED);
+    assert!(rt; job_of(alloc, "") == REFUSED);
+    assert!(rt; job_of(alloc, "--help") == REFUSED);
+    assert!(rt; job_of(alloc, "fit --help") == REFUSED);
+    assert!(rt; job_of(alloc, "fit -h") == REFUSED);
+    assert!(rt; job_of(alloc, "--version") == REFUSED);
+    assert!(rt; job_of(alloc, "Fit") == REFUSED);
+    assert!(rt; job_of(alloc, "fit --") == by_default(Job::Fit));
+    assert!(rt; job_of(alloc, "fit -- --budget 5") == REFUSED);
+    assert!(rt; job_of(alloc, "fit -- --") == REFUSED);
+    assert!(rt; job_of(alloc, "fit --budget=") == REFUSED);
+    assert!(rt; job_of(alloc, "fit --budget=-5") == REFUSED);
+    assert!(rt; job_of(alloc, "fit --budget -5") == REFUSED);
+    assert!(rt; job_of(alloc, "fit --budget --scales") == REFUSED);
+    assert!(rt; job_of(alloc, "fit --budget -") == REFUSED);
+    assert!(rt; job_of(alloc, "-") == REFUSED);
+    assert!(rt; job_of(alloc, "fit --budget=5 --budget 5") == REFUSED);
+    assert!(rt; job_of(alloc, "fit --budget=5=5") == REFUSED);
+    assert!(rt; job_of(alloc, "fit --budget 10000001") == REFUSED);
+    assert!(rt; job_of(alloc, "fit --budget 000000000000000000005") == REFUSED);
+    assert!(rt; job_of(alloc, "make --number 2147483648") == REFUSED);
+    assert!(rt; job_of(alloc, "fit --scales=") == REFUSED);
+    assert!(rt; job_of(alloc, "fit --Budget 5") == REFUSED);
+    assert!(rt; job_of(alloc, "fit --job strip") == REFUSED);
     Ok(())
 }
