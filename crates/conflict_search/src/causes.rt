@@ -131,15 +131,7 @@ fn exclude_left(
     cause: Cause<'_>,
 ) -> Result<(), NoMemory> {
     let flat = edge.u < edge.v;
-    let kept = if flat {
-        edge
-    } else {
-        Edge {
-            dim: edge.dim,
-            u: edge.v,
-            v: edge.u,
-        }
-    };
+    let kept = if flat { edge } else { edge.turned() };
     for relation in EACH {
         if bits & relation != 0 {
             let from = state.premise_count();

@@ -28,14 +28,17 @@ fn close_edges(state: &mut State) -> Result<(), NoMemory> {
     Ok(())
 }
 
-// CHAIN in these dimensions.
-fn close_chains(state: &mut State, chains: &mut Chains, risen: u8) -> Result<(), NoMemory> {
-    for dim in 0..state.table().dims() {
-        if risen & 1u8.wrapping_shl(dim) != 0 {
-            exclude_long(state, chains, dim)?;
-        }
+// Raises chains along the orders that became sure. It answers whether there were any.
+fn raise_chains(state: &mut State, chains: &mut Chains) -> Result<bool, NoMemory> {
+    let mut any = false;
+    for _ in 0..MOST_STEPS {
+        let Some(edge) = state.next_order() else {
+            break;
+        };
+        chains.add_order(state.table(), edge)?;
+        any = true;
     }
-    Ok(())
+    Ok(any)
 }
 
 /// Closes a state. It answers whether there is no conflict.
@@ -45,11 +48,10 @@ pub fn close(state: &mut State, chains: &mut Chains) -> Result<bool, NoMemory> {
         if state.conflict().is_some() {
             return Ok(false);
         }
-        let risen = state.take_risen();
-        if risen == 0 {
+        if !raise_chains(state, chains)? {
             return Ok(true);
         }
-        close_chains(state, chains, risen)?;
+        exclude_long(state, chains)?;
     }
     Ok(true)
 }
@@ -72,7 +74,6 @@ fn join_wide(state: &mut State, dim: u32) -> Result<(), NoMemory> {
 pub fn close_root(state: &mut State, chains: &mut Chains) -> Result<bool, NoMemory> {
     for dim in 0..state.table().dims() {
         join_wide(state, dim)?;
-        state.raise(dim);
     }
     close(state, chains)
 }
@@ -97,8 +98,26 @@ pub fn enter(
     close(state, chains)
 }
 
-/// Goes back to a node, by its mark and how many splits are above it.
-pub fn leave(state: &mut State, mark: usize, level: usize) {
-    state.undo(mark);
-    state.set_level(level);
+/// A node to go back to.
+#[derive(Clone, Copy, Debug, PartialEq, Eq)]
+pub struct Mark {
+    exclusions: usize,
+    rises: usize,
+    level: usize,
+}
+
+/// The node at which state and chains are.
+pub fn here(state: &State, chains: &Chains) -> Mark {
+    Mark {
+        exclusions: state.mark(),
+        rises: chains.mark(),
+        level: state.level(),
+    }
+}
+
+/// Goes back to a node.
+pub fn leave(state: &mut State, chains: &mut Chains, to: Mark) {
+    state.undo(to.exclusions);
+    state.set_level(to.level);
+    chains.undo(to.rises);
 }

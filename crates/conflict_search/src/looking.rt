@@ -5,7 +5,7 @@
 
 use crate::chains::Chains;
 use crate::choice::{NOBODY, Rated, rate_pairs, split_of};
-use crate::closing::{enter, leave};
+use crate::closing::{enter, here, leave};
 use crate::splits::{Child, Split};
 use crate::state::State;
 use crate::weights::Weights;
@@ -29,10 +29,11 @@ fn child_growth(
     split: Split,
     child: Child,
 ) -> Result<Option<u64>, NoMemory> {
-    let (mark, level) = (state.mark(), state.level());
+    let node = here(state, chains);
+    let before = state.mark();
     let calm = enter(state, chains, split, child)?;
-    let grown = state.mark().saturating_sub(mark) as u64;
-    leave(state, mark, level);
+    let grown = state.mark().saturating_sub(before) as u64;
+    leave(state, chains, node);
     Ok(if calm { Some(grown) } else { None })
 }
 

@@ -58,7 +58,7 @@ fn root_token(alloc: Global, instance: &Instance, scales: bool) -> Option<Token>
 }
 
 // The places of the node at which a search stands.
-fn places_of(alloc: Global, instance: &Instance, search: &mut Search) -> Result<Proposal, NoMemory>
+fn places_of(alloc: Global, instance: &Instance, search: &Search) -> Result<Proposal, NoMemory>
     ensures { IfOk result (IsSized instance.now) }
 {
     let Ok(mut places) = vec![in alloc; 0u32; (instance.len() * instance.dims()) as usize] else {
@@ -79,7 +79,7 @@ fn explored(alloc: Global, instance: &Instance, splits: u64) -> Result<Proposal,
     match search.run(splits)? {
         Ended::Spent => Ok(Proposal::Nothing),
         Ended::Refuted(node) => Ok(Proposal::Tokens(search.tokens(alloc, node)?)),
-        Ended::Settled => places_of(alloc, instance, &mut search),
+        Ended::Settled => places_of(alloc, instance, &search),
     }
 }
 

@@ -8,7 +8,7 @@
 
 use crate::chains::Chains;
 use crate::choice::heaviest_split;
-use crate::closing::{close_root, enter, leave};
+use crate::closing::{Mark, close_root, enter, here, leave};
 use crate::depths::Depths;
 use crate::looking::{Chosen, best_split};
 use crate::nodes::{LEAF, Nodes};
@@ -42,7 +42,7 @@ const NOT_YET: Refuted = Refuted {
 #[derive(Clone, Copy)]
 struct Frame {
     split: Split,
-    mark: usize,
+    mark: Mark,
     child: Child,
     refuted: Option<Refuted>,
 }
@@ -94,10 +94,11 @@ impl Search {
         let state = State::new(alloc, instance, rank.as_slice())?;
         let tracer = Tracer::new(alloc, state.fact_count())?;
         let weights = Weights::new(alloc, state.table())?;
+        let chains = Chains::new(alloc, state.table());
         Ok(Search {
             rank,
             state,
-            chains: Chains::new(instance.len()),
+            chains,
             tracer,
             weights,
             nodes: Nodes::new(alloc),
@@ -126,7 +127,7 @@ impl Search {
         let (split, child) = (chosen.split, chosen.child);
         let frame = Frame {
             split,
-            mark: self.state.mark(),
+            mark: here(&self.state, &self.chains),
             child,
             refuted: None,
         };
@@ -149,7 +150,7 @@ impl Search {
         reason.remove(depth);
         let split = frame.split;
         if split.choice == Choice::Order {
-            leave(&mut self.state, frame.mark, depth);
+            leave(&mut self.state, &mut self.chains, frame.mark);
             self.tracer.apart(&self.state, split.edge, &mut reason)?;
         }
         let node = match frame.child {
@@ -163,7 +164,7 @@ impl Search {
     fn turn(&mut self, frame: Frame, depth: usize, refuted: Refuted) -> Result<Standing, NoMemory> {
         let mut earlier = refuted;
         earlier.reason.remove(depth);
-        leave(&mut self.state, frame.mark, depth);
+        leave(&mut self.state, &mut self.chains, frame.mark);
         let turned = Frame {
             refuted: Some(earlier),
             ..frame
@@ -235,10 +236,9 @@ impl Search {
 
     /// Writes where the boxes begin at a settled node: each right behind the heaviest chain before
     /// it. One coordinate for each box and dimension, the box of the lowest number first.
-    pub fn write_places(&mut self, into: &mut [u32]) {
+    pub fn write_places(&self, into: &mut [u32]) {
         let (dims, boxes) = (self.state.table().dims(), self.state.table().boxes());
         for dim in 0..dims {
-            self.chains.weigh(self.state.table(), dim);
             for k in 0..boxes {
                 let v = at(&self.rank, k as usize) as usize;
                 let index = v.wrapping_mul(dims as usize).wrapping_add(dim as usize);

@@ -34,8 +34,8 @@ pub struct State {
     gone: Vec<u8>,
     changed: Vec<Edge>,
     conflict: Option<Edge>,
-    // The dimensions in which an order became sure, one bit each.
-    risen: u8,
+    // The orders that became sure since the chains were last raised, the first box before the second.
+    orders: Vec<Edge>,
 }
 
 impl State {
@@ -58,7 +58,7 @@ impl State {
             gone,
             changed: Vec::new(alloc),
             conflict: None,
-            risen: 0,
+            orders: Vec::new(alloc),
         })
     }
 
@@ -137,10 +137,11 @@ impl State {
         if left == 0 && self.conflict.is_none() {
             self.conflict = Some(edge);
         }
-        if left == BEFORE || left == AFTER {
-            self.risen |= 1u8.wrapping_shl(edge.dim);
+        match left {
+            BEFORE => pushed(&mut self.orders, edge),
+            AFTER => pushed(&mut self.orders, edge.turned()),
+            _ => Ok(()),
         }
-        Ok(())
     }
 
     /// The edge that changed last, and what went there. It isn't noted any more.
@@ -164,17 +165,10 @@ impl State {
         }
     }
 
-    /// The dimensions in which an order became sure since this was last asked, one bit each.
+    /// An order that became sure, of the first box before the second. It isn't noted any more.
     #[inline]
-    pub fn take_risen(&mut self) -> u8 {
-        let risen = self.risen;
-        self.risen = 0;
-        risen
-    }
-
-    /// Notes that the chains of a dimension are to be weighed.
-    pub fn raise(&mut self, dim: u32) {
-        self.risen |= 1u8.wrapping_shl(dim);
+    pub fn next_order(&mut self) -> Option<Edge> {
+        self.orders.pop()
     }
 
     /// The edge at which all is excluded, if there is one.
@@ -214,8 +208,8 @@ impl State {
             }
         }
         self.forget_changed();
+        self.orders.clear();
         self.conflict = None;
-        self.risen = 0;
     }
 
     /// Where a fact stands on the trail, if it is there.

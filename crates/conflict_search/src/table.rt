@@ -15,6 +15,18 @@ pub struct Edge {
     pub v: u32,
 }
 
+impl Edge {
+    /// The same, told from the other box.
+    #[inline]
+    pub fn turned(self) -> Edge {
+        Edge {
+            dim: self.dim,
+            u: self.v,
+            v: self.u,
+        }
+    }
+}
+
 /// The rows of a box in a dimension: which boxes it may still overlap, be before, and be after.
 #[derive(Clone, Copy)]
 pub struct Rows {
