@@ -2,8 +2,9 @@
 use crate::instances::{are_same, four_in_a_row, pinwheel, settings};
 use box_instances::Instance;
 use class_search::decide;
+use conflict_search::propose_refutation;
 use proof_tree::{Outcome, Token};
-use proposals::{propose_places, propose_refutation};
+use proposals::propose_places;
 use proposed_answers::{Proposal, decide_behind};
 use std::alloc::Global;
 use std::sync::Wait;

@@ -8,6 +8,8 @@ mod decisions;
 #[cfg(test)]
 mod faults;
 #[cfg(test)]
+mod generated;
+#[cfg(test)]
 mod instances;
 #[cfg(test)]
 mod levels;

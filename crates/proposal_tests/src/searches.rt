@@ -1,9 +1,10 @@
 //! What the searches propose.
 use crate::instances::{four_in_a_row, instance_of, pinwheel, two_small};
 use check_terms::PlaceVerdict;
+use conflict_search::{Proposal, propose_refutation};
 use placement_check::check_places;
 use proof_tree::Token;
-use proposals::{Proposal, propose_places, propose_refutation};
+use proposals::propose_places;
 use std::test::Fail;
 
 #[test]

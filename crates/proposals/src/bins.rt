@@ -9,9 +9,9 @@ ghost use Rattle.packing_terms.specs.Packing.{dims, box_count};
 
 use crate::filling::Filling;
 use crate::orders::{Draws, order_round};
-use crate::slots::{at, put, zeros};
 use crate::turned::Turned;
 use box_instances::{Instance, NoMemory};
+use loose_lists::{at, put, zeros};
 use std::alloc::Global;
 
 // The orders that are tried, unless the volumes need as many bins as were found: by falling

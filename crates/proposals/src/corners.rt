@@ -8,9 +8,10 @@
 //! Source: the extreme points of Crainic, Perboli and Tadei (2008), with going back.
 
 use crate::gaps::Ended;
-use crate::slots::{at, clear, put, zeros};
+use crate::slots::clear;
 use crate::turned::Turned;
 use box_instances::NoMemory;
+use loose_lists::{at, put, zeros};
 use std::alloc::Global;
 
 // A node on the way down: its point, the next try, the box that was laid from here, counted from 1,

@@ -1,9 +1,10 @@
 //! The room in which bins are filled.
 
 use crate::places::place_boxes;
-use crate::slots::{at, clear, put, zeros};
+use crate::slots::clear;
 use crate::turned::Turned;
 use box_instances::{Instance, NoMemory};
+use loose_lists::{at, put, zeros};
 use std::alloc::Global;
 
 // The steps of the search of places, in each direction, for a box and those that lie in a bin.

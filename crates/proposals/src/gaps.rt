@@ -7,9 +7,10 @@
 //! Source: the best-fit rule of Burke, Kendall and Whitwell (2004), with going back.
 
 use crate::skyline::{NOTHING, Segment, lowest, raise, segment_at};
-use crate::slots::{at, clear, put, zeros};
+use crate::slots::clear;
 use crate::turned::Turned;
 use box_instances::NoMemory;
+use loose_lists::{at, put, zeros};
 use std::alloc::Global;
 
 /// How a search for places ended: with places, after all steps that it was given, or with nothing

@@ -6,9 +6,10 @@ use crate::corners::CornerSearch;
 use crate::gaps::{Ended, GapSearch};
 use crate::luby::Luby;
 use crate::orders::{Draws, find_twins, order_round};
-use crate::slots::{at, first_numbers, put, zeros};
+use crate::slots::first_numbers;
 use crate::turned::{Turned, count_of};
 use box_instances::{Instance, NoMemory};
+use loose_lists::{at, put, zeros};
 use std::alloc::Global;
 
 // The steps of a round whose number of Luby's row is 1. With 20,000 steps in each direction 27 of

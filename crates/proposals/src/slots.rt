@@ -1,38 +1,14 @@
-//! Lists that are read and written without a promise of their lengths.
-//!
-//! Nothing is proved of what the searches for proposals find. So a place past the end of a list
-//! reads as 0 and takes no entry, in one test, and no search needs an invariant to be safe.
+//! What the searches read and write without a promise of lengths.
 
 use box_instances::{Instance, NoMemory};
+use loose_lists::{put, zeros};
 use std::alloc::Global;
-
-/// The entry at an index, and 0 past the end.
-#[inline]
-pub fn at(list: &[u32], index: usize) -> u32 {
-    if index < list.len() { list[index] } else { 0 }
-}
-
-/// Writes the entry at an index, and nothing past the end.
-#[inline]
-pub fn put(list: &mut [u32], index: usize, entry: u32) {
-    if index < list.len() {
-        list[index] = entry;
-    }
-}
 
 /// Makes all entries 0.
 pub fn clear(list: &mut [u32]) {
     for k in 0..list.len() {
         list[k] = 0;
     }
-}
-
-/// So many zeros.
-pub fn zeros(alloc: Global, count: usize) -> Result<Vec<u32>, NoMemory> {
-    let Ok(list) = vec![in alloc; 0u32; count] else {
-        return Err(NoMemory);
-    };
-    Ok(list)
 }
 
 /// The numbers below a count, from 0 on.

@@ -1,7 +1,8 @@
 //! An instance as it is seen with one of its dimensions upwards.
 
-use crate::slots::{at, container_side, first_numbers, put, side, zeros};
+use crate::slots::{container_side, first_numbers, side};
 use box_instances::{Instance, NoMemory};
+use loose_lists::{at, put, zeros};
 use std::alloc::Global;
 
 /// The working sides of the boxes and of the container in an order of the dimensions whose last one

@@ -17,9 +17,9 @@ use Rattle.check_terms.proofs.Places.{places_tested}
 use Rattle.check_terms.proofs.Refuting.{inner_fed}
 use Rattle.class_search.specs.Right.{IsRight, Decides, IsYesOrNo}
 use Rattle.class_search.proofs.Rights.{class_right}
-use Rattle.proposals.specs.Sizes.{IsSized}
-use Rattle.proposals.specs.declared.proposal.Proposal.{Proposal}
-use Rattle.proposals.specs.declared.proposal.Proposal.TheVariants.{Places as ProposedPlaces, Tokens as ProposedTokens, Nothing as ProposedNothing}
+use Rattle.conflict_search.specs.Sizes.{IsSized}
+use Rattle.conflict_search.specs.declared.proposal.Proposal.{Proposal}
+use Rattle.conflict_search.specs.declared.proposal.Proposal.TheVariants.{Places as ProposedPlaces, Tokens as ProposedTokens, Nothing as ProposedNothing}
 use Rattle.proposed_answers.specs.Behind.{PlainProposal, plain_proposal, Places, Tokens, Nothing, IsCounted, is_refutation, by_places, by_tokens, answer_behind, tree_count, tree_told}
 
 pub proposal_counted : (instance : PlainInstance) (p : Proposal) → IsSized instance p → IsCounted instance (plain_proposal p)

@@ -4,7 +4,7 @@ ghost use Rattle.packing_terms.specs.Packing.{dims, box_count};
 ghost use Rattle.tree_terms.specs.Trees.{Past as PlainPast};
 ghost use Rattle.work_share.specs.Outcomes.{plain_outcome};
 ghost use Rattle.class_search.specs.Right.{IsRight, Decides, IsYesOrNo};
-ghost use Rattle.proposals.specs.Sizes.{IsSized};
+ghost use Rattle.conflict_search.specs.Sizes.{IsSized};
 ghost use Rattle.proposed_answers.specs.Behind.{plain_proposal, answer_behind, tree_count, tree_told, IsBehind};
 
 use crate::proposing::propose;
@@ -14,7 +14,7 @@ use check_terms::PlaceVerdict;
 use class_search::decide;
 use placement_check::check_places;
 use proof_tree::Outcome;
-use proposals::Proposal;
+use conflict_search::Proposal;
 use std::alloc::Global;
 use std::sync::Wait;
 use std::thread::Threads;

@@ -6,6 +6,6 @@ mod proposing;
 mod testing;
 
 pub use decision::{decide_behind, decide_proposed};
-pub use proposals::Proposal;
+pub use conflict_search::Proposal;
 pub use proposing::propose;
 pub use testing::is_refutation;
