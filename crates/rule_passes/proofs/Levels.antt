@@ -7,7 +7,9 @@ use Rattle.packing_terms.specs.declared.Exclusion.{Exclusion}
 use Rattle.packing_terms.specs.declared.Rel.TheVariants.{Before}
 use Rattle.packing_terms.specs.Packing.{PlainInstance, container_side}
 use Rattle.packing_terms.specs.Exclusions.{excludes}
-use Rattle.closure_terms.specs.Passes.{IsShut}
+use Rattle.rule_terms.proofs.Applied.{extends_trans}
+use Rattle.edge_state.specs.Edges.{PlainEdges}
+use Rattle.closure_terms.specs.Passes.{IsPass, IsShut}
 use Rattle.orientation_rules.specs.KeptWeights.{PlainLevels}
 use Rattle.orientation_rules.proofs.KeptRuns.{each_more}
 use Rattle.rule_passes.specs.Rooms.{HaveEach}
@@ -58,3 +60,14 @@ pub shut_known : (instance : PlainInstance) (i : ℕ) (head tail : List ℕ) (u 
 shut_known instance i head tail u v es row true left e off fit none = record { shut = λ ne wide. (let h = fit refl in absurd (omega (arith, h, wide))) }
 shut_known instance i head tail u v es false false left e off fit none = none refl
 shut_known instance i head tail u v es true false left e off fit none = absurd (true≢false (sym e ∙ off))
+
+-- a pass that ends at an empty mask says nothing of what is done
+pub pass_lost : (instance : PlainInstance) (a b c : PlainEdges) (lost : Bool) (P Q R : List Exclusion → Type 0) → lost ≡ true → IsPass instance a b P → IsPass instance b c Q
+    → IsPass instance a c (λ es. lost ≡ false → R es)
+pass_lost instance a b c lost P Q R e h k = record {
+  same_dims = k.same_dims ∙ h.same_dims;
+  same_boxes = k.same_boxes ∙ h.same_boxes;
+  same_room = k.same_room ∙ h.same_room;
+  extends = extends_trans _ _ _ _ h.extends k.extends;
+  done = λ f. absurd (true≢false (sym e ∙ f));
+}

@@ -65,7 +65,9 @@ pub fn close_with<const K: usize>(
     while let Some(dim) = dirty.first() {
         let next = state.mark();
         let levels = &mut kept[dim as usize];
-        cover_chains::<K>(instance, state, dim, levels);
+        if cover_chains::<K>(instance, state, dim, levels) {
+            return true;
+        }
         let rest = dirty.without(dim);
         let Some(more) = settle(instance, state, all, next, rest, &longest) else {
             return true;

@@ -119,7 +119,7 @@ fn spread_joined<const K: usize>(
 
 // The instances that ask for a box that is surely before another: none where the mask has overlap
 // or after.
-#[inline]
+#[inline(always)]
 fn spread_ordered<const K: usize>(
     instance: &Instance,
     state: &mut EdgeState,

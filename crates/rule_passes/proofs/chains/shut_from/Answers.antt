@@ -1,4 +1,4 @@
-use Rattle.std.proofs.Common.{◌*◌, ◌≡◌, ◌<◌, ◌∙◌, ℕ, sym, false}
+use Rattle.std.proofs.Common.{◌*◌, ◌≡◌, ◌<◌, ◌∙◌, ℕ, refl, sym, true, false}
 use Rattle.std.proofs.lemmas.Bool.{and_parts}
 use Rattle.packing_terms.specs.declared.Rel.TheVariants.{Before}
 use Rattle.packing_terms.specs.Packing.{box_count}
@@ -8,9 +8,9 @@ use Rattle.edge_state.proofs.RowBits.{members_fewer}
 use Rattle.edge_state.proofs.Kept.{row_shut}
 use Rattle.closure_terms.proofs.Filters.{row_within}
 use Rattle.closure_terms.specs.Passes.{IsShut}
-use Rattle.closure_terms.proofs.Passes.{pass_none, sizes_passed, heads_more, tails_more, shut_kept}
+use Rattle.closure_terms.proofs.Passes.{pass_none, pass_as, sizes_passed, heads_more, tails_more, shut_kept}
 use Rattle.closure_terms.proofs.Members.{pass_row, pass_all}
-use Rattle.rule_passes.proofs.Levels.{shut_known}
+use Rattle.rule_passes.proofs.Levels.{shut_known, pass_lost}
 use Rattle.rule_passes.proofs.chains.shut_from.Goals as goal
 
 pub loop-v-init : goal.loop-v-init
@@ -46,11 +46,18 @@ pub loop-v-preserved : goal.loop-v-preserved
 loop-v-preserved g c = record {
   pass = pass_row _ _ _ _ (box_count c.args.instance.now) c.in-Some.v (row_has c.loop-v.rest) (row_has c.without-rest.result)
       (λ v es. IsShut c.args.instance.now c.args.dim c.args.head.now c.args.tail.now c.args.u v es) c.without-rest.ensures
-      (λ v. shut_kept c.args.instance.now c.args.dim c.args.head.now c.args.tail.now c.args.u v) c.loop-v.invariant.pass c.shut.ensures;
+      (λ v. shut_kept c.args.instance.now c.args.dim c.args.head.now c.args.tail.now c.args.u v) c.loop-v.invariant.pass
+      (pass_as _ _ _ _ _ (λ es h. h c.if-shut.false) c.shut.ensures.pass);
   within = λ x h. c.loop-v.invariant.within x (and_parts _ _ (sym (c.without-rest.ensures x) ∙ h)).0;
 }
 
-pub returns : goal.returns
-returns g c =
-    pass_all _ _ _ (box_count c.args.instance.now) (row_has c.loop-v.rest) (λ v es. IsShut c.args.instance.now c.args.dim c.args.head.now c.args.tail.now c.args.u v es)
-    c.in_default.ensures.least c.loop-v.invariant.pass
+pub returns-then-shut-clause-pass : goal.returns-then-shut-clause-pass
+returns-then-shut-clause-pass g c =
+    pass_lost _ _ _ _ true _ _ (λ es. (v : ℕ) → v < box_count c.args.instance.now → IsShut c.args.instance.now c.args.dim c.args.head.now c.args.tail.now c.args.u v es)
+    refl c.loop-v.invariant.pass c.shut.ensures.pass
+
+pub returns-clause-pass : goal.returns-clause-pass
+returns-clause-pass g c =
+    pass_as _ _ _ _ _ (λ es h e. h)
+    (pass_all _ _ _ (box_count c.args.instance.now) (row_has c.loop-v.rest) (λ v es. IsShut c.args.instance.now c.args.dim c.args.head.now c.args.tail.now c.args.u v es)
+    c.in_default.ensures.least c.loop-v.invariant.pass)
