@@ -10,7 +10,7 @@ use Rattle.closure_terms.specs.Instances.{Composes}
 use Rattle.closure_terms.proofs.Worked.{worked_then, worked_lost, worked_lost_first, worked_kept}
 use Rattle.rule_passes.specs.Reached.{IsReachedApart, IsReachedFrom}
 use Rattle.rule_passes.proofs.Guards.{worked_guarded}
-use Rattle.rule_passes.proofs.edges.spread.Goals as goal
+use Rattle.rule_passes.proofs.edges.spread_left.Goals as goal
 
 pub returns-then-spread_composed : goal.returns-then-spread_composed
 returns-then-spread_composed g c = worked_lost_first _ _ _ _ _ _ c.if-spread_composed.true c.spread_composed.ensures
