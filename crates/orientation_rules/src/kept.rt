@@ -302,12 +302,28 @@ impl<const K: usize> KeptWeights<K> {
         write_all(instance, state, dim, sides, rows, fits);
     }
 
-    /// Makes them the weights of a state, from others that were kept. It answers `false` where
-    /// these are of another number of boxes or of other sides, or where a box doesn't go on to one
-    /// any more, and then nothing changes.
+    /// Makes them others that were kept. It answers `false` where these are of another number of
+    /// boxes, and then nothing changes.
+    pub fn copy_from(&mut self, from: &KeptWeights<K>) -> bool
+        ensures count { length self.new.head ≡ length self.old.head }
+        ensures most { self.new.most ≡ self.old.most }
+    {
+        if from.head.len() != self.head.len() {
+            return false;
+        }
+        self.limit = from.limit;
+        self.sides.copy_from_slice(&from.sides);
+        self.head.copy_from_slice(&from.head);
+        self.tail.copy_from_slice(&from.tail);
+        self.rows.copy_from_slice(&from.rows);
+        self.fits.copy_from_slice(&from.fits);
+        true
+    }
+
+    /// Makes them the weights of a state, from those that they are. It answers `false` where these
+    /// are of other sides, or where a box doesn't go on to one any more, and then nothing changes.
     pub fn renew(
         &mut self,
-        from: &KeptWeights<K>,
         instance: &Instance,
         state: &EdgeState,
         dim: u32,
@@ -323,25 +339,16 @@ impl<const K: usize> KeptWeights<K> {
     {
         // For the proof alone: tells the limits of the state.
         let _boxes = state.boxes();
-        if from.head.len() != self.head.len() {
-            return false;
-        }
-        if from.limit != u64::from(instance.container_side(dim)) {
+        if self.limit != u64::from(instance.container_side(dim)) {
             return false;
         }
         let mut ahead = BitRow::empty();
         let mut behind = BitRow::empty();
-        let sides = from.sides.as_slice();
-        let rows = from.rows.as_slice();
+        let sides = self.sides.as_slice();
+        let rows = self.rows.as_slice();
         if !still_holds(instance, state, dim, sides, rows, &mut ahead, &mut behind) {
             return false;
         }
-        self.limit = from.limit;
-        self.sides.copy_from_slice(sides);
-        self.head.copy_from_slice(&from.head);
-        self.tail.copy_from_slice(&from.tail);
-        self.rows.copy_from_slice(rows);
-        self.fits.copy_from_slice(&from.fits);
         let head = self.head.as_mut_slice();
         let heads = raise_touched(instance, state, dim, Direction::Backwards, behind, head);
         let tail = self.tail.as_mut_slice();

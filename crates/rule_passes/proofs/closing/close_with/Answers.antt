@@ -106,3 +106,9 @@ pub returns-clause-ended : goal.returns-clause-ended
 returns-clause-ended g c =
     let looked = c.loop-dim.invariant.looked in
     (stable_settled _ _ looked.settled (λ i h. looked.chained i h (c.in_default-first.ensures.least i)), looked.settled.full)
+
+pub returns-clause-kept : goal.returns-clause-kept
+returns-clause-kept g c = c.finish_each.ensures.kept _ _ c.loop-dim.invariant.kept
+
+pub returns-clause-made : goal.returns-clause-made
+returns-clause-made g c most made = c.finish_each.ensures.made _ most (c.loop-dim.invariant.made most made)
