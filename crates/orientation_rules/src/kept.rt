@@ -12,7 +12,7 @@ ghost use Rattle.orientation_rules.specs.KeptWeights.{GoesOn, StillHolds, AreHea
 
 use crate::leads::leads_row;
 use crate::refills::{refill, refill_rows};
-use crate::rises::raise_touched;
+use crate::rises::{raise_heads, raise_tails};
 use crate::weights::weigh_both;
 use box_instances::{Instance, NoMemory};
 use edge_state::{BitRow, EdgeState, Rel};
@@ -82,8 +82,7 @@ fn with_if_any<const K: usize>(row: BitRow<K>, number: u32, other: BitRow<K>) ->
 }
 
 // Whether the sides are those of the boxes, and each box still goes on to those of its row. The
-// boxes that go on to another one come to the first row, those to which another one goes on to the
-// second.
+// boxes that go on to another one come to a row.
 fn still_holds<const K: usize>(
     instance: &Instance,
     state: &EdgeState,
@@ -91,19 +90,17 @@ fn still_holds<const K: usize>(
     sides: &[u64],
     rows: &[BitRow<K>],
     ahead: &mut BitRow<K>,
-    behind: &mut BitRow<K>,
 ) -> bool
     requires words { HoldsBoxes K state.now.boxes }
     requires ordered { HasOneWayChains instance.now state.now dim Forwards }
     requires sides { length sides.now ≡ box_count instance.now }
     requires rows { length rows.now ≡ box_count instance.now }
     ensures { result ≡ true
-        → StillHolds instance.now state.now dim sides.now rows.now ahead.new behind.new }
+        → StillHolds instance.now state.now dim sides.now rows.now ahead.new }
 {
     // For the proof alone: tells the limits of the state.
     let _boxes = state.boxes();
     *ahead = BitRow::empty();
-    *behind = BitRow::empty();
     for v in 0..instance.len() {
         let at = v as usize;
         let kept = rows[at];
@@ -114,9 +111,7 @@ fn still_holds<const K: usize>(
         if sides[at] != u64::from(instance.side(v, dim)) {
             return false;
         }
-        let more = now.minus(kept);
-        *ahead = with_if_any(*ahead, v, more);
-        *behind = behind.or(more);
+        *ahead = with_if_any(*ahead, v, now.minus(kept));
     }
     true
 }
@@ -343,16 +338,15 @@ impl<const K: usize> KeptWeights<K> {
             return false;
         }
         let mut ahead = BitRow::empty();
-        let mut behind = BitRow::empty();
         let sides = self.sides.as_slice();
         let rows = self.rows.as_slice();
-        if !still_holds(instance, state, dim, sides, rows, &mut ahead, &mut behind) {
+        if !still_holds(instance, state, dim, sides, rows, &mut ahead) {
             return false;
         }
         let head = self.head.as_mut_slice();
-        let heads = raise_touched(instance, state, dim, Direction::Backwards, behind, head);
+        let heads = raise_heads(instance, state, dim, ahead, rows, head);
         let tail = self.tail.as_mut_slice();
-        let tails = raise_touched(instance, state, dim, Direction::Forwards, ahead, tail);
+        let tails = raise_tails(instance, state, dim, ahead, rows, tail);
         set_rows(instance, state, dim, ahead, self.rows.as_mut_slice());
         drop_risen(heads, tails, self.fits.as_mut_slice());
         *risen = !has_none(heads.or(tails));
