@@ -10,6 +10,7 @@ ghost use Rattle.closure_terms.specs.Work.{IsChainIn, IsWorked};
 ghost use Rattle.closure_terms.specs.Passes.{IsPass, IsShut};
 
 use crate::empties::is_empty_at;
+use crate::rows::is_empty;
 use box_instances::Instance;
 use edge_state::{BitRow, EdgeState, Rel};
 use orientation_rules::{KeptLevels, apply_chain};
@@ -82,10 +83,13 @@ fn shut_from<const K: usize>(
         → v < box_count instance.now → IsShut instance.now dim head.now tail.now u v es) }
     ensures empty { result ≡ true → HasEmptyMask instance.now (excludes state.new.trail) }
 {
-    let limit = u64::from(instance.container_side(dim));
-    let least = least_beyond(head[u as usize], limit);
     let before = state.row_in::<K>(dim, u, Rel::Before);
     let mut rest = before.minus(known);
+    if is_empty(rest) {
+        return false;
+    }
+    let limit = u64::from(instance.container_side(dim));
+    let least = least_beyond(head[u as usize], limit);
     while let Some(v) = rest.first() {
         rest = rest.without(v);
         if shut(instance, state, dim, u, v, head, tail, least) {

@@ -15,6 +15,7 @@ use cycle_rules::apply_order;
 use edge_state::{BitRow, EdgeState, Rel};
 
 // ORDER at four boxes.
+#[inline(always)]
 fn order_at(
     instance: &Instance,
     state: &mut EdgeState,
@@ -234,6 +235,7 @@ pub fn orders_first<const K: usize>(
 }
 
 /// ORDER with the second pair given.
+#[inline(always)]
 pub fn orders_second<const K: usize>(
     instance: &Instance,
     state: &mut EdgeState,

@@ -252,7 +252,7 @@ fn chords_from<const K: usize>(
 
 /// CYCLE with the first and the third box given, in both orders, where two boxes are joined with
 /// both.
-#[inline]
+#[inline(always)]
 pub fn chords<const K: usize>(
     instance: &Instance,
     state: &mut EdgeState,
