@@ -108,6 +108,15 @@ less_than u v l ne = go (cases_lt u v)
     go (inl f) = f
     go (inr f) = absurd (ne (omega (arith, l, f)))
 
+-- what each box weighs by itself is the weight of a run
+pub runs_alone : (n : ℕ) (R : ℕ → ℕ → Type 0) (w : ℕ → ℕ) (ks : List ℕ) → ((v : ℕ) → v < n → slice_index ks v ≡ w v) → AreRuns n R w ks
+runs_alone n R w ks same v hv = record {
+  rest = [];
+  boxes = (hv, tt, tt);
+  run = tt;
+  heavy = (let h = sum_by-cons w v [] in let e = same v hv in omega (arith, h, e));
+}
+
 -- weights of no chain at all are settled along empty rows
 abbrev zeros : ℕ → List ℕ
 zeros n = replicate n 0

@@ -11,9 +11,8 @@ ghost use Rattle.orientation_rules.specs.Weights.{HasOneWayChains, IsHeaviest};
 ghost use Rattle.orientation_rules.specs.KeptWeights.{GoesOn, StillHolds, AreHeaviestWeights};
 
 use crate::leads::leads_row;
-use crate::refills::{refill, refill_rows};
+use crate::refills::{clear_rows, refill, refill_rows, write_sides};
 use crate::rises::{raise_heads, raise_tails};
-use crate::weights::weigh_both;
 use box_instances::{Instance, NoMemory};
 use edge_state::{BitRow, EdgeState, Rel};
 use rule_terms::Direction;
@@ -147,40 +146,23 @@ fn set_rows<const K: usize>(
     }
 }
 
-// Writes sides and rows as the state has them, and that no two boxes are known to fit.
-fn write_all<const K: usize>(
-    instance: &Instance,
-    state: &EdgeState,
-    dim: u32,
-    sides: &mut [u64],
-    rows: &mut [BitRow<K>],
-    fits: &mut [BitRow<K>],
-)
+// The boxes that go on to another one.
+fn boxes_ahead<const K: usize>(instance: &Instance, state: &EdgeState, dim: u32) -> BitRow<K>
     requires words { HoldsBoxes K state.now.boxes }
     requires ordered { HasOneWayChains instance.now state.now dim Forwards }
-    requires sides_count { length sides.old ≡ box_count instance.now }
-    requires rows_count { length rows.old ≡ box_count instance.now }
-    requires fits_count { length fits.old ≡ box_count instance.now }
-    ensures sides_count { length sides.new ≡ box_count instance.now }
-    ensures rows_count { length rows.new ≡ box_count instance.now }
-    ensures fits_count { length fits.new ≡ box_count instance.now }
-    ensures sides { (u : ℕ) → u < box_count instance.now
-        → slice_index sides.new u ≡ side instance.now u dim }
-    ensures old { (u x : ℕ) → u < box_count instance.now → GoesOn rows.new u x
-        → Leads (excludes state.now.trail) dim Forwards u x }
-    ensures new { (u x : ℕ) → u < box_count instance.now → x < box_count instance.now
-        → (u ≡ x → ⊥) → Leads (excludes state.now.trail) dim Forwards u x
-        → GoesOn rows.new u x }
-    ensures none { (u x : ℕ) → u < box_count instance.now → GoesOn fits.new u x → ⊥ }
+    ensures within { (u : ℕ) → row_has result u ≡ true → u < state.now.boxes }
+    ensures none { (u x : ℕ) → u < box_count instance.now → x < box_count instance.now
+        → row_has result u ≡ false → (u ≡ x → ⊥)
+        → Leads (excludes state.now.trail) dim Forwards u x → ⊥ }
 {
     // For the proof alone: tells the limits of the state.
     let _boxes = state.boxes();
+    let mut ahead = BitRow::empty();
     for v in 0..instance.len() {
-        let at = v as usize;
-        sides[at] = u64::from(instance.side(v, dim));
-        rows[at] = leads_row(state, dim, Direction::Forwards, v);
-        fits[at] = BitRow::empty();
+        let row = leads_row::<K>(state, dim, Direction::Forwards, v);
+        ahead = with_if_any(ahead, v, row);
     }
+    ahead
 }
 
 // Writes for each box the boxes that it may be before.
@@ -276,7 +258,8 @@ impl<const K: usize> KeptWeights<K> {
         refill_rows(&mut self.fits, boxes);
     }
 
-    /// Makes them the weights of a state, from nothing. No two boxes are known to fit.
+    /// Makes them the weights of a state, from those of the boxes alone. No two boxes are known to
+    /// fit.
     pub fn weigh(&mut self, instance: &Instance, state: &EdgeState, dim: u32)
         requires words { HoldsBoxes K state.now.boxes }
         requires room { length self.old.head ≡ box_count instance.now }
@@ -288,13 +271,17 @@ impl<const K: usize> KeptWeights<K> {
         // For the proof alone: tells the limits of the state.
         let _boxes = state.boxes();
         self.limit = u64::from(instance.container_side(dim));
+        let sides = self.sides.as_mut_slice();
         let head = self.head.as_mut_slice();
         let tail = self.tail.as_mut_slice();
-        weigh_both::<K>(instance, state, dim, head, tail);
-        let sides = self.sides.as_mut_slice();
         let rows = self.rows.as_mut_slice();
-        let fits = self.fits.as_mut_slice();
-        write_all(instance, state, dim, sides, rows, fits);
+        let ahead = boxes_ahead::<K>(instance, state, dim);
+        write_sides(instance, dim, sides, head, tail);
+        clear_rows(rows);
+        clear_rows(self.fits.as_mut_slice());
+        raise_heads(instance, state, dim, ahead, rows, head);
+        raise_tails(instance, state, dim, ahead, rows, tail);
+        set_rows(instance, state, dim, ahead, rows);
     }
 
     /// Makes them others that were kept. It answers `false` where these are of another number of
