@@ -37,6 +37,7 @@ pub fn apply_cycle(state: &mut EdgeState, dim: u32, a: u32, b: u32, c: u32, d: u
 ///
 /// Source: two intervals that end before two others start are ordered in one of both ways
 /// crosswise; Fishburn's condition on interval orders (1970).
+#[inline(always)]
 pub fn apply_order(state: &mut EdgeState, dim: u32, a: u32, b: u32, c: u32, d: u32) -> bool
     requires dim { dim < state.old.dims }
     requires boxes { AreBoxesAmong state.old.boxes (a ∷ b ∷ c ∷ d ∷ []) }

@@ -102,33 +102,45 @@ module _ (R : ℕ → ℕ → Type 0) (w : ℕ → ℕ) (b c : List ℕ) (v : �
           let fewer : members_below after m < members_below before m = members_fewer before after v m (λ x. none f x ∙ less x) there small in
           rw (same f) (omega (arith, fewer))
 
--- one touched box less is left
-pub touched_next : (n : ℕ) (R : ℕ → ℕ → Type 0) (w : ℕ → ℕ) (b c : List ℕ) (v : ℕ) (here : Bool) (before left risen after : ℕ → Bool)
-    → ((x : ℕ) → left x ≡ before x && not (eqb x v)) → ((x : ℕ) → after x ≡ risen x || (eqb x v && here)) → OthersStay v b c → (here ≡ false → c ≡ b)
-    → ((u x : ℕ) → u < n → x < n → before u ≡ false → risen x ≡ false → HasNoHeavierRun R w b u x) → ((x : ℕ) → x < n → HasNoHeavierRun R w c v x)
-    → (u x : ℕ) → u < n → x < n → left u ≡ false → after x ≡ false → HasNoHeavierRun R w c u x
-touched_next n R w b c v here before left risen after less joined stay same settled new u x hu hx off low = go (cases_eq u v)
+-- what was settled is so still where the one number grows and the other stays
+pub settled_still : (R : ℕ → ℕ → Type 0) (w : ℕ → ℕ) (b c : List ℕ) (u x : ℕ) → slice_index b u ≤ slice_index c u → slice_index c x ≡ slice_index b x
+    → HasNoHeavierRun R w b u x → HasNoHeavierRun R w c u x
+settled_still R w b c u x grows stay s = record { below = λ ne lead. (let h = s.below ne lead in omega (arith, h, grows, stay)) }
+
+-- where one box is settled beside those that it newly goes on to, it is beside all that didn't rise
+pub newly_settled : (n : ℕ) (R : ℕ → ℕ → Type 0) (w : ℕ → ℕ) (b c : List ℕ) (u x : ℕ) (G : Type 0) (new : Bool) → IsOneWay n R → u < n → x < n
+    → slice_index b u ≤ slice_index c u → slice_index c x ≡ slice_index b x → (new ≡ true → HasNoHeavierRun R w c u x) → (G → HasNoHeavierRun R w b u x)
+    → (u ≢ x → new ≡ false → G ⊎ (R u x → R x u)) → HasNoHeavierRun R w c u x
+newly_settled n R w b c u x G new one hu hx grows stay here known others = record { below = λ ne lead. go ne lead (cases_Bool new) }
   where
-    go : (u ≡ v) ⊎ (u ≢ v) → HasNoHeavierRun R w c u x
-    go (inl e) = subst (λ (z : ℕ). HasNoHeavierRun R w c z x) (sym e) (new x hx)
-    go (inr ne) = record {
-      below = λ d lead. (let s = stays_next b c v here risen after joined stay same x low in
-          let h = (settled u x hu hx (off_before (before u) (eqb u v) (sym (less u) ∙ off) (eqb_false u v ne)) s.0).below d lead in
-          let e = s.1 in let f = stay u ne in omega (arith, h, e, f));
-    }
+    old : u ≢ x → R u x → G ⊎ (R u x → R x u) → w u + slice_index c x ≤ slice_index c u
+    old ne lead (inl g) = (settled_still R w b c u x grows stay (known g)).below ne lead
+    old ne lead (inr back) = absurd (one u x (hu, (ne, tt), (hx, tt, tt)) lead (back lead))
+
+    go : u ≢ x → R u x → (new ≡ true) ⊎ (new ≡ false) → w u + slice_index c x ≤ slice_index c u
+    go ne lead (inl on) = (here on).below ne lead
+    go ne lead (inr off) = old ne lead (others ne off)
+
+-- what is known of all that isn't left of a row, with one box less of it
+pub rest_settled : (P : ℕ → Type 0) (v u : ℕ) (before left : ℕ → Bool) → ((x : ℕ) → left x ≡ before x && not (eqb x v)) → left u ≡ false → P v → (before u ≡ false → P u) → P u
+rest_settled P v u before left less off here old = go (cases_eq u v)
+  where
+    go : (u ≡ v) ⊎ (u ≢ v) → P u
+    go (inl e) = subst P (sym e) here
+    go (inr ne) = old (off_before (before u) (eqb u v) (sym (less u) ∙ off) (eqb_false u v ne))
 
 -- a row without a number has no other members
 pub left_part : (before left : ℕ → Bool) (v : ℕ) → ((x : ℕ) → left x ≡ before x && not (eqb x v)) → (x : ℕ) → left x ≡ true → before x ≡ true
 left_part before left v less x on = (and_parts _ _ (sym (less x) ∙ on)).0
 
 -- where each box of a row was raised by v, all were
-pub led_all : (n : ℕ) (R : ℕ → ℕ → Type 0) (w : ℕ → ℕ) (ks : List ℕ) (v : ℕ) (row rest : ℕ → Bool) → IsOneWay n R → v < n
-    → ((x : ℕ) → row x ≡ true → rest x ≡ false → HasNoHeavierRun R w ks x v) → ((x : ℕ) → x < n → (v ≡ x → ⊥) → row x ≡ false → R x v → R v x)
-    → ((x : ℕ) → rest x ≡ false) → (u : ℕ) → u < n → HasNoHeavierRun R w ks u v
-led_all n R w ks v row rest one_way hv members others none u hu = go (cases_Bool (row u))
+pub led_all : (n : ℕ) (R : ℕ → ℕ → Type 0) (w : ℕ → ℕ) (ks : List ℕ) (v : ℕ) (row : ℕ → Bool) → IsOneWay n R → v < n
+    → ((x : ℕ) → row x ≡ true → HasNoHeavierRun R w ks x v) → ((x : ℕ) → x < n → (v ≡ x → ⊥) → row x ≡ false → R x v → R v x)
+    → (u : ℕ) → u < n → HasNoHeavierRun R w ks u v
+led_all n R w ks v row one_way hv members others u hu = go (cases_Bool (row u))
   where
     go : (row u ≡ true) ⊎ (row u ≡ false) → HasNoHeavierRun R w ks u v
-    go (inl on) = members u on (none u)
+    go (inl on) = members u on
     go (inr off) = record { below = λ ne lead. absurd (one_way u v (hu, (ne, tt), (hv, tt, tt)) lead (others u hu (λ e. ne (sym e)) off lead)) }
 
 pub least_trans : (a b c : ℕ) → a ≤ b → b ≤ c → a ≤ c

@@ -108,6 +108,15 @@ less_than u v l ne = go (cases_lt u v)
     go (inl f) = f
     go (inr f) = absurd (ne (omega (arith, l, f)))
 
+-- what each box weighs by itself is the weight of a run
+pub runs_alone : (n : ℕ) (R : ℕ → ℕ → Type 0) (w : ℕ → ℕ) (ks : List ℕ) → ((v : ℕ) → v < n → slice_index ks v ≡ w v) → AreRuns n R w ks
+runs_alone n R w ks same v hv = record {
+  rest = [];
+  boxes = (hv, tt, tt);
+  run = tt;
+  heavy = (let h = sum_by-cons w v [] in let e = same v hv in omega (arith, h, e));
+}
+
 -- weights of no chain at all are settled along empty rows
 abbrev zeros : ℕ → List ℕ
 zeros n = replicate n 0
@@ -178,8 +187,8 @@ kept_from instance s i limit sides head tail rows fits back forth sides_count he
   fit = rw head_count fit;
 }
 
-module _ (instance : PlainInstance) (s : PlainEdges) (i limit : ℕ) (sides head tail : List ℕ) (rows fits : List (List ℕ)) (first second : List ℕ)
-    (kept : AreKeptWeights limit sides head tail rows fits) (count : length head ≡ box_count instance) (still : StillHolds instance s i sides rows first second) where
+module _ (instance : PlainInstance) (s : PlainEdges) (i limit : ℕ) (sides head tail : List ℕ) (rows fits : List (List ℕ)) (first : List ℕ)
+    (kept : AreKeptWeights limit sides head tail rows fits) (count : length head ≡ box_count instance) (still : StillHolds instance s i sides rows first) where
   renewed_heads : AreSettled (box_count instance) (λ v x. GoesOn rows x v) (λ v. slice_index sides v) head
   renewed_heads = rw count at kept.heads
 
@@ -196,13 +205,21 @@ module _ (instance : PlainInstance) (s : PlainEdges) (i limit : ℕ) (sides head
       (λ u x hu hx g. still.old u x hu g) renewed_tails
 
   -- and can be raised only where something came in
-  pub heads_settled : (u x : ℕ) → u < box_count instance → x < box_count instance → row_has second u ≡ false → IsWeighedAt instance s i Backwards head u x
+  pub heads_settled : (u x : ℕ) → u < box_count instance → x < box_count instance → row_has first x ≡ false → IsWeighedAt instance s i Backwards head u x
   heads_settled u x hu hx off = renewed_settled (box_count instance) (λ v x. GoesOn rows x v) (Leads (excludes s.trail) i Backwards) (λ v. slice_index sides v) (λ u. side instance u i) head still.sides
-      renewed_heads u x hu hx (λ ne lead. still.behind x u hx hu off (λ e. ne (sym e)) lead)
+      renewed_heads u x hu hx (λ ne lead. still.ahead x u hx hu off (λ e. ne (sym e)) lead)
+
+  pub heads_known : (u x : ℕ) → u < box_count instance → x < box_count instance → GoesOn rows x u → IsWeighedAt instance s i Backwards head u x
+  heads_known u x hu hx on = renewed_settled (box_count instance) (λ v x. GoesOn rows x v) (Leads (excludes s.trail) i Backwards) (λ v. slice_index sides v) (λ u. side instance u i) head still.sides
+      renewed_heads u x hu hx (λ ne lead. on)
 
   pub tails_settled : (u x : ℕ) → u < box_count instance → x < box_count instance → row_has first u ≡ false → IsWeighedAt instance s i Forwards tail u x
   tails_settled u x hu hx off = renewed_settled (box_count instance) (λ v x. GoesOn rows v x) (Leads (excludes s.trail) i Forwards) (λ v. slice_index sides v) (λ u. side instance u i) tail still.sides
       renewed_tails u x hu hx (λ ne lead. still.ahead u x hu hx off ne lead)
+
+  pub tails_known : (u x : ℕ) → u < box_count instance → x < box_count instance → GoesOn rows u x → IsWeighedAt instance s i Forwards tail u x
+  tails_known u x hu hx on = renewed_settled (box_count instance) (λ v x. GoesOn rows v x) (Leads (excludes s.trail) i Forwards) (λ v. slice_index sides v) (λ u. side instance u i) tail still.sides
+      renewed_tails u x hu hx (λ ne lead. on)
 
   -- what is left of the boxes that fit still does
   pub fits_left : (heads tails : List ℕ) (u v : ℕ) → u < box_count instance → v < box_count instance → slice_index heads u ≡ slice_index head u → slice_index tails v ≡ slice_index tail v

@@ -39,14 +39,12 @@ pub record AreRoomy (most limit : ℕ) (sides head tail : List ℕ) (rows fits :
   pub fits_fit : most ≤ fit_room
 
 -- the sides are those of the boxes, and each box still goes on to those of its row; to another one
--- only boxes of the first row of two go on, and only to boxes of the second
-pub record StillHolds (instance : PlainInstance) (s : PlainEdges) (i : ℕ) (known : List ℕ) (rows : List (List ℕ)) (first second : List ℕ) : Type 0 where
+-- only boxes of the other row go on
+pub record StillHolds (instance : PlainInstance) (s : PlainEdges) (i : ℕ) (known : List ℕ) (rows : List (List ℕ)) (first : List ℕ) : Type 0 where
   pub sides : (u : ℕ) → u < box_count instance → slice_index known u ≡ side instance u i
   pub old : (u x : ℕ) → u < box_count instance → GoesOn rows u x → Leads (excludes s.trail) i Forwards u x
   pub ahead : (u x : ℕ) → u < box_count instance → x < box_count instance → row_has first u ≡ false → (u ≡ x → ⊥) → Leads (excludes s.trail) i Forwards u x → GoesOn rows u x
-  pub behind : (u x : ℕ) → u < box_count instance → x < box_count instance → row_has second x ≡ false → (u ≡ x → ⊥) → Leads (excludes s.trail) i Forwards u x → GoesOn rows u x
   pub ahead_within : (u : ℕ) → row_has first u ≡ true → u < s.boxes
-  pub behind_within : (u : ℕ) → row_has second u ≡ true → u < s.boxes
 
 -- what is seen of kept weights: how many boxes there is memory for, the limit, and the weights of
 -- the chains that end in each box and that start there

@@ -11,9 +11,8 @@ ghost use Rattle.orientation_rules.specs.Weights.{HasOneWayChains, IsHeaviest};
 ghost use Rattle.orientation_rules.specs.KeptWeights.{GoesOn, StillHolds, AreHeaviestWeights};
 
 use crate::leads::leads_row;
-use crate::refills::{refill, refill_rows};
-use crate::rises::raise_touched;
-use crate::weights::weigh_both;
+use crate::refills::{clear_rows, refill, refill_rows, write_sides};
+use crate::rises::{raise_heads, raise_tails};
 use box_instances::{Instance, NoMemory};
 use edge_state::{BitRow, EdgeState, Rel};
 use rule_terms::Direction;
@@ -82,8 +81,7 @@ fn with_if_any<const K: usize>(row: BitRow<K>, number: u32, other: BitRow<K>) ->
 }
 
 // Whether the sides are those of the boxes, and each box still goes on to those of its row. The
-// boxes that go on to another one come to the first row, those to which another one goes on to the
-// second.
+// boxes that go on to another one come to a row.
 fn still_holds<const K: usize>(
     instance: &Instance,
     state: &EdgeState,
@@ -91,19 +89,17 @@ fn still_holds<const K: usize>(
     sides: &[u64],
     rows: &[BitRow<K>],
     ahead: &mut BitRow<K>,
-    behind: &mut BitRow<K>,
 ) -> bool
     requires words { HoldsBoxes K state.now.boxes }
     requires ordered { HasOneWayChains instance.now state.now dim Forwards }
     requires sides { length sides.now ≡ box_count instance.now }
     requires rows { length rows.now ≡ box_count instance.now }
     ensures { result ≡ true
-        → StillHolds instance.now state.now dim sides.now rows.now ahead.new behind.new }
+        → StillHolds instance.now state.now dim sides.now rows.now ahead.new }
 {
     // For the proof alone: tells the limits of the state.
     let _boxes = state.boxes();
     *ahead = BitRow::empty();
-    *behind = BitRow::empty();
     for v in 0..instance.len() {
         let at = v as usize;
         let kept = rows[at];
@@ -114,9 +110,7 @@ fn still_holds<const K: usize>(
         if sides[at] != u64::from(instance.side(v, dim)) {
             return false;
         }
-        let more = now.minus(kept);
-        *ahead = with_if_any(*ahead, v, more);
-        *behind = behind.or(more);
+        *ahead = with_if_any(*ahead, v, now.minus(kept));
     }
     true
 }
@@ -152,40 +146,23 @@ fn set_rows<const K: usize>(
     }
 }
 
-// Writes sides and rows as the state has them, and that no two boxes are known to fit.
-fn write_all<const K: usize>(
-    instance: &Instance,
-    state: &EdgeState,
-    dim: u32,
-    sides: &mut [u64],
-    rows: &mut [BitRow<K>],
-    fits: &mut [BitRow<K>],
-)
+// The boxes that go on to another one.
+fn boxes_ahead<const K: usize>(instance: &Instance, state: &EdgeState, dim: u32) -> BitRow<K>
     requires words { HoldsBoxes K state.now.boxes }
     requires ordered { HasOneWayChains instance.now state.now dim Forwards }
-    requires sides_count { length sides.old ≡ box_count instance.now }
-    requires rows_count { length rows.old ≡ box_count instance.now }
-    requires fits_count { length fits.old ≡ box_count instance.now }
-    ensures sides_count { length sides.new ≡ box_count instance.now }
-    ensures rows_count { length rows.new ≡ box_count instance.now }
-    ensures fits_count { length fits.new ≡ box_count instance.now }
-    ensures sides { (u : ℕ) → u < box_count instance.now
-        → slice_index sides.new u ≡ side instance.now u dim }
-    ensures old { (u x : ℕ) → u < box_count instance.now → GoesOn rows.new u x
-        → Leads (excludes state.now.trail) dim Forwards u x }
-    ensures new { (u x : ℕ) → u < box_count instance.now → x < box_count instance.now
-        → (u ≡ x → ⊥) → Leads (excludes state.now.trail) dim Forwards u x
-        → GoesOn rows.new u x }
-    ensures none { (u x : ℕ) → u < box_count instance.now → GoesOn fits.new u x → ⊥ }
+    ensures within { (u : ℕ) → row_has result u ≡ true → u < state.now.boxes }
+    ensures none { (u x : ℕ) → u < box_count instance.now → x < box_count instance.now
+        → row_has result u ≡ false → (u ≡ x → ⊥)
+        → Leads (excludes state.now.trail) dim Forwards u x → ⊥ }
 {
     // For the proof alone: tells the limits of the state.
     let _boxes = state.boxes();
+    let mut ahead = BitRow::empty();
     for v in 0..instance.len() {
-        let at = v as usize;
-        sides[at] = u64::from(instance.side(v, dim));
-        rows[at] = leads_row(state, dim, Direction::Forwards, v);
-        fits[at] = BitRow::empty();
+        let row = leads_row::<K>(state, dim, Direction::Forwards, v);
+        ahead = with_if_any(ahead, v, row);
     }
+    ahead
 }
 
 // Writes for each box the boxes that it may be before.
@@ -281,7 +258,8 @@ impl<const K: usize> KeptWeights<K> {
         refill_rows(&mut self.fits, boxes);
     }
 
-    /// Makes them the weights of a state, from nothing. No two boxes are known to fit.
+    /// Makes them the weights of a state, from those of the boxes alone. No two boxes are known to
+    /// fit.
     pub fn weigh(&mut self, instance: &Instance, state: &EdgeState, dim: u32)
         requires words { HoldsBoxes K state.now.boxes }
         requires room { length self.old.head ≡ box_count instance.now }
@@ -293,21 +271,41 @@ impl<const K: usize> KeptWeights<K> {
         // For the proof alone: tells the limits of the state.
         let _boxes = state.boxes();
         self.limit = u64::from(instance.container_side(dim));
+        let sides = self.sides.as_mut_slice();
         let head = self.head.as_mut_slice();
         let tail = self.tail.as_mut_slice();
-        weigh_both::<K>(instance, state, dim, head, tail);
-        let sides = self.sides.as_mut_slice();
         let rows = self.rows.as_mut_slice();
-        let fits = self.fits.as_mut_slice();
-        write_all(instance, state, dim, sides, rows, fits);
+        let ahead = boxes_ahead::<K>(instance, state, dim);
+        write_sides(instance, dim, sides, head, tail);
+        clear_rows(rows);
+        clear_rows(self.fits.as_mut_slice());
+        raise_heads(instance, state, dim, ahead, rows, head);
+        raise_tails(instance, state, dim, ahead, rows, tail);
+        set_rows(instance, state, dim, ahead, rows);
     }
 
-    /// Makes them the weights of a state, from others that were kept. It answers `false` where
-    /// these are of another number of boxes or of other sides, or where a box doesn't go on to one
-    /// any more, and then nothing changes.
+    /// Makes them others that were kept. It answers `false` where these are of another number of
+    /// boxes, and then nothing changes.
+    pub fn copy_from(&mut self, from: &KeptWeights<K>) -> bool
+        ensures count { length self.new.head ≡ length self.old.head }
+        ensures most { self.new.most ≡ self.old.most }
+    {
+        if from.head.len() != self.head.len() {
+            return false;
+        }
+        self.limit = from.limit;
+        self.sides.copy_from_slice(&from.sides);
+        self.head.copy_from_slice(&from.head);
+        self.tail.copy_from_slice(&from.tail);
+        self.rows.copy_from_slice(&from.rows);
+        self.fits.copy_from_slice(&from.fits);
+        true
+    }
+
+    /// Makes them the weights of a state, from those that they are. It answers `false` where these
+    /// are of other sides, or where a box doesn't go on to one any more, and then nothing changes.
     pub fn renew(
         &mut self,
-        from: &KeptWeights<K>,
         instance: &Instance,
         state: &EdgeState,
         dim: u32,
@@ -323,29 +321,19 @@ impl<const K: usize> KeptWeights<K> {
     {
         // For the proof alone: tells the limits of the state.
         let _boxes = state.boxes();
-        if from.head.len() != self.head.len() {
-            return false;
-        }
-        if from.limit != u64::from(instance.container_side(dim)) {
+        if self.limit != u64::from(instance.container_side(dim)) {
             return false;
         }
         let mut ahead = BitRow::empty();
-        let mut behind = BitRow::empty();
-        let sides = from.sides.as_slice();
-        let rows = from.rows.as_slice();
-        if !still_holds(instance, state, dim, sides, rows, &mut ahead, &mut behind) {
+        let sides = self.sides.as_slice();
+        let rows = self.rows.as_slice();
+        if !still_holds(instance, state, dim, sides, rows, &mut ahead) {
             return false;
         }
-        self.limit = from.limit;
-        self.sides.copy_from_slice(sides);
-        self.head.copy_from_slice(&from.head);
-        self.tail.copy_from_slice(&from.tail);
-        self.rows.copy_from_slice(rows);
-        self.fits.copy_from_slice(&from.fits);
         let head = self.head.as_mut_slice();
-        let heads = raise_touched(instance, state, dim, Direction::Backwards, behind, head);
+        let heads = raise_heads(instance, state, dim, ahead, rows, head);
         let tail = self.tail.as_mut_slice();
-        let tails = raise_touched(instance, state, dim, Direction::Forwards, ahead, tail);
+        let tails = raise_tails(instance, state, dim, ahead, rows, tail);
         set_rows(instance, state, dim, ahead, self.rows.as_mut_slice());
         drop_risen(heads, tails, self.fits.as_mut_slice());
         *risen = !has_none(heads.or(tails));

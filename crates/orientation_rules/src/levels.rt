@@ -17,7 +17,8 @@ use std::alloc::Global;
 use std::marker::Model;
 
 /// The weights of heaviest chains in one dimension, made from those that were kept before, the
-/// newest of which stand on top. With them is kept which two boxes are known to fit.
+/// newest of which stand on top. With them is kept which two boxes are known to fit. Within a
+/// closing they are raised where they stand; what is kept on top is what a closing ended with.
 ///
 /// It is seen as the number of boxes, how many it was made for, and the weights that were made
 /// last.
@@ -27,6 +28,7 @@ pub struct KeptLevels<const K: usize> {
     most: u32,
     used: usize,
     rose: bool,
+    risen: bool,
     fresh: bool,
     work: KeptWeights<K>,
     levels: Vec<KeptWeights<K>>,
@@ -40,18 +42,6 @@ impl<const K: usize> Model for KeptLevels<K> {
     ghost view = { λ k. record { boxes = k.boxes; most = k.most; weights = k.work } };
 
     ghost invariant = { λ k. AreKeptLevels k.boxes k.most k.used k.work k.levels.items };
-}
-
-// Which of so many levels is written next: the topmost anew where it is of this closing, or where
-// there is no other.
-fn slot(used: usize, count: usize, fresh: bool) -> usize
-    requires { 0 < count }
-    ensures { result < count }
-{
-    if fresh && used > 0 && used <= count {
-        return used - 1;
-    }
-    used.min(count - 1)
 }
 
 impl<const K: usize> KeptLevels<K> {
@@ -73,6 +63,7 @@ impl<const K: usize> KeptLevels<K> {
             most: boxes,
             used: 0,
             rose: false,
+            risen: false,
             fresh: false,
             work,
             levels,
@@ -88,14 +79,36 @@ impl<const K: usize> KeptLevels<K> {
     {
         self.boxes = boxes;
         self.used = 0;
+        self.fresh = false;
         self.work.set_boxes(boxes);
     }
 
-    /// Begins another closing, whose weights don't take the place of those that are kept.
+    /// Begins another closing, whose weights are made from those that are kept.
     pub fn begin(&mut self)
         ensures { self.new ≡ self.old }
     {
         self.fresh = false;
+        self.rose = false;
+    }
+
+    // Makes the weights of a state from those that were made last, if they serve.
+    fn renew_last(&mut self, instance: &Instance, state: &EdgeState, dim: u32) -> bool
+        requires words { HoldsBoxes K state.now.boxes }
+        requires room { self.old.boxes ≡ box_count instance.now }
+        requires ordered_back { HasOneWayChains instance.now state.now dim Backwards }
+        requires ordered { HasOneWayChains instance.now state.now dim Forwards }
+        ensures boxes { self.new.boxes ≡ self.old.boxes }
+        ensures most { self.new.most ≡ self.old.most }
+        ensures renewed { result ≡ true
+            → AreHeaviestWeights instance.now state.now dim self.new.weights }
+    {
+        let mut risen = false;
+        if !self.work.renew(instance, state, dim, &mut risen) {
+            return false;
+        }
+        self.risen = risen;
+        self.rose = self.rose | risen;
+        true
     }
 
     // Makes the weights of a state from those of the newest level that serves. Those above it are
@@ -111,10 +124,12 @@ impl<const K: usize> KeptLevels<K> {
             → AreHeaviestWeights instance.now state.now dim self.new.weights }
     {
         while self.used > 0 {
-            let mut rose = false;
             let level = &self.levels[self.used - 1];
-            if self.work.renew(level, instance, state, dim, &mut rose) {
-                self.rose = rose;
+            self.work.copy_from(level);
+            let mut risen = false;
+            if self.work.renew(instance, state, dim, &mut risen) {
+                self.risen = risen;
+                self.rose = risen;
                 return true;
             }
             self.used -= 1;
@@ -122,7 +137,7 @@ impl<const K: usize> KeptLevels<K> {
         false
     }
 
-    // The same, or from nothing.
+    // The same, or from nothing. Within a closing those that were made last serve.
     fn weigh(&mut self, instance: &Instance, state: &EdgeState, dim: u32)
         requires words { HoldsBoxes K state.now.boxes }
         requires room { self.old.boxes ≡ box_count instance.now }
@@ -132,10 +147,16 @@ impl<const K: usize> KeptLevels<K> {
         ensures most { self.new.most ≡ self.old.most }
         ensures weights { AreHeaviestWeights instance.now state.now dim self.new.weights }
     {
+        if self.fresh {
+            if self.renew_last(instance, state, dim) {
+                return;
+            }
+        }
         if self.renew_newest(instance, state, dim) {
             return;
         }
         self.work.weigh(instance, state, dim);
+        self.risen = true;
         self.rose = true;
     }
 
@@ -188,16 +209,14 @@ impl<const K: usize> KeptLevels<K> {
         if count == 0 {
             return;
         }
-        let at = slot(self.used, count, self.fresh);
+        let at = self.used.min(count - 1);
         std::mem::swap(&mut self.work, &mut self.levels[at]);
         self.work.set_boxes(self.boxes);
         self.used = at + 1;
-        self.fresh = true;
     }
 
-    /// Keeps the weights on top, and with them that each two boxes fit of which the first may be
-    /// before the second: the chains that end in the one and start in the other aren't longer
-    /// together than the limit. Where no weight rose since they were kept, they stay as they are.
+    /// Keeps with the weights that each two boxes fit of which the first may be before the second:
+    /// the chains that end in the one and start in the other aren't longer together than the limit.
     pub fn keep(&mut self, state: &EdgeState, dim: u32)
         requires words { HoldsBoxes K state.now.boxes }
         requires dim { dim < state.now.dims }
@@ -206,17 +225,28 @@ impl<const K: usize> KeptLevels<K> {
             → excludes state.now.trail dim u v Before ≡ false
             → slice_index self.old.weights.head u + slice_index self.old.weights.tail v
             ≤ self.old.weights.limit }
+        ensures { self.new ≡ self.old }
+    {
+        self.fresh = true;
+        if self.risen {
+            self.work.set_fits(state, dim);
+        }
+    }
+
+    /// Ends a closing, and keeps its weights on top if one rose in it.
+    pub fn finish(&mut self)
+        requires { IsRowWidth K }
         ensures boxes { self.new.boxes ≡ self.old.boxes }
         ensures most { self.new.most ≡ self.old.most }
     {
-        if !self.rose {
+        if !self.fresh || !self.rose {
             return;
         }
-        self.work.set_fits(state, dim);
-        if self.used >= self.levels.len() && !self.fresh {
+        if self.used >= self.levels.len() {
             self.thin();
         }
         self.push();
+        self.fresh = false;
     }
 
     /// The weights of the heaviest chains that end in each box.

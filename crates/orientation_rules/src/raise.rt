@@ -68,6 +68,7 @@ pub fn raise_along<const K: usize>(
     ensures weighed { (x : ℕ) → row_has row.entry x ≡ true
         → IsWeighedAt instance.now state.now dim direction into.new v x }
     ensures others { OthersStay v into.old into.new }
+    ensures grows { slice_index into.old v ≤ slice_index into.new v }
 {
     let own = u64::from(instance.side(v, dim));
     let mut rest = row;

@@ -1,8 +1,10 @@
 //! Lists that are written anew in the memory that they have.
-ghost use Rattle.std.specs.Prelude.{◌≡◌, ◌<◌, ◌≤◌, ℕ, length, replicate, vec_capacity};
+ghost use Rattle.std.specs.Prelude.{◌≡◌, ◌<◌, ◌≤◌, ℕ, length, slice_index, replicate, vec_capacity};
+ghost use Rattle.packing_terms.specs.Packing.{dims, box_count, side};
 ghost use Rattle.edge_state.specs.BitRows.{IsRowWidth};
 ghost use Rattle.orientation_rules.specs.KeptWeights.{GoesOn};
 
+use box_instances::Instance;
 use edge_state::BitRow;
 
 /// Makes the list one of so many zeros, without taking memory.
@@ -28,5 +30,46 @@ pub fn refill_rows<const K: usize>(list: &mut Vec<BitRow<K>>, count: u32)
     list.clear();
     for _ in 0..count {
         list.push_reserved(BitRow::empty());
+    }
+}
+
+/// Makes three lists the sides of the boxes: what each weighs by itself.
+pub fn write_sides(
+    instance: &Instance,
+    dim: u32,
+    sides: &mut [u64],
+    head: &mut [u64],
+    tail: &mut [u64],
+)
+    requires dim { dim < dims instance.now }
+    requires sides_count { length sides.old ≡ box_count instance.now }
+    requires head_count { length head.old ≡ box_count instance.now }
+    requires tail_count { length tail.old ≡ box_count instance.now }
+    ensures sides_count { length sides.new ≡ box_count instance.now }
+    ensures head_count { length head.new ≡ box_count instance.now }
+    ensures tail_count { length tail.new ≡ box_count instance.now }
+    ensures sides { (u : ℕ) → u < box_count instance.now
+        → slice_index sides.new u ≡ side instance.now u dim }
+    ensures heads { (u : ℕ) → u < box_count instance.now
+        → slice_index head.new u ≡ side instance.now u dim }
+    ensures tails { (u : ℕ) → u < box_count instance.now
+        → slice_index tail.new u ≡ side instance.now u dim }
+{
+    for v in 0..instance.len() {
+        let own = u64::from(instance.side(v, dim));
+        sides[v as usize] = own;
+        head[v as usize] = own;
+        tail[v as usize] = own;
+    }
+}
+
+/// Makes all rows such that have no member.
+pub fn clear_rows<const K: usize>(rows: &mut [BitRow<K>])
+    requires { IsRowWidth K }
+    ensures count { length rows.new ≡ length rows.old }
+    ensures none { (u x : ℕ) → u < length rows.old → GoesOn rows.new u x → ⊥ }
+{
+    for at in 0..rows.len() {
+        rows[at] = BitRow::empty();
     }
 }

@@ -1,5 +1,5 @@
 -- CYCLE where too few boxes are joined with two others.
-use Rattle.std.proofs.Common.{◌≡◌, ◌≢◌, ◌<◌, ℕ, ◌⊎◌, inl, inr, refl, sym, ◌∙◌, Bool, true, false, not, ◌&&◌, List}
+use Rattle.std.proofs.Common.{◌≡◌, ◌≢◌, ◌<◌, ℕ, refl, sym, Bool, true, false, not, ◌&&◌, List}
 use Rattle.std.proofs.lemmas.Bool.{true≢false}
 use Rattle.packing_terms.specs.declared.Rel.TheVariants.{Before, After}
 use Rattle.packing_terms.specs.declared.Exclusion.{Exclusion}

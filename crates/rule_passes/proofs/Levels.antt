@@ -7,7 +7,10 @@ use Rattle.packing_terms.specs.declared.Exclusion.{Exclusion}
 use Rattle.packing_terms.specs.declared.Rel.TheVariants.{Before}
 use Rattle.packing_terms.specs.Packing.{PlainInstance, container_side}
 use Rattle.packing_terms.specs.Exclusions.{excludes}
-use Rattle.closure_terms.specs.Passes.{IsShut}
+use Rattle.rule_terms.proofs.Applied.{extends_trans}
+use Rattle.edge_state.specs.Edges.{PlainEdges, is_other_box}
+use Rattle.edge_state.proofs.Kept.{row_shut}
+use Rattle.closure_terms.specs.Passes.{IsPass, IsShut}
 use Rattle.orientation_rules.specs.KeptWeights.{PlainLevels}
 use Rattle.orientation_rules.proofs.KeptRuns.{each_more}
 use Rattle.rule_passes.specs.Rooms.{HaveEach}
@@ -58,3 +61,21 @@ pub shut_known : (instance : PlainInstance) (i : ℕ) (head tail : List ℕ) (u 
 shut_known instance i head tail u v es row true left e off fit none = record { shut = λ ne wide. (let h = fit refl in absurd (omega (arith, h, wide))) }
 shut_known instance i head tail u v es false false left e off fit none = none refl
 shut_known instance i head tail u v es true false left e off fit none = absurd (true≢false (sym e ∙ off))
+
+-- a pass that ends at an empty mask says nothing of what is done
+pub pass_lost : (instance : PlainInstance) (a b c : PlainEdges) (lost : Bool) (P Q R : List Exclusion → Type 0) → lost ≡ true → IsPass instance a b P → IsPass instance b c Q
+    → IsPass instance a c (λ es. lost ≡ false → R es)
+pass_lost instance a b c lost P Q R e h k = record {
+  same_dims = k.same_dims ∙ h.same_dims;
+  same_boxes = k.same_boxes ∙ h.same_boxes;
+  same_room = k.same_room ∙ h.same_room;
+  extends = extends_trans _ _ _ _ h.extends k.extends;
+  done = λ f. absurd (true≢false (sym e ∙ f));
+}
+
+-- the same of what is in the row of the boxes that u may be before, and not known to fit
+pub shut_unless : (instance : PlainInstance) (i n : ℕ) (head tail : List ℕ) (u v : ℕ) (es : List Exclusion) (row known left : Bool) → v < n
+    → row ≡ is_other_box n u v && not (excludes es i u v Before) → left ≡ row && not known → left ≡ false
+    → (known ≡ true → slice_index head u + slice_index tail v ≤ container_side instance i) → IsShut instance i head tail u v es
+shut_unless instance i n head tail u v es row known left hv is e off fit =
+    shut_known instance i head tail u v es row known left e off fit (λ none. record { shut = λ ne wide. row_shut n i u v (excludes es) Before row hv ne is none })

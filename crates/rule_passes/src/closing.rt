@@ -5,7 +5,7 @@ ghost use Rattle.packing_terms.specs.Exclusions.{excludes};
 ghost use Rattle.packing_terms.specs.Closure.{IsStable};
 ghost use Rattle.rule_terms.specs.Applied.{Extends};
 ghost use Rattle.rule_terms.specs.Places.{HasNoEmptyMask};
-ghost use Rattle.edge_state.specs.BitRows.{HoldsBoxes, row_has};
+ghost use Rattle.edge_state.specs.BitRows.{IsRowWidth, HoldsBoxes, row_has};
 ghost use Rattle.edge_state.specs.Edges.{oldest};
 ghost use Rattle.closure_terms.specs.States.{HasEmptyMask};
 ghost use Rattle.closure_terms.specs.Work.{IsUpToDate, IsChained};
@@ -24,6 +24,17 @@ fn begin_each<const K: usize>(kept: &mut [KeptLevels<K>])
 {
     for dim in 0..kept.len() {
         kept[dim].begin();
+    }
+}
+
+// Ends a closing in each dimension, and keeps the weights that it came to.
+fn finish_each<const K: usize>(kept: &mut [KeptLevels<K>])
+    requires { IsRowWidth K }
+    ensures kept { (d n : ℕ) → AreKept d n kept.old → AreKept d n kept.new }
+    ensures made { (d most : ℕ) → AreMade d most kept.old → AreMade d most kept.new }
+{
+    for dim in 0..kept.len() {
+        kept[dim].finish();
     }
 }
 
@@ -65,7 +76,9 @@ pub fn close_with<const K: usize>(
     while let Some(dim) = dirty.first() {
         let next = state.mark();
         let levels = &mut kept[dim as usize];
-        cover_chains::<K>(instance, state, dim, levels);
+        if cover_chains::<K>(instance, state, dim, levels) {
+            return true;
+        }
         let rest = dirty.without(dim);
         let Some(more) = settle(instance, state, all, next, rest, &longest) else {
             return true;
@@ -74,5 +87,6 @@ pub fn close_with<const K: usize>(
         let _sizes = state.dims();
         dirty = more;
     }
+    finish_each(kept);
     false
 }

@@ -27,7 +27,7 @@ use relation_table::flip;
 
 // COMPOSE in both orders. The boxes at which it may exclude something are found first, so that the
 // rows of the two are read once.
-#[inline]
+#[inline(always)]
 fn spread_composed<const K: usize>(
     instance: &Instance,
     state: &mut EdgeState,
@@ -56,7 +56,7 @@ fn spread_composed<const K: usize>(
 }
 
 // The instances that ask for two boxes that are apart: none where the mask has overlap.
-#[inline]
+#[inline(always)]
 fn spread_apart<const K: usize>(
     instance: &Instance,
     state: &mut EdgeState,
@@ -88,7 +88,7 @@ fn spread_apart<const K: usize>(
 }
 
 // The instances that ask for two boxes that are joined: none where the mask has before or after.
-#[inline]
+#[inline(always)]
 fn spread_joined<const K: usize>(
     instance: &Instance,
     state: &mut EdgeState,
@@ -119,7 +119,7 @@ fn spread_joined<const K: usize>(
 
 // The instances that ask for a box that is surely before another: none where the mask has overlap
 // or after.
-#[inline]
+#[inline(always)]
 fn spread_ordered<const K: usize>(
     instance: &Instance,
     state: &mut EdgeState,
@@ -149,7 +149,7 @@ fn spread_ordered<const K: usize>(
 }
 
 // The instances that ask that a box isn't before another: none where the mask has before.
-#[inline]
+#[inline(always)]
 fn spread_crossed<const K: usize>(
     instance: &Instance,
     state: &mut EdgeState,
@@ -203,8 +203,9 @@ fn spread_from<const K: usize>(
     spread_crossed(instance, state, all, dim, p, q, left)
 }
 
-/// All instances that read the mask of an edge, which is given, up to those that add the same.
-pub fn spread<const K: usize>(
+// All instances that read the mask of an edge, which is given, up to those that add the same.
+#[inline(always)]
+fn spread_left<const K: usize>(
     instance: &Instance,
     state: &mut EdgeState,
     all: BitRow<K>,
@@ -235,4 +236,39 @@ pub fn spread<const K: usize>(
         return true;
     }
     spread_from(instance, state, all, dim, v, u, flip(left))
+}
+
+/// All instances that read the mask of an edge, which is given, up to those that add the same.
+///
+/// The calls are the same and are inlined: in each copy it is known what is left, and what that
+/// tells off falls away.
+pub fn spread<const K: usize>(
+    instance: &Instance,
+    state: &mut EdgeState,
+    all: BitRow<K>,
+    dim: u32,
+    u: u32,
+    v: u32,
+    left: Mask,
+    most: u32,
+) -> bool
+    requires words { HoldsBoxes K (box_count instance.now) }
+    requires sizes { IsSized instance.now state.old dim }
+    requires u { u < box_count instance.now }
+    requires v { v < box_count instance.now }
+    requires distinct { u ≡ v → ⊥ }
+    requires all { (x : ℕ) → row_has all x ≡ nat_lt x (box_count instance.now) }
+    requires left { (r : PlainRel) → mask_has left r ≡ not (excludes state.old.trail dim u v r) }
+    requires most { HasNoLonger instance.now dim most }
+    ensures { IsWorked instance.now state.old state.new result
+        (λ rule. IsAppliedAt dim u v rule ⊎ IsAppliedAt dim v u rule) }
+{
+    match left.bits() {
+        1 => spread_left(instance, state, all, dim, u, v, left, most),
+        2 => spread_left(instance, state, all, dim, u, v, left, most),
+        3 => spread_left(instance, state, all, dim, u, v, left, most),
+        4 => spread_left(instance, state, all, dim, u, v, left, most),
+        5 => spread_left(instance, state, all, dim, u, v, left, most),
+        _ => spread_left(instance, state, all, dim, u, v, left, most),
+    }
 }

@@ -30,6 +30,7 @@ pub fn is_empty_left(
 }
 
 /// The same, where the mask is read.
+#[inline(always)]
 pub fn is_empty_at(instance: &Instance, state: &EdgeState, dim: u32, u: u32, v: u32) -> bool
     requires sizes { IsSized instance.now state.now dim }
     requires u { u < box_count instance.now }

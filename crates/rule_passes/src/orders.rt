@@ -15,6 +15,7 @@ use cycle_rules::apply_order;
 use edge_state::{BitRow, EdgeState, Rel};
 
 // ORDER at four boxes.
+#[inline(always)]
 fn order_at(
     instance: &Instance,
     state: &mut EdgeState,
@@ -63,9 +64,6 @@ fn orders_from<const K: usize>(
     if a == b || a == d || b == d {
         return false;
     }
-    if !state.sure_before(dim, a, b) || state.mask(dim, a, d).has(Rel::Before) {
-        return false;
-    }
     let mut rest = beyond_orders_from::<K>(instance, state, dim, a, b, d);
     while let Some(c) = rest.first() {
         rest = rest.without(c);
@@ -94,9 +92,6 @@ fn orders_to<const K: usize>(
         (λ rule. (b : ℕ) × (b < box_count instance.now) × (rule ≡ Order dim a b c d)) }
 {
     if a == c || a == d || c == d {
-        return false;
-    }
-    if !state.sure_before(dim, c, d) || state.mask(dim, a, d).has(Rel::Before) {
         return false;
     }
     let mut rest = beyond_orders_to::<K>(instance, state, dim, a, c, d);
@@ -234,6 +229,7 @@ pub fn orders_first<const K: usize>(
 }
 
 /// ORDER with the second pair given.
+#[inline(always)]
 pub fn orders_second<const K: usize>(
     instance: &Instance,
     state: &mut EdgeState,

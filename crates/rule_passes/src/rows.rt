@@ -89,6 +89,7 @@ fn left_outside<const K: usize>(
 /// A relation that is left of `u`, `v` allows itself of `u`, x, whatever is left of `v`, x, if
 /// anything is. So a relation is looked at only where it is gone from the mask, and beside that the
 /// empty masks of `v`, x. A full mask asks for no row.
+#[inline(always)]
 pub fn beyond_compositions<const K: usize>(
     instance: &Instance,
     state: &EdgeState,

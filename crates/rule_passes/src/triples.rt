@@ -18,6 +18,7 @@ use edge_state::{BitRow, EdgeState};
 use orientation_rules::apply_triple;
 
 // TRIPLE at three boxes.
+#[inline(always)]
 fn triple_at(instance: &Instance, state: &mut EdgeState, dim: u32, u: u32, v: u32, x: u32) -> bool
     requires sizes { IsSized instance.now state.old dim }
     requires u { u < box_count instance.now }
@@ -108,6 +109,7 @@ fn triples_among<const K: usize>(
 
 /// TRIPLE with two boxes in both orders, for each third that is apart from the one that comes
 /// second, where there are such boxes, and one may be long enough: none is longer than `most`.
+#[inline(always)]
 pub fn triples<const K: usize>(
     instance: &Instance,
     state: &mut EdgeState,

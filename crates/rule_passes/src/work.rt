@@ -20,6 +20,7 @@ use edge_state::{BitRow, EdgeState, Rel};
 use orientation_rules::{apply_apart, apply_compose};
 
 // APART in a dimension other than the one that changed.
+#[inline(always)]
 fn apart_at(instance: &Instance, state: &mut EdgeState, dim: u32, i: u32, u: u32, v: u32) -> bool
     requires sizes { IsSized instance.now state.old dim }
     requires i { i < dims instance.now }
@@ -60,6 +61,7 @@ pub fn aparts(instance: &Instance, state: &mut EdgeState, dim: u32, u: u32, v: u
 }
 
 // COMPOSE at three boxes.
+#[inline(always)]
 fn compose_at(instance: &Instance, state: &mut EdgeState, dim: u32, u: u32, v: u32, x: u32) -> bool
     requires sizes { IsSized instance.now state.old dim }
     requires u { u < box_count instance.now }
@@ -250,7 +252,7 @@ fn chords_from<const K: usize>(
 
 /// CYCLE with the first and the third box given, in both orders, where two boxes are joined with
 /// both.
-#[inline]
+#[inline(always)]
 pub fn chords<const K: usize>(
     instance: &Instance,
     state: &mut EdgeState,

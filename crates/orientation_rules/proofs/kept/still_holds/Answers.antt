@@ -1,5 +1,4 @@
 use Rattle.std.proofs.Common.{◌≡◌, ◌+◌, ◌<◌, ◌∙◌, ℕ, refl, sym, inl, inr, ◌⊎◌, [], true, false, slice_index, slice_index_or, length, arith}
-use Rattle.std.proofs.lemmas.Bool.{or_parts, or_cases, and_parts}
 use Rattle.packing_terms.specs.Packing.{box_count, side}
 use Rattle.packing_terms.specs.Exclusions.{excludes}
 use Rattle.edge_state.specs.BitRows.{row_has}
@@ -21,7 +20,6 @@ loop-v-preserved g c =
     let same : slice_index_or rows v [] ≡ c.index-rows-at.result = get_any rows v [] _ there ∙ sym c.index-rows-at.is in
     let kept = row_has c.index-rows-at.result in
     let now = row_has c.leads_row-now.result in
-    let more = row_has c.minus-more.result in
     let on = λ (x : ℕ) (hx : x < n) (ne : v ≡ x → ⊥) (lead : R v x). row_of n R v x (now x) c.requires.ordered.one_way hv hx ne lead
     (λ off lead. c.leads_row-now.ensures.others x (rw c.requires.ordered.same_boxes hx) ne off lead) in
     record {
@@ -30,18 +28,10 @@ loop-v-preserved g c =
           (λ g. (c.leads_row-now.ensures.leads x (none_out _ _ _ (c.minus.ensures x) (c.if-not-has_none.ensures refl x) ((rw same at g)))).1) u l;
       first = λ u x l hx. below_next v (λ u. row_has c.with_if_any.result u ≡ false → (u ≡ x → ⊥) → R u x → GoesOn rows u x)
           (λ u l off. i.first u x l hx (c.with_if_any.ensures.off u off).0)
-          (λ off ne lead. rw same (none_out _ _ _ (c.minus-more.ensures x) ((c.with_if_any.ensures.off v off).1 refl x) (on x hx ne lead))) u l;
-      second = λ u x l hx off. below_next v (λ u. (u ≡ x → ⊥) → R u x → GoesOn rows u x)
-          (λ u l. i.second u x l hx (or_parts _ _ (sym (c.or.ensures x) ∙ off)).0)
-          (λ ne lead. rw same (none_out _ _ _ (c.minus-more.ensures x) (or_parts _ _ (sym (c.or.ensures x) ∙ off)).1 (on x hx ne lead))) u l;
+          (λ off ne lead. rw same (none_out _ _ _ (c.minus-in-loop-v.ensures x) ((c.with_if_any.ensures.off v off).1 refl x) (on x hx ne lead))) u l;
       ahead = λ u h. ahead_at u (c.with_if_any.ensures.on u h);
-      behind = λ u h. behind_at u (or_cases _ _ (sym (c.or.ensures u) ∙ h));
     }
   where
     ahead_at : (u : ℕ) → (row_has c.loop-v.ahead u ≡ true) ⊎ (u ≡ c.loop-v.v) → u < c.loop-v.v + 1
     ahead_at u (inl h) = let l = c.loop-v.invariant.ahead u h in omega (arith, l)
     ahead_at u (inr e) = omega (arith, e)
-
-    behind_at : (u : ℕ) → (row_has c.loop-v.behind u ≡ true) ⊎ (row_has c.minus-more.result u ≡ true) → u < c.args.state.now.boxes
-    behind_at u (inl h) = c.loop-v.invariant.behind u h
-    behind_at u (inr h) = c.leads_row-now.ensures.within u (and_parts _ _ (sym (c.minus-more.ensures u) ∙ h)).0

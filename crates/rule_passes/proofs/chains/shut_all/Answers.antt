@@ -1,7 +1,8 @@
-use Rattle.std.proofs.Common.{◌<◌, ◌∙◌, ℕ, List, ap, length, arith, rules}
+use Rattle.std.proofs.Common.{◌<◌, ◌∙◌, ℕ, List, refl, ap, length, arith, rules, true}
 use Rattle.packing_terms.specs.Packing.{box_count}
 use Rattle.closure_terms.specs.Passes.{IsShut}
-use Rattle.closure_terms.proofs.Passes.{pass_start, pass_next, sizes_passed, heads_more, tails_more, shut_kept}
+use Rattle.closure_terms.proofs.Passes.{pass_start, pass_next, pass_as, sizes_passed, heads_more, tails_more, shut_kept}
+use Rattle.rule_passes.proofs.Levels.{pass_lost}
 use Rattle.rule_passes.proofs.chains.shut_all.Goals as goal
 
 pub loop-u-init : goal.loop-u-init
@@ -36,6 +37,11 @@ shut_from-requires g c = (
 
 pub loop-u-preserved : goal.loop-u-preserved
 loop-u-preserved g c =
-    let here = rw (c.head.ensures, c.tail.ensures) at c.shut_from.ensures in
+    let here = rw (c.head.ensures, c.tail.ensures) at (pass_as _ _ _ _ _ (λ es h. h c.if-shut_from.false) c.shut_from.ensures.pass) in
     pass_next _ _ _ _ _ (λ u es. (v : ℕ) → v < box_count c.args.instance.now → IsShut c.args.instance.now c.args.dim c.args.kept.now.weights.head c.args.kept.now.weights.tail u v es)
     (λ u es fs more h v l. shut_kept c.args.instance.now c.args.dim c.args.kept.now.weights.head c.args.kept.now.weights.tail u v es fs more (h v l)) c.loop-u.invariant here
+
+pub returns-then-shut_from-clause-pass : goal.returns-then-shut_from-clause-pass
+returns-then-shut_from-clause-pass g c =
+    pass_lost _ _ _ _ true _ _ (λ es. (u : ℕ) → u < box_count c.args.instance.now → (v : ℕ) → v < box_count c.args.instance.now
+    → IsShut c.args.instance.now c.args.dim c.args.kept.now.weights.head c.args.kept.now.weights.tail u v es) refl c.loop-u.invariant c.shut_from.ensures.pass

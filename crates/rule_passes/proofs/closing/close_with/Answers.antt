@@ -3,6 +3,7 @@ use Rattle.rule_terms.proofs.Applied.{extends_trans}
 use Rattle.edge_state.specs.Edges.{PlainEdges}
 use Rattle.edge_state.specs.BitRows.{row_has}
 use Rattle.edge_state.proofs.RowBits.{members_few}
+use Rattle.closure_terms.proofs.Worked.{worked_kept}
 use Rattle.closure_terms.proofs.Settled.{trail_short, settled_transitive, stable_settled}
 use Rattle.closure_terms.proofs.Looked.{looked_after, less_to_do, marked}
 use Rattle.rule_passes.proofs.Levels.{each_set}
@@ -37,6 +38,20 @@ returns-in_default-settle-clause-made g c most made =
     let before = c.loop-dim.invariant.made most made in
     each_set _ _ (λ (z : PlainLevels). z.most) _ _ _ before there (c.cover_chains.ensures.most ∙ before.each c.in-Some-first.dim _ there)
 
+pub returns-then-cover_chains-clause-kept : goal.returns-then-cover_chains-clause-kept
+returns-then-cover_chains-clause-kept g c =
+    let there = c.loop-dim.invariant.looked.within _ c.in-Some-first.ensures.least.there in
+    each_set _ _ (λ (z : PlainLevels). z.boxes) _ _ _ c.loop-dim.invariant.kept there (c.cover_chains.ensures.room ∙ c.loop-dim.invariant.kept.each c.in-Some-first.dim _ there)
+
+pub returns-then-cover_chains-clause-made : goal.returns-then-cover_chains-clause-made
+returns-then-cover_chains-clause-made g c most made =
+    let there = c.loop-dim.invariant.looked.within _ c.in-Some-first.ensures.least.there in
+    let before = c.loop-dim.invariant.made most made in
+    each_set _ _ (λ (z : PlainLevels). z.most) _ _ _ before there (c.cover_chains.ensures.most ∙ before.each c.in-Some-first.dim _ there)
+
+pub returns-then-cover_chains-clause-extends : goal.returns-then-cover_chains-clause-extends
+returns-then-cover_chains-clause-extends g c = extends_trans _ _ _ _ c.loop-dim.invariant.extends c.cover_chains.ensures.worked.extends
+
 pub settle-requires-in-Some-first : goal.settle-requires-in-Some-first
 settle-requires-in-Some-first g c = (
   omega (arith, c.requires.words.0.1),
@@ -50,7 +65,7 @@ settle-requires-in-Some-first g c = (
           c.requires.all,
           (
             marked _ _ _ _ c.mark-next.ensures c.cover_chains.ensures.worked.extends,
-            (looked_after _ _ _ _ _ _ _ c.loop-dim.invariant.looked c.cover_chains.ensures.worked c.mark-next.ensures c.without-rest.ensures, (c.longest_sides-longest.ensures.count, c.longest_sides-longest.ensures.each)),
+            (looked_after _ _ _ _ _ _ _ c.loop-dim.invariant.looked (worked_kept _ _ _ _ _ c.if-cover_chains.false c.cover_chains.ensures.worked) c.mark-next.ensures c.without-rest.ensures, (c.longest_sides-longest.ensures.count, c.longest_sides-longest.ensures.each)),
           ),
         ),
       ),
@@ -91,3 +106,9 @@ pub returns-clause-ended : goal.returns-clause-ended
 returns-clause-ended g c =
     let looked = c.loop-dim.invariant.looked in
     (stable_settled _ _ looked.settled (λ i h. looked.chained i h (c.in_default-first.ensures.least i)), looked.settled.full)
+
+pub returns-clause-kept : goal.returns-clause-kept
+returns-clause-kept g c = c.finish_each.ensures.kept _ _ c.loop-dim.invariant.kept
+
+pub returns-clause-made : goal.returns-clause-made
+returns-clause-made g c most made = c.finish_each.ensures.made _ most (c.loop-dim.invariant.made most made)

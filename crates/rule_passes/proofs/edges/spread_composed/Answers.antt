@@ -1,10 +1,10 @@
-use Rattle.std.proofs.Common.{◌≡◌, ◌∙◌, ℕ, ap, arith, sym, not}
+use Rattle.std.proofs.Common.{◌∙◌, ℕ, ap, arith, sym, not}
 use Rattle.packing_terms.specs.Packing.{box_count}
 use Rattle.packing_terms.specs.Relations.{mirror}
 use Rattle.packing_terms.specs.Rules.{Rule, Compose}
 use Rattle.edge_state.specs.BitRows.{row_has}
 use Rattle.edge_state.proofs.Tables.{excludes_mirror}
-use Rattle.closure_terms.proofs.Worked.{worked_then, worked_kept, worked_lost_first, sizes_worked}
+use Rattle.closure_terms.proofs.Worked.{worked_then, worked_kept, worked_lost_first}
 use Rattle.rule_passes.proofs.Guards.{Among, worked_rows}
 use Rattle.rule_passes.proofs.edges.spread_composed.Goals as goal
 

@@ -3,7 +3,7 @@ use Rattle.packing_terms.specs.declared.Rel.TheVariants.{Overlap, Before, After}
 use Rattle.packing_terms.specs.Rules.{Rule}
 use Rattle.relation_table.specs.Masks.{mask_has}
 use Rattle.closure_terms.specs.Instances.{OrdersCrossed}
-use Rattle.closure_terms.proofs.Worked.{worked_then, worked_lost, worked_lost_first, worked_kept, sizes_worked}
+use Rattle.closure_terms.proofs.Worked.{worked_then, worked_lost, worked_lost_first, worked_kept}
 use Rattle.rule_passes.specs.Reached.{IsReachedJoined, IsReachedOrdered}
 use Rattle.rule_passes.proofs.edges.spread_from.Goals as goal
 

@@ -1,14 +1,9 @@
-use Rattle.std.proofs.Common.{◌≡◌, ◌⊎◌, ◌<◌, inl, inr, true, false, sym, refl, ◌∙◌, arith, ℕ}
-use Rattle.std.proofs.lemmas.Bool.{cases_Bool, or_parts}
-use Rattle.packing_terms.specs.Exclusions.{excludes}
-use Rattle.packing_terms.specs.Packing.{box_count, side}
+use Rattle.std.proofs.Common.{sym, ◌∙◌, ℕ}
+use Rattle.std.proofs.lemmas.Bool.{or_parts}
+use Rattle.packing_terms.specs.Packing.{box_count}
 use Rattle.packing_terms.specs.Rules.{Rule, Triple}
 use Rattle.edge_state.specs.BitRows.{row_has}
-use Rattle.closure_terms.specs.Instances.{Triples}
-use Rattle.closure_terms.specs.Work.{IsCovered}
-use Rattle.closure_terms.proofs.Filters.{covered_never}
-use Rattle.closure_terms.proofs.Members.{covered_named}
-use Rattle.closure_terms.proofs.Worked.{worked_none, worked_kept, worked_then, worked_lost, worked_lost_first, sizes_worked}
+use Rattle.closure_terms.proofs.Worked.{worked_kept, worked_then, worked_lost_first}
 use Rattle.rule_passes.proofs.Guards.{Among, worked_rows, worked_no_rows}
 use Rattle.rule_passes.proofs.triples.triples.Goals as goal
 

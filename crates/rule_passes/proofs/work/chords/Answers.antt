@@ -1,4 +1,4 @@
-use Rattle.std.proofs.Common.{◌≡◌, ◌⊎◌, inl, inr, sym}
+use Rattle.std.proofs.Common.{◌⊎◌, inl, inr}
 use Rattle.packing_terms.specs.Rules.{Rule, Cycle}
 use Rattle.edge_state.specs.BitRows.{row_has}
 use Rattle.closure_terms.specs.Instances.{Chords}

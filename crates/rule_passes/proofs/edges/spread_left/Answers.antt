@@ -1,4 +1,4 @@
-use Rattle.std.proofs.Common.{◌≡◌, ◌⊎◌, ◌∙◌, ap, sym, not, false}
+use Rattle.std.proofs.Common.{◌≡◌, ◌⊎◌, ◌∙◌, ap, not, false}
 use Rattle.packing_terms.specs.declared.Rel.{Rel}
 use Rattle.packing_terms.specs.declared.Rel.TheVariants.{Overlap, Before, After}
 use Rattle.packing_terms.specs.Exclusions.{excludes}
@@ -7,10 +7,10 @@ use Rattle.packing_terms.specs.Rules.{Rule}
 use Rattle.relation_table.specs.Masks.{mask_has}
 use Rattle.edge_state.proofs.Tables.{excludes_mirror}
 use Rattle.closure_terms.specs.Instances.{Composes}
-use Rattle.closure_terms.proofs.Worked.{worked_then, worked_lost, worked_lost_first, worked_kept, sizes_worked}
+use Rattle.closure_terms.proofs.Worked.{worked_then, worked_lost, worked_lost_first, worked_kept}
 use Rattle.rule_passes.specs.Reached.{IsReachedApart, IsReachedFrom}
 use Rattle.rule_passes.proofs.Guards.{worked_guarded}
-use Rattle.rule_passes.proofs.edges.spread.Goals as goal
+use Rattle.rule_passes.proofs.edges.spread_left.Goals as goal
 
 pub returns-then-spread_composed : goal.returns-then-spread_composed
 returns-then-spread_composed g c = worked_lost_first _ _ _ _ _ _ c.if-spread_composed.true c.spread_composed.ensures
