@@ -98,8 +98,8 @@ impl Chains {
         }
     }
 
-    // Raises the chain of a box to the one that goes on from another box beside it. It answers
-    // whether it grew.
+    // Raises the chain of a box to the one that goes on from another box beside it, where that is
+    // longer. Then the boxes beyond it wait.
     #[inline]
     fn raise(
         &mut self,

@@ -46,7 +46,8 @@ fn score(table: &Table, weights: &Weights, u: u32, v: u32) -> u64 {
     weight.saturating_mul(parts).max(1)
 }
 
-/// The pairs that aren't settled with their scores, handed to a taker one after another by rank.
+/// Puts the pairs that aren't settled into a list, those with the greatest scores first, and of
+/// equal ones those that come first by rank.
 pub fn rate_pairs(table: &Table, weights: &Weights, best: &mut [Rated]) {
     for v in 1..table.boxes() {
         let mut left = below(v) & !settled(table, v);
@@ -86,8 +87,7 @@ fn is_apart(table: &Table, u: u32, v: u32) -> bool {
     false
 }
 
-// Whether a pair that may be so here can be split in a dimension: into orders or into apart and
-// joined.
+// Whether a pair with this mask can be split so.
 fn splits_here(mask: u8, choice: Choice) -> bool {
     match choice {
         Choice::Order => mask == ORDERS,
