@@ -34,7 +34,7 @@ pub struct State {
     gone: Vec<u8>,
     changed: Vec<Edge>,
     conflict: Option<Edge>,
-    // The orders that became sure since the chains were last raised, the first box before the second.
+    // The orders that became sure since chains were last raised, the first box before the second.
     orders: Vec<Edge>,
 }
 
