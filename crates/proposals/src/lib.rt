@@ -1,4 +1,4 @@
-//! Proposals: places, bins and refutations of an instance, of which nothing is promised but their
+//! Proposals: places, bins, choices and refutations of an instance, of which nothing is promised but their
 //! sizes.
 //!
 //! Whoever takes one tests it. So a search here is free to be clever: it is proved to be safe and
@@ -6,6 +6,8 @@
 #![tactic(auto)]
 
 mod bins;
+mod choice;
+mod choosing;
 mod corners;
 mod descent;
 mod filling;
@@ -24,6 +26,7 @@ mod turned;
 mod weights;
 
 pub use bins::{ProposedBins, propose_bins};
+pub use choice::{ProposedChoice, propose_choice};
 pub use places::propose_places;
 pub use proposal::Proposal;
 pub use refuting::propose_refutation;
