@@ -12,7 +12,7 @@ use std::mem::swap;
 const TAKING_STEPS: u64 = 400;
 
 // The most searches together. A search takes a millisecond at most.
-const MOST_SEARCHES: u32 = 4_000;
+const MOST_SEARCHES: u32 = 8_000;
 
 // Boxes that fit together, their coordinates, box after box, and what they are worth.
 #[derive(Drop)]
