@@ -1,11 +1,10 @@
 -- What the answer for a value says, from the bounds that were reached.
-use Rattle.std.proofs.Common.{◌≡◌, ℕ, suc, pred, ◌-◌, ◌<◌, ◌≤◌, inl, inr, refl, sym, ap, subst, arith, Bool, true, false, ltb, if◌then◌else◌, List, []}
+use Rattle.std.proofs.Common.{◌≡◌, ℕ, suc, pred, ◌<◌, inl, inr, refl, sym, subst, arith, Bool, true, false, ltb, if◌then◌else◌}
 use Rattle.std.proofs.lemmas.Bool.{ltb-true}
 use Rattle.packing_terms.specs.Packing.{PlainInstance}
 use Rattle.packing_terms.specs.Goals.{ReachesValue}
 use Rattle.packing_terms.specs.Limits.{IsInternalInstance}
 use Rattle.packing_terms.specs.OuterRefutation.{IsValueRefutation, no_choice}
-use Rattle.packing_terms.specs.Tokens.{PlainToken}
 use Rattle.packing_terms.proofs.Internal.{internal_sides}
 use Rattle.packing_terms.proofs.Neighbours.{reaches_lower, greatest_value}
 use Rattle.packing_terms.proofs.ValueRefuted.{none_reaches}

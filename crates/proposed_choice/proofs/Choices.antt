@@ -1,10 +1,10 @@
 -- Proposed boxes, and their numbers in an answer.
-use Rattle.std.proofs.Common.{◌≡◌, ◌∙◌, ℕ, ◌+◌, ◌-◌, ◌*◌, ◌<◌, ◌≤◌, sym, ap, arith, eqb, List, [], length, get_or, Bool, true, false}
+use Rattle.std.proofs.Common.{◌≡◌, ◌∙◌, ℕ, ◌+◌, ◌-◌, ◌*◌, ◌<◌, ◌≤◌, sym, ap, arith, eqb, List, length, get_or, Bool, true, false}
 use Rattle.std.proofs.lemmas.Bool.{eqb-true, eqb-false}
 use Rattle.std.specs.Prelude.{MatchBool}
 use Rattle.std.specs.List.Sorted.{IsStrictlyIncreasing}
 use Rattle.std.proofs.lemmas.List.{length-map, nil_from_length}
-use Rattle.packing_terms.specs.Packing.{PlainInstance, IsPacking, dims, box_count}
+use Rattle.packing_terms.specs.Packing.{PlainInstance, IsPacking, dims}
 use Rattle.packing_terms.specs.Goals.{subset, worth, IsBoxSet}
 use Rattle.packing_terms.proofs.Neighbours.{none_packed}
 use Rattle.check_terms.specs.declared.answers.PlaceVerdict.{PlaceVerdict}
@@ -12,8 +12,7 @@ use Rattle.check_terms.specs.declared.answers.PlaceVerdict.TheVariants.{Good, Ov
 use Rattle.check_terms.specs.Placing.{place_verdict}
 use Rattle.check_terms.proofs.Places.{places_tested}
 use Rattle.tree_terms.specs.OuterTrees.{choice_numbers}
-use Rattle.tree_terms.specs.OuterSearch.{AreTakenNumbers}
-use Rattle.proposed_choice.specs.Values.{IsChoice, top_value, value_at, ShowsLevel}
+use Rattle.proposed_choice.specs.Values.{IsChoice, top_value, ShowsLevel}
 
 -- as many coordinates as the boxes have
 pub choice_places : (instance : PlainInstance) (taken places : List ℕ) → IsChoice instance taken places → length taken * dims instance ≡ length places

@@ -1,4 +1,4 @@
-use Rattle.std.proofs.Common.{◌≡◌, ◌∙◌, ◌-◌, ℕ, ap, arith}
+use Rattle.std.proofs.Common.{◌≡◌, ◌∙◌, ℕ, ap, arith}
 use Rattle.tree_terms.specs.RunEnds.{value_answer}
 use Rattle.level_search.specs.Runs.{plain_level}
 use Rattle.level_bounds.specs.Bounds.{plain_bounds}
