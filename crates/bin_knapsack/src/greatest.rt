@@ -43,6 +43,16 @@ fn value_short(alloc: Global, instance: &Instance) -> Result<Vec<Token>, NoMemor
     Ok(tokens)
 }
 
+/// The first levels of a run of values: one more than all boxes are worth is refuted, and 0 is
+/// reached by no box.
+pub fn first_values(alloc: Global, instance: &Instance) -> Result<Reached, NoMemory>
+    ensures { IfOk result (λ r. plain_reached r ≡ first_values instance.now) }
+{
+    let above = whole_worth(instance) + 1;
+    let tokens = value_short(alloc, instance)?;
+    Ok(Reached::starting(above, tokens, 0, Vec::new(alloc)))
+}
+
 // The run of values. Sets are decided in one memory for all of them.
 fn bisect_values<R: Threads + Wait + Sync, G: Gate + Sync>(
     rt: &R,
@@ -56,10 +66,8 @@ fn bisect_values<R: Threads + Wait + Sync, G: Gate + Sync>(
 {
     // For the proof alone: tells the limits of the instance.
     let _limits = instance.len();
-    let above = whole_worth(instance) + 1;
-    let tokens = value_short(alloc, instance)?;
     let mut search = SetSearch::new(alloc, instance, settings.scales)?;
-    let mut reached = Reached::starting(above, tokens, 0, Vec::new(alloc));
+    let mut reached = first_values(alloc, instance)?;
     while let Some(level) = reached.next_level() {
         let answer = decide_value(rt, alloc, &mut search, instance, level, settings, gate)?;
         reached = reached.after(level, answer);

@@ -15,5 +15,6 @@ pub use bins::Bins;
 pub use choice::Choice;
 pub use choice_search::ChoiceTree;
 pub use counts::decide_bins;
-pub use greatest::greatest_value;
+pub use greatest::{first_values, greatest_value};
 pub use least::least_bins;
+pub use values::decide_value;

@@ -8,4 +8,5 @@ mod path;
 mod tree;
 mod walk;
 
+pub use numbers::choice_numbers;
 pub use tree::ChoiceTree;

@@ -7,7 +7,7 @@ use box_instances::{Instance, NoMemory};
 use set_search::push_coordinates;
 use std::alloc::Global;
 
-// The answer of the choice tree: of each box that is in its number and its coordinates.
+/// The answer of the choice tree: of each box that is in its number and its coordinates.
 pub fn choice_numbers(
     alloc: Global,
     instance: &Instance,

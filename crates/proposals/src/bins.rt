@@ -9,9 +9,10 @@ ghost use Rattle.packing_terms.specs.Packing.{dims, box_count};
 
 use crate::filling::Filling;
 use crate::orders::{Draws, order_round};
+use crate::slots::copy_into;
 use crate::turned::Turned;
 use box_instances::{Instance, NoMemory};
-use loose_lists::{at, put, zeros};
+use loose_lists::zeros;
 use std::alloc::Global;
 
 // The orders that are tried, unless the volumes need as many bins as were found: by falling
@@ -25,21 +26,10 @@ pub struct ProposedBins {
     pub numbers: Vec<u32>,
 }
 
-// Whether the volume of all boxes is more than this number of bins less one holds.
-fn is_least(turned: &Turned, count: u32) -> bool {
-    let mut volume = 0u128;
-    for v in 0..turned.count {
-        volume = volume.saturating_add(turned.volume(v));
-    }
+// Whether this volume is more than this number of bins less one holds.
+fn is_least(turned: &Turned, volume: u128, count: u32) -> bool {
     let fewer = u128::from(count.saturating_sub(1));
     turned.room().saturating_mul(fewer) < volume
-}
-
-// Copies a list into another.
-fn copy_into(from: &[u32], into: &mut [u32]) {
-    for k in 0..into.len() {
-        put(into, k, at(from, k));
-    }
 }
 
 // Fills bins in one order after another. It writes the numbers of the fewest bins, and answers how
@@ -54,9 +44,10 @@ fn fewest(
     let mut order = zeros(alloc, rank.len())?;
     let mut filling = Filling::new(alloc, instance)?;
     let mut draws = Draws::new();
+    let volume = instance.volume();
     let mut fewest = 0u32;
     for round in 0..ROUNDS {
-        if fewest > 0 && is_least(turned, fewest) {
+        if fewest > 0 && is_least(turned, volume, fewest) {
             return Ok(fewest);
         }
         draws = order_round(turned, &rank, round, draws, &mut order);
@@ -65,7 +56,7 @@ fn fewest(
         } else {
             fewest - 1
         };
-        let used = filling.fill(alloc, instance, turned, &order, most)?;
+        let used = filling.fill(instance, turned, &order, most)?;
         if used > 0 {
             fewest = used;
             copy_into(&filling.numbers, into);

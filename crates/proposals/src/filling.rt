@@ -1,7 +1,7 @@
 //! The room in which bins are filled.
 
-use crate::places::place_boxes;
-use crate::slots::clear;
+use crate::places::PlaceRoom;
+use crate::slots::{clear, first_numbers};
 use crate::turned::Turned;
 use box_instances::{Instance, NoMemory};
 use loose_lists::{at, put, zeros};
@@ -25,6 +25,9 @@ pub struct Filling {
     set: Vec<u32>,
     places: Vec<u32>,
     searches: u32,
+    // Where places are searched, and the order in which the boxes of a bin are tried: as they came.
+    room: PlaceRoom,
+    as_they_came: Vec<u32>,
 }
 
 impl Filling {
@@ -37,11 +40,13 @@ impl Filling {
             set: Vec::new(alloc),
             places: zeros(alloc, count.saturating_mul(dims))?,
             searches: MOST_SEARCHES,
+            room: PlaceRoom::new(alloc, instance)?,
+            as_they_came: first_numbers(alloc, instance.len())?,
         })
     }
 
     // Adds a box to the bin that is filled, if places are found for it and all that lie there.
-    fn add(&mut self, alloc: Global, instance: &Instance, v: u32) -> Result<bool, NoMemory> {
+    fn add(&mut self, instance: &Instance, v: u32) -> Result<bool, NoMemory> {
         if self.searches == 0 && !self.set.is_empty() {
             return Ok(false);
         }
@@ -49,11 +54,17 @@ impl Filling {
         let Ok(()) = self.set.push(v) else {
             return Err(NoMemory);
         };
-        if place_boxes(alloc, instance, &self.set, ADDING_STEPS, &mut self.places)? {
-            return Ok(true);
+        let is_placed = self.room.place(
+            instance,
+            &self.set,
+            &self.as_they_came,
+            ADDING_STEPS,
+            &mut self.places,
+        );
+        if !is_placed {
+            let _refused = self.set.pop();
         }
-        let _refused = self.set.pop();
-        Ok(false)
+        Ok(is_placed)
     }
 
     // Writes the bin that was filled. It answers how many boxes lie in it.
@@ -84,7 +95,6 @@ impl Filling {
     // left out. It answers how many boxes lie in it.
     fn fill_bin(
         &mut self,
-        alloc: Global,
         instance: &Instance,
         turned: &Turned,
         order: &[u32],
@@ -99,7 +109,7 @@ impl Filling {
             if at(&self.lies, v as usize) == 1 || volume > room || turned.are_equal(v, refused) {
                 continue;
             }
-            if self.add(alloc, instance, v)? {
+            if self.add(instance, v)? {
                 room -= volume;
             } else {
                 refused = v;
@@ -112,7 +122,6 @@ impl Filling {
     /// 0 where so many don't.
     pub fn fill(
         &mut self,
-        alloc: Global,
         instance: &Instance,
         turned: &Turned,
         order: &[u32],
@@ -121,7 +130,7 @@ impl Filling {
         clear(&mut self.lies);
         let mut left = turned.count;
         for bin in 0..most {
-            let laid = self.fill_bin(alloc, instance, turned, order, bin)?;
+            let laid = self.fill_bin(instance, turned, order, bin)?;
             left = left.saturating_sub(laid);
             if left == 0 {
                 return Ok(bin + 1);

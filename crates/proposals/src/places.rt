@@ -7,7 +7,7 @@ use crate::gaps::{Ended, GapSearch};
 use crate::luby::Luby;
 use crate::orders::{Draws, find_twins, order_round};
 use crate::slots::first_numbers;
-use crate::turned::{Turned, count_of};
+use crate::turned::Turned;
 use box_instances::{Instance, NoMemory};
 use loose_lists::{at, put, zeros};
 use std::alloc::Global;
@@ -66,12 +66,12 @@ fn turn_back(turned: &Turned, searches: &Searches, into: &mut [u32]) {
     }
 }
 
-// The boxes with each dimension upwards in turn, the last one first.
-fn turns_of(alloc: Global, instance: &Instance, boxes: &[u32]) -> Result<Vec<Turned>, NoMemory> {
+// The instance with each dimension upwards in turn, the last one first.
+fn turns_of(alloc: Global, instance: &Instance) -> Result<Vec<Turned>, NoMemory> {
     let mut turns = Vec::new(alloc);
     let dims = instance.dims();
     for k in 0..dims {
-        let turned = Turned::of_boxes(alloc, instance, boxes, dims - 1 - k)?;
+        let turned = Turned::new(alloc, instance, dims - 1 - k)?;
         let Ok(()) = turns.push(turned) else {
             return Err(NoMemory);
         };
@@ -88,21 +88,18 @@ struct Round {
     draws: Draws,
 }
 
-// The lists of a round: the boxes by rank, their order, and the equal boxes in it.
+// The order of a round, and the equal boxes in it.
 #[derive(Drop)]
 struct Orders {
-    rank: Vec<u32>,
     order: Vec<u32>,
     twins: Vec<u32>,
 }
 
 impl Orders {
-    fn new(alloc: Global, rank: Vec<u32>) -> Result<Orders, NoMemory> {
-        let count = rank.len();
+    fn new(alloc: Global, count: u32) -> Result<Orders, NoMemory> {
         Ok(Orders {
-            rank,
-            order: zeros(alloc, count)?,
-            twins: zeros(alloc, count)?,
+            order: zeros(alloc, count as usize)?,
+            twins: zeros(alloc, count as usize)?,
         })
     }
 
@@ -110,6 +107,7 @@ impl Orders {
     // its room, the direction, and the drawn numbers behind the round.
     fn run(
         &mut self,
+        rank: &[u32],
         turns: &[Turned],
         searches: &mut Searches,
         round: Round,
@@ -117,9 +115,11 @@ impl Orders {
         let mut draws = round.draws;
         for k in 0..turns.len() {
             let turned = &turns[k];
-            draws = order_round(turned, &self.rank, round.number, draws, &mut self.order);
-            find_twins(turned, &self.order, &mut self.twins);
-            match searches.run(turned, &self.order, &self.twins, round.steps) {
+            let count = (turned.count as usize).min(self.order.len());
+            let order = &mut self.order[..count];
+            draws = order_round(turned, rank, round.number, draws, order);
+            find_twins(turned, order, &mut self.twins);
+            match searches.run(turned, order, &self.twins, round.steps) {
                 Ended::Spent => {}
                 ended => return (ended, k, draws),
             }
@@ -128,73 +128,77 @@ impl Orders {
     }
 }
 
-// Searches round after round. It answers the direction in which places were found.
-fn search(
-    orders: &mut Orders,
-    turns: &[Turned],
-    searches: &mut Searches,
-    nodes: u64,
-) -> Option<usize> {
-    let mut luby = Luby::new();
-    let mut draws = Draws::new();
-    let mut left = nodes;
-    for number in 0..nodes {
-        if left == 0 {
-            return None;
+/// The room in which places are searched, for sets of boxes of one instance.
+#[derive(Drop)]
+pub struct PlaceRoom {
+    turns: Vec<Turned>,
+    orders: Orders,
+    searches: Searches,
+}
+
+impl PlaceRoom {
+    /// Room for as many boxes as the instance has.
+    pub fn new(alloc: Global, instance: &Instance) -> Result<PlaceRoom, NoMemory> {
+        Ok(PlaceRoom {
+            turns: turns_of(alloc, instance)?,
+            orders: Orders::new(alloc, instance.len())?,
+            searches: Searches::new(alloc, instance.dims(), instance.len())?,
+        })
+    }
+
+    // Searches round after round. It answers the direction in which places were found.
+    fn search(&mut self, rank: &[u32], nodes: u64) -> Option<usize> {
+        let mut luby = Luby::new();
+        let mut draws = Draws::new();
+        let mut left = nodes;
+        for number in 0..nodes {
+            if left == 0 {
+                return None;
+            }
+            let (factor, behind) = luby.next();
+            luby = behind;
+            let steps = factor.saturating_mul(UNIT).min(left);
+            let round = Round {
+                number,
+                steps,
+                draws,
+            };
+            let (ended, direction, after) = self
+                .orders
+                .run(rank, &self.turns, &mut self.searches, round);
+            draws = after;
+            match ended {
+                Ended::Found => return Some(direction),
+                Ended::Exhausted => return None,
+                Ended::Spent => {}
+            }
+            left -= steps;
         }
-        let (factor, behind) = luby.next();
-        luby = behind;
-        let steps = factor.saturating_mul(UNIT).min(left);
-        let round = Round {
-            number,
-            steps,
-            draws,
+        None
+    }
+
+    /// Searches places for some boxes by so many steps in each direction. `rank` is the order of
+    /// their positions that is tried first. It writes the places box after box, and answers whether
+    /// it found any; else nothing is written.
+    pub fn place(
+        &mut self,
+        instance: &Instance,
+        boxes: &[u32],
+        rank: &[u32],
+        nodes: u64,
+        into: &mut [u32],
+    ) -> bool {
+        for k in 0..self.turns.len() {
+            self.turns[k].show(instance, boxes);
+        }
+        let Some(direction) = self.search(rank, nodes) else {
+            return false;
         };
-        let (ended, direction, after) = orders.run(turns, searches, round);
-        draws = after;
-        match ended {
-            Ended::Found => return Some(direction),
-            Ended::Exhausted => return None,
-            Ended::Spent => {}
+        if direction < self.turns.len() {
+            turn_back(&self.turns[direction], &self.searches, into);
         }
-        left -= steps;
+        true
     }
-    None
-}
-
-// Searches places for some boxes, which are tried by rank first, and writes them box after box. It
-// answers whether it found any; else nothing is written.
-fn find_places(
-    alloc: Global,
-    instance: &Instance,
-    boxes: &[u32],
-    rank: Vec<u32>,
-    nodes: u64,
-    into: &mut [u32],
-) -> Result<bool, NoMemory> {
-    let turns = turns_of(alloc, instance, boxes)?;
-    let mut orders = Orders::new(alloc, rank)?;
-    let mut searches = Searches::new(alloc, instance.dims(), count_of(boxes))?;
-    let Some(direction) = search(&mut orders, &turns, &mut searches, nodes) else {
-        return Ok(false);
-    };
-    if direction < turns.len() {
-        turn_back(&turns[direction], &searches, into);
-    }
-    Ok(true)
-}
-
-/// Searches places for some boxes, which are tried as they stand first, by so many steps in each
-/// direction. It writes them box after box, and answers whether it found any.
-pub fn place_boxes(
-    alloc: Global,
-    instance: &Instance,
-    boxes: &[u32],
-    nodes: u64,
-    into: &mut [u32],
-) -> Result<bool, NoMemory> {
-    let rank = first_numbers(alloc, count_of(boxes))?;
-    find_places(alloc, instance, boxes, rank, nodes, into)
 }
 
 /// Places for all boxes, the coordinates of box 0 in all dimensions first, or none.
@@ -211,10 +215,11 @@ pub fn propose_places(
 {
     let boxes = first_numbers(alloc, instance.len())?;
     let rank = instance.rank_order(alloc)?;
+    let mut room = PlaceRoom::new(alloc, instance)?;
     let Ok(mut places) = vec![in alloc; 0u32; (instance.len() * instance.dims()) as usize] else {
         return Err(NoMemory);
     };
-    if find_places(alloc, instance, &boxes, rank, nodes, &mut places)? {
+    if room.place(instance, &boxes, &rank, nodes, &mut places) {
         Ok(Some(places))
     } else {
         Ok(None)

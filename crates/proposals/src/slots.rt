@@ -1,22 +1,25 @@
 //! What the searches read and write without a promise of lengths.
 
 use box_instances::{Instance, NoMemory};
-use loose_lists::{put, zeros};
 use std::alloc::Global;
 
 /// Makes all entries 0.
 pub fn clear(list: &mut [u32]) {
-    for k in 0..list.len() {
-        list[k] = 0;
+    list.fill(0);
+}
+
+/// Copies a list into another that is as long, and nothing into one that isn't.
+pub fn copy_into(from: &[u32], into: &mut [u32]) {
+    if from.len() == into.len() {
+        into.copy_from_slice(from);
     }
 }
 
 /// The numbers below a count, from 0 on.
 pub fn first_numbers(alloc: Global, count: u32) -> Result<Vec<u32>, NoMemory> {
-    let mut list = zeros(alloc, count as usize)?;
-    for k in 0..count {
-        put(&mut list, k as usize, k);
-    }
+    let Ok(list) = (0..count).collect(alloc) else {
+        return Err(NoMemory);
+    };
     Ok(list)
 }
 
@@ -25,6 +28,16 @@ pub fn first_numbers(alloc: Global, count: u32) -> Result<Vec<u32>, NoMemory> {
 pub fn side(instance: &Instance, box_no: u32, dim: u32) -> u32 {
     if box_no < instance.len() && dim < instance.dims() {
         instance.side(box_no, dim)
+    } else {
+        0
+    }
+}
+
+/// What a box is worth, and 0 where there is none.
+#[inline]
+pub fn value(instance: &Instance, box_no: u32) -> u64 {
+    if box_no < instance.len() {
+        instance.value(box_no)
     } else {
         0
     }

@@ -40,37 +40,39 @@ pub fn count_of(boxes: &[u32]) -> u32 {
 impl Turned {
     /// The instance with this dimension upwards.
     pub fn new(alloc: Global, instance: &Instance, up: u32) -> Result<Turned, NoMemory> {
-        let boxes = first_numbers(alloc, instance.len())?;
-        Turned::of_boxes(alloc, instance, &boxes, up)
-    }
-
-    /// Some boxes of the instance, in their order, with this dimension upwards.
-    pub fn of_boxes(
-        alloc: Global,
-        instance: &Instance,
-        boxes: &[u32],
-        up: u32,
-    ) -> Result<Turned, NoMemory> {
-        let (dims, count) = (instance.dims(), count_of(boxes));
+        let dims = instance.dims();
         let original = order_of(alloc, dims, up)?;
         let mut container = zeros(alloc, dims as usize)?;
-        let mut sides = zeros(alloc, dims as usize * count as usize)?;
         for k in 0..dims as usize {
-            let dim = at(&original, k);
-            put(&mut container, k, container_side(instance, dim));
-            for v in 0..count {
-                let index = v as usize * dims as usize + k;
-                let box_no = at(boxes, v as usize);
-                put(&mut sides, index, side(instance, box_no, dim));
-            }
+            put(
+                &mut container,
+                k,
+                container_side(instance, at(&original, k)),
+            );
         }
-        Ok(Turned {
+        let mut turned = Turned {
             dims,
-            count,
+            count: 0,
             original,
             container,
-            sides,
-        })
+            sides: zeros(alloc, (dims * instance.len()) as usize)?,
+        };
+        turned.show(instance, &first_numbers(alloc, instance.len())?);
+        Ok(turned)
+    }
+
+    /// Sees some boxes of the instance, in their order, in place of those that it saw.
+    pub fn show(&mut self, instance: &Instance, boxes: &[u32]) {
+        let dims = self.dims as usize;
+        let count = count_of(boxes);
+        self.count = count;
+        for k in 0..dims {
+            let dim = at(&self.original, k);
+            for v in 0..count as usize {
+                let index = v.saturating_mul(dims).saturating_add(k);
+                put(&mut self.sides, index, side(instance, at(boxes, v), dim));
+            }
+        }
     }
 
     /// The side of a box at a place of the order of dimensions.
