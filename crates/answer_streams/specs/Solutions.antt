@@ -18,7 +18,7 @@ use Rattle.bin_knapsack.specs.declared.choice.Choice.TheVariants.{Greatest, Betw
 use Rattle.text_terms.specs.declared.settings.Settings.{Settings}
 use Rattle.answer_streams.specs.Placed.{IsPlaced}
 use Rattle.answer_streams.specs.declared.solution.Solution.{Solution}
-use Rattle.answer_streams.specs.declared.solution.Solution.TheVariants.{Fit, Strip, Bins, Knapsack, Reduced}
+use Rattle.answer_streams.specs.declared.solution.Solution.TheVariants.{Fit, Strip, Bins, Knapsack, Reduced, ReducedStrip}
 
 -- the answer of a strip
 abbrev pub strip_found : FoundStrip → Answer
@@ -43,6 +43,7 @@ answer_found (Strip strip) = strip_found strip
 answer_found (Bins bins) = bins_found bins
 answer_found (Knapsack choice) = choice_found choice
 answer_found (Reduced outcome) = fit_answer (plain_outcome outcome)
+answer_found (ReducedStrip strip) = strip_found strip
 
 -- the document with it
 abbrev pub solution_text : PlainInstance → Solution → List ℕ
@@ -51,6 +52,7 @@ solution_text instance (Strip strip) = answer_text instance (strip_found strip)
 solution_text instance (Bins bins) = answer_text instance (bins_found bins)
 solution_text instance (Knapsack choice) = answer_text instance (choice_found choice)
 solution_text instance (Reduced outcome) = reduced_text instance (fit_answer (plain_outcome outcome))
+solution_text instance (ReducedStrip strip) = reduced_text instance (strip_found strip)
 
 -- a number for each box and dimension
 abbrev pub AreAllPlaced : PlainInstance → List ℕ → Type 0
@@ -80,6 +82,7 @@ IsPlacedSolution instance (Strip strip) = IsPlacedStrip instance strip
 IsPlacedSolution instance (Bins bins) = ArePlacedBins instance bins
 IsPlacedSolution instance (Knapsack choice) = Unit {0}
 IsPlacedSolution instance (Reduced outcome) = IsPlaced instance (plain_outcome outcome)
+IsPlacedSolution instance (ReducedStrip strip) = IsPlacedStrip instance strip
 
 -- its status and its document are those of the job's answer for the instance, under these settings
 pub record IsSolution (job : DocumentJob) (settings : Settings) (instance : PlainInstance) (solution : Solution) : Type 0 where

@@ -14,7 +14,7 @@ ghost use Rattle.proof_tree.specs.Plain.{plain_tokens};
 ghost use Rattle.answer_terms.specs.Answers.{place_words, place_lines};
 ghost use Rattle.answer_terms.specs.Answers.Answer.{Undecided, Claimed};
 ghost use Rattle.answer_terms.specs.Solved.{fit_answer};
-ghost use Rattle.answer_streams.specs.Headed.{first_line, fit_text};
+ghost use Rattle.answer_streams.specs.Headed.{first_line, headed_text};
 ghost use Rattle.answer_streams.specs.Placed.{IsPlaced};
 
 use box_instances::Instance;
@@ -123,7 +123,7 @@ fn write_yes<K: Sink>(
     requires one_each { length places.now ≡ box_count instance.now * dims instance.now }
     ensures { Writes (K.written sink.old) (K.written sink.new) (K.faults sink.old)
         (K.faults sink.new)
-        (fit_text heading instance.now (Claimed Fitting places.now [])) result }
+        (headed_text heading instance.now (Claimed Fitting places.now [])) result }
 {
     let named = write_on(sink, Ok(()), first_line(heading));
     let shown = write_instance_on(sink, named, instance);
@@ -142,7 +142,7 @@ fn write_no<K: Sink>(
     requires { IsInstance instance.now }
     ensures { Writes (K.written sink.old) (K.written sink.new) (K.faults sink.old)
         (K.faults sink.new)
-        (fit_text heading instance.now (Claimed NotFitting [] (plain_tokens tokens.now))) result }
+        (headed_text heading instance.now (Claimed NotFitting [] (plain_tokens tokens.now))) result }
 {
     let named = write_on(sink, Ok(()), first_line(heading));
     let shown = write_instance_on(sink, named, instance);
@@ -156,7 +156,7 @@ fn write_undecided<K: Sink>(sink: &mut K, heading: Heading, instance: &Instance)
     requires { IsInstance instance.now }
     ensures { Writes (K.written sink.old) (K.written sink.new) (K.faults sink.old)
         (K.faults sink.new)
-        (fit_text heading instance.now Undecided) result }
+        (headed_text heading instance.now Undecided) result }
 {
     let named = write_on(sink, Ok(()), first_line(heading));
     let shown = write_instance_on(sink, named, instance);
@@ -175,7 +175,7 @@ pub fn write_fit<K: Sink>(
     requires placed { IsPlaced instance.now (plain_outcome outcome.now) }
     ensures { Writes (K.written sink.old) (K.written sink.new) (K.faults sink.old)
         (K.faults sink.new)
-        (fit_text heading instance.now (fit_answer (plain_outcome outcome.now))) result }
+        (headed_text heading instance.now (fit_answer (plain_outcome outcome.now))) result }
 {
     match outcome {
         Outcome::Yes { numbers, count: _ } => write_yes(sink, heading, instance, numbers),

@@ -14,7 +14,10 @@ pub enum Solution {
     Strip(Strip),
     Bins(Bins),
     Knapsack(Choice),
+    /// Of `fit`, from the symmetry facts on.
     Reduced(Outcome),
+    /// Of `strip`, from the symmetry facts on.
+    ReducedStrip(Strip),
 }
 
 impl Solution {
@@ -29,6 +32,7 @@ impl Solution {
             Solution::Bins(bins) => bins_status(bins),
             Solution::Knapsack(choice) => choice_status(choice),
             Solution::Reduced(outcome) => fit_status(outcome),
+            Solution::ReducedStrip(strip) => strip_status(strip),
         }
     }
 }

@@ -46,11 +46,14 @@ impl<'a> Streamed for AnswerDocument<'a> {
     fn write_to<K: Sink>(&self, sink: &mut K) -> Written {
         match self.solution {
             Solution::Fit(outcome) => write_fit(sink, Heading::Answer, self.instance, outcome),
-            Solution::Strip(strip) => write_strip(sink, self.instance, strip),
+            Solution::Strip(strip) => write_strip(sink, Heading::Answer, self.instance, strip),
             Solution::Bins(bins) => write_bins(sink, self.instance, bins),
             Solution::Knapsack(choice) => write_choice(sink, self.instance, choice),
             Solution::Reduced(outcome) => {
                 write_fit(sink, Heading::Reduced, self.instance, outcome)
+            }
+            Solution::ReducedStrip(strip) => {
+                write_strip(sink, Heading::Reduced, self.instance, strip)
             }
         }
     }

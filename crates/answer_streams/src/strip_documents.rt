@@ -1,4 +1,5 @@
-//! The documents that answer `strip`, in their one written spelling. Writing takes no memory.
+//! The documents that answer `strip` under each heading, in their one written spelling. Writing
+//! takes no memory.
 ghost use Rattle.std.specs.Prelude.{◌≡◌, ◌<◌, ◌*◌, length};
 ghost use Rattle.packing_terms.specs.Packing.{dims, box_count};
 ghost use Rattle.packing_terms.specs.Limits.{IsInstance};
@@ -6,9 +7,10 @@ ghost use Rattle.pack_streams.specs.Writing.{Continues, Writes};
 ghost use Rattle.text_terms.specs.Spelling.{lines_text};
 ghost use Rattle.document_terms.specs.declared.claim.Claim.TheVariants.{LeastHeight, HeightBetween, NoHeight};
 ghost use Rattle.proof_tree.specs.Plain.{plain_tokens};
-ghost use Rattle.answer_terms.specs.Answers.{place_lines, proved_lines, answer_text};
+ghost use Rattle.answer_terms.specs.Answers.{place_lines, proved_lines};
 ghost use Rattle.answer_terms.specs.Answers.Answer.{Claimed};
 ghost use Rattle.answer_terms.specs.Solved.{none_answer};
+ghost use Rattle.answer_streams.specs.Headed.{strip_line, headed_text};
 ghost use Rattle.answer_streams.specs.Solutions.{AreAllPlaced, IsPlacedStrip, strip_found};
 
 use crate::documents::{Written, write_places};
@@ -19,6 +21,17 @@ use box_instances::Instance;
 use pack_streams::{Sink, write_on};
 use proof_tree::Token;
 use strip_solver::Strip;
+use verdict_terms::Heading;
+
+// The first line of a document of `strip`.
+fn strip_line(heading: Heading) -> &'static [u8]
+    ensures { result.now ≡ strip_line heading }
+{
+    match heading {
+        Heading::Answer => b"answer strip\n",
+        Heading::Reduced => b"reduced strip\n",
+    }
+}
 
 // Writes the places of the placed height, and the refutation of the refuted one.
 fn write_certificates<K: Sink>(
@@ -41,6 +54,7 @@ fn write_certificates<K: Sink>(
 // Writes the document of a least height.
 fn write_least<K: Sink>(
     sink: &mut K,
+    heading: Heading,
     instance: &Instance,
     height: u32,
     places: &[u32],
@@ -50,10 +64,10 @@ fn write_least<K: Sink>(
     requires placed { AreAllPlaced instance.now places.now }
     ensures { Writes (K.written sink.old) (K.written sink.new) (K.faults sink.old)
         (K.faults sink.new)
-        (answer_text instance.now
+        (headed_text heading instance.now
         (Claimed (LeastHeight height) places.now (plain_tokens tokens.now))) result }
 {
-    let begun = write_opening(sink, b"answer strip\n", instance);
+    let begun = write_opening(sink, strip_line(heading), instance);
     let said = write_least_line(sink, begun, height as u64);
     let shown = write_certificates(sink, said, instance, places, tokens);
     write_on(sink, shown, b"end\n")
@@ -62,6 +76,7 @@ fn write_least<K: Sink>(
 // Writes the document of two heights between which the least one lies.
 fn write_between<K: Sink>(
     sink: &mut K,
+    heading: Heading,
     instance: &Instance,
     refuted: u32,
     tokens: &[Token],
@@ -72,50 +87,61 @@ fn write_between<K: Sink>(
     requires placed { AreAllPlaced instance.now places.now }
     ensures { Writes (K.written sink.old) (K.written sink.new) (K.faults sink.old)
         (K.faults sink.new)
-        (answer_text instance.now
+        (headed_text heading instance.now
         (Claimed (HeightBetween refuted placed) places.now (plain_tokens tokens.now))) result }
 {
-    let begun = write_opening(sink, b"answer strip\n", instance);
+    let begun = write_opening(sink, strip_line(heading), instance);
     let said = write_between_line(sink, begun, refuted as u64, placed as u64);
     let shown = write_certificates(sink, said, instance, places, tokens);
     write_on(sink, shown, b"end\n")
 }
 
 // Writes the document that says that no height holds this box.
-fn write_none<K: Sink>(sink: &mut K, instance: &Instance, box_no: u32, dim: u32) -> Written
+fn write_none<K: Sink>(
+    sink: &mut K,
+    heading: Heading,
+    instance: &Instance,
+    box_no: u32,
+    dim: u32,
+) -> Written
     requires limits { IsInstance instance.now }
     requires there { box_no < box_count instance.now }
     requires in_range { dim < dims instance.now }
     ensures { Writes (K.written sink.old) (K.written sink.new) (K.faults sink.old)
         (K.faults sink.new)
-        (answer_text instance.now (none_answer NoHeight (box_no, dim))) result }
+        (headed_text heading instance.now (none_answer NoHeight (box_no, dim))) result }
 {
-    let begun = write_opening(sink, b"answer strip\n", instance);
+    let begun = write_opening(sink, strip_line(heading), instance);
     let said = write_none_line(sink, begun, instance, box_no, dim);
     write_on(sink, said, b"end\n")
 }
 
-/// Writes the document of an answer of `strip`: the least height or two between which it lies, with
+/// Writes the document of an answer of `strip` under a heading: the least height or two between which it lies, with
 /// both certificates, or the box that no height holds.
-pub fn write_strip<K: Sink>(sink: &mut K, instance: &Instance, strip: &Strip) -> Written
+pub fn write_strip<K: Sink>(
+    sink: &mut K,
+    heading: Heading,
+    instance: &Instance,
+    strip: &Strip,
+) -> Written
     requires limits { IsInstance instance.now }
     requires placed { IsPlacedStrip instance.now strip.now }
     ensures { Writes (K.written sink.old) (K.written sink.new) (K.faults sink.old)
         (K.faults sink.new)
-        (answer_text instance.now (strip_found strip.now)) result }
+        (headed_text heading instance.now (strip_found strip.now)) result }
 {
     match strip {
         Strip::Least {
             height,
             places,
             tokens,
-        } => write_least(sink, instance, *height, places, tokens),
+        } => write_least(sink, heading, instance, *height, places, tokens),
         Strip::Between {
             refuted,
             tokens,
             height,
             places,
-        } => write_between(sink, instance, *refuted, tokens, *height, places),
-        Strip::NoneFits { box_no, dim } => write_none(sink, instance, *box_no, *dim),
+        } => write_between(sink, heading, instance, *refuted, tokens, *height, places),
+        Strip::NoneFits { box_no, dim } => write_none(sink, heading, instance, *box_no, *dim),
     }
 }

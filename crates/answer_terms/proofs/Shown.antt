@@ -1,7 +1,8 @@
 -- The answers of the jobs are shown.
-use Rattle.std.proofs.Common.{◌≡◌, ℕ, zero, suc, pred, ◌+◌, ◌-◌, ◌*◌, ◌≤◌, Bool, true, false, refl, subst, arith, [], ◌∷◌, Option, Some, None, if◌then◌else◌, get_or, ltb}
+use Rattle.std.proofs.Common.{◌≡◌, ℕ, zero, suc, pred, ◌+◌, ◌-◌, ◌*◌, ◌≤◌, Bool, true, false, refl, subst, arith, List, [], ◌∷◌, Option, Some, None, if◌then◌else◌, get_or, ltb}
 use Rattle.std.specs.List.{range_with_len}
 use Rattle.std.proofs.lemmas.List.Sums.{sum_by-cons}
+use Rattle.packing_terms.specs.declared.Exclusion.{Exclusion}
 use Rattle.packing_terms.specs.Packing.{PlainInstance, dims, box_count, no_box}
 use Rattle.packing_terms.specs.Goals.{HasTooWideBox, HasTooLargeBox, worth}
 use Rattle.packing_terms.specs.Limits.{IsInstance, IsInternalInstance}
@@ -11,11 +12,13 @@ use Rattle.packing_terms.proofs.Internal.{written_internal}
 use Rattle.tree_terms.specs.Trees.{Verdict, Yes, No, Decided, Past, outcome, told, count_of}
 use Rattle.tree_terms.specs.ClassTree.{class_tree, first_too_large_box, first_too_wide}
 use Rattle.tree_terms.specs.Search.{IsRightUnder}
-use Rattle.tree_terms.specs.Levels.{PlainReached, height_run, bin_run, value_run}
+use Rattle.tree_terms.specs.Levels.{PlainReached, bin_run, value_run}
 use Rattle.tree_terms.proofs.Decisions.{class_tree_right}
 use Rattle.tree_terms.proofs.FirstFound.{first_large_is, first_too_wide_is, none_large_is, none_too_wide_is}
-use Rattle.tree_terms.proofs.Optima.{heights_keep, stack_small, bins_keep, values_keep}
-use Rattle.tree_terms.proofs.SpentRuns.{height_end, bins_end, value_end}
+use Rattle.tree_terms.proofs.Optima.{stack_small, bins_keep, values_keep}
+use Rattle.tree_terms.proofs.SpentRuns.{bins_end, value_end}
+use Rattle.reduced_levels.specs.Heights.{height_run_from, DecideHeights}
+use Rattle.reduced_levels.proofs.Heights.{none_decides, keeps_from, end_from}
 use Rattle.document_terms.specs.declared.claim.SolvingJob.{SolvingJob}
 use Rattle.document_terms.specs.Claims.{most_worth}
 use Rattle.document_terms.specs.declared.claim.SolvingJob.TheVariants.{Fit, Strip, Bins, Knapsack}
@@ -23,19 +26,23 @@ use Rattle.document_terms.specs.declared.claim.Claim.TheVariants.{LeastHeight, H
 use Rattle.answer_terms.specs.Answers.{Answer}
 use Rattle.answer_terms.specs.Answers.Answer.{Undecided, Claimed}
 use Rattle.answer_terms.specs.Solved.{solved, fit_answer, reached_claim, strip_answer, bins_answer, knapsack_answer}
-use Rattle.answer_terms.specs.Shown.{ShowsHeight, ShowsBins, ShowsValue, ShowsNone, IsShown, AnswersAreShown}
+use Rattle.answer_terms.specs.Shown.{ShowsHeight, ShowsBins, ShowsValue, ShowsNone, IsShownFrom, AnswersAreShown}
 
--- an answer of a job: undecided, or a claim of the job that is shown
+-- an answer of a job: undecided, or a claim of the job that is shown from these exclusions on
+abbrev pub IsAnswerFrom : List Exclusion → SolvingJob → PlainInstance → Answer → Type 0
+IsAnswerFrom start job instance Undecided = Unit {0}
+IsAnswerFrom start job instance (Claimed claim numbers tokens) = IsShownFrom start job instance claim numbers tokens
+
+-- the same from none
 abbrev IsAnswer : SolvingJob → PlainInstance → Answer → Type 0
-IsAnswer job instance Undecided = Unit {0}
-IsAnswer job instance (Claimed claim numbers tokens) = IsShown job instance claim numbers tokens
+IsAnswer job instance answer = IsAnswerFrom [] job instance answer
 
 -- ---- fit
 
-fit_is : (instance : PlainInstance) (budget : ℕ) (v : Verdict) → IsRightUnder instance [] v → IsAnswer Fit instance (fit_answer (told budget v))
-fit_is instance budget v h = go (ltb budget (count_of v)) v h
+pub fit_from : (start : List Exclusion) (instance : PlainInstance) (budget : ℕ) (v : Verdict) → IsRightUnder instance start v → IsAnswerFrom start Fit instance (fit_answer (told budget v))
+fit_from start instance budget v h = go (ltb budget (count_of v)) v h
   where
-    go : (b : Bool) (w : Verdict) → IsRightUnder instance [] w → IsAnswer Fit instance (fit_answer (if b then Past else Decided w))
+    go : (b : Bool) (w : Verdict) → IsRightUnder instance start w → IsAnswerFrom start Fit instance (fit_answer (if b then Past else Decided w))
     go true w k = tt
     go false (Yes ns c) k = record { of_job = refl; shown = k }
     go false (No ts c) k = record { of_job = refl; shown = k }
@@ -55,43 +62,38 @@ large_named instance m p few f =
       among = omega (arith, b);
     }
 
+-- ---- strip
+
+module _ (start : List Exclusion) (instance : PlainInstance) (limits : IsInternalInstance instance) (decide : DecideHeights instance start) (budget : ℕ) (scales : Bool) where
+  abbrev r : PlainReached
+  r = height_run_from start instance budget scales
+
+  heights_shown : ¬ HasTooWideBox instance → IsAnswerFrom start Strip instance (strip_answer None (height_run_from start instance budget scales))
+  heights_shown narrow = go r.spent refl
+    where
+      shown : ShowsHeight start instance r.refuted r.placed r.numbers r.tokens
+      shown =
+          let keeps = keeps_from instance limits start decide narrow budget scales in
+          let ends = end_from instance start budget scales limits in
+          let high = ends.high in
+          let most = stack_small instance limits in
+          record { rising = ends.order; most = omega (arith, high, most); packing = keeps.1; refutation = keeps.0 }
+
+      go : (spent : Bool) → r.spent ≡ spent
+          → IsAnswerFrom start Strip instance (Claimed (reached_claim spent (LeastHeight r.placed) (HeightBetween r.refuted r.placed)) r.numbers r.tokens)
+      go true s = record { of_job = refl; shown = shown }
+      go false s =
+          let c = (end_from instance start budget scales limits).beside s in
+          let same : r.refuted ≡ pred r.placed = omega (arith, c) in
+          record { of_job = refl; shown = subst (λ a. ShowsHeight start instance a r.placed r.numbers r.tokens) same shown }
+
+  pub strip_from : (p : Option (ℕ × ℕ)) → first_too_wide instance ≡ p → IsAnswerFrom start Strip instance (strip_answer p (height_run_from start instance budget scales))
+  strip_from (Some p) e = record { of_job = refl; shown = large_named instance (dims instance - 1) p (omega arith) ((first_too_wide_is instance p.0 p.1).0 e) }
+  strip_from None e = heights_shown ((none_too_wide_is instance).0 e)
+
 module _ (instance : PlainInstance) (limits : IsInstance instance) (budget : ℕ) (scales : Bool) where
   internal : IsInternalInstance instance
   internal = written_internal instance limits
-
-  -- ---- strip
-
-  heights_shown : ¬ HasTooWideBox instance → IsAnswer Strip instance (strip_answer None (height_run instance budget scales))
-  heights_shown narrow = go (height_run instance budget scales).spent refl
-    where
-      r : PlainReached
-      r = height_run instance budget scales
-
-      shown : ShowsHeight instance (height_run instance budget scales).refuted (height_run instance budget scales).placed (height_run instance budget scales).numbers (height_run instance budget scales).tokens
-      shown =
-          let keeps = heights_keep instance internal narrow budget scales in
-          let ends = height_end instance internal budget scales in
-          let high = ends.high in
-          let most = stack_small instance internal in
-          record { rising = ends.order; most = omega (arith, high, most); packing = keeps.1; refutation = keeps.0 }
-
-      go : (spent : Bool) → (height_run instance budget scales).spent ≡ spent
-          → IsAnswer Strip instance (Claimed (reached_claim spent (LeastHeight (height_run instance budget scales).placed)
-          (HeightBetween (height_run instance budget scales).refuted (height_run instance budget scales).placed))
-          (height_run instance budget scales).numbers (height_run instance budget scales).tokens)
-      go true s = record { of_job = refl; shown = shown }
-      go false s =
-          let c = (height_end instance internal budget scales).beside s in
-          let same : (height_run instance budget scales).refuted ≡ pred (height_run instance budget scales).placed = omega (arith, c) in
-          record {
-            of_job = refl;
-            shown = subst (λ a. ShowsHeight instance a (height_run instance budget scales).placed (height_run instance budget scales).numbers
-                (height_run instance budget scales).tokens) same shown;
-          }
-
-  strip_is : (p : Option (ℕ × ℕ)) → first_too_wide instance ≡ p → IsAnswer Strip instance (strip_answer p (height_run instance budget scales))
-  strip_is (Some p) e = record { of_job = refl; shown = large_named instance (dims instance - 1) p (omega arith) ((first_too_wide_is instance p.0 p.1).0 e) }
-  strip_is None e = heights_shown ((none_too_wide_is instance).0 e)
 
   -- ---- bins
 
@@ -165,8 +167,8 @@ module _ (instance : PlainInstance) (limits : IsInstance instance) (budget : ℕ
 
   solved_is : (job : SolvingJob) → IsAnswer job instance (solved job budget scales instance)
   unfolding solved
-  solved_is Fit = fit_is instance budget (outcome (class_tree instance [] scales)) (class_tree_right instance internal [] tt scales)
-  solved_is Strip = strip_is (first_too_wide instance) refl
+  solved_is Fit = fit_from [] instance budget (outcome (class_tree instance [] scales)) (class_tree_right instance internal [] tt scales)
+  solved_is Strip = strip_from [] instance internal (none_decides instance internal) budget scales (first_too_wide instance) refl
   solved_is Bins = bins_is (first_too_large_box instance) refl
   solved_is Knapsack = values_shown
 

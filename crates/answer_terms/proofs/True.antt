@@ -1,10 +1,12 @@
 -- What the answers of the jobs claim is true.
-use Rattle.std.proofs.Common.{◌≡◌, ℕ, zero, suc, pred, ◌-◌, ◌<◌, ◌≤◌, ◌⊎◌, inl, inr, Bool, true, false, refl, sym, ap, subst, arith, List, [], if◌then◌else◌}
+use Rattle.std.proofs.Common.{◌≡◌, ℕ, zero, suc, pred, ◌-◌, ◌<◌, ◌≤◌, ◌⊎◌, ◌↔◌, inl, inr, Bool, true, false, refl, sym, ap, subst, arith, List, [], if◌then◌else◌}
 use Rattle.std.proofs.lemmas.Bool.{true≢false, cases_lt, lt-ltb, le-ltb}
-use Rattle.packing_terms.specs.Packing.{PlainInstance, dims, HasPositiveSides, Fits}
+use Rattle.packing_terms.specs.declared.Exclusion.{Exclusion}
+use Rattle.packing_terms.specs.Packing.{PlainInstance, Fits}
 use Rattle.packing_terms.specs.Goals.{with_last_side, FitsInBins, ReachesValue}
 use Rattle.packing_terms.specs.Limits.{IsInstance, IsInternalInstance}
 use Rattle.packing_terms.specs.Tokens.{PlainToken}
+use Rattle.packing_terms.specs.Refutation.{Refutes}
 use Rattle.packing_terms.proofs.Internal.{written_internal, internal_sides}
 use Rattle.packing_terms.proofs.Refuted.{none_fits}
 use Rattle.packing_terms.proofs.BinsRefuted.{none_fits_bins}
@@ -12,9 +14,10 @@ use Rattle.packing_terms.proofs.ValueRefuted.{none_reaches}
 use Rattle.packing_terms.proofs.TooLarge.{too_wide, too_large}
 use Rattle.packing_terms.proofs.Neighbours.{fits_higher, fits_in_more, reaches_lower, least_height, least_bins, greatest_value}
 use Rattle.scale_terms.proofs.Excess.{excess_law}
-use Rattle.std.proofs.Math.ListN.{length-set}
 use Rattle.tree_terms.specs.Trees.{Verdict, Yes, No, Decided, Past, outcome, told, count_of}
 use Rattle.tree_terms.specs.ClassTree.{class_tree}
+use Rattle.reduced_levels.specs.Heights.{DecideHeights}
+use Rattle.reduced_levels.proofs.Heights.{none_decides}
 use Rattle.tree_terms.specs.OuterSearch.{AreTakenNumbers, bins_in, places_in}
 use Rattle.document_terms.specs.declared.claim.Claim.{Claim}
 use Rattle.document_terms.specs.Claims.{IsTrueOf}
@@ -22,23 +25,22 @@ use Rattle.document_terms.specs.declared.claim.Claim.TheVariants.{Fitting, NotFi
 use Rattle.answer_terms.specs.Answers.Answer.{Undecided, Claimed}
 use Rattle.answer_terms.specs.Answers.{Answer}
 use Rattle.answer_terms.specs.Solved.{solved, fit_answer}
-use Rattle.answer_terms.specs.Shown.{Shows, ShowsHeight, ShowsBins, ShowsValue, AnswersAreTrue, UndecidedExactlyPast}
+use Rattle.answer_terms.specs.Shown.{ShowsFrom, ShowsHeight, ShowsBins, ShowsValue, AnswersAreTrue, UndecidedExactlyPast}
 use Rattle.answer_terms.proofs.Shown.{answers_shown}
 
-module _ (instance : PlainInstance) (limits : IsInstance instance) where
+-- where what is refuted under the exclusions doesn't fit
+module _ (instance : PlainInstance) (limits : IsInstance instance) (start : List Exclusion) (decide : DecideHeights instance start)
+    (never : (tokens : List PlainToken) → Refutes instance start tokens → ¬ Fits instance) where
   internal : IsInternalInstance instance
   internal = written_internal instance limits
 
-  sides_at : (h : ℕ) → HasPositiveSides (with_last_side instance h)
-  sides_at h v i l m = internal_sides instance internal v i l (let s = length-set instance.container (dims instance - 1) h in omega (arith, m, s))
-
   -- what fits at no height up to the refuted one
-  no_lower : {a b : ℕ} {ns : List ℕ} {ts : List PlainToken} → ShowsHeight instance a b ns ts → (h : ℕ) → Fits (with_last_side instance h) → a < h
+  no_lower : {a b : ℕ} {ns : List ℕ} {ts : List PlainToken} → ShowsHeight start instance a b ns ts → (h : ℕ) → Fits (with_last_side instance h) → a < h
   no_lower {a = a} s h f = go (cases_lt a h)
     where
       go : (a < h) ⊎ (h ≤ a) → a < h
       go (inl l) = l
-      go (inr l) = absurd (none_fits excess_law (with_last_side instance a) (sides_at a) _ s.refutation (fits_higher instance h a l f))
+      go (inr l) = absurd (decide.refuted a _ s.refutation (fits_higher instance h a l f))
 
   no_fewer : {a b : ℕ} {ns : List ℕ} {ts : List PlainToken} → ShowsBins instance a b ns ts → (k : ℕ) → FitsInBins instance k → a < k
   no_fewer {a = a} s k f = go (cases_lt a k)
@@ -57,14 +59,14 @@ module _ (instance : PlainInstance) (limits : IsInstance instance) where
   reached : (t : ℕ) (ns : List ℕ) → AreTakenNumbers instance t ns → ReachesValue instance t
   reached t ns p = (p.taken, p.set, p.reached, (p.places, p.packing))
 
-  shown_true : (claim : Claim) (numbers : List ℕ) (tokens : List PlainToken) → Shows instance claim numbers tokens → IsTrueOf instance claim
+  pub shown_true : (claim : Claim) (numbers : List ℕ) (tokens : List PlainToken) → ShowsFrom start instance claim numbers tokens → IsTrueOf instance claim
   shown_true Fitting numbers tokens s = (numbers, s)
-  shown_true NotFitting numbers tokens s = none_fits excess_law instance (internal_sides instance internal) tokens s
+  shown_true NotFitting numbers tokens s = never tokens s
   shown_true (LeastHeight h) numbers tokens s = go h s
     where
-      go : (k : ℕ) → ShowsHeight instance (pred k) k numbers tokens → IsTrueOf instance (LeastHeight k)
+      go : (k : ℕ) → ShowsHeight start instance (pred k) k numbers tokens → IsTrueOf instance (LeastHeight k)
       go zero t = let r = t.rising in absurd (omega (arith, r))
-      go (suc k) t = least_height instance k (numbers, t.packing) (none_fits excess_law (with_last_side instance k) (sides_at k) tokens t.refutation)
+      go (suc k) t = least_height instance k (numbers, t.packing) (decide.refuted k tokens t.refutation)
   shown_true (HeightBetween a b) numbers tokens s = record { above = no_lower s; fits = (numbers, s.packing) }
   shown_true NoHeight numbers tokens s =
       λ h. too_wide instance h (let l = s.large in
@@ -88,27 +90,34 @@ module _ (instance : PlainInstance) (limits : IsInstance instance) where
 
 pub answers_true : AnswersAreTrue
 answers_true job budget scales instance claim numbers tokens limits e =
-    shown_true instance limits claim numbers tokens (answers_shown job budget scales instance claim numbers tokens limits e).shown
+    let internal : IsInternalInstance instance = written_internal instance limits in
+    shown_true instance limits [] (none_decides instance internal) (none_fits excess_law instance (internal_sides instance internal)) claim numbers tokens
+    (answers_shown job budget scales instance claim numbers tokens limits e).shown
 
 -- whether an answer is undecided
 abbrev is_undecided : Answer → Bool
 is_undecided Undecided = true
 is_undecided (Claimed claim numbers tokens) = false
 
+-- what is told of a tree is undecided exactly where its count is past the budget
+module _ (budget : ℕ) where
+  claimed : (v : Verdict) → ¬ (fit_answer (Decided v) ≡ Undecided)
+  claimed (Yes ns c) e = true≢false (sym (ap is_undecided e))
+  claimed (No ts c) e = true≢false (sym (ap is_undecided e))
+
+  pub told_undecided : (v : Verdict) → (fit_answer (told budget v) ≡ Undecided) ↔ (budget < count_of v)
+  told_undecided v = (there, back)
+    where
+      there : fit_answer (told budget v) ≡ Undecided → budget < count_of v
+      there e = go (cases_lt budget (count_of v))
+        where
+          go : (budget < count_of v) ⊎ (count_of v ≤ budget) → budget < count_of v
+          go (inl l) = l
+          go (inr l) = absurd (claimed v (subst (λ b. fit_answer (if b then Past else Decided v) ≡ Undecided) (le-ltb budget (count_of v) l) e))
+
+      back : budget < count_of v → fit_answer (told budget v) ≡ Undecided
+      back l = rw (lt-ltb budget (count_of v) l) refl
+
 pub undecided_past : UndecidedExactlyPast
 unfolding solved
-undecided_past budget scales instance = (there (outcome (class_tree instance [] scales)), back (outcome (class_tree instance [] scales)))
-  where
-    claimed : (v : Verdict) → ¬ (fit_answer (Decided v) ≡ Undecided)
-    claimed (Yes ns c) e = true≢false (sym (ap is_undecided e))
-    claimed (No ts c) e = true≢false (sym (ap is_undecided e))
-
-    there : (v : Verdict) → fit_answer (told budget v) ≡ Undecided → budget < count_of v
-    there v e = go (cases_lt budget (count_of v))
-      where
-        go : (budget < count_of v) ⊎ (count_of v ≤ budget) → budget < count_of v
-        go (inl l) = l
-        go (inr l) = absurd (claimed v (subst (λ b. fit_answer (if b then Past else Decided v) ≡ Undecided) (le-ltb budget (count_of v) l) e))
-
-    back : (v : Verdict) → budget < count_of v → fit_answer (told budget v) ≡ Undecided
-    back v l = rw (lt-ltb budget (count_of v) l) refl
+undecided_past budget scales instance = told_undecided budget (outcome (class_tree instance [] scales))

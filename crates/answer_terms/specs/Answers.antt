@@ -88,15 +88,20 @@ backing_lines instance NoBins numbers tokens = token_lines tokens
 backing_lines instance (GreatestValue v) numbers tokens = proved_lines (take_lines instance numbers) tokens
 backing_lines instance (ValueBetween a b) numbers tokens = proved_lines (take_lines instance numbers) tokens
 
--- `answer JOB`, the instance, `result` with these words, what follows, and `end`
-abbrev pub document_lines : PlainInstance → SolvingJob → List (List ℕ) → Lines → Lines
-document_lines instance job result backing =
-    (codes "answer" ∷ job_word job ∷ []) ∷ (instance_words instance ++ (codes "result" ∷ result) ∷ (backing ++ (codes "end" ∷ []) ∷ []))
+-- a first word with the job, the instance, `result` with these words, what follows, and `end`
+abbrev pub document_lines : List ℕ → PlainInstance → SolvingJob → List (List ℕ) → Lines → Lines
+document_lines key instance job result backing =
+    (key ∷ job_word job ∷ []) ∷ (instance_words instance ++ (codes "result" ∷ result) ∷ (backing ++ (codes "end" ∷ []) ∷ []))
 
+-- the lines of an answer behind this first word
+abbrev pub headed_lines : List ℕ → PlainInstance → Answer → Lines
+headed_lines key instance Undecided = document_lines key instance Fit (codes "undecided" ∷ []) []
+headed_lines key instance (Claimed claim numbers tokens) =
+    document_lines key instance (job_of claim) (result_words claim) (backing_lines instance claim numbers tokens)
+
+-- those that begin with `answer JOB`
 abbrev pub answer_lines : PlainInstance → Answer → Lines
-answer_lines instance Undecided = document_lines instance Fit (codes "undecided" ∷ []) []
-answer_lines instance (Claimed claim numbers tokens) =
-    document_lines instance (job_of claim) (result_words claim) (backing_lines instance claim numbers tokens)
+answer_lines instance answer = headed_lines (codes "answer") instance answer
 
 -- the document, a line feed after each line
 unfoldable pub answer_text : PlainInstance → Answer → List ℕ

@@ -1,6 +1,7 @@
 -- What shows a claim, and the laws: the answers of the jobs are shown and true, and when `fit` is
 -- undecided.
 use Rattle.std.specs.Prelude.{ℕ, pred, suc, ◌-◌, ◌<◌, ◌≤◌, ◌≡◌, ◌↔◌, Bool, List, [], ◌∷◌}
+use Rattle.packing_terms.specs.declared.Exclusion.{Exclusion}
 use Rattle.packing_terms.specs.Packing.{PlainInstance, dims, box_count, IsPacking}
 use Rattle.packing_terms.specs.Goals.{with_last_side}
 use Rattle.packing_terms.specs.Limits.{IsInstance, most_height}
@@ -19,12 +20,13 @@ use Rattle.document_terms.specs.declared.claim.Claim.TheVariants.{Fitting, NotFi
 use Rattle.answer_terms.specs.Answers.Answer.{Undecided, Claimed}
 use Rattle.answer_terms.specs.Solved.{solved}
 
--- the instance fits at the one height by these places, and at the other not by these tokens
-pub record ShowsHeight (instance : PlainInstance) (refuted placed : ℕ) (numbers : List ℕ) (tokens : List PlainToken) : Type 0 where
+-- the instance fits at the one height by these places, and at the other not by these tokens, which
+-- refute it under the exclusions
+pub record ShowsHeight (start : List Exclusion) (instance : PlainInstance) (refuted placed : ℕ) (numbers : List ℕ) (tokens : List PlainToken) : Type 0 where
   pub rising : refuted < placed
   pub most : placed ≤ most_height
   pub packing : IsPacking (with_last_side instance placed) numbers
-  pub refutation : Refutes (with_last_side instance refuted) [] tokens
+  pub refutation : Refutes (with_last_side instance refuted) start tokens
 
 -- the same of numbers of bins
 pub record ShowsBins (instance : PlainInstance) (refuted placed : ℕ) (numbers : List ℕ) (tokens : List PlainToken) : Type 0 where
@@ -48,23 +50,32 @@ pub record ShowsNone (instance : PlainInstance) (m : ℕ) (tokens : List PlainTo
   pub large : IsTooLarge instance box_no dim
   pub among : dim ≤ m
 
+-- the numbers and the tokens show the claim, from trees that begin with these exclusions where an
+-- instance is refuted
+abbrev pub ShowsFrom : List Exclusion → PlainInstance → Claim → List ℕ → List PlainToken → Type 0
+ShowsFrom start instance Fitting numbers tokens = IsPacking instance numbers
+ShowsFrom start instance NotFitting numbers tokens = Refutes instance start tokens
+ShowsFrom start instance (LeastHeight h) numbers tokens = ShowsHeight start instance (pred h) h numbers tokens
+ShowsFrom start instance (HeightBetween a b) numbers tokens = ShowsHeight start instance a b numbers tokens
+ShowsFrom start instance NoHeight numbers tokens = ShowsNone instance (dims instance - 1) tokens
+ShowsFrom start instance (LeastBins k) numbers tokens = ShowsBins instance (pred k) k numbers tokens
+ShowsFrom start instance (BinsBetween a b) numbers tokens = ShowsBins instance a b numbers tokens
+ShowsFrom start instance NoBins numbers tokens = ShowsNone instance (dims instance) tokens
+ShowsFrom start instance (GreatestValue v) numbers tokens = ShowsValue instance v (suc v) numbers tokens
+ShowsFrom start instance (ValueBetween a b) numbers tokens = ShowsValue instance a b numbers tokens
+
 -- the numbers and the tokens show the claim
 abbrev pub Shows : PlainInstance → Claim → List ℕ → List PlainToken → Type 0
-Shows instance Fitting numbers tokens = IsPacking instance numbers
-Shows instance NotFitting numbers tokens = Refutes instance [] tokens
-Shows instance (LeastHeight h) numbers tokens = ShowsHeight instance (pred h) h numbers tokens
-Shows instance (HeightBetween a b) numbers tokens = ShowsHeight instance a b numbers tokens
-Shows instance NoHeight numbers tokens = ShowsNone instance (dims instance - 1) tokens
-Shows instance (LeastBins k) numbers tokens = ShowsBins instance (pred k) k numbers tokens
-Shows instance (BinsBetween a b) numbers tokens = ShowsBins instance a b numbers tokens
-Shows instance NoBins numbers tokens = ShowsNone instance (dims instance) tokens
-Shows instance (GreatestValue v) numbers tokens = ShowsValue instance v (suc v) numbers tokens
-Shows instance (ValueBetween a b) numbers tokens = ShowsValue instance a b numbers tokens
+Shows instance claim numbers tokens = ShowsFrom [] instance claim numbers tokens
 
--- what a job claims is of the job, and shown
-pub record IsShown (job : SolvingJob) (instance : PlainInstance) (claim : Claim) (numbers : List ℕ) (tokens : List PlainToken) : Type 0 where
+-- what a job claims is of the job, and shown from these exclusions on
+pub record IsShownFrom (start : List Exclusion) (job : SolvingJob) (instance : PlainInstance) (claim : Claim) (numbers : List ℕ) (tokens : List PlainToken) : Type 0 where
   pub of_job : job_of claim ≡ job
-  pub shown : Shows instance claim numbers tokens
+  pub shown : ShowsFrom start instance claim numbers tokens
+
+-- the same from none
+abbrev pub IsShown : SolvingJob → PlainInstance → Claim → List ℕ → List PlainToken → Type 0
+IsShown job instance claim numbers tokens = IsShownFrom [] job instance claim numbers tokens
 
 abbrev pub AnswersAreShown : Type 0
 AnswersAreShown = (job : SolvingJob) (budget : ℕ) (scales : Bool) (instance : PlainInstance) (claim : Claim) (numbers : List ℕ) (tokens : List PlainToken)

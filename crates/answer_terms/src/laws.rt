@@ -21,19 +21,20 @@ pub fn undecided_exactly_past()
     ensures { UndecidedExactlyPast }
 {}
 
-/// What `reduced` claims is yes or no. A yes has numbers that are places of a packing, and the
-/// tokens of a no refute the instance under its symmetry facts.
+/// The claim of an answer from the symmetry facts on is one of its job, and its numbers and tokens
+/// show it: the tokens refute what it claims to be refuted under the facts of the instance.
 pub fn reduced_answers_are_shown()
     ensures { ReducedAnswersAreShown }
 {}
 
-/// What `reduced` claims is true: the instance fits, or it doesn't.
+/// The claim of such an answer is true: the instance fits, or it doesn't; the height is the least
+/// one; between two heights the least one lies; or there is none.
 pub fn reduced_answers_are_true()
     ensures { ReducedAnswersAreTrue }
 {}
 
-/// The answer of `reduced` is undecided exactly where the class tree that begins with the symmetry
-/// facts has more branchings than the budget.
+/// The answer of `fit` from the symmetry facts on is undecided exactly where the class tree that
+/// begins with them has more branchings than the budget.
 pub fn reduced_undecided_exactly_past()
     ensures { ReducedUndecidedExactlyPast }
 {}

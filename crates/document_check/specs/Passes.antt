@@ -4,7 +4,7 @@ use Rattle.std.specs.Prelude.{ℕ, ◌+◌, ◌≡◌, ◌≤◌, List, Option, 
 use Rattle.document_terms.specs.declared.claim.Claim.{Claim}
 use Rattle.verdict_terms.specs.declared.reason.Reason.TheVariants.{TooShort}
 use Rattle.verdict_terms.specs.declared.heading.Heading.{Heading}
-use Rattle.verdict_terms.specs.Stages.{Stage, claimed_under}
+use Rattle.verdict_terms.specs.Stages.{Stage, claimed}
 use Rattle.verdict_terms.specs.Stages.Stage.{Beginning}
 use Rattle.document_lines.specs.declared.head.Claimed.{Claimed}
 use Rattle.document_check.specs.declared.check.CheckEnd.{CheckEnd}
@@ -39,5 +39,5 @@ Goes old left before now at stage next behind None = IsReadOn old left before no
 
 -- the same up to the result line, behind which the document goes on with its claim
 abbrev pub GoesBehind : Heading → Option (List ℕ) → Option (List ℕ) → ℕ → ℕ → Position → Position → Result Claimed CheckEnd → Type 0
-GoesBehind heading old left before now at next (Ok c) = IsReadOn old left before now at (Beginning heading) next (claimed_under c.heading c.instance c.claim)
+GoesBehind heading old left before now at next (Ok c) = IsReadOn old left before now at (Beginning heading) next (claimed c.heading c.instance c.claim)
 GoesBehind heading old left before now at next (Err result) = IsCheckedFrom old left before now at (Beginning heading) result

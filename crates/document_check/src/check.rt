@@ -1,6 +1,6 @@
 //! The check of a document.
 ghost use Rattle.std.specs.Prelude.{◌≡◌};
-ghost use Rattle.verdict_terms.specs.Stages.{claimed_under};
+ghost use Rattle.verdict_terms.specs.Stages.{claimed};
 ghost use Rattle.document_check.specs.Checked.{IsCheckedUnder};
 ghost use Rattle.document_check.specs.Passes.{IsPosition, IsCheckedFrom};
 ghost use Rattle.document_lines.specs.Ranges.{IsRanged};
@@ -42,18 +42,18 @@ fn check_claimed<S: Source>(
     requires ranged { IsRanged head.now.instance head.now.claim }
     ensures { IsCheckedFrom (S.left input.old) (S.left input.new) (S.faults input.old)
         (S.faults input.new)
-        at.old (claimed_under head.now.heading head.now.instance head.now.claim) result }
+        at.old (claimed head.now.heading head.now.instance head.now.claim) result }
 {
     let instance = &head.instance;
     let claim = head.claim;
     match claim {
-        Claim::Fitting => check_fitting(alloc, input, at, instance),
-        Claim::NotFitting => check_not_fitting(alloc, input, at, head.heading, instance),
+        Claim::Fitting => check_fitting(alloc, input, at, head),
+        Claim::NotFitting => check_not_fitting(alloc, input, at, head),
         Claim::LeastHeight { height } => {
-            check_heights(alloc, input, at, instance, claim, height, height - 1)
+            check_heights(alloc, input, at, head, height, height - 1)
         }
         Claim::HeightBetween { refuted, placed } => {
-            check_heights(alloc, input, at, instance, claim, placed, refuted)
+            check_heights(alloc, input, at, head, placed, refuted)
         }
         Claim::NoHeight => {
             check_exceeding(alloc, input, at, instance, claim, instance.dims() - 1)

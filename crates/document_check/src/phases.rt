@@ -3,19 +3,23 @@ ghost use Rattle.std.specs.Prelude.{◌≡◌, ◌≤◌, true, Some, [], ◌∷
 ghost use Rattle.packing_terms.specs.Packing.{dims, box_count};
 ghost use Rattle.packing_terms.specs.Limits.{most_height};
 ghost use Rattle.packing_terms.specs.Goals.{with_last_side};
+ghost use Rattle.packing_terms.specs.Exclusions.{AreAtEdges};
 ghost use Rattle.packing_terms.specs.Scales.{SidesFit};
-ghost use Rattle.verdict_terms.specs.Stages.{placed, to_refute, start_exclusions};
+ghost use Rattle.verdict_terms.specs.declared.heading.Heading.TheVariants.{Answer};
+ghost use Rattle.verdict_terms.specs.Stages.{placed, to_refute, claimed, start_exclusions};
 ghost use Rattle.verdict_terms.specs.Stages.Stage.{Placing, Sharing, Taking, Proving, Refuting, Exceeding, Ending};
 ghost use Rattle.verdict_terms.specs.Trees.Tree.{InnerTree};
-ghost use Rattle.verdict_terms.specs.Trees.{begun, refuted_by, tree_dims, ToFit, ToFitIn, ToReach};
+ghost use Rattle.verdict_terms.specs.Trees.{begun, tree_dims, ToFit, ToFitIn, ToReach};
 ghost use Rattle.document_lines.specs.Endings.{AreDims};
+ghost use Rattle.document_lines.specs.Proofs.{refuted_by};
+ghost use Rattle.document_lines.specs.Checkers.{shown_inner_tree, is_inner_open};
 ghost use Rattle.document_check.specs.Passes.{IsPosition, IsCheckedFrom};
 
 use crate::check::CheckEnd;
 use crate::position::{Position, give_lines};
 use crate::showing::{read_exceeding, read_places, read_shares, read_taken};
 use box_instances::{Instance, NoMemory};
-use document_lines::{EndReader, LineJudge, TreeChecker, TreeReader};
+use document_lines::{Claimed, EndReader, LineJudge, TreeChecker, TreeReader};
 use document_terms::Claim;
 use edge_state::Exclusion;
 use outer_check::{Goal, OuterRefuter};
@@ -86,7 +90,7 @@ fn check_proof<S: Source, C: TreeChecker + Drop>(
     requires at { IsPosition at.old }
     requires least { 2 ≤ dims }
     requires most { dims ≤ 4 }
-    requires same_dims { dims ≡ tree_dims (refuted_by (C.tree checker)) }
+    requires same_dims { dims ≡ tree_dims (C.tree checker) }
     requires begun { begun (refuted_by (C.tree checker)) ≡ C.tree checker }
     requires opens { C.is_open checker ≡ true }
     ensures { IsCheckedFrom (S.left input.old) (S.left input.new) (S.faults input.old)
@@ -109,7 +113,7 @@ fn check_tokens<S: Source, C: TreeChecker + Drop>(
     requires at { IsPosition at.old }
     requires least { 2 ≤ dims }
     requires most { dims ≤ 4 }
-    requires same_dims { dims ≡ tree_dims (refuted_by (C.tree checker)) }
+    requires same_dims { dims ≡ tree_dims (C.tree checker) }
     requires opens { C.is_open checker ≡ true }
     ensures { IsCheckedFrom (S.left input.old) (S.left input.new) (S.faults input.old)
         (S.faults input.new)
@@ -119,22 +123,55 @@ fn check_tokens<S: Source, C: TreeChecker + Drop>(
     check_tree(alloc, input, at, claim, dims, judge)
 }
 
-// `proof`, a tree that refutes that the instance fits, and `end`.
+// What the trees of an instance begin with.
+fn start_exclusions(
+    alloc: Global,
+    heading: Heading,
+    instance: &Instance,
+) -> Result<Vec<Exclusion>, NoMemory>
+    ensures { IfOk result (λ es. es.items ≡ start_exclusions heading instance.now) }
+{
+    match heading {
+        Heading::Answer => Ok(Vec::new(alloc)),
+        Heading::Reduced => facts(alloc, instance),
+    }
+}
+
+// The refuter of an instance in this container, from what the trees of the instance begin with.
+fn begin_refuter<'a>(
+    alloc: Global,
+    heading: Heading,
+    instance: &Instance,
+    level: &'a Instance,
+) -> Result<Refuter<'a>, NoMemory>
+    requires { AreAtEdges level.now (start_exclusions heading instance.now) }
+    ensures tree { IfOk result (λ r. shown_inner_tree r
+        ≡ InnerTree level.now (start_exclusions heading instance.now ∷ [])) }
+    ensures opens { IfOk result (λ r. is_inner_open r ≡ true) }
+{
+    let start = start_exclusions(alloc, heading, instance)?;
+    Refuter::starting(alloc, level, start.as_slice())
+}
+
+// `proof`, a tree that refutes that the boxes fit at this level, and `end`.
 fn check_misfit<S: Source>(
     alloc: Global,
     input: &mut S,
     at: &mut Position,
-    claim: Claim,
-    instance: &Instance,
+    head: &Claimed,
+    level: &Instance,
 ) -> CheckEnd
-    requires { IsPosition at.old }
+    requires at { IsPosition at.old }
+    requires edges { AreAtEdges level.now
+        (start_exclusions head.now.heading head.now.instance) }
     ensures { IsCheckedFrom (S.left input.old) (S.left input.new) (S.faults input.old)
         (S.faults input.new)
-        at.old (Proving claim (ToFit instance.now)) result }
+        at.old (Proving head.now.claim
+        (ToFit level.now (start_exclusions head.now.heading head.now.instance))) result }
 {
-    let dims = instance.dims();
-    match Refuter::new(alloc, instance) {
-        Ok(refuter) => check_proof(alloc, input, at, claim, dims, refuter),
+    let dims = level.dims();
+    match begin_refuter(alloc, head.heading, &head.instance, level) {
+        Ok(refuter) => check_proof(alloc, input, at, head.claim, dims, refuter),
         Err(_) => CheckEnd::NoMemory,
     }
 }
@@ -188,31 +225,17 @@ pub fn check_fitting<S: Source>(
     alloc: Global,
     input: &mut S,
     at: &mut Position,
-    instance: &Instance,
+    head: &Claimed,
 ) -> CheckEnd
-    requires { IsPosition at.old }
+    requires at { IsPosition at.old }
+    requires is { head.now.claim ≡ Claim.Fitting }
     ensures { IsCheckedFrom (S.left input.old) (S.left input.new) (S.faults input.old)
         (S.faults input.new)
-        at.old (Placing instance.now Claim.Fitting (to_refute instance.now Claim.Fitting) [])
-        result }
+        at.old (claimed head.now.heading head.now.instance head.now.claim) result }
 {
-    match read_places(alloc, input, at, instance, instance, Claim::Fitting) {
+    match read_places(alloc, input, at, head, &head.instance) {
         Some(end) => end,
         None => check_end(alloc, input, at, Claim::Fitting, None),
-    }
-}
-
-// What the tree of a no begins with.
-fn start_exclusions(
-    alloc: Global,
-    heading: Heading,
-    instance: &Instance,
-) -> Result<Vec<Exclusion>, NoMemory>
-    ensures { IfOk result (λ es. es.items ≡ start_exclusions heading instance.now) }
-{
-    match heading {
-        Heading::Answer => Ok(Vec::new(alloc)),
-        Heading::Reduced => facts(alloc, instance),
     }
 }
 
@@ -222,45 +245,46 @@ pub fn check_not_fitting<S: Source>(
     alloc: Global,
     input: &mut S,
     at: &mut Position,
-    heading: Heading,
-    instance: &Instance,
+    head: &Claimed,
 ) -> CheckEnd
-    requires { IsPosition at.old }
+    requires at { IsPosition at.old }
+    requires is { head.now.claim ≡ Claim.NotFitting }
     ensures { IsCheckedFrom (S.left input.old) (S.left input.new) (S.faults input.old)
         (S.faults input.new)
-        at.old (Refuting Claim.NotFitting
-        (InnerTree instance.now (start_exclusions heading instance.now ∷ []))) result }
+        at.old (claimed head.now.heading head.now.instance head.now.claim) result }
 {
-    let dims = instance.dims();
-    let Ok(start) = start_exclusions(alloc, heading, instance) else {
-        return CheckEnd::NoMemory;
-    };
-    match Refuter::starting(alloc, instance, start.as_slice()) {
+    let dims = head.instance.dims();
+    match begin_refuter(alloc, head.heading, &head.instance, &head.instance) {
         Ok(refuter) => check_tokens(alloc, input, at, Claim::NotFitting, dims, refuter),
         Err(_) => CheckEnd::NoMemory,
     }
 }
 
-// The places of all boxes in the one container, `proof`, a tree that they don't fit in the other,
-// and `end`.
+// The places of all boxes at the one level, `proof`, a tree that they don't fit at the other, and
+// `end`.
 fn check_placed<S: Source>(
     alloc: Global,
     input: &mut S,
     at: &mut Position,
-    instance: &Instance,
-    claim: Claim,
+    head: &Claimed,
     held: &Instance,
     lower: &Instance,
 ) -> CheckEnd
     requires at { IsPosition at.old }
-    requires says { placed claim (to_refute instance.now claim) ≡ Proving claim (ToFit lower.now) }
+    requires edges { AreAtEdges lower.now
+        (start_exclusions head.now.heading head.now.instance) }
+    requires says { placed head.now.claim
+        (to_refute head.now.heading head.now.instance head.now.claim)
+        ≡ Proving head.now.claim
+        (ToFit lower.now (start_exclusions head.now.heading head.now.instance)) }
     ensures { IsCheckedFrom (S.left input.old) (S.left input.new) (S.faults input.old)
         (S.faults input.new)
-        at.old (Placing held.now claim (to_refute instance.now claim) []) result }
+        at.old (Placing held.now head.now.claim
+        (to_refute head.now.heading head.now.instance head.now.claim) []) result }
 {
-    match read_places(alloc, input, at, instance, held, claim) {
+    match read_places(alloc, input, at, head, held) {
         Some(end) => end,
-        None => check_misfit(alloc, input, at, claim, lower),
+        None => check_misfit(alloc, input, at, head, lower),
     }
 }
 
@@ -269,28 +293,30 @@ pub fn check_heights<S: Source>(
     alloc: Global,
     input: &mut S,
     at: &mut Position,
-    instance: &Instance,
-    claim: Claim,
+    head: &Claimed,
     reached: u32,
     refuted: u32,
 ) -> CheckEnd
     requires at { IsPosition at.old }
     requires high { reached ≤ most_height }
     requires low { refuted ≤ most_height }
-    requires says { placed claim (to_refute instance.now claim)
-        ≡ Proving claim (ToFit (with_last_side instance.now refuted)) }
+    requires says { placed head.now.claim
+        (to_refute head.now.heading head.now.instance head.now.claim)
+        ≡ Proving head.now.claim (ToFit (with_last_side head.now.instance refuted)
+        (start_exclusions head.now.heading head.now.instance)) }
     ensures { IsCheckedFrom (S.left input.old) (S.left input.new) (S.faults input.old)
         (S.faults input.new)
-        at.old (Placing (with_last_side instance.now reached) claim (to_refute instance.now claim)
-        []) result }
+        at.old (Placing (with_last_side head.now.instance reached) head.now.claim
+        (to_refute head.now.heading head.now.instance head.now.claim) []) result }
 {
-    let Ok(held) = instance.with_last_side(alloc, reached) else {
+    let _some_dims = head.instance.dims();
+    let Ok(held) = head.instance.with_last_side(alloc, reached) else {
         return CheckEnd::NoMemory;
     };
-    let Ok(lower) = instance.with_last_side(alloc, refuted) else {
+    let Ok(lower) = head.instance.with_last_side(alloc, refuted) else {
         return CheckEnd::NoMemory;
     };
-    check_placed(alloc, input, at, instance, claim, &held, &lower)
+    check_placed(alloc, input, at, head, &held, &lower)
 }
 
 /// One token that a box exceeds the container in one of the first so many dimensions, and `end`.
@@ -327,7 +353,7 @@ pub fn check_bins<S: Source>(
 ) -> CheckEnd
     requires at { IsPosition at.old }
     requires few { refuted ≤ box_count instance.now }
-    requires says { placed claim (to_refute instance.now claim)
+    requires says { placed claim (to_refute Answer instance.now claim)
         ≡ Proving claim (ToFitIn instance.now refuted) }
     ensures { IsCheckedFrom (S.left input.old) (S.left input.new) (S.faults input.old)
         (S.faults input.new)
@@ -350,7 +376,7 @@ pub fn check_values<S: Source>(
     refuted: u64,
 ) -> CheckEnd
     requires at { IsPosition at.old }
-    requires says { to_refute instance.now claim ≡ ToReach instance.now refuted }
+    requires says { to_refute Answer instance.now claim ≡ ToReach instance.now refuted }
     ensures { IsCheckedFrom (S.left input.old) (S.left input.new) (S.faults input.old)
         (S.faults input.new)
         at.old (Taking instance.now claim reached [] []) result }

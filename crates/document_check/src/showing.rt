@@ -1,6 +1,7 @@
 //! What shows that a claim is reached: places, bins, taken boxes, a box that exceeds the container.
 ghost use Rattle.std.specs.Prelude.{◌≡◌, ◌≤◌, None, Some, [], IfOk};
 ghost use Rattle.packing_terms.specs.Packing.{dims};
+ghost use Rattle.verdict_terms.specs.declared.heading.Heading.TheVariants.{Answer};
 ghost use Rattle.verdict_terms.specs.Stages.{placed, to_refute};
 ghost use Rattle.verdict_terms.specs.Stages.Stage.{Beginning, Placing, Sharing, Taking, Refuting, Exceeding, Ending};
 ghost use Rattle.verdict_terms.specs.Trees.{begun};
@@ -46,18 +47,19 @@ pub fn read_places<S: Source>(
     alloc: Global,
     input: &mut S,
     at: &mut Position,
-    instance: &Instance,
+    head: &Claimed,
     held: &Instance,
-    claim: Claim,
 ) -> Option<CheckEnd>
     requires { IsPosition at.old }
     ensures at { result ≡ None → IsPosition at.new }
     ensures goes { Goes (S.left input.old) (S.left input.new) (S.faults input.old)
         (S.faults input.new)
-        at.old (Placing held.now claim (to_refute instance.now claim) []) at.new
-        (placed claim (to_refute instance.now claim)) result }
+        at.old (Placing held.now head.now.claim
+        (to_refute head.now.heading head.now.instance head.now.claim) []) at.new
+        (placed head.now.claim (to_refute head.now.heading head.now.instance head.now.claim))
+        result }
 {
-    let mut judge = PlaceReader::new(alloc, instance, held, claim);
+    let mut judge = PlaceReader::new(alloc, head.heading, &head.instance, held, head.claim);
     give_lines(input, at, &mut judge)
 }
 
@@ -72,11 +74,11 @@ pub fn read_shares<S: Source>(
 ) -> Option<CheckEnd>
     requires { IsPosition at.old }
     ensures at { result ≡ None → IsPosition at.new }
-    ensures sides { result ≡ None → HaveSides (placed claim (to_refute instance.now claim)) }
+    ensures sides { result ≡ None → HaveSides (placed claim (to_refute Answer instance.now claim)) }
     ensures goes { Goes (S.left input.old) (S.left input.new) (S.faults input.old)
         (S.faults input.new)
         at.old (Sharing instance.now claim bin_count [] []) at.new
-        (placed claim (to_refute instance.now claim)) result }
+        (placed claim (to_refute Answer instance.now claim)) result }
 {
     let mut judge = ShareReader::new(alloc, instance, claim, bin_count);
     let end = give_lines(input, at, &mut judge);
@@ -99,7 +101,7 @@ pub fn read_taken<S: Source>(
     ensures goes { Goes (S.left input.old) (S.left input.new) (S.faults input.old)
         (S.faults input.new)
         at.old (Taking instance.now claim value [] []) at.new
-        (Refuting claim (begun (to_refute instance.now claim))) result }
+        (Refuting claim (begun (to_refute Answer instance.now claim))) result }
 {
     let mut judge = TakeReader::new(alloc, instance, claim, value);
     give_lines(input, at, &mut judge)

@@ -5,7 +5,7 @@ use Rattle.text_terms.specs.Texts.{Parts, no_parts, add_line}
 use Rattle.instance_text.specs.declared.reader.ReadTextError.{ReadTextError}
 use Rattle.document_terms.specs.declared.claim.SolvingJob.{SolvingJob}
 use Rattle.verdict_terms.specs.declared.heading.Heading.{Heading}
-use Rattle.verdict_terms.specs.Stages.{Stage, claimed_under, text_fault}
+use Rattle.verdict_terms.specs.Stages.{Stage, claimed, text_fault}
 use Rattle.verdict_terms.specs.Stages.Stage.{Beginning, Reading}
 use Rattle.document_lines.specs.Ranges.{IsRanged}
 use Rattle.document_lines.specs.declared.head.Claimed.{Claimed}
@@ -27,7 +27,7 @@ IsHeldBehind None parts = parts ≡ Ok no_parts
 
 -- behind the result line, behind the first line, or at the beginning
 abbrev pub head_stage : Heading → Option SolvingJob → Result Parts ReadTextError → Option Claimed → Stage
-head_stage heading job parts (Some c) = claimed_under heading c.instance c.claim
+head_stage heading job parts (Some c) = claimed heading c.instance c.claim
 head_stage heading (Some job) parts None = Reading heading job (held_parts parts)
 head_stage heading None parts None = Beginning heading
 
@@ -38,7 +38,7 @@ is_open None = true
 
 -- what a reader holds behind its lines
 abbrev pub IsClaimedAs : Stage → Bool → Option Claimed → Type 0
-IsClaimedAs stage takes (Some c) = stage ≡ claimed_under c.heading c.instance c.claim
+IsClaimedAs stage takes (Some c) = stage ≡ claimed c.heading c.instance c.claim
 IsClaimedAs stage takes None = takes ≡ true
 
 -- the numbers of what is claimed are within their ends

@@ -2,6 +2,7 @@
 use Rattle.std.specs.Prelude.{ℕ, ◌≡◌, Bool, true, false, List, ◌++◌, Result, Ok, Err}
 use Rattle.packing_terms.specs.Packing.{PlainInstance}
 use Rattle.document_terms.specs.declared.claim.Claim.{Claim}
+use Rattle.verdict_terms.specs.declared.heading.Heading.{Heading}
 use Rattle.verdict_terms.specs.Numbers.{coordinates}
 use Rattle.verdict_terms.specs.Stages.{Stage, placed, to_refute}
 use Rattle.verdict_terms.specs.Stages.Stage.{Placing}
@@ -15,6 +16,6 @@ TakesCoordinates places numbers new (Err (Refused reason)) = (coordinates number
 TakesCoordinates places numbers new (Err NoMemory) = new ≡ places
 
 -- the places so far, in a container that may have another last side, and behind them all
-abbrev pub place_stage : PlainInstance → PlainInstance → Claim → List ℕ → Bool → Stage
-place_stage instance held claim places true = placed claim (to_refute instance claim)
-place_stage instance held claim places false = Placing held claim (to_refute instance claim) places
+abbrev pub place_stage : Heading → PlainInstance → PlainInstance → Claim → List ℕ → Bool → Stage
+place_stage heading instance held claim places true = placed claim (to_refute heading instance claim)
+place_stage heading instance held claim places false = Placing held claim (to_refute heading instance claim) places

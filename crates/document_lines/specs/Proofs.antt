@@ -1,12 +1,12 @@
 -- The tree of a document.
-use Rattle.std.specs.Prelude.{ℕ, ◌≡◌, ◌≤◌, Bool, true, false, List, Some, Result, Ok, Err}
+use Rattle.std.specs.Prelude.{ℕ, ◌≡◌, ◌≤◌, Bool, true, false, List, [], ◌∷◌, Some, Result, Ok, Err}
 use Rattle.packing_terms.specs.Tokens.{PlainToken}
 use Rattle.document_terms.specs.declared.claim.Claim.{Claim}
 use Rattle.check_terms.specs.declared.answers.FeedVerdict.{FeedVerdict}
 use Rattle.check_terms.specs.declared.answers.FeedVerdict.TheVariants.{More, Done, Refused}
 use Rattle.verdict_terms.specs.Stages.{Stage, tree_line, grown_tree}
 use Rattle.verdict_terms.specs.Stages.Stage.{Proving, Refuting, Ending}
-use Rattle.verdict_terms.specs.Trees.{Tree, begun, refuted_by, tree_dims, tree_after, is_whole}
+use Rattle.verdict_terms.specs.Trees.{Refuted, ToFit, ToFitIn, ToReach, Tree, InnerTree, BinTree, ValueTree, begun, tree_dims, tree_after, is_whole}
 use Rattle.document_lines.specs.declared.judge.LineStop.{LineStop}
 use Rattle.document_lines.specs.declared.judge.LineStop.TheVariants.{Refused as LineRefused, NoMemory}
 use Rattle.document_lines.specs.declared.tree.TreeStep.{TreeStep}
@@ -17,6 +17,13 @@ abbrev pub IsFed : Tree → PlainToken → Tree → Bool → FeedVerdict → Typ
 IsFed old t new opens More = (tree_after old t ≡ Ok new) × (is_whole new ≡ false) × (opens ≡ true)
 IsFed old t new opens Done = (tree_after old t ≡ Ok new) × (is_whole new ≡ true)
 IsFed old t new opens (Refused code) = tree_after old t ≡ Err code
+
+-- what a tree to which no token was fed is to refute: its one open node is what it begins with
+abbrev pub refuted_by : Tree → Refuted
+refuted_by (InnerTree instance []) = ToFit instance []
+refuted_by (InnerTree instance (start ∷ nodes)) = ToFit instance start
+refuted_by (BinTree instance k nodes) = ToFitIn instance k
+refuted_by (ValueTree instance y nodes) = ToReach instance y
 
 -- where the document stands; behind a refused token it stands nowhere
 abbrev pub tree_stage : TreeStep → Claim → ℕ → Tree → Stage
@@ -40,8 +47,8 @@ IsReady Stopped tree opens = Unit {0}
 
 -- the dimensions of the tree
 abbrev pub HasDims : TreeStep → ℕ → Tree → Type 0
-HasDims Proof dims tree = dims ≡ tree_dims (refuted_by tree)
-HasDims Tokens dims tree = dims ≡ tree_dims (refuted_by tree)
+HasDims Proof dims tree = dims ≡ tree_dims tree
+HasDims Tokens dims tree = dims ≡ tree_dims tree
 HasDims Whole dims tree = Unit {0}
 HasDims Stopped dims tree = Unit {0}
 
@@ -55,6 +62,6 @@ pub record IsTreeHeld (step : TreeStep) (tree : Tree) (opens : Bool) (dims : ℕ
 -- it is refused
 abbrev pub TakesToken : Tree → List (List ℕ) → Tree → Bool → Result Bool LineStop → Type 0
 TakesToken old words new opens (Ok whole) =
-    ((claim : Claim) → tree_line claim old words ≡ Ok (grown_tree claim new)) × (is_whole new ≡ whole) × (refuted_by new ≡ refuted_by old) × (whole ≡ false → opens ≡ true)
+    ((claim : Claim) → tree_line claim old words ≡ Ok (grown_tree claim new)) × (is_whole new ≡ whole) × (tree_dims new ≡ tree_dims old) × (whole ≡ false → opens ≡ true)
 TakesToken old words new opens (Err (LineRefused reason)) = (claim : Claim) → tree_line claim old words ≡ Err reason
 TakesToken old words new opens (Err NoMemory) = Unit {0}

@@ -3,6 +3,7 @@ use Rattle.std.specs.Prelude.{ℕ, ◌*◌, ◌≡◌, Bool, true, false, List, 
 use Rattle.packing_terms.specs.Packing.{PlainInstance, dims}
 use Rattle.packing_terms.specs.Goals.{IsBoxSet}
 use Rattle.document_terms.specs.declared.claim.Claim.{Claim}
+use Rattle.verdict_terms.specs.declared.heading.Heading.TheVariants.{Answer}
 use Rattle.verdict_terms.specs.declared.reason.Reason.{Reason}
 use Rattle.verdict_terms.specs.Stages.{Stage, to_refute, take_box_line}
 use Rattle.verdict_terms.specs.Stages.Stage.{Taking, Refuting}
@@ -12,7 +13,7 @@ use Rattle.document_lines.specs.declared.judge.LineStop.TheVariants.{Refused, No
 
 -- the boxes so far, and behind `proof`
 abbrev pub take_stage : PlainInstance → Claim → ℕ → List ℕ → List ℕ → Bool → Stage
-take_stage instance claim value taken places true = Refuting claim (begun (to_refute instance claim))
+take_stage instance claim value taken places true = Refuting claim (begun (to_refute Answer instance claim))
 take_stage instance claim value taken places false = Taking instance claim value taken places
 
 -- what is kept: the boxes are a set, with a coordinate in each dimension

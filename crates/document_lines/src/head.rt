@@ -3,7 +3,7 @@ ghost use Rattle.std.specs.Prelude.{◌≡◌, ◌≤◌, ◌<◌, length, not, 
 ghost use Rattle.text_terms.specs.Lines.{same_bytes};
 ghost use Rattle.text_terms.specs.Texts.{no_parts};
 ghost use Rattle.text_terms.specs.Feeding.{ended_line};
-ghost use Rattle.verdict_terms.specs.Stages.{claimed_under, heading_word, job_named, job_headed, filled_line, is_result, rest_of, result_line};
+ghost use Rattle.verdict_terms.specs.Stages.{claimed, heading_word, job_named, job_headed, filled_line, is_result, rest_of, result_line};
 ghost use Rattle.verdict_terms.specs.Stages.Stage.{Beginning, Reading};
 ghost use Rattle.verdict_terms.specs.Trees.{map_ok};
 ghost use Rattle.document_lines.specs.Reading.{Judges, IsAt, ended_claim};
@@ -57,6 +57,8 @@ fn job_headed(heading: Heading, word: &[u8]) -> Result<SolvingJob, Reason>
         Heading::Reduced => {
             if is_same(word, b"fit") {
                 Ok(SolvingJob::Fit)
+            } else if is_same(word, b"strip") {
+                Ok(SolvingJob::Strip)
             } else {
                 Err(FORM)
             }
@@ -101,7 +103,7 @@ fn read_result(
     requires held { IsHeldHead reader }
     requires some { 1 ≤ length line.now.held.words }
     ensures heading { IfOk result (λ c. c.heading ≡ heading) }
-    ensures claimed { map_ok (λ (c : Claimed). claimed_under heading c.instance c.claim) result
+    ensures claimed { map_ok (λ (c : Claimed). claimed heading c.instance c.claim) result
         ≡ result_line heading job (held_parts reader) (rest_of line.now.held.words) }
     ensures ranged { IfOk result (λ c. IsRanged c.instance c.claim) }
 {

@@ -17,7 +17,7 @@ use instance_text::LineLexer;
 use placement_check::{PlaceVerdict, check_places};
 use std::alloc::Global;
 use std::marker::Model;
-use verdict_terms::Reason;
+use verdict_terms::{Heading, Reason};
 
 // The most that a coordinate is.
 const MOST_COORDINATE: u128 = 4_294_967_295;
@@ -69,6 +69,7 @@ fn places_reason(instance: &Instance, places: &[u32]) -> Option<Reason>
 /// It takes lines as long as places are wanted.
 #[derive(Drop)]
 pub struct PlaceReader<'a> {
+    heading: Heading,
     // The instance of the document, and in the container in which the places are to lie.
     instance: &'a Instance,
     held: &'a Instance,
@@ -86,9 +87,9 @@ impl<'a> Model for PlaceReader<'a> {
     ghost Value = { PlainJudge };
 
     ghost view = { λ p. record {
-      stage = place_stage p.instance.now p.held.now p.claim p.places.items p.are_placed;
+      stage = place_stage p.heading p.instance.now p.held.now p.claim p.places.items p.are_placed;
       takes = not p.are_placed;
-      behind = Some (placed p.claim (to_refute p.instance.now p.claim));
+      behind = Some (placed p.claim (to_refute p.heading p.instance.now p.claim));
     } };
 }
 
@@ -96,17 +97,19 @@ impl<'a> PlaceReader<'a> {
     /// No line was taken.
     pub fn new(
         alloc: Global,
+        heading: Heading,
         instance: &'a Instance,
         held: &'a Instance,
         claim: Claim,
     ) -> PlaceReader<'a>
         ensures { result ≡ record {
-          stage = Placing held.now claim (to_refute instance.now claim) [];
+          stage = Placing held.now claim (to_refute heading instance.now claim) [];
           takes = true;
-          behind = Some (placed claim (to_refute instance.now claim));
+          behind = Some (placed claim (to_refute heading instance.now claim));
         } }
     {
         PlaceReader {
+            heading,
             instance,
             held,
             claim,

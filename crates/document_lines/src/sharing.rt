@@ -1,6 +1,7 @@
 //! The bins of a document.
 ghost use Rattle.std.specs.Prelude.{◌≡◌, ◌+◌, ◌&&◌, length, nat_le, not, true, [], Some, IsTrue};
 ghost use Rattle.packing_terms.specs.Packing.{dims};
+ghost use Rattle.verdict_terms.specs.declared.heading.Heading.TheVariants.{Answer};
 ghost use Rattle.verdict_terms.specs.Stages.{placed, to_refute};
 ghost use Rattle.verdict_terms.specs.Stages.Stage.{Sharing};
 ghost use Rattle.document_lines.specs.Reading.{Judges, IsAt, ended_claim};
@@ -87,6 +88,7 @@ pub struct ShareReader<'a> {
 
 impl<'a> Model for ShareReader<'a> {
     ghost use Rattle.std.specs.Prelude.{not, Some};
+    ghost use Rattle.verdict_terms.specs.declared.heading.Heading.TheVariants.{Answer};
     ghost use Rattle.verdict_terms.specs.Stages.{placed, to_refute};
     ghost use Rattle.document_lines.specs.Reading.{PlainJudge};
     ghost use Rattle.document_lines.specs.Sharings.{share_stage, IsShared};
@@ -97,7 +99,7 @@ impl<'a> Model for ShareReader<'a> {
       stage = share_stage s.instance.now s.claim s.bin_count s.bins.items s.places.items
           s.is_shared;
       takes = not s.is_shared;
-      behind = Some (placed s.claim (to_refute s.instance.now s.claim));
+      behind = Some (placed s.claim (to_refute Answer s.instance.now s.claim));
     } };
 
     ghost invariant = { λ s. IsShared s.instance.now s.bin_count s.bins.items s.places.items
@@ -115,7 +117,7 @@ impl<'a> ShareReader<'a> {
         ensures { result ≡ record {
           stage = Sharing instance.now claim bin_count [] [];
           takes = true;
-          behind = Some (placed claim (to_refute instance.now claim));
+          behind = Some (placed claim (to_refute Answer instance.now claim));
         } }
     {
         ShareReader {

@@ -4,6 +4,7 @@ ghost use Rattle.std.specs.List.{list_all};
 ghost use Rattle.check_terms.specs.Judging.{names_box};
 ghost use Rattle.packing_terms.specs.Packing.{dims, box_count};
 ghost use Rattle.packing_terms.specs.Goals.{worth, IsBoxSet};
+ghost use Rattle.verdict_terms.specs.declared.heading.Heading.TheVariants.{Answer};
 ghost use Rattle.verdict_terms.specs.Stages.{taken_reason, to_refute};
 ghost use Rattle.verdict_terms.specs.Stages.Stage.{Taking, Refuting};
 ghost use Rattle.verdict_terms.specs.Trees.{begun};
@@ -122,6 +123,7 @@ pub struct TakeReader<'a> {
 
 impl<'a> Model for TakeReader<'a> {
     ghost use Rattle.std.specs.Prelude.{not, Some};
+    ghost use Rattle.verdict_terms.specs.declared.heading.Heading.TheVariants.{Answer};
     ghost use Rattle.verdict_terms.specs.Stages.{to_refute};
     ghost use Rattle.verdict_terms.specs.Stages.Stage.{Refuting};
     ghost use Rattle.verdict_terms.specs.Trees.{begun};
@@ -133,7 +135,7 @@ impl<'a> Model for TakeReader<'a> {
     ghost view = { λ t. record {
       stage = take_stage t.instance.now t.claim t.value t.taken.items t.places.items t.is_taken;
       takes = not t.is_taken;
-      behind = Some (Refuting t.claim (begun (to_refute t.instance.now t.claim)));
+      behind = Some (Refuting t.claim (begun (to_refute Answer t.instance.now t.claim)));
     } };
 
     ghost invariant = { λ t. AreBoxesTaken t.instance.now t.taken.items t.places.items };
@@ -145,7 +147,7 @@ impl<'a> TakeReader<'a> {
         ensures { result ≡ record {
           stage = Taking instance.now claim value [] [];
           takes = true;
-          behind = Some (Refuting claim (begun (to_refute instance.now claim)));
+          behind = Some (Refuting claim (begun (to_refute Answer instance.now claim)));
         } }
     {
         TakeReader {

@@ -2,9 +2,9 @@
 ghost use Rattle.std.specs.Prelude.{◌≡◌, ◌≤◌, Bool, true, false, not, Some, IsTrue};
 ghost use Rattle.proof_tree.specs.Plain.{plain_token};
 ghost use Rattle.verdict_terms.specs.Stages.Stage.{Proving, Refuting, Ending};
-ghost use Rattle.verdict_terms.specs.Trees.{Tree, begun, refuted_by, tree_dims};
+ghost use Rattle.verdict_terms.specs.Trees.{Tree, begun, tree_dims};
 ghost use Rattle.document_lines.specs.Reading.{Judges, IsAt, ended_claim};
-ghost use Rattle.document_lines.specs.Proofs.{IsFed, TakesToken};
+ghost use Rattle.document_lines.specs.Proofs.{refuted_by, IsFed, TakesToken};
 
 use crate::judge::{LineJudge, LineStop};
 use crate::words::{FORM, is_blank, is_word};
@@ -40,7 +40,7 @@ fn take_token<C: TreeChecker>(
 ) -> Result<bool, LineStop>
     requires least { 2 ≤ dims }
     requires most { dims ≤ 4 }
-    requires same_dims { dims ≡ tree_dims (refuted_by (C.tree checker.old)) }
+    requires same_dims { dims ≡ tree_dims (C.tree checker.old) }
     requires opens { C.is_open checker.old ≡ true }
     requires good { line.now.held.bad ≡ false }
     ensures { TakesToken (C.tree checker.old) line.now.held.words (C.tree checker.new)
@@ -106,7 +106,7 @@ impl<C: TreeChecker> TreeReader<C> {
     pub fn at_proof(alloc: Global, claim: Claim, dims: u32, checker: C) -> TreeReader<C>
         requires least { 2 ≤ dims }
         requires most { dims ≤ 4 }
-        requires same_dims { dims ≡ tree_dims (refuted_by (C.tree checker)) }
+        requires same_dims { dims ≡ tree_dims (C.tree checker) }
         requires begun { begun (refuted_by (C.tree checker)) ≡ C.tree checker }
         requires open { C.is_open checker ≡ true }
         ensures { result ≡ record {
@@ -128,7 +128,7 @@ impl<C: TreeChecker> TreeReader<C> {
     pub fn at_tokens(alloc: Global, claim: Claim, dims: u32, checker: C) -> TreeReader<C>
         requires least { 2 ≤ dims }
         requires most { dims ≤ 4 }
-        requires same_dims { dims ≡ tree_dims (refuted_by (C.tree checker)) }
+        requires same_dims { dims ≡ tree_dims (C.tree checker) }
         requires open { C.is_open checker ≡ true }
         ensures { result ≡ record {
           stage = Refuting claim (C.tree checker);

@@ -4,6 +4,7 @@ use Rattle.std.specs.Fmt.{decimal}
 use Rattle.std.proofs.Math.ListN.{length-set}
 use Rattle.std.proofs.lemmas.Bool.{cases_eq}
 use Rattle.std.proofs.lemmas.List.{get_or-set_same, get_or-set_other}
+use Rattle.packing_terms.specs.declared.Exclusion.{Exclusion}
 use Rattle.packing_terms.specs.Packing.{PlainInstance, dims, box_count, kerf, written_container, IsPacking}
 use Rattle.packing_terms.specs.Goals.{with_last_side}
 use Rattle.packing_terms.specs.Limits.{IsInstance, IsInternalInstance, most_height}
@@ -13,7 +14,7 @@ use Rattle.packing_terms.specs.Tokens.PlainToken.{TooLarge}
 use Rattle.packing_terms.proofs.Internal.{written_internal}
 use Rattle.document_terms.specs.TokenLines.{token_words}
 use Rattle.text_terms.specs.Form.{IsNumber}
-use Rattle.text_terms.specs.Spelling.{instance_words}
+use Rattle.text_terms.specs.Spelling.{instance_words, lines_text}
 use Rattle.text_terms.proofs.Spelled.{AreWords, number_decimal}
 use Rattle.text_terms.proofs.Back.{word_decimal, is_decimal}
 use Rattle.document_terms.specs.declared.claim.SolvingJob.{SolvingJob}
@@ -22,12 +23,14 @@ use Rattle.document_terms.specs.declared.claim.Claim.{Claim}
 use Rattle.document_terms.specs.Claims.{job_of, job_word, result_words}
 use Rattle.document_terms.specs.declared.claim.Claim.TheVariants.{Fitting, NotFitting, LeastHeight, HeightBetween, NoHeight, LeastBins, BinsBetween, NoBins, GreatestValue, ValueBetween}
 use Rattle.verdict_terms.specs.Trees.{ToFit, ToFitIn, ToReach}
-use Rattle.verdict_terms.specs.declared.heading.Heading.TheVariants.{Answer}
-use Rattle.verdict_terms.specs.Form.{IsResult, Backs, AreProved, AreRefuting, ArePlaced, AreShared, AreTaken, IsExceedingLine}
-use Rattle.answer_terms.specs.Answers.{Lines, answer_text, answer_lines, document_lines, backing_lines, place_lines, bin_lines, take_lines, token_lines, proved_lines}
+use Rattle.verdict_terms.specs.declared.heading.Heading.{Heading}
+use Rattle.verdict_terms.specs.declared.heading.Heading.TheVariants.{Answer, Reduced}
+use Rattle.verdict_terms.specs.Stages.{heading_word, start_exclusions}
+use Rattle.verdict_terms.specs.Form.{IsResult, BacksUnder, MayName, IsHeadedDocument, AreProved, AreRefuting, ArePlaced, AreShared, AreTaken, IsExceedingLine}
+use Rattle.answer_terms.specs.Answers.{Lines, answer_text, headed_lines, document_lines, backing_lines, place_lines, bin_lines, take_lines, token_lines, proved_lines}
 use Rattle.answer_terms.specs.Answers.Answer.{Claimed}
-use Rattle.answer_terms.specs.Shown.{Shows, ShowsHeight, ShowsBins, ShowsValue, ShowsNone}
-use Rattle.own_documents.specs.Own.{IsDocumentAbout, ShownClaimsHaveDocuments, OwnDocumentsAreVerified}
+use Rattle.answer_terms.specs.Shown.{ShowsFrom, ShowsHeight, ShowsBins, ShowsValue, ShowsNone}
+use Rattle.own_documents.specs.Own.{ShownClaimsHaveDocuments, OwnDocumentsAreVerified}
 use Rattle.answer_terms.proofs.Shown.{answers_shown}
 use Rattle.verdict_terms.proofs.FormGiven.{documents_have_form}
 use Rattle.own_documents.proofs.Filled.{AreFilled, filled_append, clean_text, filled_text, filled_instance, instance_form}
@@ -45,37 +48,46 @@ job_plain Knapsack = (omega arith, refl, tt)
 
 -- ---- whole documents
 
-pub record IsBacked (instance : PlainInstance) (claim : Claim) (numbers : List ℕ) (tokens : List PlainToken) : Type 0 where
+pub record IsBacked (heading : Heading) (instance : PlainInstance) (claim : Claim) (numbers : List ℕ) (tokens : List PlainToken) : Type 0 where
   pub words : AreWords (result_words claim)
   pub result : IsResult instance claim (result_words claim)
   pub filled : AreFilled (backing_lines instance claim numbers tokens)
-  pub backs : Backs instance claim (backing_lines instance claim numbers tokens)
+  pub backs : BacksUnder heading instance claim (backing_lines instance claim numbers tokens)
 
-pub filled_document : (instance : PlainInstance) (job : SolvingJob) (result : List (List ℕ)) (backing : Lines) → IsInstance instance → AreWords result → AreFilled backing
-    → AreFilled (document_lines instance job result backing)
-filled_document instance job result backing limits words lines =
+heading_plain : (heading : Heading) (job : SolvingJob) → AreWords (heading_word heading ∷ job_word job ∷ [])
+heading_plain Answer job = (omega arith, refl, job_plain job)
+heading_plain Reduced job = (omega arith, refl, job_plain job)
+
+pub filled_document : (heading : Heading) (instance : PlainInstance) (job : SolvingJob) (result : List (List ℕ)) (backing : Lines) → IsInstance instance → AreWords result → AreFilled backing
+    → AreFilled (document_lines (heading_word heading) instance job result backing)
+filled_document heading instance job result backing limits words lines =
     let last : AreFilled ((codes "end" ∷ []) ∷ []) = ((omega arith, refl, tt), refl, tt) in
     let after : AreFilled ((codes "result" ∷ result) ∷ (backing ++ (codes "end" ∷ []) ∷ [])) =
     ((omega arith, refl, words), refl, filled_append backing ((codes "end" ∷ []) ∷ []) lines last) in (
-      (omega arith, refl, job_plain job),
+      heading_plain heading job,
       refl,
       filled_append (instance_words instance) ((codes "result" ∷ result) ∷ (backing ++ (codes "end" ∷ []) ∷ [])) (filled_instance instance limits) after,
     )
 
-pub backed_document : (instance : PlainInstance) (claim : Claim) (numbers : List ℕ) (tokens : List PlainToken) → IsInstance instance
-    → IsBacked instance claim numbers tokens → IsDocumentAbout instance (answer_text instance (Claimed claim numbers tokens)) claim
-unfolding answer_text
-backed_document instance claim numbers tokens limits backed =
-    let filled : AreFilled (answer_lines instance (Claimed claim numbers tokens)) =
-    filled_document instance (job_of claim) (result_words claim) (backing_lines instance claim numbers tokens) limits backed.words backed.filled in
+-- the text under a heading is a document of the claim, and the instance in it is this one
+pub record IsHeadedAbout (heading : Heading) (instance : PlainInstance) (text : List ℕ) (claim : Claim) : Type 0 where
+  pub document : IsHeadedDocument heading text claim
+  pub about : document.instance ≡ instance
+
+backed_document : (heading : Heading) (instance : PlainInstance) (claim : Claim) (numbers : List ℕ) (tokens : List PlainToken) → IsInstance instance → MayName heading (job_of claim)
+    → IsBacked heading instance claim numbers tokens → IsHeadedAbout heading instance (lines_text (headed_lines (heading_word heading) instance (Claimed claim numbers tokens))) claim
+backed_document heading instance claim numbers tokens limits headed backed =
+    let filled : AreFilled (headed_lines (heading_word heading) instance (Claimed claim numbers tokens)) =
+    filled_document heading instance (job_of claim) (result_words claim) (backing_lines instance claim numbers tokens) limits backed.words backed.filled in
     record {
       document = record {
         instance = instance;
         written = instance_words instance;
         result = result_words claim;
         backing = backing_lines instance claim numbers tokens;
-        clean = clean_text (answer_lines instance (Claimed claim numbers tokens)) filled;
-        are = filled_text (answer_lines instance (Claimed claim numbers tokens)) filled;
+        headed = headed;
+        clean = clean_text (headed_lines (heading_word heading) instance (Claimed claim numbers tokens)) filled;
+        are = filled_text (headed_lines (heading_word heading) instance (Claimed claim numbers tokens)) filled;
         is_instance = instance_form instance limits;
         is_result = backed.result;
         backed = backed.backs;
@@ -85,15 +97,16 @@ backed_document instance claim numbers tokens limits backed =
 
 -- ---- the parts
 
-pub tokens_refuting : (instance : PlainInstance) (tokens : List PlainToken) → IsBounded instance → Refutes instance [] tokens → AreRefuting (ToFit instance) (token_lines tokens)
-tokens_refuting instance tokens b h = record {
+pub tokens_refuting : (start : List Exclusion) (instance : PlainInstance) (tokens : List PlainToken) → IsBounded instance → Refutes instance start tokens
+    → AreRefuting (ToFit instance start) (token_lines tokens)
+tokens_refuting start instance tokens b h = record {
   tokens = tokens;
   are_lines = tokens_are_lines (dims instance) tokens (refuted_written instance b h);
   refute = h;
 }
 
-pub refuting_filled : (instance : PlainInstance) (tokens : List PlainToken) → IsBounded instance → Refutes instance [] tokens → AreFilled (token_lines tokens)
-refuting_filled instance tokens b h = tokens_filled (dims instance) tokens (refuted_written instance b h)
+pub refuting_filled : (start : List Exclusion) (instance : PlainInstance) (tokens : List PlainToken) → IsBounded instance → Refutes instance start tokens → AreFilled (token_lines tokens)
+refuting_filled start instance tokens b h = tokens_filled (dims instance) tokens (refuted_written instance b h)
 
 pub proved_filled : (front : Lines) (tokens : List PlainToken) → AreFilled front → AreFilled (token_lines tokens) → AreFilled (proved_lines front tokens)
 proved_filled front tokens h k =
@@ -105,8 +118,8 @@ decimal_number low high n l h small = is_decimal low high n l h (omega arith)
 
 -- ---- fit
 
-fit_yes : (instance : PlainInstance) (numbers : List ℕ) (tokens : List PlainToken) → IsInstance instance → IsPacking instance numbers → IsBacked instance Fitting numbers tokens
-fit_yes instance numbers tokens limits p =
+fit_yes : (heading : Heading) (instance : PlainInstance) (numbers : List ℕ) (tokens : List PlainToken) → IsInstance instance → IsPacking instance numbers → IsBacked heading instance Fitting numbers tokens
+fit_yes heading instance numbers tokens limits p =
     let internal : IsInternalInstance instance = written_internal instance limits in
     let b : IsBounded instance = internal_bounded instance internal in
     let d = limits.dimensions.0 in
@@ -117,14 +130,14 @@ fit_yes instance numbers tokens limits p =
       backs = packing_placed instance numbers (omega (arith, d)) b p;
     }
 
-fit_no : (instance : PlainInstance) (numbers : List ℕ) (tokens : List PlainToken) → IsInstance instance → Refutes instance [] tokens → IsBacked instance NotFitting numbers tokens
-fit_no instance numbers tokens limits h =
+fit_no : (heading : Heading) (instance : PlainInstance) (numbers : List ℕ) (tokens : List PlainToken) → IsInstance instance → Refutes instance (start_exclusions heading instance) tokens → IsBacked heading instance NotFitting numbers tokens
+fit_no heading instance numbers tokens limits h =
     let b : IsBounded instance = internal_bounded instance (written_internal instance limits) in
     record {
       words = (omega arith, refl, tt);
       result = refl;
-      filled = refuting_filled instance tokens b h;
-      backs = tokens_refuting instance tokens b h;
+      filled = refuting_filled (start_exclusions heading instance) instance tokens b h;
+      backs = tokens_refuting (start_exclusions heading instance) instance tokens b h;
     }
 
 -- ---- strip
@@ -157,13 +170,13 @@ level_bounded instance h limits l = record {
 level_lines : (instance : PlainInstance) (h : ℕ) (numbers : List ℕ) → place_lines (with_last_side instance h) numbers ≡ place_lines instance numbers
 level_lines instance h numbers = ap (λ d. rows_words d (box_count instance) numbers) (length-set instance.container (dims instance - 1) h)
 
-record AreLevels (instance : PlainInstance) (a b : ℕ) (numbers : List ℕ) (tokens : List PlainToken) : Type 0 where
+record AreLevels (start : List Exclusion) (instance : PlainInstance) (a b : ℕ) (numbers : List ℕ) (tokens : List PlainToken) : Type 0 where
   pub filled : AreFilled (proved_lines (place_lines instance numbers) tokens)
-  pub backs : AreProved (ArePlaced (with_last_side instance b)) (AreRefuting (ToFit (with_last_side instance a))) (proved_lines (place_lines instance numbers) tokens)
+  pub backs : AreProved (ArePlaced (with_last_side instance b)) (AreRefuting (ToFit (with_last_side instance a) start)) (proved_lines (place_lines instance numbers) tokens)
 
-heights_backed : (instance : PlainInstance) (a b : ℕ) (numbers : List ℕ) (tokens : List PlainToken) → IsInstance instance → ShowsHeight instance a b numbers tokens
-    → AreLevels instance a b numbers tokens
-heights_backed instance a b numbers tokens limits h =
+heights_backed : (start : List Exclusion) (instance : PlainInstance) (a b : ℕ) (numbers : List ℕ) (tokens : List PlainToken) → IsInstance instance → ShowsHeight start instance a b numbers tokens
+    → AreLevels start instance a b numbers tokens
+heights_backed start instance a b numbers tokens limits h =
     let most = h.most in
     let rising = h.rising in
     let high : IsBounded (with_last_side instance b) = level_bounded instance b limits most in
@@ -173,14 +186,14 @@ heights_backed instance a b numbers tokens limits h =
     record {
       filled = proved_filled (place_lines instance numbers) tokens
           (subst AreFilled (level_lines instance b numbers) (packing_filled (with_last_side instance b) numbers high h.packing))
-          (refuting_filled (with_last_side instance a) tokens low h.refutation);
+          (refuting_filled start (with_last_side instance a) tokens low h.refutation);
       backs = record {
         front = place_lines instance numbers;
         back = token_lines tokens;
         are = refl;
         is_front = subst (ArePlaced (with_last_side instance b)) (level_lines instance b numbers)
             (packing_placed (with_last_side instance b) numbers (omega (arith, d, same)) high h.packing);
-        is_back = tokens_refuting (with_last_side instance a) tokens low h.refutation;
+        is_back = tokens_refuting start (with_last_side instance a) tokens low h.refutation;
       };
     }
 
@@ -190,10 +203,10 @@ number_plain n small = word_decimal n small [] tt
 pub numbers_plain : (a b : ℕ) → a < 2 ^ 64 → b < 2 ^ 64 → AreWords (decimal a ∷ decimal b ∷ [])
 numbers_plain a b small less = word_decimal a small (decimal b ∷ []) (number_plain b less)
 
-least_height_backed : (instance : PlainInstance) (h : ℕ) (numbers : List ℕ) (tokens : List PlainToken) → IsInstance instance
-    → ShowsHeight instance (pred h) h numbers tokens → IsBacked instance (LeastHeight h) numbers tokens
-least_height_backed instance h numbers tokens limits shown =
-    let levels = heights_backed instance (pred h) h numbers tokens limits shown in
+least_height_backed : (heading : Heading) (instance : PlainInstance) (h : ℕ) (numbers : List ℕ) (tokens : List PlainToken) → IsInstance instance
+    → ShowsHeight (start_exclusions heading instance) instance (pred h) h numbers tokens → IsBacked heading instance (LeastHeight h) numbers tokens
+least_height_backed heading instance h numbers tokens limits shown =
+    let levels = heights_backed (start_exclusions heading instance) instance (pred h) h numbers tokens limits shown in
     let m = shown.most in
     let r = shown.rising in
     record {
@@ -203,10 +216,10 @@ least_height_backed instance h numbers tokens limits shown =
       backs = levels.backs;
     }
 
-between_heights_backed : (instance : PlainInstance) (a b : ℕ) (numbers : List ℕ) (tokens : List PlainToken) → IsInstance instance
-    → ShowsHeight instance a b numbers tokens → IsBacked instance (HeightBetween a b) numbers tokens
-between_heights_backed instance a b numbers tokens limits shown =
-    let levels = heights_backed instance a b numbers tokens limits shown in
+between_heights_backed : (heading : Heading) (instance : PlainInstance) (a b : ℕ) (numbers : List ℕ) (tokens : List PlainToken) → IsInstance instance
+    → ShowsHeight (start_exclusions heading instance) instance a b numbers tokens → IsBacked heading instance (HeightBetween a b) numbers tokens
+between_heights_backed heading instance a b numbers tokens limits shown =
+    let levels = heights_backed (start_exclusions heading instance) instance a b numbers tokens limits shown in
     let m = shown.most in
     let r = shown.rising in
     record {
@@ -247,15 +260,15 @@ none_backed instance m tokens limits shown =
       };
     })
 
-no_height_backed : (instance : PlainInstance) (numbers : List ℕ) (tokens : List PlainToken) → IsInstance instance
-    → ShowsNone instance (dims instance - 1) tokens → IsBacked instance NoHeight numbers tokens
-no_height_backed instance numbers tokens limits shown =
+no_height_backed : (heading : Heading) (instance : PlainInstance) (numbers : List ℕ) (tokens : List PlainToken) → IsInstance instance
+    → ShowsNone instance (dims instance - 1) tokens → IsBacked heading instance NoHeight numbers tokens
+no_height_backed heading instance numbers tokens limits shown =
     let line = none_backed instance (dims instance - 1) tokens limits shown in
     record { words = (omega arith, refl, tt); result = refl; filled = line.filled; backs = line.backs }
 
-no_bins_backed : (instance : PlainInstance) (numbers : List ℕ) (tokens : List PlainToken) → IsInstance instance
-    → ShowsNone instance (dims instance) tokens → IsBacked instance NoBins numbers tokens
-no_bins_backed instance numbers tokens limits shown =
+no_bins_backed : (heading : Heading) (instance : PlainInstance) (numbers : List ℕ) (tokens : List PlainToken) → IsInstance instance
+    → ShowsNone instance (dims instance) tokens → IsBacked heading instance NoBins numbers tokens
+no_bins_backed heading instance numbers tokens limits shown =
     let line = none_backed instance (dims instance) tokens limits shown in
     record { words = (omega arith, refl, tt); result = refl; filled = line.filled; backs = line.backs }
 
@@ -282,9 +295,9 @@ bins_backed instance a b numbers tokens limits shown =
       };
     }
 
-least_bins_backed : (instance : PlainInstance) (k : ℕ) (numbers : List ℕ) (tokens : List PlainToken) → IsInstance instance
-    → ShowsBins instance (pred k) k numbers tokens → IsBacked instance (LeastBins k) numbers tokens
-least_bins_backed instance k numbers tokens limits shown =
+least_bins_backed : (heading : Heading) (instance : PlainInstance) (k : ℕ) (numbers : List ℕ) (tokens : List PlainToken) → IsInstance instance
+    → ShowsBins instance (pred k) k numbers tokens → IsBacked heading instance (LeastBins k) numbers tokens
+least_bins_backed heading instance k numbers tokens limits shown =
     let bins = bins_backed instance (pred k) k numbers tokens limits shown in
     let m = shown.most in
     let r = shown.rising in
@@ -296,9 +309,9 @@ least_bins_backed instance k numbers tokens limits shown =
       backs = bins.backs;
     }
 
-between_bins_backed : (instance : PlainInstance) (a b : ℕ) (numbers : List ℕ) (tokens : List PlainToken) → IsInstance instance
-    → ShowsBins instance a b numbers tokens → IsBacked instance (BinsBetween a b) numbers tokens
-between_bins_backed instance a b numbers tokens limits shown =
+between_bins_backed : (heading : Heading) (instance : PlainInstance) (a b : ℕ) (numbers : List ℕ) (tokens : List PlainToken) → IsInstance instance
+    → ShowsBins instance a b numbers tokens → IsBacked heading instance (BinsBetween a b) numbers tokens
+between_bins_backed heading instance a b numbers tokens limits shown =
     let bins = bins_backed instance a b numbers tokens limits shown in
     let m = shown.most in
     let r = shown.rising in
@@ -342,9 +355,9 @@ values_backed instance a b numbers tokens limits shown =
       };
     }
 
-greatest_value_backed : (instance : PlainInstance) (v : ℕ) (numbers : List ℕ) (tokens : List PlainToken) → IsInstance instance
-    → ShowsValue instance v (suc v) numbers tokens → IsBacked instance (GreatestValue v) numbers tokens
-greatest_value_backed instance v numbers tokens limits shown =
+greatest_value_backed : (heading : Heading) (instance : PlainInstance) (v : ℕ) (numbers : List ℕ) (tokens : List PlainToken) → IsInstance instance
+    → ShowsValue instance v (suc v) numbers tokens → IsBacked heading instance (GreatestValue v) numbers tokens
+greatest_value_backed heading instance v numbers tokens limits shown =
     let values = values_backed instance v (suc v) numbers tokens limits shown in
     let m = shown.most in
     record {
@@ -354,9 +367,9 @@ greatest_value_backed instance v numbers tokens limits shown =
       backs = values.backs;
     }
 
-between_values_backed : (instance : PlainInstance) (a b : ℕ) (numbers : List ℕ) (tokens : List PlainToken) → IsInstance instance
-    → ShowsValue instance a b numbers tokens → IsBacked instance (ValueBetween a b) numbers tokens
-between_values_backed instance a b numbers tokens limits shown =
+between_values_backed : (heading : Heading) (instance : PlainInstance) (a b : ℕ) (numbers : List ℕ) (tokens : List PlainToken) → IsInstance instance
+    → ShowsValue instance a b numbers tokens → IsBacked heading instance (ValueBetween a b) numbers tokens
+between_values_backed heading instance a b numbers tokens limits shown =
     let values = values_backed instance a b numbers tokens limits shown in
     let m = shown.most in
     let r = shown.rising in
@@ -377,20 +390,27 @@ between_values_backed instance a b numbers tokens limits shown =
 
 -- ---- all claims
 
-backed : (instance : PlainInstance) (claim : Claim) (numbers : List ℕ) (tokens : List PlainToken) → IsInstance instance → Shows instance claim numbers tokens → IsBacked instance claim numbers tokens
-backed instance Fitting numbers tokens limits h = fit_yes instance numbers tokens limits h
-backed instance NotFitting numbers tokens limits h = fit_no instance numbers tokens limits h
-backed instance (LeastHeight n) numbers tokens limits h = least_height_backed instance n numbers tokens limits h
-backed instance (HeightBetween a b) numbers tokens limits h = between_heights_backed instance a b numbers tokens limits h
-backed instance NoHeight numbers tokens limits h = no_height_backed instance numbers tokens limits h
-backed instance (LeastBins k) numbers tokens limits h = least_bins_backed instance k numbers tokens limits h
-backed instance (BinsBetween a b) numbers tokens limits h = between_bins_backed instance a b numbers tokens limits h
-backed instance NoBins numbers tokens limits h = no_bins_backed instance numbers tokens limits h
-backed instance (GreatestValue v) numbers tokens limits h = greatest_value_backed instance v numbers tokens limits h
-backed instance (ValueBetween a b) numbers tokens limits h = between_values_backed instance a b numbers tokens limits h
+backed : (heading : Heading) (instance : PlainInstance) (claim : Claim) (numbers : List ℕ) (tokens : List PlainToken) → IsInstance instance → ShowsFrom (start_exclusions heading instance) instance claim numbers tokens → IsBacked heading instance claim numbers tokens
+backed heading instance Fitting numbers tokens limits h = fit_yes heading instance numbers tokens limits h
+backed heading instance NotFitting numbers tokens limits h = fit_no heading instance numbers tokens limits h
+backed heading instance (LeastHeight n) numbers tokens limits h = least_height_backed heading instance n numbers tokens limits h
+backed heading instance (HeightBetween a b) numbers tokens limits h = between_heights_backed heading instance a b numbers tokens limits h
+backed heading instance NoHeight numbers tokens limits h = no_height_backed heading instance numbers tokens limits h
+backed heading instance (LeastBins k) numbers tokens limits h = least_bins_backed heading instance k numbers tokens limits h
+backed heading instance (BinsBetween a b) numbers tokens limits h = between_bins_backed heading instance a b numbers tokens limits h
+backed heading instance NoBins numbers tokens limits h = no_bins_backed heading instance numbers tokens limits h
+backed heading instance (GreatestValue v) numbers tokens limits h = greatest_value_backed heading instance v numbers tokens limits h
+backed heading instance (ValueBetween a b) numbers tokens limits h = between_values_backed heading instance a b numbers tokens limits h
+
+pub shown_headed : (heading : Heading) (instance : PlainInstance) (claim : Claim) (numbers : List ℕ) (tokens : List PlainToken) → IsInstance instance → MayName heading (job_of claim)
+    → ShowsFrom (start_exclusions heading instance) instance claim numbers tokens
+    → IsHeadedAbout heading instance (lines_text (headed_lines (heading_word heading) instance (Claimed claim numbers tokens))) claim
+shown_headed heading instance claim numbers tokens limits headed h = backed_document heading instance claim numbers tokens limits headed (backed heading instance claim numbers tokens limits h)
 
 pub shown_documents : ShownClaimsHaveDocuments
-shown_documents instance claim numbers tokens limits h = backed_document instance claim numbers tokens limits (backed instance claim numbers tokens limits h)
+unfolding answer_text
+shown_documents instance claim numbers tokens limits h =
+    let is = shown_headed Answer instance claim numbers tokens limits tt h in record { document = is.document; about = is.about }
 
 pub own_verified : OwnDocumentsAreVerified
 own_verified job budget scales instance claim numbers tokens limits e =

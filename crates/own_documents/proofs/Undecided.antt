@@ -14,9 +14,10 @@ use Rattle.answer_terms.specs.Answers.Answer.{Undecided}
 use Rattle.answer_terms.specs.Solved.{solved, strip_answer, bins_answer}
 use Rattle.tree_terms.specs.ClassTree.{first_too_large_box, first_too_wide}
 use Rattle.tree_terms.specs.Levels.{height_run, bin_run}
-use Rattle.own_documents.specs.Own.{OnlyFitIsUndecided, UndecidedIsRefused, ReducedUndecidedIsRefused}
-use Rattle.answer_terms.specs.Reduced.{reduced_text, reduced_answer_lines}
-use Rattle.own_documents.proofs.Reduced.{filled_reduced}
+use Rattle.reduced_levels.specs.Heights.{reduced_height_run}
+use Rattle.own_documents.specs.Own.{OnlyFitIsUndecided, OnlyReducedFitIsUndecided, UndecidedIsRefused, ReducedUndecidedIsRefused}
+use Rattle.answer_terms.specs.declared.job.ReducedJob.TheVariants.{Fit as ReducesFit, Strip as ReducesStrip}
+use Rattle.answer_terms.specs.Reduced.{reduced_solved, reduced_text, reduced_answer_lines}
 use Rattle.own_documents.proofs.Filled.{filled_text, instance_form}
 use Rattle.own_documents.proofs.Accepted.{filled_document}
 
@@ -85,7 +86,7 @@ pub undecided_refused : UndecidedIsRefused
 unfolding answer_text
 undecided_refused instance claim limits e =
     let d : IsDocument (lines_text (answer_lines instance Undecided)) claim = (documents_have_form Answer (lines_text (answer_lines instance Undecided)) claim).0 e in
-    let lines = sym (filled_text (answer_lines instance Undecided) (filled_document instance Fit (codes "undecided" ∷ []) [] limits (omega arith, refl, tt) tt)) ∙ d.are in
+    let lines = sym (filled_text (answer_lines instance Undecided) (filled_document Answer instance Fit (codes "undecided" ∷ []) [] limits (omega arith, refl, tt) tt)) ∙ d.are in
     let rest : instance_words instance ++ (codes "result" ∷ codes "undecided" ∷ []) ∷ (codes "end" ∷ []) ∷ []
     ≡ d.written ++ (codes "result" ∷ d.result) ∷ (d.backing ++ (codes "end" ∷ []) ∷ []) = cc (lines) in
     let same : codes "undecided" ∷ [] ≡ d.result =
@@ -109,11 +110,20 @@ only_fit Bins budget scales instance e = absurd (by_large (first_too_large_box i
     by_large None f = absurd (cc (f))
 only_fit Knapsack budget scales instance e = absurd (cc (e))
 
+pub only_reduced_fit : OnlyReducedFitIsUndecided
+unfolding reduced_solved
+only_reduced_fit ReducesFit budget scales instance e = refl
+only_reduced_fit ReducesStrip budget scales instance e = absurd (by_wide (first_too_wide instance) e)
+  where
+    by_wide : (p : Option (ℕ × ℕ)) → ¬ (strip_answer p (reduced_height_run instance budget scales) ≡ Undecided)
+    by_wide (Some p) f = absurd (cc (f))
+    by_wide None f = absurd (cc (f))
+
 pub reduced_undecided_refused : ReducedUndecidedIsRefused
 unfolding reduced_text
 reduced_undecided_refused instance claim limits e =
     let d : IsReducedDocument (lines_text (reduced_answer_lines instance Undecided)) claim = (documents_have_form Reduced (lines_text (reduced_answer_lines instance Undecided)) claim).0 e in
-    let lines = sym (filled_text (reduced_answer_lines instance Undecided) (filled_reduced instance (codes "undecided" ∷ []) [] limits (omega arith, refl, tt) tt)) ∙ d.are in
+    let lines = sym (filled_text (reduced_answer_lines instance Undecided) (filled_document Reduced instance Fit (codes "undecided" ∷ []) [] limits (omega arith, refl, tt) tt)) ∙ d.are in
     let rest : instance_words instance ++ (codes "result" ∷ codes "undecided" ∷ []) ∷ (codes "end" ∷ []) ∷ []
     ≡ d.written ++ (codes "result" ∷ d.result) ∷ (d.backing ++ (codes "end" ∷ []) ∷ []) = cc (lines) in
     let same : codes "undecided" ∷ [] ≡ d.result =

@@ -10,7 +10,9 @@ use Rattle.verdict_terms.specs.Documents.{document_verdict, reduced_verdict}
 use Rattle.verdict_terms.specs.Form.{IsDocument, IsReducedDocument}
 use Rattle.answer_terms.specs.Answers.{answer_text}
 use Rattle.answer_terms.specs.Answers.Answer.{Undecided, Claimed}
-use Rattle.answer_terms.specs.Reduced.{reduced_solved, reduced_text}
+use Rattle.answer_terms.specs.declared.job.ReducedJob.{ReducedJob}
+use Rattle.answer_terms.specs.declared.job.ReducedJob.TheVariants.{Fit as ReducesFit}
+use Rattle.answer_terms.specs.Reduced.{reduced_solved, reduced_text, solving_job}
 use Rattle.answer_terms.specs.Solved.{solved}
 use Rattle.answer_terms.specs.Shown.{Shows}
 use Rattle.answer_terms.specs.Explained.{explained_text}
@@ -52,18 +54,24 @@ OnlyFitIsUndecided = (job : SolvingJob) (budget : ℕ) (scales : Bool) (instance
 abbrev pub UndecidedIsRefused : Type 0
 UndecidedIsRefused = (instance : PlainInstance) (claim : Claim) → IsInstance instance → ¬ (document_verdict (answer_text instance Undecided) ≡ Ok claim)
 
--- the text is a reduced document of the claim, verified with it, and the instance in it is this one
-pub record IsReducedFor (instance : PlainInstance) (text : List ℕ) (claim : Claim) : Type 0 where
+-- the text is a reduced document of the claim, verified with it, which is one of the job, and the
+-- instance in it is this one
+pub record IsReducedFor (job : ReducedJob) (instance : PlainInstance) (text : List ℕ) (claim : Claim) : Type 0 where
+  pub of_job : job_of claim ≡ solving_job job
   pub document : IsReducedDocument text claim
   pub about : document.instance ≡ instance
   pub verified : reduced_verdict text ≡ Ok claim
 
--- the document with which `reduced` claims something is verified with it, and about the asked
--- instance
+-- the document with which something is claimed from the symmetry facts on is verified with it, and
+-- about the asked instance
 abbrev pub OwnReducedDocumentsAreVerified : Type 0
-OwnReducedDocumentsAreVerified = (budget : ℕ) (scales : Bool) (instance : PlainInstance) (claim : Claim) (numbers : List ℕ) (tokens : List PlainToken)
-    → IsInstance instance → reduced_solved budget scales instance ≡ Claimed claim numbers tokens
-    → IsReducedFor instance (reduced_text instance (Claimed claim numbers tokens)) claim
+OwnReducedDocumentsAreVerified = (job : ReducedJob) (budget : ℕ) (scales : Bool) (instance : PlainInstance) (claim : Claim) (numbers : List ℕ) (tokens : List PlainToken)
+    → IsInstance instance → reduced_solved job budget scales instance ≡ Claimed claim numbers tokens
+    → IsReducedFor job instance (reduced_text instance (Claimed claim numbers tokens)) claim
+
+-- of these jobs `fit` alone is answered by undecided
+abbrev pub OnlyReducedFitIsUndecided : Type 0
+OnlyReducedFitIsUndecided = (job : ReducedJob) (budget : ℕ) (scales : Bool) (instance : PlainInstance) → reduced_solved job budget scales instance ≡ Undecided → job ≡ ReducesFit
 
 -- where it says undecided, it is verified with no claim
 abbrev pub ReducedUndecidedIsRefused : Type 0

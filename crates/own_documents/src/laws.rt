@@ -1,5 +1,5 @@
 //! What the definitions promise, each the contract of a function with an empty body.
-ghost use Rattle.own_documents.specs.Own.{ShownClaimsHaveDocuments, OwnDocumentsAreVerified, OnlyFitIsUndecided, UndecidedIsRefused, OwnReducedDocumentsAreVerified, ReducedUndecidedIsRefused, OwnExplanationsAreVerified};
+ghost use Rattle.own_documents.specs.Own.{ShownClaimsHaveDocuments, OwnDocumentsAreVerified, OnlyFitIsUndecided, UndecidedIsRefused, OwnReducedDocumentsAreVerified, OnlyReducedFitIsUndecided, ReducedUndecidedIsRefused, OwnExplanationsAreVerified};
 
 /// Where numbers and tokens show a claim about an instance, the text with them is a document of the
 /// claim, and the instance in it is that one, whoever found them.
@@ -23,13 +23,18 @@ pub fn undecided_is_refused()
     ensures { UndecidedIsRefused }
 {}
 
-/// A document with which `reduced` claims something is verified with that claim, and the instance in
-/// it is the asked one.
+/// A document with which something is claimed from the symmetry facts on is verified with that
+/// claim, which is one of the job, and the instance in it is the asked one.
 pub fn own_reduced_documents_are_verified()
     ensures { OwnReducedDocumentsAreVerified }
 {}
 
-/// The document with which `reduced` says undecided is verified with no claim.
+/// Of the jobs that are decided from the symmetry facts on, none but `fit` is answered by undecided.
+pub fn only_reduced_fit_is_undecided()
+    ensures { OnlyReducedFitIsUndecided }
+{}
+
+/// The document that says undecided under `reduced` is verified with no claim.
 pub fn reduced_undecided_is_refused()
     ensures { ReducedUndecidedIsRefused }
 {}

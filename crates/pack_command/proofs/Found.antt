@@ -7,9 +7,11 @@ use Rattle.packing_terms.specs.Packing.{PlainInstance, dims, box_count}
 use Rattle.packing_terms.specs.Goals.{with_last_side}
 use Rattle.tree_terms.specs.Trees.{PlainOutcome, Decided, Past, Yes, No, outcome, told}
 use Rattle.tree_terms.specs.ClassTree.{class_tree, first_too_large_box, first_too_wide}
-use Rattle.tree_terms.specs.Levels.{PlainReached, height_run, bin_run, value_run}
+use Rattle.tree_terms.specs.Levels.{PlainReached, bin_run, value_run}
+use Rattle.reduced_levels.specs.Heights.{height_run_from}
 use Rattle.tree_terms.proofs.FirstFound.{first_large_is, none_large_is, first_too_wide_is, none_too_wide_is}
 use Rattle.answer_terms.specs.declared.job.DocumentJob.TheVariants.{Solving as Solves, Reduced as Reduces}
+use Rattle.answer_terms.specs.declared.job.ReducedJob.TheVariants.{Fit as FromFit, Strip as FromStrip}
 use Rattle.document_terms.specs.declared.claim.SolvingJob.TheVariants.{Fit as SolvesFit, Strip as SolvesStrip, Bins as SolvesBins, Knapsack as SolvesKnapsack}
 use Rattle.answer_terms.specs.Answers.{Answer, answer_text, status_of}
 use Rattle.answer_terms.specs.Reduced.{reduced_solved, reduced_text}
@@ -19,7 +21,7 @@ use Rattle.work_share.specs.Outcomes.{plain_outcome}
 use Rattle.class_search.specs.Right.{IsRight}
 use Rattle.strip_solver.specs.declared.strip.Strip.{Strip as FoundStrip}
 use Rattle.strip_solver.specs.declared.strip.Strip.TheVariants.{Least, Between, NoneFits}
-use Rattle.strip_solver.specs.Strips.{IsAnswer, IsTrueStrip}
+use Rattle.strip_solver.specs.Strips.{IsAnswerFrom, IsTrueStripFrom, IsAnswer, IsTrueStrip}
 use Rattle.bin_knapsack.specs.declared.bins.Bins.{Bins as FoundBins}
 use Rattle.bin_knapsack.specs.declared.bins.Bins.TheVariants.{Least as LeastCount, Between as CountBetween, NoneFits as NoBin}
 use Rattle.bin_knapsack.specs.declared.choice.Choice.{Choice as FoundChoice}
@@ -28,7 +30,7 @@ use Rattle.bin_knapsack.specs.BinAnswers.{IsAnswer as IsBinsAnswer, AreTrueBins}
 use Rattle.bin_knapsack.specs.Choices.{IsAnswer as IsChoiceAnswer}
 use Rattle.text_terms.specs.declared.settings.Settings.{Settings}
 use Rattle.answer_streams.specs.Placed.{IsPlaced}
-use Rattle.answer_streams.specs.declared.solution.Solution.TheVariants.{Fit, Strip, Bins, Knapsack, Reduced}
+use Rattle.answer_streams.specs.declared.solution.Solution.TheVariants.{Fit, Strip, Bins, Knapsack, Reduced, ReducedStrip}
 use Rattle.answer_streams.specs.Solutions.{strip_found, bins_found, choice_found, IsPlacedStrip, ArePlacedBins, IsSolution}
 
 pub right_placed : (instance : PlainInstance) (es : List Exclusion) (o : PlainOutcome) → IsRight instance es o → IsPlaced instance o
@@ -47,7 +49,7 @@ fit_solution settings instance o e right = record {
 
 pub reduced_solution : (settings : Settings) (instance : PlainInstance) (o : Outcome)
     → plain_outcome o ≡ told settings.budget (outcome (class_tree instance (symmetry_facts instance) settings.scales))
-    → IsRight instance (symmetry_facts instance) (plain_outcome o) → IsSolution Reduces settings instance (Reduced o)
+    → IsRight instance (symmetry_facts instance) (plain_outcome o) → IsSolution (Reduces FromFit) settings instance (Reduced o)
 unfolding reduced_solved
 reduced_solution settings instance o e right = record {
   status = ap (λ (x : PlainOutcome). status_of (fit_answer x)) e;
@@ -55,8 +57,9 @@ reduced_solution settings instance o e right = record {
   placed = right_placed instance (symmetry_facts instance) (plain_outcome o) right;
 }
 
-module _ (instance : PlainInstance) where
-  strip_placed : (strip : FoundStrip) (budget : ℕ) (scales : Bool) → IsAnswer instance budget scales strip → IsTrueStrip instance strip → IsPlacedStrip instance strip
+-- a strip, with trees that begin with these exclusions
+module _ (start : List Exclusion) (instance : PlainInstance) where
+  strip_placed : (strip : FoundStrip) (budget : ℕ) (scales : Bool) → IsAnswerFrom start instance budget scales strip → IsTrueStripFrom start instance strip → IsPlacedStrip instance strip
   strip_placed (Least height places tokens) budget scales a t =
       let d : dims (with_last_side instance height) ≡ dims instance = length-set instance.container (dims instance - 1) height in
       subst (λ (x : ℕ). length places.items ≡ box_count instance * x) d (t.packed).count
@@ -65,24 +68,33 @@ module _ (instance : PlainInstance) where
       subst (λ (x : ℕ). length places.items ≡ box_count instance * x) d (t.packed).count
   strip_placed (NoneFits v i) budget scales a t = let r = a.in_range in (a.there, omega (arith, r))
 
-  strip_answered : (strip : FoundStrip) (budget : ℕ) (scales : Bool) → IsAnswer instance budget scales strip
-      → strip_found strip ≡ strip_answer (first_too_wide instance) (height_run instance budget scales)
+  strip_answered : (strip : FoundStrip) (budget : ℕ) (scales : Bool) → IsAnswerFrom start instance budget scales strip
+      → strip_found strip ≡ strip_answer (first_too_wide instance) (height_run_from start instance budget scales)
   strip_answered (Least height places tokens) budget scales a =
-      sym (ap (λ (p : Option (ℕ × ℕ)). strip_answer p (height_run instance budget scales)) ((none_too_wide_is instance).1 a.0)
+      sym (ap (λ (p : Option (ℕ × ℕ)). strip_answer p (height_run_from start instance budget scales)) ((none_too_wide_is instance).1 a.0)
       ∙ ap (λ (r : PlainReached). strip_answer None r) a.1)
   strip_answered (Between refuted tokens height places) budget scales a =
-      sym (ap (λ (p : Option (ℕ × ℕ)). strip_answer p (height_run instance budget scales)) ((none_too_wide_is instance).1 a.0)
+      sym (ap (λ (p : Option (ℕ × ℕ)). strip_answer p (height_run_from start instance budget scales)) ((none_too_wide_is instance).1 a.0)
       ∙ ap (λ (r : PlainReached). strip_answer None r) a.1)
   strip_answered (NoneFits v i) budget scales a =
-      sym (ap (λ (p : Option (ℕ × ℕ)). strip_answer p (height_run instance budget scales)) ((first_too_wide_is instance v i).1 a))
+      sym (ap (λ (p : Option (ℕ × ℕ)). strip_answer p (height_run_from start instance budget scales)) ((first_too_wide_is instance v i).1 a))
 
 pub strip_solution : (settings : Settings) (instance : PlainInstance) (strip : FoundStrip) → IsAnswer instance settings.budget settings.scales strip
     → IsTrueStrip instance strip → IsSolution (Solves SolvesStrip) settings instance (Strip strip)
 unfolding solved
 strip_solution settings instance strip a t = record {
-  status = ap status_of (strip_answered instance strip settings.budget settings.scales a);
-  text = ap (λ (x : Answer). answer_text instance x) (strip_answered instance strip settings.budget settings.scales a);
-  placed = strip_placed instance strip settings.budget settings.scales a t;
+  status = ap status_of (strip_answered [] instance strip settings.budget settings.scales a);
+  text = ap (λ (x : Answer). answer_text instance x) (strip_answered [] instance strip settings.budget settings.scales a);
+  placed = strip_placed [] instance strip settings.budget settings.scales a t;
+}
+
+pub reduced_strip_solution : (settings : Settings) (instance : PlainInstance) (strip : FoundStrip) → IsAnswerFrom (symmetry_facts instance) instance settings.budget settings.scales strip
+    → IsTrueStripFrom (symmetry_facts instance) instance strip → IsSolution (Reduces FromStrip) settings instance (ReducedStrip strip)
+unfolding reduced_solved
+reduced_strip_solution settings instance strip a t = record {
+  status = ap status_of (strip_answered (symmetry_facts instance) instance strip settings.budget settings.scales a);
+  text = ap (λ (x : Answer). reduced_text instance x) (strip_answered (symmetry_facts instance) instance strip settings.budget settings.scales a);
+  placed = strip_placed (symmetry_facts instance) instance strip settings.budget settings.scales a t;
 }
 
 module _ (instance : PlainInstance) where

@@ -20,6 +20,7 @@ pub mod ProposedOwn
 pub mod ProposedFit
 pub mod ProposedStrip
 pub mod ProposedBins
+pub mod ProposedChoice
 pub mod ProposedDecided
 pub mod Sized
 pub mod FrontAnswering

@@ -6,11 +6,12 @@ use Rattle.text_terms.specs.Texts.{text_instance}
 use Rattle.document_terms.specs.declared.claim.SolvingJob.{SolvingJob}
 use Rattle.answer_terms.specs.declared.job.DocumentJob.{DocumentJob}
 use Rattle.answer_terms.specs.declared.job.DocumentJob.TheVariants.{Solving as Solves, Reduced as Reduces}
+use Rattle.answer_terms.specs.declared.job.ReducedJob.{ReducedJob}
 use Rattle.answer_terms.specs.Answers.{Answer, answer_text, status_of}
 use Rattle.answer_terms.specs.Answers.Answer.{Undecided, Claimed}
 use Rattle.answer_terms.specs.Solved.{solved}
 use Rattle.own_documents.proofs.Accepted.{own_verified}
-use Rattle.own_documents.proofs.Undecided.{only_fit, undecided_refused, reduced_undecided_refused}
+use Rattle.own_documents.proofs.Undecided.{only_fit, undecided_refused, only_reduced_fit, reduced_undecided_refused}
 use Rattle.own_documents.proofs.Reduced.{own_reduced}
 use Rattle.answer_terms.specs.Reduced.{reduced_solved, reduced_text}
 use Rattle.pack_command.specs.Decides.{AsksWhetherFits}
@@ -35,14 +36,16 @@ own_answer job settings instance limits (Claimed claim numbers tokens) e =
       status_is = refl;
     })
 
-reduced_answer : (settings : Settings) (instance : PlainInstance) → IsInstance instance → (a : Answer) → reduced_solved settings.budget settings.scales instance ≡ a
-    → IsVerified Reduces instance (reduced_text instance a) (status_of a) ⊎ IsUnverified Reduces (reduced_text instance a) (status_of a)
-reduced_answer settings instance limits Undecided e =
-    inr (record { asked = tt; undecided = refl; refused = (λ claim v. reduced_undecided_refused instance claim limits v) })
-reduced_answer settings instance limits (Claimed claim numbers tokens) e =
+reduced_answer : (job : ReducedJob) (settings : Settings) (instance : PlainInstance) → IsInstance instance → (a : Answer)
+    → reduced_solved job settings.budget settings.scales instance ≡ a
+    → IsVerified (Reduces job) instance (reduced_text instance a) (status_of a) ⊎ IsUnverified (Reduces job) (reduced_text instance a) (status_of a)
+reduced_answer job settings instance limits Undecided e =
+    let fit = only_reduced_fit job settings.budget settings.scales instance e in
+    inr (record { asked = subst (λ j. AsksWhetherFits (Reduces j)) (sym fit) tt; undecided = refl; refused = (λ claim v. reduced_undecided_refused instance claim limits v) })
+reduced_answer job settings instance limits (Claimed claim numbers tokens) e =
     inl (record {
       claim = claim;
-      verified = own_reduced settings.budget settings.scales instance claim numbers tokens limits e;
+      verified = own_reduced job settings.budget settings.scales instance claim numbers tokens limits e;
       status_is = refl;
     })
 
@@ -54,10 +57,10 @@ own_text (Solves job) settings instance limits sunk_old sunk_new gains = record 
   written = gains;
   own = own_answer job settings instance limits (solved job settings.budget settings.scales instance) refl;
 }
-own_text Reduces settings instance limits sunk_old sunk_new gains = record {
-  document = (answer_for Reduces settings instance).text;
+own_text (Reduces job) settings instance limits sunk_old sunk_new gains = record {
+  document = (answer_for (Reduces job) settings instance).text;
   written = gains;
-  own = reduced_answer settings instance limits (reduced_solved settings.budget settings.scales instance) refl;
+  own = reduced_answer job settings instance limits (reduced_solved job settings.budget settings.scales instance) refl;
 }
 
 pub own_written : (words : List (String Global)) (old new sunk_old sunk_new : Option (List ℕ)) (status : ℕ) (settings : Settings) (told : List ℕ) (instance : PlainInstance)

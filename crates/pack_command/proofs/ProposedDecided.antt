@@ -8,10 +8,6 @@ use Rattle.document_terms.specs.declared.claim.SolvingJob.{SolvingJob}
 use Rattle.document_terms.specs.declared.claim.SolvingJob.TheVariants.{Fit as SolvesFit, Strip as SolvesStrip, Bins as SolvesBins, Knapsack as SolvesKnapsack}
 use Rattle.answer_terms.specs.declared.job.DocumentJob.TheVariants.{Solving as Solves}
 use Rattle.answer_terms.specs.Answers.{Answer, answer_text, status_of}
-use Rattle.answer_terms.specs.Solved.{solved}
-use Rattle.bin_knapsack.specs.declared.choice.Choice.{Choice as FoundChoice}
-use Rattle.answer_streams.specs.declared.solution.Solution.TheVariants.{Knapsack}
-use Rattle.bin_knapsack.specs.Choices.{IsAnswer as IsChoiceAnswer}
 use Rattle.pack_streams.specs.Moves.{Gains}
 use Rattle.pack_streams.specs.Writing.{GainsPart}
 use Rattle.pack_command.specs.Answered.{class_bound}
@@ -20,48 +16,29 @@ use Rattle.pack_command.specs.Decides.{IsExactlyFit}
 use Rattle.pack_command.specs.Inputs.{IsInputRead}
 use Rattle.pack_command.specs.Own.{IsOwnDocument}
 use Rattle.pack_command.specs.Proposed.{IsProposed, IsProposedSolution, IsProposedAnswered, IsProposedWritten, IsProposedCut, IsProposedDecided, IsAmple}
-use Rattle.pack_command.proofs.ValueDecided.{value_decided}
-use Rattle.pack_command.proofs.Found.{choice_answered}
 use Rattle.pack_command.proofs.OneJob.{proposed_settings, proposed_job}
-use Rattle.pack_command.proofs.OwnWritten.{own_text}
 use Rattle.pack_command.proofs.ProposedBins.{bins_own, bins_proposed_decided, bins_within}
+use Rattle.pack_command.proofs.ProposedChoice.{choice_own, choice_proposed_decided, choice_within}
 use Rattle.pack_command.proofs.ProposedFit.{fit_own, fit_proposed_decided, fit_within, fit_proposed_exactly}
 use Rattle.pack_command.proofs.ProposedOwn.{own_proposed}
 use Rattle.pack_command.proofs.ProposedStrip.{strip_own, strip_proposed_decided, strip_within}
 use Rattle.pack_command.proofs.Written.{taken_all}
-
--- ---- what is found without proposals
-
-pub choice_proposed : (settings : Settings) (instance : PlainInstance) (choice : FoundChoice) → IsChoiceAnswer instance settings.budget settings.scales choice
-    → IsProposedSolution SolvesKnapsack settings instance (Knapsack choice)
-unfolding solved
-choice_proposed settings instance choice a = record {
-  is = choice_answered instance choice settings.budget settings.scales a;
-  text = refl;
-  placed = tt;
-}
 
 -- ---- of an answer
 
 module _ (settings : Settings) (instance : PlainInstance) (limits : IsInstance instance) (answer : Answer) (old new : Option (List ℕ))
     (written : Gains old new (answer_text instance answer)) where
   pub job_decided : (job : SolvingJob) → IsProposed job settings instance answer → IsProposedDecided job instance settings old new (status_of answer)
-  unfolding solved
   job_decided SolvesFit is = fit_proposed_decided settings instance limits answer is old new written
   job_decided SolvesStrip is = strip_proposed_decided settings instance answer is old new written
   job_decided SolvesBins is = bins_proposed_decided settings instance answer is old new written
-  job_decided SolvesKnapsack is =
-      subst (λ (a : Answer). IsProposedDecided SolvesKnapsack instance settings old new (status_of a)) (sym is)
-      (value_decided settings instance limits old new (subst (λ (a : Answer). Gains old new (answer_text instance a)) is written))
+  job_decided SolvesKnapsack is = choice_proposed_decided settings instance answer is old new written
 
   pub job_own : (job : SolvingJob) → IsProposed job settings instance answer → IsOwnDocument (Solves job) instance old new (status_of answer)
-  unfolding solved
   job_own SolvesFit is = own_proposed SolvesFit instance limits answer (fit_own settings instance limits answer is) old new written
   job_own SolvesStrip is = own_proposed SolvesStrip instance limits answer (strip_own settings instance answer is) old new written
   job_own SolvesBins is = own_proposed SolvesBins instance limits answer (bins_own settings instance answer is) old new written
-  job_own SolvesKnapsack is =
-      subst (λ (a : Answer). IsOwnDocument (Solves SolvesKnapsack) instance old new (status_of a)) (sym is)
-      (own_text (Solves SolvesKnapsack) settings instance limits old new (subst (λ (a : Answer). Gains old new (answer_text instance a)) is written))
+  job_own SolvesKnapsack is = own_proposed SolvesKnapsack instance limits answer (choice_own settings instance answer is limits) old new written
 
 -- ---- of what was read and found
 
@@ -119,7 +96,7 @@ within_by : (job : SolvingJob) (settings : Settings) (instance : PlainInstance) 
 within_by SolvesFit settings instance old new status d ample = fit_within settings instance old new status d.0 ample
 within_by SolvesStrip settings instance old new status d ample = strip_within settings instance old new status d ample
 within_by SolvesBins settings instance old new status d ample = bins_within settings instance old new status d ample
-within_by SolvesKnapsack settings instance old new status d ample = absurd ample
+within_by SolvesKnapsack settings instance old new status d ample = choice_within settings instance old new status d ample
 
 module _ (words : List (String Global)) (old new sunk_old sunk_new : Option (List ℕ)) (status : ℕ) where
   pub proposed_within : (job : SolvingJob) (settings : Settings) (instance : PlainInstance) → IsProposing words old job settings instance

@@ -15,6 +15,7 @@ use Rattle.tree_terms.specs.ClassTree.{class_tree}
 use Rattle.tree_terms.specs.Search.{IsRightUnder}
 use Rattle.tree_terms.proofs.Decisions.{class_tree_right}
 use Rattle.answer_terms.specs.declared.job.DocumentJob.TheVariants.{Reduced as Reduces}
+use Rattle.answer_terms.specs.declared.job.ReducedJob.TheVariants.{Fit as FromFit}
 use Rattle.answer_terms.specs.Answers.{status_of}
 use Rattle.answer_terms.specs.Reduced.{reduced_solved, reduced_text}
 use Rattle.answer_terms.specs.Solved.{fit_answer}
@@ -25,7 +26,7 @@ use Rattle.pack_command.specs.Reductions.{reduced_branchings, IsReducedDecided}
 
 -- the answer of `reduced` is yes with a packing, no with a refutation under the facts, or undecided
 pub reduced_decided : (settings : Settings) (instance : PlainInstance) → IsInstance instance → (old new : Option (List ℕ))
-    → Gains old new (answer_for Reduces settings instance).text → IsReducedDecided instance settings old new (answer_for Reduces settings instance).status
+    → Gains old new (answer_for (Reduces FromFit) settings instance).text → IsReducedDecided instance settings old new (answer_for (Reduces FromFit) settings instance).status
 unfolding reduced_solved
 reduced_decided settings instance limits old new gains =
     go (ltb settings.budget (reduced_branchings settings instance)) (outcome (class_tree instance (symmetry_facts instance) settings.scales)) refl refl

@@ -6,10 +6,15 @@ use Rattle.packing_terms.specs.Packing.{PlainInstance}
 use Rattle.packing_terms.specs.Limits.{IsInstance}
 use Rattle.packing_terms.proofs.Internal.{written_internal, some_dimension}
 use Rattle.tree_terms.proofs.Counts.{class_count}
-use Rattle.tree_terms.proofs.SpentRuns.{height_spent, height_enough, bins_spent, bins_enough, value_spent, value_enough}
+use Rattle.reduced_levels.proofs.Heights.{spent_from, enough_from}
+use Rattle.tree_terms.proofs.SpentRuns.{bins_spent, bins_enough, value_spent, value_enough}
 use Rattle.text_terms.specs.Texts.{text_instance}
 use Rattle.answer_terms.specs.declared.job.DocumentJob.{DocumentJob}
 use Rattle.answer_terms.specs.declared.job.DocumentJob.TheVariants.{Solving as Solves, Reduced as Reduces}
+use Rattle.answer_terms.specs.declared.job.ReducedJob.TheVariants.{Fit as FromFit, Strip as FromStrip}
+use Rattle.verdict_terms.specs.declared.heading.Heading.{Heading}
+use Rattle.verdict_terms.specs.declared.heading.Heading.TheVariants.{Answer as Answered, Reduced}
+use Rattle.verdict_terms.specs.Stages.{start_exclusions}
 use Rattle.document_terms.specs.declared.claim.SolvingJob.TheVariants.{Fit, Strip, Bins, Knapsack}
 use Rattle.answer_terms.specs.Solved.{JobAnswer}
 use Rattle.pack_streams.specs.Moves.{Gives, Gains}
@@ -95,10 +100,15 @@ module _ (words : List (String Global)) (old new sunk_old sunk_new : Option (Lis
       let a = written_answers (Solves Fit) asks in
       subst (λ s. IsDecided instance settings sunk_old sunk_new s) (sym a.0) (fit_decided settings instance written_limits sunk_old sunk_new a.1)
 
-  pub written_least : AsksToSolve words (Solves Strip) settings → IsStripDecided instance settings sunk_old sunk_new status
+  pub written_least : AsksToSolve words (Solves Strip) settings → IsStripDecided Answered instance settings sunk_old sunk_new status
   written_least asks =
       let a = written_answers (Solves Strip) asks in
-      subst (λ s. IsStripDecided instance settings sunk_old sunk_new s) (sym a.0) (strip_decided settings instance written_limits sunk_old sunk_new a.1)
+      subst (λ s. IsStripDecided Answered instance settings sunk_old sunk_new s) (sym a.0) (strip_decided Answered settings instance written_limits sunk_old sunk_new a.1)
+
+  pub written_reduced_least : AsksToSolve words (Reduces FromStrip) settings → IsStripDecided Reduced instance settings sunk_old sunk_new status
+  written_reduced_least asks =
+      let a = written_answers (Reduces FromStrip) asks in
+      subst (λ s. IsStripDecided Reduced instance settings sunk_old sunk_new s) (sym a.0) (strip_decided Reduced settings instance written_limits sunk_old sunk_new a.1)
 
   pub written_fewest : AsksToSolve words (Solves Bins) settings → AreBinsDecided instance settings sunk_old sunk_new status
   written_fewest asks =
@@ -110,9 +120,9 @@ module _ (words : List (String Global)) (old new sunk_old sunk_new : Option (Lis
       let a = written_answers (Solves Knapsack) asks in
       subst (λ s. IsValueDecided instance settings sunk_old sunk_new s) (sym a.0) (value_decided settings instance written_limits sunk_old sunk_new a.1)
 
-  pub written_reduced : AsksToSolve words Reduces settings → IsReducedDecided instance settings sunk_old sunk_new status
+  pub written_reduced : AsksToSolve words (Reduces FromFit) settings → IsReducedDecided instance settings sunk_old sunk_new status
   written_reduced asks =
-      let a = written_answers Reduces asks in
+      let a = written_answers (Reduces FromFit) asks in
       subst (λ s. IsReducedDecided instance settings sunk_old sunk_new s) (sym a.0) (reduced_decided settings instance written_limits sunk_old sunk_new a.1)
 
   pub written_job : (job : DocumentJob) → AsksToSolve words job settings → IsJobDecided job instance settings sunk_old sunk_new status
@@ -120,7 +130,8 @@ module _ (words : List (String Global)) (old new sunk_old sunk_new : Option (Lis
   written_job (Solves Strip) asks = written_least asks
   written_job (Solves Bins) asks = written_fewest asks
   written_job (Solves Knapsack) asks = written_greatest asks
-  written_job Reduces asks = written_reduced asks
+  written_job (Reduces FromFit) asks = written_reduced asks
+  written_job (Reduces FromStrip) asks = written_reduced_least asks
 
   -- with a budget that is enough the status of `fit` says exactly whether the instance fits
   fit_exactly : class_bound instance ≤ settings.budget + 1 → IsDecided instance settings sunk_old sunk_new status → IsExactlyFit instance status
@@ -164,7 +175,8 @@ module _ (words : List (String Global)) (old new sunk_old sunk_new : Option (Lis
   written_fits (Solves Strip) fits asks enough = absurd fits
   written_fits (Solves Bins) fits asks enough = absurd fits
   written_fits (Solves Knapsack) fits asks enough = absurd fits
-  written_fits Reduces fits asks enough = reduced_exactly enough (written_reduced asks)
+  written_fits (Reduces FromFit) fits asks enough = reduced_exactly enough (written_reduced asks)
+  written_fits (Reduces FromStrip) fits asks enough = absurd fits
 
   fit_enough : IsEnough (Solves Fit) instance settings.budget → IsDecided instance settings sunk_old sunk_new status → ¬ (status ≡ 3)
   fit_enough enough (inl y) three = let e = y.status_is in omega (arith, e, three)
@@ -174,7 +186,7 @@ module _ (words : List (String Global)) (old new sunk_old sunk_new : Option (Lis
       let b = class_count instance (some_dimension instance (written_internal instance written_limits)) [] settings.scales in
       omega (arith, p, b, enough)
 
-  reduced_enough : IsEnough Reduces instance settings.budget → IsReducedDecided instance settings sunk_old sunk_new status → ¬ (status ≡ 3)
+  reduced_enough : IsEnough (Reduces FromFit) instance settings.budget → IsReducedDecided instance settings sunk_old sunk_new status → ¬ (status ≡ 3)
   reduced_enough enough (inl y) three = let e = y.status_is in omega (arith, e, three)
   reduced_enough enough (inr (inl n)) three = let e = n.status_is in omega (arith, e, three)
   reduced_enough enough (inr (inr u)) three =
@@ -182,12 +194,12 @@ module _ (words : List (String Global)) (old new sunk_old sunk_new : Option (Lis
       let b = class_count instance (some_dimension instance (written_internal instance written_limits)) (symmetry_facts instance) settings.scales in
       omega (arith, p, b, enough)
 
-  strip_enough : IsEnough (Solves Strip) instance settings.budget → IsStripDecided instance settings sunk_old sunk_new status → ¬ (status ≡ 3)
-  strip_enough enough (inl l) three = let e = l.status_is in omega (arith, e, three)
-  strip_enough enough (inr (inl b)) three =
-      true≢false (sym ((height_spent instance settings.budget settings.scales).1 b.past)
-      ∙ height_enough instance (written_internal instance written_limits) settings.budget settings.scales enough)
-  strip_enough enough (inr (inr n)) three = let e = n.status_is in omega (arith, e, three)
+  strip_enough : (heading : Heading) → class_bound instance ≤ settings.budget + 1 → IsStripDecided heading instance settings sunk_old sunk_new status → ¬ (status ≡ 3)
+  strip_enough heading enough (inl l) three = let e = l.status_is in omega (arith, e, three)
+  strip_enough heading enough (inr (inl b)) three =
+      true≢false (sym ((spent_from instance (start_exclusions heading instance) settings.budget settings.scales).1 b.past)
+      ∙ enough_from instance (start_exclusions heading instance) settings.budget settings.scales (written_internal instance written_limits) enough)
+  strip_enough heading enough (inr (inr n)) three = let e = n.status_is in omega (arith, e, three)
 
   fewest_enough : IsEnough (Solves Bins) instance settings.budget → AreBinsDecided instance settings sunk_old sunk_new status → ¬ (status ≡ 3)
   fewest_enough enough (inl l) three = let e = l.status_is in omega (arith, e, three)
@@ -205,7 +217,8 @@ module _ (words : List (String Global)) (old new sunk_old sunk_new : Option (Lis
   -- a budget that bounds every count is enough
   pub written_enough : (job : DocumentJob) → AsksToSolve words job settings → IsEnough job instance settings.budget → ¬ (status ≡ 3)
   written_enough (Solves Fit) asks enough = fit_enough enough (written_decides asks)
-  written_enough (Solves Strip) asks enough = strip_enough enough (written_least asks)
+  written_enough (Solves Strip) asks enough = strip_enough Answered enough (written_least asks)
+  written_enough (Reduces FromStrip) asks enough = strip_enough Reduced enough (written_reduced_least asks)
   written_enough (Solves Bins) asks enough = fewest_enough enough (written_fewest asks)
   written_enough (Solves Knapsack) asks enough = greatest_enough enough (written_greatest asks)
-  written_enough Reduces asks enough = reduced_enough enough (written_reduced asks)
+  written_enough (Reduces FromFit) asks enough = reduced_enough enough (written_reduced asks)

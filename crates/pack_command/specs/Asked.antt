@@ -5,11 +5,12 @@ use Rattle.packing_terms.specs.Packing.{PlainInstance, dims}
 use Rattle.text_terms.specs.Texts.{text_instance}
 use Rattle.answer_terms.specs.declared.job.DocumentJob.{DocumentJob}
 use Rattle.answer_terms.specs.declared.job.DocumentJob.TheVariants.{Solving as Solves, Reduced as Reduces}
+use Rattle.answer_terms.specs.declared.job.ReducedJob.TheVariants.{Fit as FromFit, Strip as FromStrip}
 use Rattle.document_terms.specs.declared.claim.SolvingJob.{SolvingJob}
 use Rattle.document_terms.specs.declared.claim.SolvingJob.TheVariants.{Fit as SolvesFit, Strip as SolvesStrip, Bins as SolvesBins, Knapsack as SolvesKnapsack}
 use Rattle.pack_words.specs.Job.{job_of_words}
 use Rattle.pack_words.specs.declared.job.Job.{Job}
-use Rattle.pack_words.specs.declared.job.Job.TheVariants.{Fit, Strip, Bins, Knapsack, Check, Make, Audit, Explain, Reduced, Front, Proposed}
+use Rattle.pack_words.specs.declared.job.Job.TheVariants.{Fit, Strip, Bins, Knapsack, Check, Make, Audit, Explain, Reduced, Front, ReducedStrip, Proposed}
 use Rattle.pack_words.specs.declared.job.JobWords.{JobWords}
 use Rattle.text_terms.specs.declared.settings.Settings.{Settings}
 use Rattle.verdict_terms.specs.Fed.{NoneRefused}
@@ -28,7 +29,8 @@ document_job Fit = Some (Solves SolvesFit)
 document_job Strip = Some (Solves SolvesStrip)
 document_job Bins = Some (Solves SolvesBins)
 document_job Knapsack = Some (Solves SolvesKnapsack)
-document_job Reduced = Some Reduces
+document_job Reduced = Some (Reduces FromFit)
+document_job ReducedStrip = Some (Reduces FromStrip)
 document_job Check = None
 document_job Make = None
 document_job Audit = None
@@ -40,7 +42,7 @@ document_job (Proposed job) = None
 abbrev pub asked_job : List (String Global) → Option JobWords
 asked_job words = job_of_words (map string_bytes words)
 
--- the words are this job with these settings: a solving job, or `reduced`
+-- the words are this job with these settings: a solving job, `reduced`, or `strip` with facts
 pub record AsksToSolve (words : List (String Global)) (job : DocumentJob) (settings : Settings) : Type 0 where
   pub asked : JobWords
   pub is : asked_job words ≡ Some asked

@@ -15,12 +15,12 @@ use Rattle.pack_command.specs.Decides.{AsksWhetherFits}
 -- instance
 abbrev pub IsVerifiedBy : DocumentJob → PlainInstance → List ℕ → Claim → Type 0
 IsVerifiedBy (Solves job) instance document claim = IsVerifiedFor job instance document claim
-IsVerifiedBy Reduces instance document claim = IsReducedFor instance document claim
+IsVerifiedBy (Reduces job) instance document claim = IsReducedFor job instance document claim
 
 -- under that heading it is verified with no claim
 abbrev pub IsRefusedBy : DocumentJob → List ℕ → Type 0
 IsRefusedBy (Solves job) document = (claim : Claim) → ¬ (document_verdict document ≡ Ok claim)
-IsRefusedBy Reduces document = (claim : Claim) → ¬ (reduced_verdict document ≡ Ok claim)
+IsRefusedBy (Reduces job) document = (claim : Claim) → ¬ (reduced_verdict document ≡ Ok claim)
 
 -- the document is verified with a claim of the job, of this status, and the instance in it is the
 -- one that was asked

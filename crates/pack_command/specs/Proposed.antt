@@ -3,37 +3,39 @@ use Rattle.std.specs.Prelude.{ℕ, suc, pred, ◌<◌, ◌≤◌, ◌≡◌, ◌
 use Rattle.std.specs.declared.option.Option.{Option}
 use Rattle.std.specs.declared.alloc.Global.{Global}
 use Rattle.packing_terms.specs.Packing.{PlainInstance, IsPacking, Fits}
-use Rattle.packing_terms.specs.Goals.{with_last_side, IsLeastHeight, IsLeastBins}
+use Rattle.packing_terms.specs.Goals.{with_last_side, IsLeastHeight, IsLeastBins, IsGreatestValue}
 use Rattle.packing_terms.specs.Limits.{IsInstance}
 use Rattle.packing_terms.specs.Tokens.{PlainToken}
 use Rattle.packing_terms.specs.Refutation.{Refutes}
-use Rattle.packing_terms.specs.OuterRefutation.{IsBinRefutation}
-use Rattle.tree_terms.specs.OuterSearch.{AreBinNumbers}
+use Rattle.packing_terms.specs.OuterRefutation.{IsBinRefutation, IsValueRefutation}
+use Rattle.tree_terms.specs.OuterSearch.{AreBinNumbers, AreTakenNumbers}
 use Rattle.tree_terms.specs.Trees.{PlainOutcome}
 use Rattle.text_terms.specs.Texts.{text_instance}
 use Rattle.text_terms.specs.declared.settings.Settings.{Settings}
-use Rattle.document_terms.specs.Claims.{IsHeightBetween, IsBinsBetween}
+use Rattle.document_terms.specs.Claims.{IsHeightBetween, IsBinsBetween, IsValueBetween}
 use Rattle.document_terms.specs.declared.claim.SolvingJob.{SolvingJob}
 use Rattle.document_terms.specs.declared.claim.SolvingJob.TheVariants.{Fit as SolvesFit, Strip as SolvesStrip, Bins as SolvesBins, Knapsack as SolvesKnapsack}
-use Rattle.document_terms.specs.declared.claim.Claim.TheVariants.{Fitting, NotFitting, LeastHeight, HeightBetween, LeastBins, BinsBetween}
+use Rattle.document_terms.specs.declared.claim.Claim.TheVariants.{Fitting, NotFitting, LeastHeight, HeightBetween, LeastBins, BinsBetween, GreatestValue, ValueBetween}
 use Rattle.answer_terms.specs.Answers.{Answer, answer_text, status_of}
 use Rattle.answer_terms.specs.Answers.Answer.{Undecided, Claimed}
-use Rattle.answer_terms.specs.Solved.{fit_answer, solved}
+use Rattle.answer_terms.specs.Solved.{fit_answer}
 use Rattle.answer_streams.specs.declared.solution.Solution.{Solution}
-use Rattle.answer_streams.specs.Solutions.{answer_found, solution_text, strip_found, bins_found, IsPlacedSolution}
+use Rattle.answer_streams.specs.Solutions.{answer_found, solution_text, strip_found, bins_found, choice_found, IsPlacedSolution}
 use Rattle.strip_solver.specs.declared.strip.Strip.{Strip as FoundStrip}
 use Rattle.strip_solver.specs.Strips.{IsTrueStrip}
 use Rattle.bin_knapsack.specs.declared.bins.Bins.{Bins as FoundBins}
 use Rattle.bin_knapsack.specs.BinAnswers.{AreTrueBins}
+use Rattle.bin_knapsack.specs.declared.choice.Choice.{Choice as FoundChoice}
+use Rattle.bin_knapsack.specs.Choices.{IsTrueChoice}
 use Rattle.proposed_answers.specs.Behind.{IsBehind}
 use Rattle.proposed_levels.specs.Heights.{height_count, IsNamedStrip, IsLimitedStrip, IsPastBeside}
 use Rattle.proposed_bins.specs.Counts.{bins_count, AreNamedBins, AreLimitedBins, IsPastBeside as IsPastBins}
+use Rattle.proposed_choice.specs.Values.{value_count, IsLimitedChoice, IsPastBeside as IsPastChoice}
 use Rattle.pack_streams.specs.Moves.{Gains}
 use Rattle.pack_streams.specs.Writing.{GainsPart}
 use Rattle.pack_command.specs.Answered.{branchings}
 use Rattle.pack_command.specs.Asked.{AsksProposed}
 use Rattle.pack_command.specs.FewestBins.{IsNone as HasNoBins}
-use Rattle.pack_command.specs.GreatestValues.{IsValueDecided}
 use Rattle.pack_command.specs.Inputs.{IsWholeInput, IsPartTaken, IsInputRead}
 use Rattle.pack_command.specs.Strips.{IsNone}
 use Rattle.pack_command.specs.declared.stop.Stop.{Stop}
@@ -70,12 +72,21 @@ pub record AreProposedBins (settings : Settings) (instance : PlainInstance) (ans
   pub past : IsPastBins instance settings.budget settings.scales bins
   pub answer_is : answer ≡ bins_found bins
 
--- the answer of a job with proposals; for `knapsack` there are none, and it is that of the job without
+-- The answer for a value, which is true; it is two values only where the choice trees of the value above
+-- the placed one and of the value below the refuted one have more branchings than the budget.
+pub record IsProposedChoice (settings : Settings) (instance : PlainInstance) (answer : Answer) : Type 0 where
+  pub choice : FoundChoice
+  pub right : IsTrueChoice instance choice
+  pub limited : IsLimitedChoice instance choice
+  pub past : IsPastChoice instance settings.budget settings.scales choice
+  pub answer_is : answer ≡ choice_found choice
+
+-- the answer of a job with proposals
 abbrev pub IsProposed : SolvingJob → Settings → PlainInstance → Answer → Type 0
 IsProposed SolvesFit settings instance answer = IsProposedFit settings instance answer
 IsProposed SolvesStrip settings instance answer = IsProposedStrip settings instance answer
 IsProposed SolvesBins settings instance answer = AreProposedBins settings instance answer
-IsProposed SolvesKnapsack settings instance answer = answer ≡ solved SolvesKnapsack settings.budget settings.scales instance
+IsProposed SolvesKnapsack settings instance answer = IsProposedChoice settings instance answer
 
 -- what was found is such an answer, with its document
 pub record IsProposedSolution (job : SolvingJob) (settings : Settings) (instance : PlainInstance) (solution : Solution) : Type 0 where
@@ -236,6 +247,42 @@ AreProposedBinsDecided instance settings sunk_old sunk_new status =
     IsProposedFewest instance sunk_old sunk_new status
     ⊎ (AreProposedBetween instance settings sunk_old sunk_new status ⊎ HasNoBins instance sunk_old sunk_new status)
 
+-- ---- what the answer of `knapsack` says
+
+-- the greatest value over all sets of boxes that fit, with the taken boxes and their places, and tokens
+-- that refute one more
+pub record IsProposedGreatest (instance : PlainInstance) (sunk_old sunk_new : Option (List ℕ)) (status : ℕ) : Type 0 where
+  pub status_is : status ≡ 0
+  pub value : ℕ
+  pub greatest : IsGreatestValue instance value
+  pub numbers : List ℕ
+  pub packing : AreTakenNumbers instance value numbers
+  pub tokens : List PlainToken
+  pub refutation : IsValueRefutation instance (suc value) tokens
+  pub written : Gains sunk_old sunk_new (answer_text instance (Claimed (GreatestValue value) numbers tokens))
+
+-- Two values between which the greatest one lies: a placed one and a refuted one, with both certificates.
+-- The choice trees of the value above the placed one and of the value below the refuted one have more
+-- branchings than the budget.
+pub record AreProposedValues (instance : PlainInstance) (settings : Settings) (sunk_old sunk_new : Option (List ℕ)) (status : ℕ) : Type 0 where
+  pub status_is : status ≡ 3
+  pub placed : ℕ
+  pub refuted : ℕ
+  pub order : placed < refuted
+  pub between : IsValueBetween instance placed refuted
+  pub numbers : List ℕ
+  pub packing : AreTakenNumbers instance placed numbers
+  pub tokens : List PlainToken
+  pub refutation : IsValueRefutation instance refuted tokens
+  pub past_above : settings.budget < value_count instance settings.scales (suc placed)
+  pub past_below : settings.budget < value_count instance settings.scales (pred refuted)
+  pub written : Gains sunk_old sunk_new (answer_text instance (Claimed (ValueBetween placed refuted) numbers tokens))
+
+-- one of the two
+abbrev pub IsProposedValueDecided : PlainInstance → Settings → (sunk_old sunk_new : Option (List ℕ)) → ℕ → Type 0
+IsProposedValueDecided instance settings sunk_old sunk_new status =
+    IsProposedGreatest instance sunk_old sunk_new status ⊎ AreProposedValues instance settings sunk_old sunk_new status
+
 -- ---- of each job
 
 abbrev pub IsProposedDecided : SolvingJob → PlainInstance → Settings → (sunk_old sunk_new : Option (List ℕ)) → ℕ → Type 0
@@ -243,12 +290,13 @@ IsProposedDecided SolvesFit instance settings sunk_old sunk_new status =
     IsProposedFitDecided instance settings sunk_old sunk_new status × IsProposedAnswer instance settings sunk_old sunk_new status
 IsProposedDecided SolvesStrip instance settings sunk_old sunk_new status = IsProposedStripDecided instance settings sunk_old sunk_new status
 IsProposedDecided SolvesBins instance settings sunk_old sunk_new status = AreProposedBinsDecided instance settings sunk_old sunk_new status
-IsProposedDecided SolvesKnapsack instance settings sunk_old sunk_new status = IsValueDecided instance settings sunk_old sunk_new status
+IsProposedDecided SolvesKnapsack instance settings sunk_old sunk_new status = IsProposedValueDecided instance settings sunk_old sunk_new status
 
 -- The budget is enough for the trees that the job decides for the instance, by their counts: for `fit` its
--- class tree, for `strip` that of each height, for `bins` the bin tree of each number of bins.
+-- class tree, for `strip` that of each height, for `bins` the bin tree of each number of bins, for
+-- `knapsack` the choice tree of each value.
 abbrev pub IsAmple : SolvingJob → Settings → PlainInstance → Type 0
 IsAmple SolvesFit settings instance = branchings settings instance ≤ settings.budget
 IsAmple SolvesStrip settings instance = (h : ℕ) → height_count instance settings.scales h ≤ settings.budget
 IsAmple SolvesBins settings instance = (k : ℕ) → bins_count instance settings.scales k ≤ settings.budget
-IsAmple SolvesKnapsack settings instance = ⊥
+IsAmple SolvesKnapsack settings instance = (t : ℕ) → value_count instance settings.scales t ≤ settings.budget

@@ -1,5 +1,6 @@
--- What the answer of `strip` says.
-use Rattle.std.specs.Prelude.{ℕ, pred, ◌<◌, ◌≡◌, ◌⊎◌, List, []}
+-- What the answer of `strip` says: with the heading of answers, or from the symmetry facts on, which
+-- the trees of all heights begin with then.
+use Rattle.std.specs.Prelude.{ℕ, pred, ◌<◌, ◌≡◌, ◌⊎◌, List}
 use Rattle.std.specs.declared.option.Option.{Option}
 use Rattle.packing_terms.specs.Packing.{PlainInstance, IsPacking}
 use Rattle.packing_terms.specs.Goals.{with_last_side, IsLeastHeight}
@@ -8,29 +9,32 @@ use Rattle.packing_terms.specs.Tokens.{PlainToken}
 use Rattle.packing_terms.specs.Refutation.{Refutes}
 use Rattle.document_terms.specs.Claims.{IsHeightBetween}
 use Rattle.document_terms.specs.declared.claim.Claim.TheVariants.{LeastHeight, HeightBetween, NoHeight}
-use Rattle.answer_terms.specs.Answers.{answer_text}
+use Rattle.verdict_terms.specs.declared.heading.Heading.{Heading}
+use Rattle.verdict_terms.specs.declared.heading.Heading.TheVariants.{Answer as Answered}
+use Rattle.verdict_terms.specs.Stages.{start_exclusions}
 use Rattle.answer_terms.specs.Answers.Answer.{Claimed}
 use Rattle.answer_terms.specs.Solved.{none_answer}
 use Rattle.pack_streams.specs.Moves.{Gains}
-use Rattle.tree_terms.specs.RunEnds.{HasLargeHeight}
+use Rattle.answer_streams.specs.Headed.{headed_text}
+use Rattle.reduced_levels.specs.Heights.{HasLargeHeightFrom}
 use Rattle.text_terms.specs.declared.settings.Settings.{Settings}
 
 -- The least height over all packings, with places that are a packing in it and tokens that refute
 -- the height below. No height that was decided has more branchings than the budget.
-pub record IsLeast (instance : PlainInstance) (settings : Settings) (sunk_old sunk_new : Option (List ℕ)) (status : ℕ) : Type 0 where
+pub record IsLeast (heading : Heading) (instance : PlainInstance) (settings : Settings) (sunk_old sunk_new : Option (List ℕ)) (status : ℕ) : Type 0 where
   pub status_is : status ≡ 0
   pub height : ℕ
   pub least : IsLeastHeight instance height
   pub places : List ℕ
   pub packing : IsPacking (with_last_side instance height) places
   pub tokens : List PlainToken
-  pub refutation : Refutes (with_last_side instance (pred height)) [] tokens
-  pub within : ¬ HasLargeHeight instance settings.budget settings.scales
-  pub written : Gains sunk_old sunk_new (answer_text instance (Claimed (LeastHeight height) places tokens))
+  pub refutation : Refutes (with_last_side instance (pred height)) (start_exclusions heading instance) tokens
+  pub within : ¬ HasLargeHeightFrom (start_exclusions heading instance) instance settings.budget settings.scales
+  pub written : Gains sunk_old sunk_new (headed_text heading instance (Claimed (LeastHeight height) places tokens))
 
 -- Two heights between which the least one lies: a refuted one and a placed one, with both
 -- certificates. Some height that was decided has more branchings than the budget.
-pub record IsBetween (instance : PlainInstance) (settings : Settings) (sunk_old sunk_new : Option (List ℕ)) (status : ℕ) : Type 0 where
+pub record IsBetween (heading : Heading) (instance : PlainInstance) (settings : Settings) (sunk_old sunk_new : Option (List ℕ)) (status : ℕ) : Type 0 where
   pub status_is : status ≡ 3
   pub refuted : ℕ
   pub placed : ℕ
@@ -39,22 +43,26 @@ pub record IsBetween (instance : PlainInstance) (settings : Settings) (sunk_old 
   pub places : List ℕ
   pub packing : IsPacking (with_last_side instance placed) places
   pub tokens : List PlainToken
-  pub refutation : Refutes (with_last_side instance refuted) [] tokens
-  pub past : HasLargeHeight instance settings.budget settings.scales
-  pub written : Gains sunk_old sunk_new (answer_text instance (Claimed (HeightBetween refuted placed) places tokens))
+  pub refutation : Refutes (with_last_side instance refuted) (start_exclusions heading instance) tokens
+  pub past : HasLargeHeightFrom (start_exclusions heading instance) instance settings.budget settings.scales
+  pub written : Gains sunk_old sunk_new (headed_text heading instance (Claimed (HeightBetween refuted placed) places tokens))
 
 -- There is no least height, because of the first box that exceeds the container in a dimension
 -- other than the last.
-pub record IsNone (instance : PlainInstance) (sunk_old sunk_new : Option (List ℕ)) (status : ℕ) : Type 0 where
+pub record IsNoneUnder (heading : Heading) (instance : PlainInstance) (sunk_old sunk_new : Option (List ℕ)) (status : ℕ) : Type 0 where
   pub status_is : status ≡ 1
   pub none : ¬ ((height : ℕ) × IsLeastHeight instance height)
   pub box_no : ℕ
   pub dim : ℕ
   pub first : IsFirstTooWide instance box_no dim
-  pub written : Gains sunk_old sunk_new (answer_text instance (none_answer NoHeight (box_no, dim)))
+  pub written : Gains sunk_old sunk_new (headed_text heading instance (none_answer NoHeight (box_no, dim)))
+
+-- the same under the heading of answers
+abbrev pub IsNone : PlainInstance → (sunk_old sunk_new : Option (List ℕ)) → ℕ → Type 0
+IsNone instance sunk_old sunk_new status = IsNoneUnder Answered instance sunk_old sunk_new status
 
 -- one of the three
-abbrev pub IsStripDecided : PlainInstance → Settings → (sunk_old sunk_new : Option (List ℕ)) → ℕ → Type 0
-IsStripDecided instance settings sunk_old sunk_new status =
-    IsLeast instance settings sunk_old sunk_new status
-    ⊎ (IsBetween instance settings sunk_old sunk_new status ⊎ IsNone instance sunk_old sunk_new status)
+abbrev pub IsStripDecided : Heading → PlainInstance → Settings → (sunk_old sunk_new : Option (List ℕ)) → ℕ → Type 0
+IsStripDecided heading instance settings sunk_old sunk_new status =
+    IsLeast heading instance settings sunk_old sunk_new status
+    ⊎ (IsBetween heading instance settings sunk_old sunk_new status ⊎ IsNoneUnder heading instance sunk_old sunk_new status)

@@ -10,12 +10,12 @@ ghost use Rattle.pack_command.specs.Proposed.{IsProposedSolution, IsProposedWrit
 use crate::input::read_input;
 use crate::stop::Stop;
 use answer_streams::{AnswerDocument, Solution, stream};
-use bin_knapsack::greatest_value;
 use box_instances::{Instance, NoMemory};
 use document_terms::SolvingJob;
 use pack_streams::{Sink, Source};
 use proposed_answers::decide_proposed;
 use proposed_bins::least_bins_proposed;
+use proposed_choice::greatest_value_proposed;
 use proposed_levels::least_height_proposed;
 use std::alloc::Global;
 use std::sync::Wait;
@@ -48,7 +48,7 @@ fn found<R: Threads + Wait + Sync, G: Gate + Sync>(
             Ok(Solution::Bins(bins))
         }
         SolvingJob::Knapsack => {
-            let choice = greatest_value(rt, alloc, instance, settings, gate)?;
+            let choice = greatest_value_proposed(rt, alloc, instance, settings, gate)?;
             Ok(Solution::Knapsack(choice))
         }
     }

@@ -4,7 +4,7 @@ ghost use Rattle.packing_terms.specs.Limits.{IsInstance};
 ghost use Rattle.answer_streams.specs.Solutions.{IsSolution};
 
 use answer_streams::Solution;
-use answer_terms::DocumentJob;
+use answer_terms::{DocumentJob, ReducedJob};
 use bin_knapsack::{greatest_value, least_bins};
 use box_instances::{Instance, NoMemory};
 use class_search::decide;
@@ -12,7 +12,7 @@ use document_terms::SolvingJob;
 use std::alloc::Global;
 use std::sync::Wait;
 use std::thread::Threads;
-use strip_solver::least_height;
+use strip_solver::{least_height, least_height_reduced};
 use symmetry_facts::decide_reduced;
 use work_share::{Gate, Settings};
 
@@ -48,6 +48,30 @@ fn solve_plain<R: Threads + Wait + Sync, G: Gate + Sync>(
     }
 }
 
+// What a job finds for an instance from its symmetry facts on.
+fn solve_reduced<R: Threads + Wait + Sync, G: Gate + Sync>(
+    rt: &R,
+    alloc: Global,
+    instance: &Instance,
+    job: ReducedJob,
+    settings: Settings,
+    gate: &G,
+) -> Result<Solution, NoMemory>
+    requires limits { IsInstance instance.now }
+    ensures { IfOk result (λ s. IsSolution (DocumentJob.Reduced job) settings instance.now s) }
+{
+    match job {
+        ReducedJob::Fit => {
+            let outcome = decide_reduced(rt, alloc, instance, &settings, gate)?;
+            Ok(Solution::Reduced(outcome))
+        }
+        ReducedJob::Strip => {
+            let strip = least_height_reduced(rt, alloc, instance, &settings, gate)?;
+            Ok(Solution::ReducedStrip(strip))
+        }
+    }
+}
+
 /// What a job that answers with a document finds for an instance under these settings.
 pub fn solve<R: Threads + Wait + Sync, G: Gate + Sync>(
     rt: &R,
@@ -62,9 +86,6 @@ pub fn solve<R: Threads + Wait + Sync, G: Gate + Sync>(
 {
     match job {
         DocumentJob::Solving(job) => solve_plain(rt, alloc, instance, job, settings, gate),
-        DocumentJob::Reduced => {
-            let outcome = decide_reduced(rt, alloc, instance, &settings, gate)?;
-            Ok(Solution::Reduced(outcome))
-        }
+        DocumentJob::Reduced(job) => solve_reduced(rt, alloc, instance, job, settings, gate),
     }
 }

@@ -64,12 +64,13 @@ pub fn run<R: Threads + Wait + Sync, S: Source, K: Sink, E: Sink, G: Gate + Sync
     err: &mut E,
     gate: &G,
 ) -> u8
-    // The answer of a solving job, or of `reduced`, is true of the instance that the input is the text
-    // of: `fit` and `reduced` are yes with a packing or no with a refutation, of `reduced` under the
-    // symmetry facts, exactly as a packing exists, or undecided exactly where the tree has more
-    // branchings than the budget; the others are least or greatest over all
-    // packings, none exactly where there is none, or between two levels exactly where the tree of a
-    // level that is decided has more branchings than the budget, with both certificates.
+    // The answer of a solving job, of `reduced` or of `strip` with facts is true of the instance that
+    // the input is the text of: `fit` and `reduced` are yes with a packing or no with a refutation,
+    // exactly as a packing exists, or undecided exactly where the tree has more branchings than the
+    // budget; the others are least or greatest over all packings, none exactly where there is none,
+    // or between two levels exactly where the tree of a level that is decided has more branchings
+    // than the budget, with both certificates. Of `reduced` and of `strip` with facts the trees begin
+    // with the symmetry facts, and the refutations are under them.
     ensures decides { (job : PlainJob) (settings : PlainSettings) (instance : PlainInstance)
         → IsSolving words.now (S.left input.old) job settings instance → IsAnswerStatus result
         → IsJobDecided job instance settings (K.written out.old) (K.written out.new) result }
@@ -90,8 +91,9 @@ pub fn run<R: Threads + Wait + Sync, S: Source, K: Sink, E: Sink, G: Gate + Sync
         → IsAnswerStatus result → class_bound instance ≤ settings.budget + 1
         → IsExactlyFit instance result }
 
-    // The document is verified with a claim of the job about that instance, that of `reduced` as a
-    // reduced one, or it says undecided, for `fit` and `reduced` alone, and is verified with none.
+    // The document is verified with a claim of the job about that instance, that of `reduced` or of
+    // `strip` with facts as a reduced one, or it says undecided, for `fit` and `reduced` alone, and is
+    // verified with none.
     ensures verified { (job : PlainJob) (settings : PlainSettings) (instance : PlainInstance)
         → IsSolving words.now (S.left input.old) job settings instance → IsAnswerStatus result
         → IsOwnDocument job instance (K.written out.old) (K.written out.new) result }
@@ -151,7 +153,8 @@ pub fn run<R: Threads + Wait + Sync, S: Source, K: Sink, E: Sink, G: Gate + Sync
     // of workers has no part. `strip` is the least height over all packings with both certificates,
     // none exactly where there is none, or between two heights with both certificates, only where
     // the class trees of both heights beside the two have more branchings than the budget. `bins` is
-    // the same of numbers of bins and their bin trees.
+    // the same of numbers of bins and their bin trees, and `knapsack` of values and their choice
+    // trees, with the greatest for the least, and never none.
     ensures proposes { (job : PlainSolvingJob) (settings : PlainSettings)
         (instance : PlainInstance)
         → IsProposing words.now (S.left input.old) job settings instance → IsAnswerStatus result

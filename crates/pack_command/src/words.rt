@@ -2,7 +2,7 @@
 ghost use Rattle.pack_command.specs.Asked.{IsAsked};
 
 use crate::stop::Stop;
-use answer_terms::DocumentJob;
+use answer_terms::{DocumentJob, ReducedJob};
 use document_terms::SolvingJob;
 use pack_words::{Job, WordsError, read_words};
 use std::alloc::Global;
@@ -53,7 +53,8 @@ pub fn read_job(alloc: Global, words: &[String]) -> Result<Asked, Stop>
         Job::Strip => DocumentJob::Solving(SolvingJob::Strip),
         Job::Bins => DocumentJob::Solving(SolvingJob::Bins),
         Job::Knapsack => DocumentJob::Solving(SolvingJob::Knapsack),
-        Job::Reduced => DocumentJob::Reduced,
+        Job::Reduced => DocumentJob::Reduced(ReducedJob::Fit),
+        Job::ReducedStrip => DocumentJob::Reduced(ReducedJob::Strip),
         Job::Check => return Ok(Asked::Checking),
         Job::Audit => return Ok(Asked::Auditing),
         Job::Explain => return Ok(Asked::Explaining),

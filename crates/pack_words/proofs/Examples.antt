@@ -1,8 +1,8 @@
 -- Command lines with their jobs.
 use Rattle.std.proofs.Common.{◌≡◌, [], ◌∷◌, Some, None, refl, codes, true, false}
 use Rattle.text_terms.specs.Lines.{number_of}
-use Rattle.pack_words.specs.declared.job.Job.TheVariants.{Fit, Make, Audit, Explain, Reduced, Front, Proposed}
-use Rattle.document_terms.specs.declared.claim.SolvingJob.TheVariants.{Fit as SolvesFit, Strip as SolvesStrip, Bins as SolvesBins}
+use Rattle.pack_words.specs.declared.job.Job.TheVariants.{Fit, Strip, Make, Audit, Explain, Reduced, Front, ReducedStrip, Proposed}
+use Rattle.document_terms.specs.declared.claim.SolvingJob.TheVariants.{Fit as SolvesFit, Strip as SolvesStrip, Bins as SolvesBins, Knapsack as SolvesKnapsack}
 use Rattle.pack_words.specs.Job.{job_of_words}
 
 eight_workers : job_of_words (codes "fit" ∷ codes "--workers=08" ∷ [])
@@ -118,10 +118,51 @@ proposals_of_bins : job_of_words (codes "bins" ∷ codes "--proposals" ∷ codes
 unfolding job_of_words number_of
 proposals_of_bins = refl
 
-foreign_proposals : job_of_words (codes "knapsack" ∷ codes "--proposals" ∷ codes "no" ∷ []) ≡ None
+proposals_of_knapsack : job_of_words (codes "knapsack" ∷ codes "--proposals" ∷ codes "yes" ∷ [])
+    ≡ Some (record { job = Proposed SolvesKnapsack; settings = record { workers = 1; budget = 1000000; scales = true }; number = 0 })
+unfolding job_of_words number_of
+proposals_of_knapsack = refl
+
+foreign_proposals : job_of_words (codes "reduced" ∷ codes "--proposals" ∷ codes "no" ∷ []) ≡ None
 unfolding job_of_words number_of
 foreign_proposals = refl
 
 proposed_is_no_word : job_of_words (codes "proposed" ∷ []) ≡ None
 unfolding job_of_words number_of
 proposed_is_no_word = refl
+
+facts_asked : job_of_words (codes "strip" ∷ codes "--facts=yes" ∷ [])
+    ≡ Some (record { job = ReducedStrip; settings = record { workers = 1; budget = 1000000; scales = true }; number = 0 })
+unfolding job_of_words number_of
+facts_asked = refl
+
+facts_declined : job_of_words (codes "strip" ∷ codes "--facts" ∷ codes "no" ∷ [])
+    ≡ Some (record { job = Strip; settings = record { workers = 1; budget = 1000000; scales = true }; number = 0 })
+unfolding job_of_words number_of
+facts_declined = refl
+
+facts_without_proposals : job_of_words (codes "strip" ∷ codes "--facts=yes" ∷ codes "--proposals=no" ∷ [])
+    ≡ Some (record { job = ReducedStrip; settings = record { workers = 1; budget = 1000000; scales = true }; number = 0 })
+unfolding job_of_words number_of
+facts_without_proposals = refl
+
+facts_with_proposals : job_of_words (codes "strip" ∷ codes "--facts=yes" ∷ codes "--proposals=yes" ∷ []) ≡ None
+unfolding job_of_words number_of
+facts_with_proposals = refl
+
+proposals_without_facts : job_of_words (codes "strip" ∷ codes "--facts=no" ∷ codes "--proposals=yes" ∷ [])
+    ≡ Some (record { job = Proposed SolvesStrip; settings = record { workers = 1; budget = 1000000; scales = true }; number = 0 })
+unfolding job_of_words number_of
+proposals_without_facts = refl
+
+facts_misspelled : job_of_words (codes "strip" ∷ codes "--facts" ∷ codes "maybe" ∷ []) ≡ None
+unfolding job_of_words number_of
+facts_misspelled = refl
+
+facts_of_bins : job_of_words (codes "bins" ∷ codes "--facts" ∷ codes "no" ∷ []) ≡ None
+unfolding job_of_words number_of
+facts_of_bins = refl
+
+facts_of_fit : job_of_words (codes "fit" ∷ codes "--facts" ∷ codes "yes" ∷ []) ≡ None
+unfolding job_of_words number_of
+facts_of_fit = refl

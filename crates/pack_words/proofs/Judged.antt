@@ -9,7 +9,7 @@ use Rattle.text_terms.proofs.Numbers.{no_number_at}
 use Rattle.pack_words.specs.declared.job.Job.{Job}
 use Rattle.pack_words.specs.declared.job.JobWords.{JobWords}
 use Rattle.pack_words.specs.Items.{Text, Item, option, word, is_option_name, begins_with_hyphen, items_from}
-use Rattle.pack_words.specs.Job.{Texts, ◌>>=◌, values_of, job_words, at_most_once, texts_of, job_of_name, are_taken, kept_in_range, number_or, scales_in, proposals_in, settings_of, job_of_texts, job_of_words}
+use Rattle.pack_words.specs.Job.{Texts, ◌>>=◌, values_of, job_words, at_most_once, texts_of, job_of_name, are_taken, kept_in_range, number_or, scales_in, asked_in, settings_of, job_of_texts, job_of_words}
 use Rattle.pack_words.proofs.ClapReading.{finish, rows_said, reads, expect}
 use Rattle.pack_words.proofs.Steps.{bytes_same}
 use Rattle.pack_words.proofs.Walked.{option_is_no_job}
@@ -27,10 +27,10 @@ if_none true o e = e
 if_none false o e = refl
 
 -- the job of what stands at most once, or stands twice
-abbrev judged : (job workers budget scales number proposals : Option (Option Text)) → Option JobWords
-judged job workers budget scales number proposals =
-    (job >>= λ j. workers >>= λ w. budget >>= λ b. scales >>= λ s. number >>= λ n. proposals >>= λ p.
-    Some (record { job = j; workers = w; budget = b; scales = s; number = n; proposals = p })) >>= λ texts. job_of_texts texts
+abbrev judged : (job workers budget scales number proposals facts : Option (Option Text)) → Option JobWords
+judged job workers budget scales number proposals facts =
+    (job >>= λ j. workers >>= λ w. budget >>= λ b. scales >>= λ s. number >>= λ n. proposals >>= λ p. facts >>= λ f.
+    Some (record { job = j; workers = w; budget = b; scales = s; number = n; proposals = p; facts = f })) >>= λ texts. job_of_texts texts
 
 abbrev judge : List Item → Option JobWords
 judge items = texts_of items >>= λ texts. job_of_texts texts
@@ -39,30 +39,32 @@ judge items = texts_of items >>= λ texts. job_of_texts texts
 abbrev once : Text → List Item → Option (Option Text)
 once name items = at_most_once (values_of name items)
 
-judged_none : (j w b s n p : Option (Option Text))
-    → ((job workers budget scales number proposals : Option Text) → j ≡ Some job → w ≡ Some workers → b ≡ Some budget → s ≡ Some scales → n ≡ Some number
-    → p ≡ Some proposals
-    → job_of_texts (record { job = job; workers = workers; budget = budget; scales = scales; number = number; proposals = proposals }) ≡ None)
-    → judged j w b s n p ≡ None
-judged_none None w b s n p e = refl
-judged_none (Some j) None b s n p e = refl
-judged_none (Some j) (Some w) None s n p e = refl
-judged_none (Some j) (Some w) (Some b) None n p e = refl
-judged_none (Some j) (Some w) (Some b) (Some s) None p e = refl
-judged_none (Some j) (Some w) (Some b) (Some s) (Some n) None e = refl
-judged_none (Some j) (Some w) (Some b) (Some s) (Some n) (Some p) e = e j w b s n p refl refl refl refl refl refl
+judged_none : (j w b s n p f : Option (Option Text))
+    → ((job workers budget scales number proposals facts : Option Text) → j ≡ Some job → w ≡ Some workers → b ≡ Some budget → s ≡ Some scales → n ≡ Some number
+    → p ≡ Some proposals → f ≡ Some facts
+    → job_of_texts (record { job = job; workers = workers; budget = budget; scales = scales; number = number; proposals = proposals; facts = facts }) ≡ None)
+    → judged j w b s n p f ≡ None
+judged_none None w b s n p f e = refl
+judged_none (Some j) None b s n p f e = refl
+judged_none (Some j) (Some w) None s n p f e = refl
+judged_none (Some j) (Some w) (Some b) None n p f e = refl
+judged_none (Some j) (Some w) (Some b) (Some s) None p f e = refl
+judged_none (Some j) (Some w) (Some b) (Some s) (Some n) None f e = refl
+judged_none (Some j) (Some w) (Some b) (Some s) (Some n) (Some p) None e = refl
+judged_none (Some j) (Some w) (Some b) (Some s) (Some n) (Some p) (Some f) e = e j w b s n p f refl refl refl refl refl refl refl
 
-abbrev pub texts_like : (job workers budget scales number proposals : Option Text) → Texts
-texts_like j w b s n p = record { job = j; workers = w; budget = b; scales = s; number = n; proposals = p }
+abbrev pub texts_like : (job workers budget scales number proposals facts : Option Text) → Texts
+texts_like j w b s n p f = record { job = j; workers = w; budget = b; scales = s; number = n; proposals = p; facts = f }
 
 judge_none : (items : List Item)
-    → ((j w b s n p : Option Text) → at_most_once (job_words items) ≡ Some j → once (codes "workers") items ≡ Some w
+    → ((j w b s n p f : Option Text) → at_most_once (job_words items) ≡ Some j → once (codes "workers") items ≡ Some w
     → once (codes "budget") items ≡ Some b → once (codes "scales") items ≡ Some s → once (codes "number") items ≡ Some n
-    → once (codes "proposals") items ≡ Some p
-    → job_of_texts (texts_like j w b s n p) ≡ None)
+    → once (codes "proposals") items ≡ Some p → once (codes "facts") items ≡ Some f
+    → job_of_texts (texts_like j w b s n p f) ≡ None)
     → judge items ≡ None
 judge_none items =
-    judged_none (at_most_once (job_words items)) (once (codes "workers") items) (once (codes "budget") items) (once (codes "scales") items) (once (codes "number") items) (once (codes "proposals") items)
+    judged_none (at_most_once (job_words items)) (once (codes "workers") items) (once (codes "budget") items) (once (codes "scales") items) (once (codes "number") items)
+    (once (codes "proposals") items) (once (codes "facts") items)
 
 -- a text that stands twice, or that the test refuses
 abbrev IsBad : {A : Type 0} → (Option Text → Option A) → Option (Option Text) → Type 0
@@ -87,32 +89,38 @@ no_settings texts e =
     bind_none texts.job _ (λ text. bind_none (job_of_name text) _ (λ job. if_none (are_taken job texts) (settings_of job texts) (e job)))
 
 bad_job : (items : List Item) → IsBad job_in (at_most_once (job_words items)) → judge items ≡ None
-bad_job items bad = judge_none items (λ j w b s n p ej ew eb es en ep. no_job_text (texts_like j w b s n p) (bad_text job_in (at_most_once (job_words items)) j bad ej))
+bad_job items bad = judge_none items (λ j w b s n p f ej ew eb es en ep ef. no_job_text (texts_like j w b s n p f) (bad_text job_in (at_most_once (job_words items)) j bad ej))
 
 bad_workers : (items : List Item) → IsBad (number_or 1 64 1) (once (codes "workers") items) → judge items ≡ None
-bad_workers items bad = judge_none items (λ j w b s n p ej ew eb es en ep.
-    no_settings (texts_like j w b s n p) (λ job. let e : number_or 1 64 1 w ≡ None = bad_text (number_or 1 64 1) (once (codes "workers") items) w bad ew in rw e refl))
+bad_workers items bad = judge_none items (λ j w b s n p f ej ew eb es en ep ef.
+    no_settings (texts_like j w b s n p f) (λ job. let e : number_or 1 64 1 w ≡ None = bad_text (number_or 1 64 1) (once (codes "workers") items) w bad ew in rw e refl))
 
 bad_budget : (items : List Item) → IsBad (number_or 0 10000000 1000000) (once (codes "budget") items) → judge items ≡ None
-bad_budget items bad = judge_none items (λ j w b s n p ej ew eb es en ep.
-    no_settings (texts_like j w b s n p) (λ job. bind_none (number_or 1 64 1 w) _ (λ x.
+bad_budget items bad = judge_none items (λ j w b s n p f ej ew eb es en ep ef.
+    no_settings (texts_like j w b s n p f) (λ job. bind_none (number_or 1 64 1 w) _ (λ x.
     let e : number_or 0 10000000 1000000 b ≡ None = bad_text (number_or 0 10000000 1000000) (once (codes "budget") items) b bad eb in rw e refl)))
 
 bad_scales : (items : List Item) → IsBad scales_in (once (codes "scales") items) → judge items ≡ None
-bad_scales items bad = judge_none items (λ j w b s n p ej ew eb es en ep.
-    no_settings (texts_like j w b s n p) (λ job. bind_none (number_or 1 64 1 w) _ (λ x. bind_none (number_or 0 10000000 1000000 b) _ (λ y.
+bad_scales items bad = judge_none items (λ j w b s n p f ej ew eb es en ep ef.
+    no_settings (texts_like j w b s n p f) (λ job. bind_none (number_or 1 64 1 w) _ (λ x. bind_none (number_or 0 10000000 1000000 b) _ (λ y.
     let e : scales_in s ≡ None = bad_text scales_in (once (codes "scales") items) s bad es in rw e refl))))
 
 bad_number : (items : List Item) → IsBad (number_or 0 2147483647 0) (once (codes "number") items) → judge items ≡ None
-bad_number items bad = judge_none items (λ j w b s n p ej ew eb es en ep.
-    no_settings (texts_like j w b s n p) (λ job. bind_none (number_or 1 64 1 w) _ (λ x. bind_none (number_or 0 10000000 1000000 b) _ (λ y. bind_none (scales_in s) _ (λ z.
+bad_number items bad = judge_none items (λ j w b s n p f ej ew eb es en ep ef.
+    no_settings (texts_like j w b s n p f) (λ job. bind_none (number_or 1 64 1 w) _ (λ x. bind_none (number_or 0 10000000 1000000 b) _ (λ y. bind_none (scales_in s) _ (λ z.
     let e : number_or 0 2147483647 0 n ≡ None = bad_text (number_or 0 2147483647 0) (once (codes "number") items) n bad en in rw e refl)))))
 
-bad_proposals : (items : List Item) → IsBad proposals_in (once (codes "proposals") items) → judge items ≡ None
-bad_proposals items bad = judge_none items (λ j w b s n p ej ew eb es en ep.
-    no_settings (texts_like j w b s n p) (λ job. bind_none (number_or 1 64 1 w) _ (λ x. bind_none (number_or 0 10000000 1000000 b) _ (λ y. bind_none (scales_in s) _ (λ z.
+bad_proposals : (items : List Item) → IsBad asked_in (once (codes "proposals") items) → judge items ≡ None
+bad_proposals items bad = judge_none items (λ j w b s n p f ej ew eb es en ep ef.
+    no_settings (texts_like j w b s n p f) (λ job. bind_none (number_or 1 64 1 w) _ (λ x. bind_none (number_or 0 10000000 1000000 b) _ (λ y. bind_none (scales_in s) _ (λ z.
     bind_none (number_or 0 2147483647 0 n) _ (λ q.
-    let e : proposals_in p ≡ None = bad_text proposals_in (once (codes "proposals") items) p bad ep in rw e refl))))))
+    let e : asked_in p ≡ None = bad_text asked_in (once (codes "proposals") items) p bad ep in rw e refl))))))
+
+bad_facts : (items : List Item) → IsBad asked_in (once (codes "facts") items) → judge items ≡ None
+bad_facts items bad = judge_none items (λ j w b s n p f ej ew eb es en ep ef.
+    no_settings (texts_like j w b s n p f) (λ job. bind_none (number_or 1 64 1 w) _ (λ x. bind_none (number_or 0 10000000 1000000 b) _ (λ y. bind_none (scales_in s) _ (λ z.
+    bind_none (number_or 0 2147483647 0 n) _ (λ q. bind_none (asked_in p) _ (λ r.
+    let e : asked_in f ≡ None = bad_text asked_in (once (codes "facts") items) f bad ef in rw e refl)))))))
 
 -- ---- a text that begins with `-`
 
@@ -146,17 +154,18 @@ hyphen_scales : (text : Text) → begins_with_hyphen text ≡ true → scales_in
 hyphen_scales [] e = cc
 hyphen_scales (b ∷ bs) e = subst (λ x. scales_in (Some (x ∷ bs)) ≡ None) (sym (eqb-true b 45 e)) refl
 
-hyphen_proposals : (text : Text) → begins_with_hyphen text ≡ true → proposals_in (Some text) ≡ None
-hyphen_proposals [] e = cc
-hyphen_proposals (b ∷ bs) e = subst (λ x. proposals_in (Some (x ∷ bs)) ≡ None) (sym (eqb-true b 45 e)) refl
+hyphen_asked : (text : Text) → begins_with_hyphen text ≡ true → asked_in (Some text) ≡ None
+hyphen_asked [] e = cc
+hyphen_asked (b ∷ bs) e = subst (λ x. asked_in (Some (x ∷ bs)) ≡ None) (sym (eqb-true b 45 e)) refl
 
--- one of the five options
+-- one of the six options
 pub data OptionName (name : Text) : Type 0 where
   is_workers : name ≡ codes "workers" → OptionName name
   is_budget : name ≡ codes "budget" → OptionName name
   is_scales : name ≡ codes "scales" → OptionName name
   is_number : name ≡ codes "number" → OptionName name
   is_proposals : name ≡ codes "proposals" → OptionName name
+  is_facts : name ≡ codes "facts" → OptionName name
 
 which_option : (name : Text) → is_option_name name ≡ true → OptionName name
 which_option name e =
@@ -168,9 +177,12 @@ which_option name e =
           | inl h ↦ is_scales (sym (bytes_same (codes "scales") name h))
           | inr h ↦ elim (or_cases (bytes_eq (codes "number") name) _ h) [
             | inl h ↦ is_number (sym (bytes_same (codes "number") name h))
-            | inr h ↦ elim (or_cases (bytes_eq (codes "proposals") name) false h) [
+            | inr h ↦ elim (or_cases (bytes_eq (codes "proposals") name) _ h) [
               | inl h ↦ is_proposals (sym (bytes_same (codes "proposals") name h))
-              | inr h ↦ cc
+              | inr h ↦ elim (or_cases (bytes_eq (codes "facts") name) false h) [
+                | inl h ↦ is_facts (sym (bytes_same (codes "facts") name h))
+                | inr h ↦ cc
+              ]
             ]
           ]
         ]
@@ -219,7 +231,9 @@ odd_option items name (is_scales is) e =
 odd_option items name (is_number is) e =
     bad_number items (odd_bad (number_or 0 2147483647 0) (hyphen_number 0 2147483647 0) (once (codes "number") items) (odd_once (values_of (codes "number") items) (subst (λ m. list_any begins_with_hyphen (values_of m items) ≡ true) is e)))
 odd_option items name (is_proposals is) e =
-    bad_proposals items (odd_bad proposals_in hyphen_proposals (once (codes "proposals") items) (odd_once (values_of (codes "proposals") items) (subst (λ m. list_any begins_with_hyphen (values_of m items) ≡ true) is e)))
+    bad_proposals items (odd_bad asked_in hyphen_asked (once (codes "proposals") items) (odd_once (values_of (codes "proposals") items) (subst (λ m. list_any begins_with_hyphen (values_of m items) ≡ true) is e)))
+odd_option items name (is_facts is) e =
+    bad_facts items (odd_bad asked_in hyphen_asked (once (codes "facts") items) (odd_once (values_of (codes "facts") items) (subst (λ m. list_any begins_with_hyphen (values_of m items) ≡ true) is e)))
 
 -- odd items name no job
 odd_items : (items : List Item) → list_all is_named items ≡ true → list_any is_odd items ≡ true → judge items ≡ None
@@ -252,6 +266,7 @@ texts_of_rows rows = record {
   scales = first_of (codes "scales") rows;
   number = first_of (codes "number") rows;
   proposals = first_of (codes "proposals") rows;
+  facts = first_of (codes "facts") rows;
 }
 
 once_said : (items : List Item) (rows : List Row) → Ended [] items rows → (id : Text) (texts : List Text) → said_at id items ≡ texts
@@ -267,7 +282,8 @@ texts_are items rows named e =
     let s : at_most_once (values_of (codes "scales") items) ≡ Some (first_of (codes "scales") rows) = once_said items rows ended (codes "scales") _ (said_option (codes "scales") refl items) in
     let n : at_most_once (values_of (codes "number") items) ≡ Some (first_of (codes "number") rows) = once_said items rows ended (codes "number") _ (said_option (codes "number") refl items) in
     let p : at_most_once (values_of (codes "proposals") items) ≡ Some (first_of (codes "proposals") rows) = once_said items rows ended (codes "proposals") _ (said_option (codes "proposals") refl items) in
-    rw (j, w, b, s, n, p) refl
+    let f : at_most_once (values_of (codes "facts") items) ≡ Some (first_of (codes "facts") rows) = once_said items rows ended (codes "facts") _ (said_option (codes "facts") refl items) in
+    rw (j, w, b, s, n, p, f) refl
 
 once_bad : {A : Type 0} (test : Option Text → Option A) (o : Option (Option Text)) → o ≡ None → IsBad test o
 once_bad test o e = subst (IsBad test) (sym e) tt
@@ -282,7 +298,9 @@ option_twice items name (is_scales is) e =
 option_twice items name (is_number is) e =
     bad_number items (once_bad (number_or 0 2147483647 0) (once (codes "number") items) (ap at_most_once (sym (said_option (codes "number") refl items)) ∙ subst (λ m. at_most_once (said_at m items) ≡ None) is e))
 option_twice items name (is_proposals is) e =
-    bad_proposals items (once_bad proposals_in (once (codes "proposals") items) (ap at_most_once (sym (said_option (codes "proposals") refl items)) ∙ subst (λ m. at_most_once (said_at m items) ≡ None) is e))
+    bad_proposals items (once_bad asked_in (once (codes "proposals") items) (ap at_most_once (sym (said_option (codes "proposals") refl items)) ∙ subst (λ m. at_most_once (said_at m items) ≡ None) is e))
+option_twice items name (is_facts is) e =
+    bad_facts items (once_bad asked_in (once (codes "facts") items) (ap at_most_once (sym (said_option (codes "facts") refl items)) ∙ subst (λ m. at_most_once (said_at m items) ≡ None) is e))
 
 job_twice : (items : List Item) → list_all is_named items ≡ true → at_most_once (said_at (codes "job") items) ≡ None → judge items ≡ None
 job_twice items named e = bad_job items (once_bad job_in (at_most_once (job_words items)) (ap at_most_once (sym (said_job items named)) ∙ e))
@@ -340,8 +358,9 @@ unfolding job_of_words
 no_job_of_rows words e = none_when (reads None words) (items_from None words) (alike words None) (named_items words) e
 
 -- the texts that are found
-pub texts_same : (job workers budget scales number proposals : Option Text) (rows : List Row)
+pub texts_same : (job workers budget scales number proposals facts : Option Text) (rows : List Row)
     → job ≡ first_of (codes "job") rows → workers ≡ first_of (codes "workers") rows → budget ≡ first_of (codes "budget") rows
     → scales ≡ first_of (codes "scales") rows → number ≡ first_of (codes "number") rows → proposals ≡ first_of (codes "proposals") rows
-    → texts_like job workers budget scales number proposals ≡ texts_of_rows rows
-texts_same job workers budget scales number proposals rows j w b s n p = rw (j, w, b, s, n, p) refl
+    → facts ≡ first_of (codes "facts") rows
+    → texts_like job workers budget scales number proposals facts ≡ texts_of_rows rows
+texts_same job workers budget scales number proposals facts rows j w b s n p f = rw (j, w, b, s, n, p, f) refl

@@ -5,7 +5,7 @@ use Rattle.text_terms.specs.Lines.{number_of}
 use Rattle.document_terms.specs.declared.claim.SolvingJob.TheVariants.{Fit as SolvesFit, Strip as SolvesStrip, Bins as SolvesBins, Knapsack as SolvesKnapsack}
 use Rattle.pack_words.specs.Items.{Text, Item, option, word, items_from}
 use Rattle.pack_words.specs.declared.job.Job.{Job}
-use Rattle.pack_words.specs.declared.job.Job.TheVariants.{Fit, Strip, Bins, Knapsack, Check, Make, Audit, Explain, Reduced, Front, Proposed}
+use Rattle.pack_words.specs.declared.job.Job.TheVariants.{Fit, Strip, Bins, Knapsack, Check, Make, Audit, Explain, Reduced, Front, ReducedStrip, Proposed}
 use Rattle.pack_words.specs.declared.job.JobWords.{JobWords}
 use Rattle.pack_words.specs.declared.job.WordsError.{WordsError}
 use Rattle.pack_words.specs.declared.job.WordsError.TheVariants.{Refused, NoMemory}
@@ -23,6 +23,7 @@ pub record Texts : Type 0 where
   pub scales : Option Text
   pub number : Option Text
   pub proposals : Option Text
+  pub facts : Option Text
 
 -- the values that an option is given
 abbrev pub values_of : Text → List Item → List Text
@@ -50,7 +51,8 @@ texts_of items =
     at_most_once (values_of (codes "scales") items) >>= λ scales.
     at_most_once (values_of (codes "number") items) >>= λ number.
     at_most_once (values_of (codes "proposals") items) >>= λ proposals.
-    Some (record { job = job; workers = workers; budget = budget; scales = scales; number = number; proposals = proposals })
+    at_most_once (values_of (codes "facts") items) >>= λ facts.
+    Some (record { job = job; workers = workers; budget = budget; scales = scales; number = number; proposals = proposals; facts = facts })
 
 abbrev pub job_of_name : Text → Option Job
 job_of_name text =
@@ -66,8 +68,8 @@ job_of_name text =
     else (if bytes_eq text (codes "front") then Some Front
     else None)))))))))
 
--- `check`, `audit` and `explain` take no option, `make` alone takes a number, and `fit`, `strip` and
--- `bins` alone take proposals
+-- `check`, `audit` and `explain` take no option, `make` alone takes a number, `fit`, `strip`, `bins` and
+-- `knapsack` alone take proposals, and `strip` alone takes facts
 abbrev pub takes_settings : Job → Bool
 takes_settings Check = false
 takes_settings Audit = false
@@ -82,14 +84,20 @@ abbrev pub takes_proposals : Job → Bool
 takes_proposals Fit = true
 takes_proposals Strip = true
 takes_proposals Bins = true
+takes_proposals Knapsack = true
 takes_proposals _ = false
+
+abbrev pub takes_facts : Job → Bool
+takes_facts Strip = true
+takes_facts _ = false
 
 -- each option that is given is one that the job takes
 abbrev pub are_taken : Job → Texts → Bool
 are_taken job texts =
     (takes_settings job || not (is_some texts.workers || (is_some texts.budget || is_some texts.scales)))
     && ((takes_number job || not (is_some texts.number))
-    && (takes_proposals job || not (is_some texts.proposals)))
+    && ((takes_proposals job || not (is_some texts.proposals))
+    && (takes_facts job || not (is_some texts.facts))))
 
 -- a number in its range, both ends included
 abbrev pub kept_in_range : ℕ → ℕ → Option ℕ → Option ℕ
@@ -107,9 +115,9 @@ scales_in None = Some true
 scales_in (Some text) = if bytes_eq text (codes "yes") then Some true else (if bytes_eq text (codes "no") then Some false else None)
 
 -- `yes`, or `no`, the default
-abbrev pub proposals_in : Option Text → Option Bool
-proposals_in None = Some false
-proposals_in (Some text) = if bytes_eq text (codes "yes") then Some true else (if bytes_eq text (codes "no") then Some false else None)
+abbrev pub asked_in : Option Text → Option Bool
+asked_in None = Some false
+asked_in (Some text) = if bytes_eq text (codes "yes") then Some true else (if bytes_eq text (codes "no") then Some false else None)
 
 -- a job with proposals, if it is a solving job
 abbrev pub proposed : Job → Job
@@ -123,6 +131,17 @@ proposed job = job
 abbrev pub by_proposals : Bool → Job → Job
 by_proposals proposals job = if proposals then proposed job else job
 
+-- a job from the symmetry facts on, if it takes them
+abbrev pub from_facts : Job → Job
+from_facts Strip = ReducedStrip
+from_facts job = job
+
+-- a job with proposals, from the symmetry facts on, or with neither; none with both
+abbrev pub by_ways : Bool → Bool → Job → Option Job
+by_ways proposals false job = Some (by_proposals proposals job)
+by_ways false true job = Some (from_facts job)
+by_ways true true job = None
+
 -- the settings and the number of a job that these texts give
 abbrev pub settings_of : Job → Texts → Option JobWords
 settings_of job texts =
@@ -130,8 +149,10 @@ settings_of job texts =
     number_or 0 10000000 1000000 texts.budget >>= λ budget.
     scales_in texts.scales >>= λ scales.
     number_or 0 2147483647 0 texts.number >>= λ number.
-    proposals_in texts.proposals >>= λ proposals.
-    Some (record { job = by_proposals proposals job; settings = record { workers = workers; budget = budget; scales = scales }; number = number })
+    asked_in texts.proposals >>= λ proposals.
+    asked_in texts.facts >>= λ facts.
+    by_ways proposals facts job >>= λ asked.
+    Some (record { job = asked; settings = record { workers = workers; budget = budget; scales = scales }; number = number })
 
 -- the job of these texts: there is a job word, which is a job that takes these options, and their
 -- values are in range

@@ -11,4 +11,5 @@ plain_found f = record {
   scales = option_map (λ s. s.now) f.scales;
   number = option_map (λ s. s.now) f.number;
   proposals = option_map (λ s. s.now) f.proposals;
+  facts = option_map (λ s. s.now) f.facts;
 }

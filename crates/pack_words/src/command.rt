@@ -39,6 +39,7 @@ fn pack_command<'a>(alloc: Global) -> Result<Command<'a>, AllocError>
         .arg(option_arg(alloc, "scales"))?
         .arg(option_arg(alloc, "number"))?
         .arg(option_arg(alloc, "proposals"))?
+        .arg(option_arg(alloc, "facts"))?
         .arg(job_arg(alloc))
 }
 

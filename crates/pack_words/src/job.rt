@@ -27,13 +27,15 @@ pub enum Job {
     Reduced,
     /// All least widths and heights of a container that holds the boxes.
     Front,
+    /// The least height of a strip that holds the boxes, decided from symmetry facts.
+    ReducedStrip,
     /// A solving job that decides by proposals first.
     Proposed(SolvingJob),
 }
 
 /// A job with its settings, and the number that `make` generates from. Where the words don't give
 /// one, the workers are 1, the budget is 1,000,000, scales are used, the number is 0, and there are no
-/// proposals.
+/// proposals and no symmetry facts.
 #[derive(Clone, Copy, Debug, PartialEq, Eq)]
 pub struct JobWords {
     pub job: Job,

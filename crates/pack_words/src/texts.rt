@@ -1,6 +1,6 @@
 //! From texts to a job and its settings.
 ghost use Rattle.std.specs.Prelude.{◌≡◌, option_map};
-ghost use Rattle.pack_words.specs.Job.{job_of_name, takes_settings, takes_number, takes_proposals, are_taken, number_or, scales_in, proposals_in, proposed, by_proposals, settings_of, job_of_texts};
+ghost use Rattle.pack_words.specs.Job.{job_of_name, takes_settings, takes_number, takes_proposals, takes_facts, are_taken, number_or, scales_in, asked_in, proposed, by_proposals, from_facts, by_ways, settings_of, job_of_texts};
 ghost use Rattle.pack_words.specs.Said.{plain_found};
 
 use crate::job::{Job, JobWords};
@@ -31,14 +31,14 @@ fn are_taken(job: Job, found: Found<'_>) -> bool
     ensures { result ≡ are_taken job (plain_found found.entry) }
 {
     let has_settings = found.workers.is_some() | found.budget.is_some() | found.scales.is_some();
-    let unproposed = found.proposals.is_none();
+    let factless = found.facts.is_none();
+    let plain = found.proposals.is_none() & factless;
     match job {
-        Job::Check | Job::Audit | Job::Explain => {
-            !has_settings & found.number.is_none() & unproposed
-        }
-        Job::Make => unproposed,
-        Job::Fit | Job::Strip | Job::Bins => found.number.is_none(),
-        _ => found.number.is_none() & unproposed,
+        Job::Check | Job::Audit | Job::Explain => { !has_settings & found.number.is_none() & plain }
+        Job::Make => plain,
+        Job::Strip => found.number.is_none(),
+        Job::Fit | Job::Bins | Job::Knapsack => found.number.is_none() & factless,
+        _ => found.number.is_none() & plain,
     }
 }
 
@@ -71,8 +71,9 @@ fn scales_in(value: Option<&str>) -> Option<bool>
     }
 }
 
-fn proposals_in(value: Option<&str>) -> Option<bool>
-    ensures { result ≡ proposals_in (option_map (λ s. s.now) value.entry) }
+// Whether an option is asked for that isn't by default.
+fn asked_in(value: Option<&str>) -> Option<bool>
+    ensures { result ≡ asked_in (option_map (λ s. s.now) value.entry) }
 {
     match value {
         None => Some(false),
@@ -102,6 +103,29 @@ fn by_proposals(proposals: bool, job: Job) -> Job
     if proposals { proposed(job) } else { job }
 }
 
+// A job from the symmetry facts on, if it takes them.
+fn from_facts(job: Job) -> Job
+    ensures { result ≡ from_facts job }
+{
+    match job {
+        Job::Strip => Job::ReducedStrip,
+        other => other,
+    }
+}
+
+// A job with proposals, from the symmetry facts on, or with neither; none with both.
+fn by_ways(proposals: bool, facts: bool, job: Job) -> Option<Job>
+    ensures { result ≡ by_ways proposals facts job }
+{
+    if !facts {
+        return Some(by_proposals(proposals, job));
+    }
+    if proposals {
+        return None;
+    }
+    Some(from_facts(job))
+}
+
 fn settings_of(job: Job, found: Found<'_>) -> Option<JobWords>
     ensures { result ≡ settings_of job (plain_found found.entry) }
 {
@@ -109,14 +133,16 @@ fn settings_of(job: Job, found: Found<'_>) -> Option<JobWords>
     let budget = number_or(0, 10_000_000, 1_000_000, found.budget)?;
     let scales = scales_in(found.scales)?;
     let number = number_or(0, 2_147_483_647, 0, found.number)?;
-    let proposals = proposals_in(found.proposals)?;
+    let proposals = asked_in(found.proposals)?;
+    let facts = asked_in(found.facts)?;
+    let job = by_ways(proposals, facts, job)?;
     let settings = Settings {
         workers,
         budget: budget as u64,
         scales,
     };
     Some(JobWords {
-        job: by_proposals(proposals, job),
+        job,
         settings,
         number,
     })

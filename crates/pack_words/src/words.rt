@@ -18,6 +18,7 @@ pub struct Found<'a> {
     pub scales: Option<&'a str>,
     pub number: Option<&'a str>,
     pub proposals: Option<&'a str>,
+    pub facts: Option<&'a str>,
 }
 
 // The texts that the words say, where they are well formed and none stands twice.
@@ -35,6 +36,7 @@ fn found_in<'a>(alloc: Global, words: &'a [String]) -> Result<Found<'a>, WordsEr
             scales: matches.get_str("scales"),
             number: matches.get_str("number"),
             proposals: matches.get_str("proposals"),
+            facts: matches.get_str("facts"),
         }),
         Err(error) => {
             if error.kind() == ErrorKind::OutOfMemory {
@@ -49,12 +51,13 @@ fn found_in<'a>(alloc: Global, words: &'a [String]) -> Result<Found<'a>, WordsEr
 /// contain the program's name.
 ///
 /// Up to a word `--`, `--NAME VALUE` and `--NAME=VALUE` are options, with `NAME` one of `workers`,
-/// `budget`, `scales`, `number` and `proposals`; a value in a word of its own doesn't begin with
-/// `-`. Every other word is a job word, of which there must be exactly one: `fit`, `strip`, `bins`,
-/// `knapsack`, `check`, `make`, `explain`, `audit`, `reduced` or `front`. Each option stands at most
-/// once. `workers` is from 1 to 64, `budget` from 0 to 10,000,000, `scales` and `proposals` are
-/// `yes` or `no`, and `number` is from 0 to 2,147,483,647. `check`, `explain` and `audit` take no
-/// option, `make` alone takes `number`, and `fit`, `strip` and `bins` alone take `proposals`. It
+/// `budget`, `scales`, `number`, `proposals` and `facts`; a value in a word of its own doesn't begin
+/// with `-`. Every other word is a job word, of which there must be exactly one: `fit`, `strip`,
+/// `bins`, `knapsack`, `check`, `make`, `explain`, `audit`, `reduced` or `front`. Each option stands
+/// at most once. `workers` is from 1 to 64, `budget` from 0 to 10,000,000, `scales`, `proposals` and
+/// `facts` are `yes` or `no`, and `number` is from 0 to 2,147,483,647. `check`, `explain` and `audit`
+/// take no option, `make` alone takes `number`, `fit`, `strip`, `bins` and `knapsack` alone take
+/// `proposals`, and `strip` alone takes `facts`, of which it takes one or the other with `yes`. It
 /// answers `Refused` exactly where the words name no job by these rules.
 pub fn read_words(alloc: Global, words: &[String]) -> Result<JobWords, WordsError>
     ensures { IsJobAnswer (job_of_words (map string_bytes words.now)) result }

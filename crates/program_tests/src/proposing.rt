@@ -18,7 +18,20 @@ const BINS_PROPOSED: &[&str] = &["bins", "--proposals", "yes", "--budget", "0"];
 
 const BINS_SHARED: &[&str] = &["bins", "--proposals=yes", "--budget=0", "--workers=2"];
 
+const SACK_PROPOSED: &[&str] = &["knapsack", "--proposals", "yes", "--budget", "0"];
+
+const SACK_SHARED: &[&str] = &["knapsack", "--proposals=yes", "--budget=0", "--workers=2"];
+
 const FOUR: &[u8] = b"format 1\ncontainer 10 6\nbox 3 6\nbox 3 6\nbox 3 6\nbox 3 6\n";
+
+const AROUND_A_HOLE: &[u8] =
+    b"format 1\ncontainer 10 10\nbox 6 4\nbox 4 6\nbox 6 4\nbox 4 6\nbox 1 3\n";
+
+const THREE_WORTH: &[u8] =
+    b"format 1\ncontainer 10 6\nbox 3 6 value 5\nbox 3 6 value 4\nbox 3 6 value 3\n";
+
+const FOUR_WORTH: &[u8] =
+    b"format 1\ncontainer 10 6\nbox 3 6 value 5\nbox 3 6 value 4\nbox 3 6 value 3\nbox 3 6 value 2\n";
 
 const PINWHEEL: &[u8] = b"format 1\ncontainer 5 1\nbox 1 1\nbox 3 2\nbox 2 3\nbox 3 2\nbox 2 3\n";
 
@@ -98,12 +111,49 @@ fn bins_by_proposals_are_verified(rt: HostRuntime) -> Result<(), Fail> {
     Ok(())
 }
 
+// Neither volume nor scales refute one bin, and its tree has branchings.
+#[test]
+fn bins_beside_a_tree_past_the_budget_are_two(rt: HostRuntime) -> Result<(), Fail> {
+    let told = told_of(&rt, BINS_PROPOSED, AROUND_A_HOLE)?;
+    assert!(rt; told.status == 3);
+    let shared = told_of(&rt, BINS_SHARED, AROUND_A_HOLE)?;
+    assert!(rt; shared.is_as_written(3, &told.out));
+    let checked = told_of(&rt, &["check"], &told.out)?;
+    assert!(rt; checked.is_as_written(0, b"verified bins between 0 2\n"));
+    Ok(())
+}
+
+// All three fit, which is proposed. Of the four one is left out, and that 13 is too much is refuted by
+// a tree with branchings, as that 14 is.
+#[test]
+fn values_by_proposals_are_verified(rt: HostRuntime) -> Result<(), Fail> {
+    let plain = told_of(&rt, &["knapsack", "--budget", "0"], THREE_WORTH)?;
+    assert!(rt; plain.status == 3);
+    let rows: [(&[u8], u8, &[u8]); 2] = [
+        (THREE_WORTH, 0, b"verified knapsack greatest 12\n"),
+        (FOUR_WORTH, 3, b"verified knapsack between 12 15\n"),
+    ];
+    for (text, status, line) in rows {
+        let told = told_of(&rt, SACK_PROPOSED, text)?;
+        assert!(rt; told.status == status);
+        let shared = told_of(&rt, SACK_SHARED, text)?;
+        assert!(rt; shared.is_as_written(status, &told.out));
+        let checked = told_of(&rt, &["check"], &told.out)?;
+        assert!(rt; checked.is_as_written(0, line));
+    }
+    let whole = told_of(&rt, &["knapsack", "--proposals", "yes"], FOUR_WORTH)?;
+    assert!(rt; whole.status == 0);
+    let checked = told_of(&rt, &["check"], &whole.out)?;
+    assert!(rt; checked.is_as_written(0, b"verified knapsack greatest 12\n"));
+    Ok(())
+}
+
 #[test]
 fn proposals_refuse_what_fit_refuses(rt: HostRuntime) -> Result<(), Fail> {
     let told = told_of(&rt, PROPOSED, b"format 1\ncontainer 5 5\nbox 0 1\n")?;
     assert!(rt; told.is_stop(2, "pack: line 3: code 4\n", b""));
     for words in [
-        ["knapsack", "--proposals", "yes"],
+        ["front", "--proposals", "yes"],
         ["reduced", "--proposals", "no"],
         ["check", "--proposals", "no"],
         ["fit", "--proposals", "maybe"],

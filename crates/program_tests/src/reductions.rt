@@ -46,13 +46,62 @@ fn reduced_has_the_documents_of_the_rows(rt: HostRuntime) -> Result<(), Fail> {
     Ok(())
 }
 
+const THREE_HALVES: &[u8] = b"format 1\ncontainer 4 1\nbox 2 1\nbox 2 1\nbox 2 1\n";
+
+const TOO_WIDE: &[u8] = b"format 1\ncontainer 3 1\nbox 4 1\n";
+
+const STRIP: &[&str] = &["strip", "--facts", "yes", "--scales", "no"];
+
+const SHARED_STRIP: &[&str] = &["strip", "--facts=yes", "--scales=no", "--workers=2"];
+
+const SPENT_STRIP: &[&str] = &["strip", "--scales=no", "--budget=0", "--facts=yes"];
+
+const TWO_ROWS: &[u8] =
+    b"result least 12\nplace 0 0\nplace 3 0\nplace 6 0\nplace 6 6\nproof\nx\nend\n";
+
+const STACKED: &[u8] = b"result between 1 3\nplace 0 0\nplace 0 1\nplace 0 2\nproof\nx\nend\n";
+
+const NONE: &[u8] = b"result none\nt 1 1\nend\n";
+
+const STRIP_ROWS: [Solved; 4] = [
+    (STRIP, FOUR_IN_A_ROW, 0, TWO_ROWS),
+    (SHARED_STRIP, FOUR_IN_A_ROW, 0, TWO_ROWS),
+    (SPENT_STRIP, THREE_HALVES, 3, STACKED),
+    (STRIP, TOO_WIDE, 1, NONE),
+];
+
+#[test]
+fn strips_with_facts_have_the_documents_of_the_rows(rt: HostRuntime) -> Result<(), Fail> {
+    for row in &STRIP_ROWS {
+        assert!(rt; is_solved(&rt, b"reduced strip\n", row)?);
+    }
+    let plain: Solved = (&["strip", "--facts", "no"], TOO_WIDE, 1, NONE);
+    assert!(rt; is_solved(&rt, b"answer strip\n", &plain)?);
+    Ok(())
+}
+
+const NO_JOBS: [&[&str]; 4] = [
+    &["strip", "--facts=yes", "--proposals=yes"],
+    &["bins", "--facts", "no"],
+    &["fit", "--facts", "yes"],
+    &["reduced", "--facts", "yes"],
+];
+
+#[test]
+fn facts_are_of_strips_without_proposals(rt: HostRuntime) -> Result<(), Fail> {
+    for words in NO_JOBS {
+        assert!(rt; told_of(&rt, words, UNIT)?.status == 2);
+    }
+    Ok(())
+}
+
 const FOUR_REFUTED: &[u8] =
     b"reduced fit\nformat 1\ncontainer 10 10\nbox 3 6\nbox 3 6\nbox 3 6\nbox 3 6\nresult no\nx\nend\n";
 
 const AUDIT: &[&str] = &["audit"];
 
 // Documents, the status of their audit and its line.
-const AUDITED: [(&[u8], u8, &str); 12] = [
+const AUDITED: [(&[u8], u8, &str); 16] = [
     (
         b"explained fit\nformat 1\ncontainer 10 10\nbox 6 6\nbox 6 6\nresult no\npair 1 1 2\npair 2 1 2\napart 1 1 2\nx 1 1 2\nend\n",
         0,
@@ -80,7 +129,23 @@ const AUDITED: [(&[u8], u8, &str); 12] = [
         1,
         "refused 1 form\n",
     ),
-    (b"reduced strip\n", 1, "refused 1 form\n"),
+    (
+        b"reduced strip\nformat 1\ncontainer 10 1\nbox 3 6\nbox 3 6\nbox 3 6\nbox 3 6\nresult least 12\nplace 0 0\nplace 3 0\nplace 6 0\nplace 0 6\nproof\nx\nend\n",
+        0,
+        "verified reduced strip least 12\n",
+    ),
+    (
+        b"reduced strip\nformat 1\ncontainer 10 1\nbox 3 6\nbox 3 6\nbox 3 6\nbox 3 6\nresult between 11 24\nplace 0 0\nplace 0 6\nplace 0 12\nplace 0 18\nproof\nx\nend\n",
+        0,
+        "verified reduced strip between 11 24\n",
+    ),
+    (
+        b"reduced strip\nformat 1\ncontainer 10 1\nbox 3 6\nbox 3 6\nbox 3 6\nbox 3 6\nresult least 12\nplace 0 0\nplace 3 0\nplace 6 0\nplace 0 5\nproof\nx\nend\n",
+        1,
+        "refused 12 overlap 1 4\n",
+    ),
+    (b"reduced strip\n", 1, "refused 2 short\n"),
+    (b"reduced bins\n", 1, "refused 1 form\n"),
     (b"", 1, "refused 1 short\n"),
     (
         b"reduced fit\nformat 1\ncontainer 10 10\nbox 3 6\nbox 3 6\nbox 3 6\nresult no\nx\nend\n",

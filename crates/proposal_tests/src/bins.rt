@@ -1,5 +1,5 @@
 //! Bins by proposals first.
-use crate::instances::{at_roots, instance_of};
+use crate::instances::{at_roots, instance_of, settings};
 use bin_knapsack::least_bins;
 use box_instances::Instance;
 use proposals::{ProposedBins, propose_bins};
@@ -35,6 +35,29 @@ fn bins_are_closed_by_proposals(rt: HostRuntime) -> Result<(), Fail> {
         let bins = least_bins_proposed(&rt, alloc, &instance, &at_roots(workers), &NoGate)?;
         assert!(rt; matches!(&bins, Bins::Least { bins: 2, .. }));
     }
+    Ok(())
+}
+
+// Four boxes around a hole of 2 by 2, and one that doesn't go in there: neither volume nor scales
+// refute one bin, and its tree has branchings.
+#[test]
+fn bins_beside_a_tree_past_the_budget_are_two(rt: HostRuntime) -> Result<(), Fail> {
+    let alloc = rt.alloc();
+    let boxes: &[&[u32]] = &[&[6, 4], &[4, 6], &[6, 4], &[4, 6], &[1, 3]];
+    let instance = instance_of(alloc, &[10, 10], boxes)?;
+    let bins = least_bins_proposed(&rt, alloc, &instance, &at_roots(1), &NoGate)?;
+    assert!(rt;
+        matches!(
+            &bins,
+            Bins::Between {
+                refuted: 0,
+                bins: 2,
+                ..
+            }
+        )
+    );
+    let bins = least_bins_proposed(&rt, alloc, &instance, &settings(1, 100_000), &NoGate)?;
+    assert!(rt; matches!(&bins, Bins::Least { bins: 2, .. }));
     Ok(())
 }
 

@@ -4,6 +4,8 @@
 #[cfg(test)]
 mod bins;
 #[cfg(test)]
+mod choices;
+#[cfg(test)]
 mod decisions;
 #[cfg(test)]
 mod faults;

@@ -5,7 +5,7 @@ mod decision;
 mod proposing;
 mod testing;
 
-pub use decision::{decide_behind, decide_proposed};
 pub use conflict_search::Proposal;
+pub use decision::{decide_behind, decide_proposed};
 pub use proposing::propose;
 pub use testing::is_refutation;

@@ -48,7 +48,7 @@ module _ (instance : PlainInstance) (limits : IsInternalInstance instance) (budg
 
 -- bounds by two heights with both certificates
 pub between_bounds : (instance : PlainInstance) (settings : Settings) (refuted height : ℕ) (tokens : List PlainToken) (places : List ℕ)
-    → IsCertifiedBetween instance refuted tokens height places → height ≤ most_height → AreHeightBounds instance settings Rough (first_bounds refuted tokens height places)
+    → IsCertifiedBetween [] instance refuted tokens height places → height ≤ most_height → AreHeightBounds instance settings Rough (first_bounds refuted tokens height places)
 between_bounds instance settings refuted height tokens places t most =
     are_first (IsPackedAt instance) (IsRefutedAt instance) (IsPastHeight instance settings Rough) most_height refuted height tokens places t.order most t.refutes t.packed
 

@@ -32,7 +32,7 @@ fn is_verified(alloc: Global, document: &[u8], claim: Claim) -> bool {
 }
 
 // Documents that are verified, with their claims.
-const VERIFIED: [(&[u8], Claim); 2] = [
+const VERIFIED: [(&[u8], Claim); 5] = [
     (
         b"reduced fit\nformat 1\ncontainer 10 10\nbox 3 6\nbox 3 6\nbox 3 6\nbox 3 6\nresult no\nx\nend\n",
         Claim::NotFitting,
@@ -41,16 +41,42 @@ const VERIFIED: [(&[u8], Claim); 2] = [
         b"reduced fit\nformat 1\ncontainer 10 10\nbox 6 4\nbox 6 6\nresult yes\nplace 0 0\nplace 0 4\nend\n",
         Claim::Fitting,
     ),
+    (
+        b"reduced strip\nformat 1\ncontainer 10 1\nbox 3 6\nbox 3 6\nbox 3 6\nbox 3 6\nresult least 12\nplace 0 0\nplace 3 0\nplace 6 0\nplace 0 6\nproof\nx\nend\n",
+        Claim::LeastHeight { height: 12 },
+    ),
+    (
+        b"reduced strip\nformat 1\ncontainer 10 1\nbox 3 6\nbox 3 6\nbox 3 6\nbox 3 6\nresult between 11 24\nplace 0 0\nplace 0 6\nplace 0 12\nplace 0 18\nproof\nx\nend\n",
+        Claim::HeightBetween {
+            refuted: 11,
+            placed: 24,
+        },
+    ),
+    (
+        b"reduced strip\nformat 1\ncontainer 10 1\nbox 11 2\nresult none\nt 1 1\nend\n",
+        Claim::NoHeight,
+    ),
 ];
 
 // Documents that are refused, with the line and why.
-const REFUSED: [(&[u8], u64, RefuseCode); 2] = [
+const REFUSED: [(&[u8], u64, RefuseCode); 5] = [
     (PLAIN, 1, RefuseCode::Kind),
     (
         b"reduced fit\nformat 1\ncontainer 10 10\nbox 3 6\nbox 3 6\nbox 3 6\nresult no\nx\nend\n",
         8,
         RefuseCode::Conflict,
     ),
+    (
+        b"reduced strip\nformat 1\ncontainer 10 1\nbox 3 6\nbox 3 6\nbox 3 6\nresult least 12\nplace 0 0\nplace 3 0\nplace 0 6\nproof\nx\nend\n",
+        12,
+        RefuseCode::Conflict,
+    ),
+    (
+        b"reduced strip\nformat 1\ncontainer 10 1\nbox 3 6\nbox 3 6\nbox 3 6\nbox 3 6\nresult least 12\nplace 0 0\nplace 3 0\nplace 6 0\nplace 0 6\nproof\nd 1 1 2\nx\nx\nend\n",
+        14,
+        RefuseCode::Choice,
+    ),
+    (b"reduced bins\n", 1, RefuseCode::Kind),
 ];
 
 // An answer, which has a heading of its own.

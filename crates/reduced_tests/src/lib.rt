@@ -5,3 +5,5 @@
 mod audits;
 #[cfg(test)]
 mod decisions;
+#[cfg(test)]
+mod strips;

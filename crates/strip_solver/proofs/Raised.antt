@@ -1,32 +1,14 @@
 -- Instances with another last side.
-use Rattle.std.proofs.Common.{◌≡◌, ℕ, ◌-◌, refl, ap, List, [], ◌∷◌}
-use Rattle.std.specs.List.{fold}
-use Rattle.std.proofs.Math.ListN.{length-set}
-use Rattle.packing_terms.specs.Packing.{PlainInstance, dims, box_count, side}
+use Rattle.std.proofs.Common.{◌≡◌, ℕ, refl, ap, List, []}
+use Rattle.packing_terms.specs.Packing.{PlainInstance}
 use Rattle.packing_terms.specs.Goals.{with_last_side}
-use Rattle.packing_terms.specs.Sums.{product_below, below}
-use Rattle.packing_terms.specs.Rank.{volume, insert_by_volume, pairs_after, ranked_pairs}
+use Rattle.packing_terms.specs.Rank.{pairs_after, ranked_pairs}
+use Rattle.symmetry_terms.proofs.Levels.{same_dims, same_rank}
 use Rattle.class_search.specs.Deciders.{decider_of}
 
-same_dims : (instance : PlainInstance) (h : ℕ) → dims (with_last_side instance h) ≡ dims instance
-same_dims instance h = length-set instance.container (dims instance - 1) h
-
 -- the rank of the boxes doesn't depend on the last container side
-module _ (instance : PlainInstance) (h : ℕ) where
-  same_volume : (v : ℕ) → volume (with_last_side instance h) v ≡ volume instance v
-  same_volume v = ap (λ (d : ℕ). product_below d (λ i. side instance v i)) (same_dims instance h)
-
-  same_insert : (v : ℕ) (us : List ℕ) → insert_by_volume (with_last_side instance h) v us ≡ insert_by_volume instance v us
-  same_insert v [] = refl
-  same_insert v (u ∷ us) =
-      rw (same_volume u, same_volume v, same_insert v us) refl
-
-  same_fold : (vs us : List ℕ) → fold (λ us v. insert_by_volume (with_last_side instance h) v us) us vs ≡ fold (λ us v. insert_by_volume instance v us) us vs
-  same_fold [] us = refl
-  same_fold (v ∷ vs) us = rw (same_insert v us) (same_fold vs (insert_by_volume instance v us))
-
-  pub same_decider : decider_of (with_last_side instance h) ≡ decider_of instance
-  same_decider =
-      let d = same_dims instance h in
-      let r : ranked_pairs (with_last_side instance h) ≡ ranked_pairs instance = ap (λ (vs : List ℕ). pairs_after [] vs) (same_fold (below (box_count instance)) []) in
-      rw (d, r) refl
+pub same_decider : (instance : PlainInstance) (h : ℕ) → decider_of (with_last_side instance h) ≡ decider_of instance
+same_decider instance h =
+    let d = same_dims instance h in
+    let r : ranked_pairs (with_last_side instance h) ≡ ranked_pairs instance = ap (λ (vs : List ℕ). pairs_after [] vs) (same_rank instance h) in
+    rw (d, r) refl

@@ -1,23 +1,28 @@
 //! The least height.
-ghost use Rattle.std.specs.Prelude.{◌≡◌, ◌<◌, ◌≤◌, ◌+◌, ◌-◌, ◌*◌, ◌/◌, ◌^◌, suc, false, IfOk};
+ghost use Rattle.std.specs.Prelude.{◌≡◌, ◌<◌, ◌≤◌, ◌+◌, ◌-◌, ◌*◌, ◌/◌, ◌^◌, ℕ, suc, false, IfOk};
 ghost use Rattle.packing_terms.specs.Packing.{dims, box_count};
-ghost use Rattle.packing_terms.specs.Goals.{HasTooWideBox};
+ghost use Rattle.packing_terms.specs.Exclusions.{AreAtEdges};
+ghost use Rattle.packing_terms.specs.Goals.{HasTooWideBox, with_last_side};
 ghost use Rattle.packing_terms.specs.Limits.{most_height};
-ghost use Rattle.tree_terms.specs.Levels.{first_heights, height_run};
+ghost use Rattle.symmetry_terms.specs.Facts.{symmetry_facts};
+ghost use Rattle.tree_terms.specs.Levels.{first_heights};
+ghost use Rattle.reduced_levels.specs.Heights.{height_run_from, DecideHeights};
 ghost use Rattle.proof_tree.specs.Plain.{plain_tokens};
 ghost use Rattle.level_search.specs.Runs.{plain_reached};
-ghost use Rattle.strip_solver.specs.Strips.{Tells, IsAnswer, IsTrueStrip, IsSpentExactly, IsFinal};
+ghost use Rattle.strip_solver.specs.Strips.{Tells, IsAnswer, IsTrueStrip, IsSpentExactly, IsAnswerFrom, IsTrueStripFrom, IsSpentExactlyFrom, IsFinal};
 
 use crate::Strip;
 use crate::heights::{decide_height, decider_for};
 use crate::stack::stack_all;
 use crate::wide::first_too_wide;
 use box_instances::{Instance, NoMemory};
+use class_search::Exclusion;
 use level_search::Reached;
 use proof_tree::Token;
 use std::alloc::Global;
 use std::sync::Wait;
 use std::thread::Threads;
+use symmetry_list::facts;
 use work_share::{Gate, Settings};
 
 // The refutation of height 0: box 1 is longer than the container in the last dimension.
@@ -35,27 +40,38 @@ fn no_height(alloc: Global, instance: &Instance) -> Result<Vec<Token>, NoMemory>
     Ok(tokens)
 }
 
-// The run of heights of an instance none of whose boxes is too wide.
+// The run of heights of an instance none of whose boxes is too wide, with trees that begin with these
+// exclusions.
 fn bisect_heights<R: Threads + Wait + Sync, G: Gate + Sync>(
     rt: &R,
     alloc: Global,
     instance: &Instance,
+    start: &[Exclusion],
     settings: &Settings,
     gate: &G,
 ) -> Result<Reached, NoMemory>
-    requires { ¬ HasTooWideBox instance.now }
+    requires edges { (h : ℕ) → AreAtEdges (with_last_side instance.now h) start.now }
     ensures { IfOk result (λ r. plain_reached r
-        ≡ height_run instance.now settings.now.budget settings.now.scales) }
+        ≡ height_run_from start.now instance.now settings.now.budget settings.now.scales) }
 {
     // For the proof alone: tells the limits of the instance.
     let _limits = instance.len();
     let stack = stack_all(alloc, instance)?;
     let tokens = no_height(alloc, instance)?;
-    let mut decider = decider_for(alloc, instance, settings.workers)?;
+    let mut decider = decider_for(alloc, instance, start, settings.workers)?;
     let mut reached = Reached::starting(0, tokens, u64::from(stack.height), stack.places);
     while let Some(level) = reached.next_level() {
         let height = level as u32;
-        let answer = decide_height(rt, alloc, instance, height, &mut decider, settings, gate)?;
+        let answer = decide_height(
+            rt,
+            alloc,
+            instance,
+            start,
+            height,
+            &mut decider,
+            settings,
+            gate,
+        )?;
         reached = reached.after(level, answer);
     }
     Ok(reached)
@@ -80,6 +96,36 @@ fn told(reached: Reached) -> Strip
         height: reached.placed as u32,
         places: reached.numbers,
         tokens: reached.tokens,
+    }
+}
+
+// The least height, with trees that begin with these exclusions.
+fn least_from<R: Threads + Wait + Sync, G: Gate + Sync>(
+    rt: &R,
+    alloc: Global,
+    instance: &Instance,
+    start: &[Exclusion],
+    settings: &Settings,
+    gate: &G,
+) -> Result<Strip, NoMemory>
+    requires { DecideHeights instance.now start.now }
+    ensures answer { IfOk result (λ s. IsAnswerFrom start.now instance.now settings.now.budget
+        settings.now.scales s) }
+    ensures right { IfOk result (λ s. IsTrueStripFrom start.now instance.now s) }
+    ensures spent { IfOk result (λ s. IsSpentExactlyFrom start.now instance.now
+        settings.now.budget settings.now.scales s) }
+    ensures enough { 3 ^ (dims instance.now * box_count instance.now
+        * (box_count instance.now - 1) / 2) ≤ settings.now.budget + 1
+        → IfOk result (λ s. IsFinal s) }
+{
+    // For the proof alone: tells the limits of the instance.
+    let _limits = instance.len();
+    match first_too_wide(instance) {
+        Some((box_no, dim)) => Ok(Strip::NoneFits { box_no, dim }),
+        None => {
+            let reached = bisect_heights(rt, alloc, instance, start, settings, gate)?;
+            Ok(told(reached))
+        }
     }
 }
 
@@ -108,11 +154,30 @@ pub fn least_height<R: Threads + Wait + Sync, G: Gate + Sync>(
 {
     // For the proof alone: tells the limits of the instance.
     let _limits = instance.len();
-    match first_too_wide(instance) {
-        Some((box_no, dim)) => Ok(Strip::NoneFits { box_no, dim }),
-        None => {
-            let reached = bisect_heights(rt, alloc, instance, settings, gate)?;
-            Ok(told(reached))
-        }
-    }
+    least_from(rt, alloc, instance, &[], settings, gate)
+}
+
+/// The same, with trees that begin with the symmetry facts of the instance, which are those of every
+/// height. The tokens refute the height below under these facts.
+pub fn least_height_reduced<R: Threads + Wait + Sync, G: Gate + Sync>(
+    rt: &R,
+    alloc: Global,
+    instance: &Instance,
+    settings: &Settings,
+    gate: &G,
+) -> Result<Strip, NoMemory>
+    ensures answer { IfOk result (λ s. IsAnswerFrom (symmetry_facts instance.now) instance.now
+        settings.now.budget settings.now.scales s) }
+    ensures right { IfOk result
+        (λ s. IsTrueStripFrom (symmetry_facts instance.now) instance.now s) }
+    ensures spent { IfOk result (λ s. IsSpentExactlyFrom (symmetry_facts instance.now) instance.now
+        settings.now.budget settings.now.scales s) }
+    ensures enough { 3 ^ (dims instance.now * box_count instance.now
+        * (box_count instance.now - 1) / 2) ≤ settings.now.budget + 1
+        → IfOk result (λ s. IsFinal s) }
+{
+    // For the proof alone: tells the limits of the instance.
+    let _limits = instance.len();
+    let start = facts(alloc, instance)?;
+    least_from(rt, alloc, instance, start.as_slice(), settings, gate)
 }

@@ -1,7 +1,8 @@
 //! The laws over symmetry facts. Each is proved of all instances, and is read in its contract.
 
-ghost use Rattle.std.specs.Prelude.{◌↔◌, ℕ, List};
+ghost use Rattle.std.specs.Prelude.{◌≡◌, ◌↔◌, ℕ, List};
 ghost use Rattle.packing_terms.specs.Packing.{PlainInstance, IsPacking, Fits};
+ghost use Rattle.packing_terms.specs.Goals.{with_last_side};
 ghost use Rattle.packing_terms.specs.Limits.{IsInternalInstance};
 ghost use Rattle.packing_terms.specs.Exclusions.{Respects, excludes, AreAtEdges};
 ghost use Rattle.packing_terms.specs.Tokens.{PlainToken};
@@ -23,4 +24,11 @@ pub fn facts_keep_an_answer()
 pub fn facts_are_at_edges()
     ensures { (instance : PlainInstance) → IsInternalInstance instance
         → AreAtEdges instance (symmetry_facts instance) }
+{}
+
+/// Symmetry facts don't depend on the container's last side: those of an instance are those of its
+/// strip at every height.
+pub fn facts_are_of_all_levels()
+    ensures { (instance : PlainInstance) (h : ℕ)
+        → symmetry_facts (with_last_side instance h) ≡ symmetry_facts instance }
 {}

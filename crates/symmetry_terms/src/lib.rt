@@ -4,4 +4,4 @@
 
 mod laws;
 
-pub use laws::{facts_are_at_edges, facts_keep_an_answer};
+pub use laws::{facts_are_at_edges, facts_are_of_all_levels, facts_keep_an_answer};

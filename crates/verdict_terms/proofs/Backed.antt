@@ -13,13 +13,15 @@ use Rattle.check_terms.specs.Judging.{names_box}
 use Rattle.check_terms.proofs.Places.{places_tested}
 use Rattle.document_terms.specs.declared.claim.Claim.{Claim}
 use Rattle.document_terms.specs.declared.claim.Claim.TheVariants.{Fitting, NotFitting, LeastHeight, HeightBetween, NoHeight, LeastBins, BinsBetween, NoBins, GreatestValue, ValueBetween}
+use Rattle.verdict_terms.specs.declared.heading.Heading.{Heading}
+use Rattle.verdict_terms.specs.declared.heading.Heading.TheVariants.{Answer}
 use Rattle.verdict_terms.specs.Reasons.{form, range}
 use Rattle.verdict_terms.specs.declared.reason.Reason.TheVariants.{TooLittle}
 use Rattle.document_terms.specs.TokenLines.{token_of}
 use Rattle.verdict_terms.specs.Trees.{Refuted, ToFit, ToFitIn, ToReach, begun}
-use Rattle.verdict_terms.specs.Stages.{Stage, groups_reason, claimed, placed, to_refute, is_word, tree_token, exceeding_token, exceeding_line, words_line}
+use Rattle.verdict_terms.specs.Stages.{Stage, groups_reason, start_exclusions, claimed, placed, to_refute, is_word, tree_token, exceeding_token, exceeding_line, words_line}
 use Rattle.verdict_terms.specs.Stages.Stage.{Placing, Sharing, Taking, Proving, Refuting, Exceeding, Ending}
-use Rattle.verdict_terms.specs.Form.{AreNumberedLines, ArePlaced, AreShared, AreTaken, AreRefuting, IsExceedingLine, AreProved, Backs}
+use Rattle.verdict_terms.specs.Form.{AreNumberedLines, ArePlaced, AreShared, AreTaken, AreRefuting, IsExceedingLine, AreProved, BacksUnder}
 use Rattle.verdict_terms.proofs.Passed.{require_ok, is_word_ok, ok_is}
 use Rattle.verdict_terms.proofs.Walk.{read_words}
 use Rattle.verdict_terms.proofs.BinsGood.{bins_good}
@@ -28,10 +30,10 @@ use Rattle.verdict_terms.proofs.PlacesTold.{group_good, places_good, places_told
 use Rattle.text_terms.proofs.Good.{bind_ok}
 
 -- lines up to `end` that back the claim
-pub record BackedTold (instance : PlainInstance) (claim told : Claim) (lines : List (List (List ℕ))) : Type 0 where
+pub record BackedTold (heading : Heading) (instance : PlainInstance) (claim told : Claim) (lines : List (List (List ℕ))) : Type 0 where
   pub backing : List (List (List ℕ))
   pub are : lines ≡ backing ++ (codes "end" ∷ []) ∷ []
-  pub backs : Backs instance claim backing
+  pub backs : BacksUnder heading instance claim backing
   pub same : claim ≡ told
 
 -- `proof`, and a refutation behind it
@@ -81,7 +83,7 @@ numbered_length key most d (words ∷ lines) (n ∷ ns) places (xs, more, e, lin
     ap length e ∙ omega (arith, a, b, c, r)
 
 shares_backed : (instance : PlainInstance) (claim told : Claim) (k : ℕ) (lines : List (List (List ℕ))) → read_words (Sharing instance claim k [] []) lines ≡ Ok told
-    → (front : List (List (List ℕ))) × (back : List (List (List ℕ))) × (lines ≡ front ++ back) × AreShared instance k front × (read_words (placed claim (to_refute instance claim)) back ≡ Ok told)
+    → (front : List (List (List ℕ))) × (back : List (List (List ℕ))) × (lines ≡ front ++ back) × AreShared instance k front × (read_words (placed claim (to_refute Answer instance claim)) back ≡ Ok told)
 shares_backed instance claim told k lines e =
     let t = shares_told instance claim told k [] [] lines e in (
       t.front,
@@ -102,7 +104,7 @@ worth_enough false e = absurd (cc (e))
 
 takes_backed : (instance : PlainInstance) (claim told : Claim) (value : ℕ) (lines : List (List (List ℕ))) → read_words (Taking instance claim value [] []) lines ≡ Ok told
     → (front : List (List (List ℕ))) × (back : List (List (List ℕ))) × (lines ≡ front ++ (codes "proof" ∷ []) ∷ back) × AreTaken instance value front
-    × (read_words (Refuting claim (begun (to_refute instance claim))) back ≡ Ok told)
+    × (read_words (Refuting claim (begun (to_refute Answer instance claim))) back ≡ Ok told)
 takes_backed instance claim told value lines e =
     let t = takes_told instance claim told value [] [] lines (record { there = λ k d h. absurd (omega arith); rising = λ k h. absurd (omega arith) }) e in
     let r = no_first (groups_reason ((t.more_taken, place_verdict (subset instance t.more_taken) t.more) ∷ [])) (cond (nat_le value (worth instance t.more_taken)) None (Some TooLittle)) t.good in
@@ -175,43 +177,43 @@ exceeding_told instance claim told m (words ∷ lines) few e =
 
 -- ---- each claim
 
-pub backed_told : (instance : PlainInstance) (claim told : Claim) (lines : List (List (List ℕ))) → read_words (claimed instance claim) lines ≡ Ok told → BackedTold instance claim told lines
-backed_told instance Fitting told lines e =
-    let p = places_backed instance Fitting told (to_refute instance Fitting) lines e in
+pub backed_told : (heading : Heading) (instance : PlainInstance) (claim told : Claim) (lines : List (List (List ℕ))) → read_words (claimed heading instance claim) lines ≡ Ok told → BackedTold heading instance claim told lines
+backed_told heading instance Fitting told lines e =
+    let p = places_backed instance Fitting told (to_refute heading instance Fitting) lines e in
     let d = end_told Fitting told None p.1 p.4 in
     record { backing = p.0; are = p.2 ∙ ap (λ ls. p.0 ++ ls) d.are; backs = p.3; same = d.same }
-backed_told instance NotFitting told lines e =
-    let t = refuting_told NotFitting told (ToFit instance) lines e in
+backed_told heading instance NotFitting told lines e =
+    let t = refuting_told NotFitting told (ToFit instance (start_exclusions heading instance)) lines e in
     record { backing = t.body; are = t.are; backs = t.refuting; same = t.same }
-backed_told instance (LeastHeight h) told lines e =
-    let p = places_backed (with_last_side instance h) (LeastHeight h) told (to_refute instance (LeastHeight h)) lines e in
-    let q = proved (ArePlaced (with_last_side instance h)) (LeastHeight h) told (ToFit (with_last_side instance (pred h))) lines p.0 p.1 p.2 p.3 (proof_told (LeastHeight h) told (ToFit (with_last_side instance (pred h))) p.1 p.4) in
+backed_told heading instance (LeastHeight h) told lines e =
+    let p = places_backed (with_last_side instance h) (LeastHeight h) told (to_refute heading instance (LeastHeight h)) lines e in
+    let q = proved (ArePlaced (with_last_side instance h)) (LeastHeight h) told (ToFit (with_last_side instance (pred h)) (start_exclusions heading instance)) lines p.0 p.1 p.2 p.3 (proof_told (LeastHeight h) told (ToFit (with_last_side instance (pred h)) (start_exclusions heading instance)) p.1 p.4) in
     record { backing = q.0; are = q.1; backs = q.2; same = q.3 }
-backed_told instance (HeightBetween a b) told lines e =
-    let p = places_backed (with_last_side instance b) (HeightBetween a b) told (to_refute instance (HeightBetween a b)) lines e in
-    let q = proved (ArePlaced (with_last_side instance b)) (HeightBetween a b) told (ToFit (with_last_side instance a)) lines p.0 p.1 p.2 p.3 (proof_told (HeightBetween a b) told (ToFit (with_last_side instance a)) p.1 p.4) in
+backed_told heading instance (HeightBetween a b) told lines e =
+    let p = places_backed (with_last_side instance b) (HeightBetween a b) told (to_refute heading instance (HeightBetween a b)) lines e in
+    let q = proved (ArePlaced (with_last_side instance b)) (HeightBetween a b) told (ToFit (with_last_side instance a) (start_exclusions heading instance)) lines p.0 p.1 p.2 p.3 (proof_told (HeightBetween a b) told (ToFit (with_last_side instance a) (start_exclusions heading instance)) p.1 p.4) in
     record { backing = q.0; are = q.1; backs = q.2; same = q.3 }
-backed_told instance NoHeight told lines e =
+backed_told heading instance NoHeight told lines e =
     let t = exceeding_told instance NoHeight told (dims instance - 1) lines (omega arith) e in
     record { backing = t.0 ∷ []; are = t.1; backs = t.2; same = t.3 }
-backed_told instance (LeastBins k) told lines e =
+backed_told heading instance (LeastBins k) told lines e =
     let p = shares_backed instance (LeastBins k) told k lines e in
     let q = proved (AreShared instance k) (LeastBins k) told (ToFitIn instance (pred k)) lines p.0 p.1 p.2 p.3 (proof_told (LeastBins k) told (ToFitIn instance (pred k)) p.1 p.4) in
     record { backing = q.0; are = q.1; backs = q.2; same = q.3 }
-backed_told instance (BinsBetween a b) told lines e =
+backed_told heading instance (BinsBetween a b) told lines e =
     let p = shares_backed instance (BinsBetween a b) told b lines e in
     let q = proved (AreShared instance b) (BinsBetween a b) told (ToFitIn instance a) lines p.0 p.1 p.2 p.3 (proof_told (BinsBetween a b) told (ToFitIn instance a) p.1 p.4) in
     record { backing = q.0; are = q.1; backs = q.2; same = q.3 }
-backed_told instance NoBins told lines e =
+backed_told heading instance NoBins told lines e =
     let t = exceeding_told instance NoBins told (dims instance) lines (omega arith) e in
     record { backing = t.0 ∷ []; are = t.1; backs = t.2; same = t.3 }
-backed_told instance (GreatestValue v) told lines e =
+backed_told heading instance (GreatestValue v) told lines e =
     let p = takes_backed instance (GreatestValue v) told v lines e in
     let t = refuting_told (GreatestValue v) told (ToReach instance (suc v)) p.1 p.4 in
     let q = proved (AreTaken instance v) (GreatestValue v) told (ToReach instance (suc v)) lines p.0 ((codes "proof" ∷ []) ∷ p.1) p.2 p.3
     (record { body = t.body; are = ap (λ ls. (codes "proof" ∷ []) ∷ ls) t.are; refuting = t.refuting; same = t.same }) in
     record { backing = q.0; are = q.1; backs = q.2; same = q.3 }
-backed_told instance (ValueBetween a b) told lines e =
+backed_told heading instance (ValueBetween a b) told lines e =
     let p = takes_backed instance (ValueBetween a b) told a lines e in
     let t = refuting_told (ValueBetween a b) told (ToReach instance b) p.1 p.4 in
     let q = proved (AreTaken instance a) (ValueBetween a b) told (ToReach instance b) lines p.0 ((codes "proof" ∷ []) ∷ p.1) p.2 p.3

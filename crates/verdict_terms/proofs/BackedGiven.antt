@@ -13,6 +13,8 @@ use Rattle.check_terms.specs.Judging.{names_box}
 use Rattle.document_terms.specs.declared.claim.Claim.{Claim}
 use Rattle.document_terms.specs.Claims.{job_of}
 use Rattle.document_terms.specs.declared.claim.Claim.TheVariants.{Fitting, NotFitting, LeastHeight, HeightBetween, NoHeight, LeastBins, BinsBetween, NoBins, GreatestValue, ValueBetween}
+use Rattle.verdict_terms.specs.declared.heading.Heading.{Heading}
+use Rattle.verdict_terms.specs.declared.heading.Heading.TheVariants.{Answer}
 use Rattle.verdict_terms.specs.Reasons.{form, range}
 use Rattle.packing_terms.specs.Limits.{most_height}
 use Rattle.document_terms.specs.Claims.{most_worth}
@@ -20,9 +22,9 @@ use Rattle.verdict_terms.specs.Numbers.{require, wanted}
 use Rattle.document_terms.specs.TokenLines.{token_of}
 use Rattle.verdict_terms.specs.Trees.{Refuted, ToFit, ToFitIn, ToReach, begun}
 use Rattle.verdict_terms.specs.Results.{one_claim, two_claim, claim_of}
-use Rattle.verdict_terms.specs.Stages.{claimed, placed, to_refute, is_word, tree_token, exceeding_token, exceeding_line, words_line}
+use Rattle.verdict_terms.specs.Stages.{start_exclusions, claimed, placed, to_refute, is_word, tree_token, exceeding_token, exceeding_line, words_line}
 use Rattle.verdict_terms.specs.Stages.Stage.{Placing, Sharing, Taking, Proving, Refuting, Exceeding, Ending}
-use Rattle.verdict_terms.specs.Form.{IsResult, ArePlaced, AreShared, AreTaken, AreRefuting, IsExceedingLine, Backs}
+use Rattle.verdict_terms.specs.Form.{IsResult, ArePlaced, AreShared, AreTaken, AreRefuting, IsExceedingLine, BacksUnder}
 use Rattle.verdict_terms.proofs.Walk.{read_words}
 use Rattle.verdict_terms.proofs.Taken.{is_same, required, bound, wanted_is}
 use Rattle.verdict_terms.proofs.TreesGiven.{end_given, not_end, refuting_given}
@@ -91,12 +93,12 @@ module _ (instance : PlainInstance) (some_dims : 1 ≤ dims instance) (some_boxe
       places_given target claim refuted [] p.places front back d p.are_lines p.packing.count (some_room (box_count target) (dims target) n d) (no_places_reason target p.places p.packing)
 
   shared_given : (claim : Claim) (k : ℕ) (front back : List (List (List ℕ))) → AreShared instance k front
-      → read_words (Sharing instance claim k [] []) (front ++ back) ≡ read_words (placed claim (to_refute instance claim)) back
+      → read_words (Sharing instance claim k [] []) (front ++ back) ≡ read_words (placed claim (to_refute Answer instance claim)) back
   shared_given claim k front back p =
       shares_given instance claim k [] [] p.bins p.places front back p.are_lines p.packing.count (omega (arith, some_boxes)) (no_bins_reason instance k p.bins p.places p.packing)
 
   taken_given : (claim : Claim) (value : ℕ) (front back : List (List (List ℕ))) → AreTaken instance value front
-      → read_words (Taking instance claim value [] []) (front ++ (codes "proof" ∷ []) ∷ back) ≡ read_words (Refuting claim (begun (to_refute instance claim))) back
+      → read_words (Taking instance claim value [] []) (front ++ (codes "proof" ∷ []) ∷ back) ≡ read_words (Refuting claim (begun (to_refute Answer instance claim))) back
   taken_given claim value front back p =
       takes_given instance claim value [] [] p.taken p.places front back p.are_lines p.set.rising (no_taken_reason instance value p.taken p.places p.packing p.enough)
 
@@ -116,32 +118,32 @@ module _ (instance : PlainInstance) (some_dims : 1 ≤ dims instance) (some_boxe
   higher_dims : (h : ℕ) → dims (with_last_side instance h) ≡ dims instance
   higher_dims h = length-set instance.container (dims instance - 1) h
 
-  pub backed_given : (claim : Claim) (lines : List (List (List ℕ))) → Backs instance claim lines → read_words (claimed instance claim) (lines ++ (codes "end" ∷ []) ∷ []) ≡ Ok claim
-  backed_given Fitting lines b = placed_given instance Fitting (to_refute instance Fitting) lines ((codes "end" ∷ []) ∷ []) refl refl b ∙ end_given Fitting None
-  backed_given NotFitting lines b = refuting_given NotFitting (ToFit instance) lines b
-  backed_given (LeastHeight h) lines b =
-      ap (read_words (claimed instance (LeastHeight h))) (joined b.front b.back lines b.are)
-      ∙ placed_given (with_last_side instance h) (LeastHeight h) (ToFit (with_last_side instance (pred h))) b.front ((codes "proof" ∷ []) ∷ (b.back ++ (codes "end" ∷ []) ∷ [])) (higher_dims h) refl b.is_front
-      ∙ proof_given (LeastHeight h) (ToFit (with_last_side instance (pred h))) b.back b.is_back
-  backed_given (HeightBetween x y) lines b =
-      ap (read_words (claimed instance (HeightBetween x y))) (joined b.front b.back lines b.are)
-      ∙ placed_given (with_last_side instance y) (HeightBetween x y) (ToFit (with_last_side instance x)) b.front ((codes "proof" ∷ []) ∷ (b.back ++ (codes "end" ∷ []) ∷ [])) (higher_dims y) refl b.is_front
-      ∙ proof_given (HeightBetween x y) (ToFit (with_last_side instance x)) b.back b.is_back
-  backed_given NoHeight lines b = exceeding_given NoHeight (dims instance - 1) lines b
-  backed_given (LeastBins k) lines b =
-      ap (read_words (claimed instance (LeastBins k))) (joined b.front b.back lines b.are)
+  pub backed_given : (heading : Heading) (claim : Claim) (lines : List (List (List ℕ))) → BacksUnder heading instance claim lines → read_words (claimed heading instance claim) (lines ++ (codes "end" ∷ []) ∷ []) ≡ Ok claim
+  backed_given heading Fitting lines b = placed_given instance Fitting (to_refute heading instance Fitting) lines ((codes "end" ∷ []) ∷ []) refl refl b ∙ end_given Fitting None
+  backed_given heading NotFitting lines b = refuting_given NotFitting (ToFit instance (start_exclusions heading instance)) lines b
+  backed_given heading (LeastHeight h) lines b =
+      ap (read_words (claimed heading instance (LeastHeight h))) (joined b.front b.back lines b.are)
+      ∙ placed_given (with_last_side instance h) (LeastHeight h) (ToFit (with_last_side instance (pred h)) (start_exclusions heading instance)) b.front ((codes "proof" ∷ []) ∷ (b.back ++ (codes "end" ∷ []) ∷ [])) (higher_dims h) refl b.is_front
+      ∙ proof_given (LeastHeight h) (ToFit (with_last_side instance (pred h)) (start_exclusions heading instance)) b.back b.is_back
+  backed_given heading (HeightBetween x y) lines b =
+      ap (read_words (claimed heading instance (HeightBetween x y))) (joined b.front b.back lines b.are)
+      ∙ placed_given (with_last_side instance y) (HeightBetween x y) (ToFit (with_last_side instance x) (start_exclusions heading instance)) b.front ((codes "proof" ∷ []) ∷ (b.back ++ (codes "end" ∷ []) ∷ [])) (higher_dims y) refl b.is_front
+      ∙ proof_given (HeightBetween x y) (ToFit (with_last_side instance x) (start_exclusions heading instance)) b.back b.is_back
+  backed_given heading NoHeight lines b = exceeding_given NoHeight (dims instance - 1) lines b
+  backed_given heading (LeastBins k) lines b =
+      ap (read_words (claimed heading instance (LeastBins k))) (joined b.front b.back lines b.are)
       ∙ shared_given (LeastBins k) k b.front ((codes "proof" ∷ []) ∷ (b.back ++ (codes "end" ∷ []) ∷ [])) b.is_front
       ∙ proof_given (LeastBins k) (ToFitIn instance (pred k)) b.back b.is_back
-  backed_given (BinsBetween x y) lines b =
-      ap (read_words (claimed instance (BinsBetween x y))) (joined b.front b.back lines b.are)
+  backed_given heading (BinsBetween x y) lines b =
+      ap (read_words (claimed heading instance (BinsBetween x y))) (joined b.front b.back lines b.are)
       ∙ shared_given (BinsBetween x y) y b.front ((codes "proof" ∷ []) ∷ (b.back ++ (codes "end" ∷ []) ∷ [])) b.is_front
       ∙ proof_given (BinsBetween x y) (ToFitIn instance x) b.back b.is_back
-  backed_given NoBins lines b = exceeding_given NoBins (dims instance) lines b
-  backed_given (GreatestValue v) lines b =
-      ap (read_words (claimed instance (GreatestValue v))) (joined b.front b.back lines b.are)
+  backed_given heading NoBins lines b = exceeding_given NoBins (dims instance) lines b
+  backed_given heading (GreatestValue v) lines b =
+      ap (read_words (claimed heading instance (GreatestValue v))) (joined b.front b.back lines b.are)
       ∙ taken_given (GreatestValue v) v b.front (b.back ++ (codes "end" ∷ []) ∷ []) b.is_front
       ∙ refuting_given (GreatestValue v) (ToReach instance (suc v)) b.back b.is_back
-  backed_given (ValueBetween x y) lines b =
-      ap (read_words (claimed instance (ValueBetween x y))) (joined b.front b.back lines b.are)
+  backed_given heading (ValueBetween x y) lines b =
+      ap (read_words (claimed heading instance (ValueBetween x y))) (joined b.front b.back lines b.are)
       ∙ taken_given (ValueBetween x y) x b.front (b.back ++ (codes "end" ∷ []) ∷ []) b.is_front
       ∙ refuting_given (ValueBetween x y) (ToReach instance y) b.back b.is_back

@@ -50,7 +50,7 @@ job_front word =
 pub heading_cut : (heading : Heading) (word : List ℕ) (words : List (List ℕ)) → heading_line heading (take 21 word ∷ cut_rest words) ≡ heading_line heading (word ∷ words)
 heading_cut heading word [] = refl
 heading_cut Answer word (job ∷ []) = rw (same_front 21 word (codes "answer") (omega arith), job_front job) refl
-heading_cut Reduced word (job ∷ []) = rw (same_front 21 word (codes "reduced") (omega arith), same_front 21 job (codes "fit") (omega arith)) refl
+heading_cut Reduced word (job ∷ []) = rw (same_front 21 word (codes "reduced") (omega arith), same_front 21 job (codes "fit") (omega arith), same_front 21 job (codes "strip") (omega arith)) refl
 heading_cut heading word (job ∷ other ∷ words) = refl
 
 none_front : (claim : Claim) (word : List ℕ) → none_claim claim (take 21 word) ≡ none_claim claim word

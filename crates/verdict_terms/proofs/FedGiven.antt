@@ -20,33 +20,33 @@ use Rattle.document_terms.specs.declared.claim.SolvingJob.{SolvingJob}
 use Rattle.document_terms.specs.declared.claim.Claim.{Claim}
 use Rattle.document_terms.specs.declared.claim.Claim.TheVariants.{Fitting, NotFitting, LeastHeight, HeightBetween, NoHeight, LeastBins, BinsBetween, NoBins, GreatestValue, ValueBetween}
 use Rattle.verdict_terms.specs.declared.heading.Heading.{Heading}
-use Rattle.verdict_terms.specs.declared.heading.Heading.TheVariants.{Answer, Reduced}
+use Rattle.verdict_terms.specs.declared.heading.Heading.TheVariants.{Answer}
 use Rattle.verdict_terms.specs.declared.reason.Reason.{Reason}
 use Rattle.verdict_terms.specs.Reasons.{form, range}
 use Rattle.verdict_terms.specs.Numbers.{require, numbers_line, coordinates}
 use Rattle.document_terms.specs.TokenLines.{token_of}
 use Rattle.document_terms.proofs.Cuts.{token_cut, cut_rest}
-use Rattle.verdict_terms.specs.Trees.{Refuted, Tree, begun, is_whole, tree_dims, tree_after, refuted_by}
+use Rattle.verdict_terms.specs.Trees.{Refuted, Tree, begun, is_whole, refuted_dims, tree_dims, tree_after}
 use Rattle.verdict_terms.specs.Results.{claim_of}
-use Rattle.verdict_terms.specs.Stages.{Stage, text_fault, end_of_parts, is_result, reading_line, rest_of, words_line, share_line, take_box_line, exceeding_token, refused_by, places_reason, bins_reason, taken_reason, to_refute, is_word, tree_token, coded, late_line, late_by, grown_tree, placed, claimed, claimed_under, filled_line, stage_after, is_blank}
+use Rattle.verdict_terms.specs.Stages.{Stage, text_fault, end_of_parts, is_result, reading_line, rest_of, words_line, share_line, take_box_line, exceeding_token, refused_by, places_reason, bins_reason, taken_reason, to_refute, is_word, tree_token, coded, late_line, late_by, grown_tree, placed, claimed, filled_line, stage_after, is_blank}
 use Rattle.verdict_terms.specs.Stages.Stage.{Beginning, Reading, Placing, Sharing, Taking, Proving, Refuting, Exceeding, Ending, Ended}
 use Rattle.verdict_terms.specs.Documents.{Refusal, document_at_line, document_at_end, read_document_lines, headed_verdict}
 use Rattle.verdict_terms.specs.Fed.{taken_line, fed_verdict, DocumentsAreFed}
 use Rattle.verdict_terms.proofs.Passed.{require_ok, refused_ok, ok_is}
 use Rattle.verdict_terms.proofs.Cuts.{numbers_cut, is_word_cut, heading_cut, claim_cut}
 use Rattle.verdict_terms.proofs.FormTold.{heading_ok, end_ok, fault_ok}
-use Rattle.verdict_terms.proofs.TreesTold.{refuted_same, refuted_begun, coded_ok}
+use Rattle.verdict_terms.proofs.TreesTold.{dims_same, dims_begun, coded_ok}
 
 -- ---- what holds of a stage: no more than four dimensions
 
 abbrev IsWell : Stage → Type 0
 IsWell (Beginning heading) = Unit {0}
 IsWell (Reading heading job parts) = IsWithinLimits parts
-IsWell (Placing instance claim refuted places) = (dims instance ≤ 4) × (tree_dims refuted ≤ 4)
+IsWell (Placing instance claim refuted places) = (dims instance ≤ 4) × (refuted_dims refuted ≤ 4)
 IsWell (Sharing instance claim k bins places) = dims instance ≤ 4
 IsWell (Taking instance claim value taken places) = dims instance ≤ 4
-IsWell (Proving claim refuted) = tree_dims refuted ≤ 4
-IsWell (Refuting claim tree) = tree_dims (refuted_by tree) ≤ 4
+IsWell (Proving claim refuted) = refuted_dims refuted ≤ 4
+IsWell (Refuting claim tree) = tree_dims tree ≤ 4
 IsWell (Exceeding instance claim m) = dims instance ≤ 4
 IsWell (Ending claim (Some d)) = d ≤ 4
 IsWell (Ending claim None) = Unit {0}
@@ -56,43 +56,31 @@ module _ (instance : PlainInstance) (few : dims instance ≤ 4) where
   higher : (h : ℕ) → dims (with_last_side instance h) ≤ 4
   higher h = let e = length-set instance.container (dims instance - 1) h in omega (arith, e, few)
 
-  refute_well : (claim : Claim) → tree_dims (to_refute instance claim) ≤ 4
-  refute_well Fitting = few
-  refute_well NotFitting = few
-  refute_well (LeastHeight h) = higher (pred h)
-  refute_well (HeightBetween a b) = higher a
-  refute_well NoHeight = few
-  refute_well (LeastBins k) = few
-  refute_well (BinsBetween a b) = few
-  refute_well NoBins = few
-  refute_well (GreatestValue v) = few
-  refute_well (ValueBetween a b) = few
+  refute_well : (heading : Heading) (claim : Claim) → refuted_dims (to_refute heading instance claim) ≤ 4
+  refute_well heading Fitting = few
+  refute_well heading NotFitting = few
+  refute_well heading (LeastHeight h) = higher (pred h)
+  refute_well heading (HeightBetween a b) = higher a
+  refute_well heading NoHeight = few
+  refute_well heading (LeastBins k) = few
+  refute_well heading (BinsBetween a b) = few
+  refute_well heading NoBins = few
+  refute_well heading (GreatestValue v) = few
+  refute_well heading (ValueBetween a b) = few
 
-  claimed_well : (claim : Claim) → IsWell (claimed instance claim)
-  claimed_well Fitting = (few, few)
-  claimed_well NotFitting = few
-  claimed_well (LeastHeight h) = (higher h, higher (pred h))
-  claimed_well (HeightBetween a b) = (higher b, higher a)
-  claimed_well NoHeight = few
-  claimed_well (LeastBins k) = few
-  claimed_well (BinsBetween a b) = few
-  claimed_well NoBins = few
-  claimed_well (GreatestValue v) = few
-  claimed_well (ValueBetween a b) = few
+  claimed_well : (heading : Heading) (claim : Claim) → IsWell (claimed heading instance claim)
+  claimed_well heading Fitting = (few, few)
+  claimed_well heading NotFitting = few
+  claimed_well heading (LeastHeight h) = (higher h, higher (pred h))
+  claimed_well heading (HeightBetween a b) = (higher b, higher a)
+  claimed_well heading NoHeight = few
+  claimed_well heading (LeastBins k) = few
+  claimed_well heading (BinsBetween a b) = few
+  claimed_well heading NoBins = few
+  claimed_well heading (GreatestValue v) = few
+  claimed_well heading (ValueBetween a b) = few
 
-  under_well : (heading : Heading) (claim : Claim) → IsWell (claimed_under heading instance claim)
-  under_well heading Fitting = claimed_well Fitting
-  under_well heading NotFitting = few
-  under_well heading (LeastHeight h) = claimed_well (LeastHeight h)
-  under_well heading (HeightBetween a b) = claimed_well (HeightBetween a b)
-  under_well heading NoHeight = claimed_well NoHeight
-  under_well heading (LeastBins k) = claimed_well (LeastBins k)
-  under_well heading (BinsBetween a b) = claimed_well (BinsBetween a b)
-  under_well heading NoBins = claimed_well NoBins
-  under_well heading (GreatestValue v) = claimed_well (GreatestValue v)
-  under_well heading (ValueBetween a b) = claimed_well (ValueBetween a b)
-
-placed_well : (claim : Claim) (refuted : Refuted) → tree_dims refuted ≤ 4 → IsWell (placed claim refuted)
+placed_well : (claim : Claim) (refuted : Refuted) → refuted_dims refuted ≤ 4 → IsWell (placed claim refuted)
 placed_well Fitting refuted few = tt
 placed_well NotFitting refuted few = few
 placed_well (LeastHeight h) refuted few = few
@@ -104,8 +92,8 @@ placed_well NoBins refuted few = few
 placed_well (GreatestValue v) refuted few = few
 placed_well (ValueBetween a b) refuted few = few
 
-begun_well : (refuted : Refuted) → tree_dims refuted ≤ 4 → tree_dims (refuted_by (begun refuted)) ≤ 4
-begun_well refuted few = subst (λ r. tree_dims r ≤ 4) (sym (refuted_begun refuted)) few
+begun_well : (refuted : Refuted) → refuted_dims refuted ≤ 4 → tree_dims (begun refuted) ≤ 4
+begun_well refuted few = subst (λ m. m ≤ 4) (sym (dims_begun refuted)) few
 
 abbrev GivesWell : Result Stage Reason → Type 0
 GivesWell r = (next : Stage) → r ≡ Ok next → IsWell next
@@ -113,10 +101,10 @@ GivesWell r = (next : Stage) → r ≡ Ok next → IsWell next
 gives_well : (stage : Stage) → IsWell stage → GivesWell (Ok stage)
 gives_well stage well next e = subst IsWell (ok_is stage next e) well
 
-grown_well : (claim : Claim) (tree : Tree) → tree_dims (refuted_by tree) ≤ 4 → IsWell (grown_tree claim tree)
+grown_well : (claim : Claim) (tree : Tree) → tree_dims tree ≤ 4 → IsWell (grown_tree claim tree)
 grown_well claim tree few = go (is_whole tree)
   where
-    go : (b : Bool) → IsWell (cond b (Ending claim (Some (tree_dims (refuted_by tree)))) (Refuting claim tree))
+    go : (b : Bool) → IsWell (cond b (Ending claim (Some (tree_dims tree))) (Refuting claim tree))
     go true = few
     go false = few
 
@@ -130,8 +118,8 @@ share_well instance claim k bins places [] few next e = absurd (cc (e))
 share_well instance claim k bins places (b ∷ ns) few next e =
     let q = require_ok (nat_le 1 b && nat_le b k) range _ next e in
     let c = bind_ok (coordinates ns) _ next q.1 in
-    place_well (length (bins ++ pred b ∷ []) == box_count instance) (bins_reason instance k (bins ++ pred b ∷ []) (places ++ c.0)) (placed claim (to_refute instance claim))
-    (Sharing instance claim k (bins ++ pred b ∷ []) (places ++ c.0)) (placed_well claim (to_refute instance claim) (refute_well instance few claim)) few next c.2
+    place_well (length (bins ++ pred b ∷ []) == box_count instance) (bins_reason instance k (bins ++ pred b ∷ []) (places ++ c.0)) (placed claim (to_refute Answer instance claim))
+    (Sharing instance claim k (bins ++ pred b ∷ []) (places ++ c.0)) (placed_well claim (to_refute Answer instance claim) (refute_well instance few Answer claim)) few next c.2
 
 take_well : (instance : PlainInstance) (claim : Claim) (value : ℕ) (taken places ns : List ℕ) → dims instance ≤ 4 → GivesWell (take_box_line instance claim value taken places ns)
 take_well instance claim value taken places [] few next e = absurd (cc (e))
@@ -142,12 +130,12 @@ take_well instance claim value taken places (v ∷ ns) few next e =
 
 taking_well : (instance : PlainInstance) (claim : Claim) (value : ℕ) (taken places : List ℕ) (words : List (List ℕ)) (b : Bool) → dims instance ≤ 4
     → GivesWell (elim b as (λ x. Result Stage Reason) [
-      | true ↦ refused_by (taken_reason instance value taken places) (Ok (Refuting claim (begun (to_refute instance claim))))
+      | true ↦ refused_by (taken_reason instance value taken places) (Ok (Refuting claim (begun (to_refute Answer instance claim))))
       | false ↦ numbers_line (codes "take") (suc (dims instance)) words >>= λ ns. take_box_line instance claim value taken places ns
     ])
 taking_well instance claim value taken places words true few next e =
-    gives_well (Refuting claim (begun (to_refute instance claim))) (begun_well (to_refute instance claim) (refute_well instance few claim)) next
-    (refused_ok (taken_reason instance value taken places) (Ok (Refuting claim (begun (to_refute instance claim)))) next e).1
+    gives_well (Refuting claim (begun (to_refute Answer instance claim))) (begun_well (to_refute Answer instance claim) (refute_well instance few Answer claim)) next
+    (refused_ok (taken_reason instance value taken places) (Ok (Refuting claim (begun (to_refute Answer instance claim)))) next e).1
 taking_well instance claim value taken places words false few next e =
     let n = bind_ok (numbers_line (codes "take") (suc (dims instance)) words) (λ ns. take_box_line instance claim value taken places ns) next e in
     take_well instance claim value taken places n.0 few next n.2
@@ -181,9 +169,9 @@ words_well (Taking i c v t p) words well next e = taking_well i c v t p words (i
 words_well (Proving c r) words well next e =
     gives_well (Refuting c (begun r)) (begun_well r well) next (require_ok (is_word (codes "proof") words) form (Ok (Refuting c (begun r))) next e).1
 words_well (Refuting c t) words well next e =
-    let b = bind_ok (tree_token (is_word (codes "end") words) (token_of (tree_dims (refuted_by t)) words)) (λ x. coded (tree_after t x) >>= λ more. Ok (grown_tree c more)) next e in
+    let b = bind_ok (tree_token (is_word (codes "end") words) (token_of (tree_dims t) words)) (λ x. coded (tree_after t x) >>= λ more. Ok (grown_tree c more)) next e in
     let m = bind_ok (coded (tree_after t b.0)) (λ more. Ok (grown_tree c more)) next b.2 in
-    gives_well (grown_tree c m.0) (grown_well c m.0 (subst (λ r. tree_dims r ≤ 4) (sym (refuted_same t m.0 b.0 (coded_ok (tree_after t b.0) m.0 m.1))) well)) next m.2
+    gives_well (grown_tree c m.0) (grown_well c m.0 (subst (λ n. n ≤ 4) (sym (dims_same t m.0 b.0 (coded_ok (tree_after t b.0) m.0 m.1))) well)) next m.2
 words_well (Exceeding i c m) words well next e =
     let b = bind_ok (tree_token (is_word (codes "end") words) (token_of (dims i) words)) (λ x. exceeding_token i c m x) next e in exceeding_well i c m b.0 well next b.2
 words_well (Ending c b) words well next e = gives_well (Ended c) tt next (require_ok (is_word (codes "end") words) (late_line b words) (Ok (Ended c)) next e).1
@@ -191,10 +179,10 @@ words_well (Ended c) words well next e = absurd (cc (e))
 
 reading_well : (b : Bool) (heading : Heading) (job : SolvingJob) (parts : Parts) (line : Line) → IsWithinLimits parts → GivesWell (reading_line b heading job parts line)
 reading_well true heading job parts line well next e =
-    let i = bind_ok (end_of_parts (end_of parts 0)) (λ instance. claim_of job instance (rest_of line.words) >>= λ claim. Ok (claimed_under heading instance claim)) next e in
-    let c = bind_ok (claim_of job i.0 (rest_of line.words)) (λ claim. Ok (claimed_under heading i.0 claim)) next i.2 in
+    let i = bind_ok (end_of_parts (end_of parts 0)) (λ instance. claim_of job instance (rest_of line.words) >>= λ claim. Ok (claimed heading instance claim)) next e in
+    let c = bind_ok (claim_of job i.0 (rest_of line.words)) (λ claim. Ok (claimed heading i.0 claim)) next i.2 in
     let limits = parts_limits parts i.0 0 well (end_ok (end_of parts 0) i.0 i.1) in
-    gives_well (claimed_under heading i.0 c.0) (under_well i.0 limits.dimensions.1 heading c.0) next c.2
+    gives_well (claimed heading i.0 c.0) (claimed_well i.0 limits.dimensions.1 heading c.0) next c.2
 reading_well false heading job parts line well next e =
     let m = bind_ok (text_fault (add_line parts line)) (λ more. Ok (Reading heading job more)) next e in
     gives_well (Reading heading job m.0) (line_good parts m.0 line well (fault_ok (add_line parts line) m.0 m.1)) next m.2
@@ -233,7 +221,7 @@ behind_numbers instance claim refuted places ns =
 abbrev behind_taking : PlainInstance → Claim → ℕ → List ℕ → List ℕ → Bool → Result (List ℕ) Reason → Result Stage Reason
 behind_taking instance claim value taken places b r =
     elim b [
-      | true ↦ refused_by (taken_reason instance value taken places) (Ok (Refuting claim (begun (to_refute instance claim))))
+      | true ↦ refused_by (taken_reason instance value taken places) (Ok (Refuting claim (begun (to_refute Answer instance claim))))
       | false ↦ r >>= λ ns. take_box_line instance claim value taken places ns
     ]
 
@@ -248,7 +236,7 @@ words_told (Taking i c v t p) w ws well =
     ap₂ (λ b x. behind_taking i c v t p b x) (is_word_cut (codes "proof") w ws (omega arith)) (numbers_cut (codes "take") (suc (dims i)) w ws (omega arith) (omega (arith, well)))
 words_told (Proving c r) w ws well = ap (λ b. require b form (Ok (Refuting c (begun r)))) (is_word_cut (codes "proof") w ws (omega arith))
 words_told (Refuting c t) w ws well =
-    ap₂ (λ b o. tree_token b o >>= λ x. coded (tree_after t x) >>= λ more. Ok (grown_tree c more)) (is_word_cut (codes "end") w ws (omega arith)) (token_cut (tree_dims (refuted_by t)) w ws well)
+    ap₂ (λ b o. tree_token b o >>= λ x. coded (tree_after t x) >>= λ more. Ok (grown_tree c more)) (is_word_cut (codes "end") w ws (omega arith)) (token_cut (tree_dims t) w ws well)
 words_told (Exceeding i c m) w ws well =
     ap₂ (λ b o. tree_token b o >>= λ x. exceeding_token i c m x) (is_word_cut (codes "end") w ws (omega arith)) (token_cut (dims i) w ws well)
 words_told (Ending c (Some d)) w ws well =
@@ -263,7 +251,7 @@ reading_told_by heading job parts w ws n m well =
     ∙ go (same_bytes w (codes "result"))
   where
     go : (b : Bool) → reading_line b heading job parts (record { bad = false; count = n; words = take 21 w ∷ cut_rest ws }) ≡ reading_line b heading job parts (record { bad = false; count = m; words = w ∷ ws })
-    go true = ap (λ (f : PlainInstance → Result Claim Reason). end_of_parts (end_of parts 0) >>= λ instance. f instance >>= λ claim. Ok (claimed_under heading instance claim)) (fun_ext (λ instance. claim_cut job instance ws))
+    go true = ap (λ (f : PlainInstance → Result Claim Reason). end_of_parts (end_of parts 0) >>= λ instance. f instance >>= λ claim. Ok (claimed heading instance claim)) (fun_ext (λ instance. claim_cut job instance ws))
     go false = ap (λ r. text_fault (refuse false 8 r) >>= λ more. Ok (Reading heading job more)) (words_cut parts (w ∷ ws) well.few)
 
 filled_told : (stage : Stage) (bad : Bool) (w : List ℕ) (ws : List (List ℕ)) (n m : ℕ) → IsWell stage

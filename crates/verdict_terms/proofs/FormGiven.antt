@@ -1,10 +1,10 @@
 -- A text that has the form of a document is verified.
-use Rattle.std.proofs.Common.{◌≡◌, ℕ, ◌+◌, ◌≤◌, refl, sym, ap, ap₂, subst, ◌∙◌, arith, Bool, true, false, cond, List, [], ◌∷◌, ◌++◌, length, Result, Ok, Err, codes}
+use Rattle.std.proofs.Common.{◌≡◌, ℕ, ◌+◌, refl, sym, ap, ap₂, subst, ◌∙◌, arith, Bool, true, false, cond, List, [], ◌∷◌, ◌++◌, length, Result, Ok, Err, codes}
 use Rattle.std.specs.List.{list_any}
 use Rattle.std.specs.Prelude.{◌==◌}
 use Rattle.std.proofs.lemmas.Bool.{or_parts, and_right}
 use Rattle.std.proofs.lemmas.List.Folds.{list_any-append}
-use Rattle.packing_terms.specs.Packing.{PlainInstance, dims, box_count}
+use Rattle.packing_terms.specs.Packing.{PlainInstance}
 use Rattle.packing_terms.specs.Limits.{IsInstance}
 use Rattle.text_terms.specs.Lines.{text_lines, line_of, content, is_bad, words_of, same_bytes}
 use Rattle.text_terms.specs.Codes.{unknown_word}
@@ -21,18 +21,16 @@ use Rattle.document_terms.specs.Claims.{job_of, job_word}
 use Rattle.document_terms.specs.declared.claim.SolvingJob.TheVariants.{Fit, Strip, Bins, Knapsack}
 use Rattle.verdict_terms.specs.declared.heading.Heading.{Heading}
 use Rattle.verdict_terms.specs.declared.heading.Heading.TheVariants.{Answer, Reduced}
-use Rattle.document_terms.specs.declared.claim.Claim.TheVariants.{Fitting, NotFitting, LeastHeight, HeightBetween, NoHeight, LeastBins, BinsBetween, NoBins, GreatestValue, ValueBetween}
 use Rattle.verdict_terms.specs.Results.{claim_of}
-use Rattle.verdict_terms.specs.Stages.{Stage, claimed_under, heading_word, heading_line, text_fault, end_of_parts, reading_line, stage_after}
+use Rattle.verdict_terms.specs.Stages.{Stage, claimed, heading_word, heading_line, text_fault, end_of_parts, reading_line, stage_after}
 use Rattle.verdict_terms.specs.Stages.Stage.{Beginning, Reading}
 use Rattle.verdict_terms.specs.Documents.{read_document_lines, headed_verdict}
-use Rattle.verdict_terms.specs.Form.{BacksUnder, IsHeadedDocument, DocumentsHaveForm}
+use Rattle.verdict_terms.specs.Form.{MayName, IsHeadedDocument, DocumentsHaveForm}
 use Rattle.verdict_terms.proofs.Passed.{ok_is}
 use Rattle.verdict_terms.proofs.Walk.{read_words}
 use Rattle.verdict_terms.proofs.Taken.{is_same, bound, line_taken, words_taken}
-use Rattle.verdict_terms.proofs.FormTold.{IsHeaded, any_end, claimed_later, claimed_answer, form_told}
+use Rattle.verdict_terms.proofs.FormTold.{any_end, claimed_later, form_told}
 use Rattle.verdict_terms.proofs.BackedGiven.{result_given, backed_given}
-use Rattle.verdict_terms.proofs.ReducedTrees.{no_given}
 
 -- where a line stands among those that aren't blank
 pub record SplitAt (lines : List (List ℕ)) (front : List (List (List ℕ))) (words : List (List ℕ)) (back : List (List (List ℕ))) : Type 0 where
@@ -100,16 +98,16 @@ blanks_taken stage n (line ∷ before) rest clean none =
         (l.0, line_taken stage stage n line (before ++ rest) (stage_by stage line [] (or_parts _ _ clean).0 is) ∙ l.1)
     by_words_of (w ∷ ws) is none later = absurd (cc (none))
 
-heading_is : (heading : Heading) (job : SolvingJob) → IsHeaded heading job → heading_line heading (heading_word heading ∷ job_word job ∷ []) ≡ Ok (Reading heading job no_parts)
+heading_is : (heading : Heading) (job : SolvingJob) → MayName heading job → heading_line heading (heading_word heading ∷ job_word job ∷ []) ≡ Ok (Reading heading job no_parts)
 unfolding same_bytes
 heading_is Answer Fit h = refl
 heading_is Answer Strip h = refl
 heading_is Answer Bins h = refl
 heading_is Answer Knapsack h = refl
 heading_is Reduced Fit h = refl
-heading_is Reduced Strip h = absurd (cc (h))
-heading_is Reduced Bins h = absurd (cc (h))
-heading_is Reduced Knapsack h = absurd (cc (h))
+heading_is Reduced Strip h = refl
+heading_is Reduced Bins h = absurd h
+heading_is Reduced Knapsack h = absurd h
 
 -- ---- the lines of the instance
 
@@ -132,18 +130,18 @@ no_result parts c w ws more e = go (same_bytes w (codes "result")) refl
 reading_given : (heading : Heading) (job : SolvingJob) (parts : Parts) (n k : ℕ) (before : List (List ℕ)) (line : List ℕ) (after : List (List ℕ)) (words : List (List ℕ)) (instance : PlainInstance) (claim : Claim)
     → read_instance_lines parts k before ≡ Ok instance → list_any is_bad (content line) ≡ false → words_of (content line) ≡ codes "result" ∷ words
     → claim_of job instance words ≡ Ok claim
-    → (m : ℕ) × (read_document_lines (Reading heading job parts) n (before ++ line ∷ after) ≡ read_document_lines (claimed_under heading instance claim) m after)
+    → (m : ℕ) × (read_document_lines (Reading heading job parts) n (before ++ line ∷ after) ≡ read_document_lines (claimed heading instance claim) m after)
 reading_given heading job parts n k [] line after words instance claim reads bad is says = (
   n + 1,
-  line_taken (Reading heading job parts) (claimed_under heading instance claim) n line after
+  line_taken (Reading heading job parts) (claimed heading instance claim) n line after
       (stage_by (Reading heading job parts) line (codes "result" ∷ words) bad is ∙ result_is),
 )
   where
-    result_is : stage_after (Reading heading job parts) (record { bad = false; count = length (codes "result" ∷ words); words = codes "result" ∷ words }) ≡ Ok (claimed_under heading instance claim)
+    result_is : stage_after (Reading heading job parts) (record { bad = false; count = length (codes "result" ∷ words); words = codes "result" ∷ words }) ≡ Ok (claimed heading instance claim)
     result_is =
         ap (λ b. reading_line b heading job parts (record { bad = false; count = length (codes "result" ∷ words); words = codes "result" ∷ words })) (is_same (codes "result"))
-        ∙ bound (end_of_parts (end_of parts 0)) instance (λ instance. claim_of job instance words >>= λ claim. Ok (claimed_under heading instance claim)) (ap end_of_parts (any_end parts k 0 instance reads))
-        ∙ bound (claim_of job instance words) claim (λ claim. Ok (claimed_under heading instance claim)) says
+        ∙ bound (end_of_parts (end_of parts 0)) instance (λ instance. claim_of job instance words >>= λ claim. Ok (claimed heading instance claim)) (ap end_of_parts (any_end parts k 0 instance reads))
+        ∙ bound (claim_of job instance words) claim (λ claim. Ok (claimed heading instance claim)) says
 reading_given heading job parts n k (first ∷ before) line after words instance claim reads bad is says =
     let b = bind_ok (on_line (k + 1) (add_line parts (line_of first))) (λ more. read_instance_lines more (k + 1) before) instance reads in
     by_parts b.0 (adds_ok (add_line parts (line_of first)) b.0 b.1) b.2 (list_any is_bad (content first)) (words_of (content first)) refl refl
@@ -156,8 +154,8 @@ reading_given heading job parts n k (first ∷ before) line after words instance
     by_parts : (more : Parts) → add_line parts (line_of first) ≡ Ok more → read_instance_lines more (k + 1) before ≡ Ok instance → (b : Bool) (ws : List (List ℕ))
         → list_any is_bad (content first) ≡ b → words_of (content first) ≡ ws
         → ((next : Parts) → read_instance_lines next (k + 1) before ≡ Ok instance
-        → (m : ℕ) × (read_document_lines (Reading heading job next) (n + 1) (before ++ line ∷ after) ≡ read_document_lines (claimed_under heading instance claim) m after))
-        → (m : ℕ) × (read_document_lines (Reading heading job parts) n (first ∷ (before ++ line ∷ after)) ≡ read_document_lines (claimed_under heading instance claim) m after)
+        → (m : ℕ) × (read_document_lines (Reading heading job next) (n + 1) (before ++ line ∷ after) ≡ read_document_lines (claimed heading instance claim) m after))
+        → (m : ℕ) × (read_document_lines (Reading heading job parts) n (first ∷ (before ++ line ∷ after)) ≡ read_document_lines (claimed heading instance claim) m after)
     by_parts more adds rest true ws f g go =
         absurd (let h : ◌≡◌ {A = Result Parts ℕ} (Err 8) (Ok more) = ap (λ b. refuse b 8 (by_words parts (words_of (content first)))) (sym f) ∙ adds in cc (h))
     by_parts more adds rest false [] f g go =
@@ -177,35 +175,6 @@ reading_given heading job parts n k (first ∷ before) line after words instance
 
 -- ---- the whole
 
--- what is claimed under a heading is of a job of that heading
-claim_headed : (heading : Heading) (instance : PlainInstance) (claim : Claim) (lines : List (List (List ℕ))) → BacksUnder heading instance claim lines → IsHeaded heading (job_of claim)
-claim_headed Answer instance claim lines b = tt
-claim_headed Reduced instance Fitting lines b = refl
-claim_headed Reduced instance NotFitting lines b = refl
-claim_headed Reduced instance (LeastHeight h) lines b = absurd b
-claim_headed Reduced instance (HeightBetween x y) lines b = absurd b
-claim_headed Reduced instance NoHeight lines b = absurd b
-claim_headed Reduced instance (LeastBins k) lines b = absurd b
-claim_headed Reduced instance (BinsBetween x y) lines b = absurd b
-claim_headed Reduced instance NoBins lines b = absurd b
-claim_headed Reduced instance (GreatestValue v) lines b = absurd b
-claim_headed Reduced instance (ValueBetween x y) lines b = absurd b
-
-backed_headed : (heading : Heading) (instance : PlainInstance) → 1 ≤ dims instance → 1 ≤ box_count instance → (claim : Claim) (lines : List (List (List ℕ))) → BacksUnder heading instance claim lines
-    → read_words (claimed_under heading instance claim) (lines ++ (codes "end" ∷ []) ∷ []) ≡ Ok claim
-backed_headed Answer instance d n claim lines b =
-    ap (λ s. read_words s (lines ++ (codes "end" ∷ []) ∷ [])) (claimed_answer instance claim) ∙ backed_given instance d n claim lines b
-backed_headed Reduced instance d n Fitting lines b = backed_given instance d n Fitting lines b
-backed_headed Reduced instance d n NotFitting lines b = no_given instance lines b
-backed_headed Reduced instance d n (LeastHeight h) lines b = absurd b
-backed_headed Reduced instance d n (HeightBetween x y) lines b = absurd b
-backed_headed Reduced instance d n NoHeight lines b = absurd b
-backed_headed Reduced instance d n (LeastBins k) lines b = absurd b
-backed_headed Reduced instance d n (BinsBetween x y) lines b = absurd b
-backed_headed Reduced instance d n NoBins lines b = absurd b
-backed_headed Reduced instance d n (GreatestValue v) lines b = absurd b
-backed_headed Reduced instance d n (ValueBetween x y) lines b = absurd b
-
 pub form_given : (heading : Heading) (text : List ℕ) (claim : Claim) → IsHeadedDocument heading text claim → headed_verdict heading text ≡ Ok claim
 unfolding headed_verdict
 form_given heading text claim d =
@@ -219,16 +188,16 @@ form_given heading text claim d =
     let first : read_document_lines (Beginning heading) b.0 (s.line ∷ s.after) ≡ read_document_lines (Reading heading (job_of claim) no_parts) (b.0 + 1) s.after =
     line_taken (Beginning heading) (Reading heading (job_of claim) no_parts) b.0 s.line s.after
     (stage_by (Beginning heading) s.line (heading_word heading ∷ job_word (job_of claim) ∷ []) c_after.0 s.words_are
-    ∙ stage_filled heading (job_of claim) (heading_is heading (job_of claim) (claim_headed heading d.instance claim d.backing d.backed))) in
+    ∙ stage_filled heading (job_of claim) (heading_is heading (job_of claim) d.headed)) in
     let reads = (lines_have_form r.before 0 d.instance).1 (e.0, subst (λ ls. HasForm ls d.instance) (sym r.front_is) d.is_instance) in
     let w = reading_given heading (job_of claim) no_parts (b.0 + 1) 0 r.before r.line r.after d.result d.instance claim reads e_after.0 r.words_are (result_given d.instance claim d.result d.is_result) in
     let two = d.is_instance.is_container.count in
     let some = d.is_instance.count in
     ap (read_document_lines (Beginning heading) 0) s.are ∙ b.1 ∙ first
     ∙ ap (read_document_lines (Reading heading (job_of claim) no_parts) (b.0 + 1)) r.are ∙ w.1
-    ∙ words_taken (claimed_under heading d.instance claim) w.0 r.after claim (claimed_later heading d.instance claim) e_after.1
-    (ap (read_words (claimed_under heading d.instance claim)) r.back_is
-    ∙ backed_headed heading d.instance (omega (arith, two)) (omega (arith, some)) claim d.backing d.backed)
+    ∙ words_taken (claimed heading d.instance claim) w.0 r.after claim (claimed_later heading d.instance claim) e_after.1
+    (ap (read_words (claimed heading d.instance claim)) r.back_is
+    ∙ backed_given d.instance (omega (arith, two)) (omega (arith, some)) heading claim d.backing d.backed)
   where
     stage_filled : (heading : Heading) (job : SolvingJob) → heading_line heading (heading_word heading ∷ job_word job ∷ []) ≡ Ok (Reading heading job no_parts)
         → stage_after (Beginning heading) (record { bad = false; count = length (heading_word heading ∷ job_word job ∷ []); words = heading_word heading ∷ job_word job ∷ [] }) ≡ Ok (Reading heading job no_parts)

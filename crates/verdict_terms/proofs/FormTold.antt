@@ -20,7 +20,7 @@ use Rattle.text_terms.proofs.FormNumbers.{word_is}
 use Rattle.text_terms.proofs.FormLines.{clean_from}
 use Rattle.document_terms.specs.declared.claim.SolvingJob.{SolvingJob}
 use Rattle.document_terms.specs.declared.claim.Claim.{Claim}
-use Rattle.document_terms.specs.Claims.{job_of, job_word}
+use Rattle.document_terms.specs.Claims.{job_word}
 use Rattle.document_terms.specs.declared.claim.SolvingJob.TheVariants.{Fit, Strip, Bins, Knapsack}
 use Rattle.document_terms.specs.declared.claim.Claim.TheVariants.{Fitting, NotFitting, LeastHeight, HeightBetween, NoHeight, LeastBins, BinsBetween, NoBins, GreatestValue, ValueBetween}
 use Rattle.verdict_terms.specs.declared.heading.Heading.{Heading}
@@ -28,15 +28,14 @@ use Rattle.verdict_terms.specs.declared.heading.Heading.TheVariants.{Answer, Red
 use Rattle.verdict_terms.specs.declared.reason.Reason.{Reason}
 use Rattle.verdict_terms.specs.Reasons.{form}
 use Rattle.verdict_terms.specs.Results.{claim_of}
-use Rattle.verdict_terms.specs.Stages.{Stage, claimed, claimed_under, job_named, heading_word, job_headed, heading_line, text_fault, end_of_parts, result_line, reading_line, stage_after}
+use Rattle.verdict_terms.specs.Stages.{Stage, claimed, job_named, heading_word, job_headed, heading_line, text_fault, end_of_parts, result_line, reading_line, stage_after}
 use Rattle.verdict_terms.specs.Stages.Stage.{Beginning, Reading}
 use Rattle.verdict_terms.specs.Documents.{read_document_lines, headed_verdict}
-use Rattle.verdict_terms.specs.Form.{BacksUnder, IsHeadedDocument}
+use Rattle.verdict_terms.specs.Form.{MayName, IsHeadedDocument}
 use Rattle.verdict_terms.proofs.Passed.{cond_ok, ok_is}
-use Rattle.verdict_terms.proofs.Walk.{IsLater, read_words, stepped, words_read}
+use Rattle.verdict_terms.proofs.Walk.{IsLater, stepped, words_read}
 use Rattle.verdict_terms.proofs.ResultsTold.{result_told}
 use Rattle.verdict_terms.proofs.Backed.{backed_told}
-use Rattle.verdict_terms.proofs.ReducedTrees.{no_told}
 
 -- ---- the first line
 
@@ -52,21 +51,19 @@ job_ok word job e =
     go false false false true p q r s f = let same : Knapsack ≡ job = cc (f) in word_is word (codes "knapsack") s ∙ ap job_word same
     go false false false false p q r s f = absurd (cc (f))
 
--- the jobs that a heading may name
-abbrev pub IsHeaded : Heading → SolvingJob → Type 0
-IsHeaded Answer job = Unit {0}
-IsHeaded Reduced job = job ≡ Fit
-
-headed_ok : (heading : Heading) (word : List ℕ) (job : SolvingJob) → job_headed heading word ≡ Ok job → (word ≡ job_word job) × IsHeaded heading job
+headed_ok : (heading : Heading) (word : List ℕ) (job : SolvingJob) → job_headed heading word ≡ Ok job → (word ≡ job_word job) × MayName heading job
 headed_ok Answer word job e = (job_ok word job e, tt)
-headed_ok Reduced word job e =
-    let c = cond_ok (same_bytes word (codes "fit")) (Ok Fit) form job e in
-    let same = ok_is Fit job c.1 in
-    (word_is word (codes "fit") c.0 ∙ ap job_word same, sym same)
+headed_ok Reduced word job e = go (same_bytes word (codes "fit")) (same_bytes word (codes "strip")) refl refl e
+  where
+    go : (a b : Bool) → same_bytes word (codes "fit") ≡ a → same_bytes word (codes "strip") ≡ b → ◌≡◌ {A = Result SolvingJob Reason} (cond a (Ok Fit) (cond b (Ok Strip) (Err form))) (Ok job)
+        → (word ≡ job_word job) × MayName Reduced job
+    go true b p q f = let same : Fit ≡ job = cc (f) in (word_is word (codes "fit") p ∙ ap job_word same, subst (MayName Reduced) same tt)
+    go false true p q f = let same : Strip ≡ job = cc (f) in (word_is word (codes "strip") q ∙ ap job_word same, subst (MayName Reduced) same tt)
+    go false false p q f = absurd (cc (f))
 
 pub record HeadingRead (heading : Heading) (words : List (List ℕ)) (next : Stage) : Type 0 where
   pub job : SolvingJob
-  pub headed : IsHeaded heading job
+  pub headed : MayName heading job
   pub are : words ≡ heading_word heading ∷ job_word job ∷ []
   pub next_is : Reading heading job no_parts ≡ next
 
@@ -87,7 +84,7 @@ heading_ok heading (key ∷ word ∷ []) next e =
 -- the lines behind the first
 pub record HeadingTold (heading : Heading) (filled : List (List (List ℕ))) (lines : List (List ℕ)) (claim : Claim) : Type 0 where
   pub job : SolvingJob
-  pub headed : IsHeaded heading job
+  pub headed : MayName heading job
   pub rest : List (List ℕ)
   pub number : ℕ
   pub are : filled ≡ (heading_word heading ∷ job_word job ∷ []) ∷ filled_lines rest
@@ -154,7 +151,7 @@ pub record ReadingTold (heading : Heading) (job : SolvingJob) (parts : Parts) (l
   pub clean_line : list_any is_bad (content line) ≡ false
   pub words_are : words_of (content line) ≡ codes "result" ∷ words
   pub says : claim_of job instance words ≡ Ok claim
-  pub rest : read_document_lines (claimed_under heading instance claim) number after ≡ Ok told
+  pub rest : read_document_lines (claimed heading instance claim) number after ≡ Ok told
 
 reading_told : (heading : Heading) (job : SolvingJob) (parts : Parts) (n : ℕ) (lines : List (List ℕ)) (told : Claim) → read_document_lines (Reading heading job parts) n lines ≡ Ok told → ReadingTold heading job parts lines told
 reading_told heading job parts n [] told e = absurd (cc (e))
@@ -183,8 +180,8 @@ reading_told heading job parts n (line ∷ lines) told e =
     result : (w : List ℕ) (ws : List (List ℕ)) → list_any is_bad (content line) ≡ false → words_of (content line) ≡ w ∷ ws → same_bytes w (codes "result") ≡ true → (next : Stage)
         → result_line heading job parts ws ≡ Ok next → read_document_lines next (n + 1) lines ≡ Ok told → ReadingTold heading job parts (line ∷ lines) told
     result w ws bad is key next e rest =
-        let i = bind_ok (end_of_parts (end_of parts 0)) (λ instance. claim_of job instance ws >>= λ claim. Ok (claimed_under heading instance claim)) next e in
-        let c = bind_ok (claim_of job i.0 ws) (λ claim. Ok (claimed_under heading i.0 claim)) next i.2 in record {
+        let i = bind_ok (end_of_parts (end_of parts 0)) (λ instance. claim_of job instance ws >>= λ claim. Ok (claimed heading instance claim)) next e in
+        let c = bind_ok (claim_of job i.0 ws) (λ claim. Ok (claimed heading i.0 claim)) next i.2 in record {
           before = [];
           line = line;
           after = lines;
@@ -197,7 +194,7 @@ reading_told heading job parts n (line ∷ lines) told e =
           clean_line = bad;
           words_are = is ∙ ap (λ x. x ∷ ws) (word_is w (codes "result") key);
           says = c.1;
-          rest = subst (λ s. read_document_lines s (n + 1) lines ≡ Ok told) (sym (ok_is (claimed_under heading i.0 c.0) next c.2)) rest;
+          rest = subst (λ s. read_document_lines s (n + 1) lines ≡ Ok told) (sym (ok_is (claimed heading i.0 c.0) next c.2)) rest;
         }
 
     by_parts : (next : Stage) → read_document_lines next (n + 1) lines ≡ Ok told → (b : Bool) (words : List (List ℕ)) → list_any is_bad (content line) ≡ b → words_of (content line) ≡ words
@@ -232,7 +229,7 @@ filled_line_is : (line : List ℕ) (lines : List (List ℕ)) (words : List (List
     → filled_lines (line ∷ lines) ≡ (codes "result" ∷ words) ∷ filled_lines lines
 filled_line_is line lines words is = ap (λ ws. filled_with ws lines) is
 
-pub claimed_later : (heading : Heading) (instance : PlainInstance) (claim : Claim) → IsLater (claimed_under heading instance claim)
+pub claimed_later : (heading : Heading) (instance : PlainInstance) (claim : Claim) → IsLater (claimed heading instance claim)
 claimed_later heading instance Fitting = tt
 claimed_later heading instance NotFitting = tt
 claimed_later heading instance (LeastHeight h) = tt
@@ -244,43 +241,6 @@ claimed_later heading instance NoBins = tt
 claimed_later heading instance (GreatestValue v) = tt
 claimed_later heading instance (ValueBetween a b) = tt
 
--- under the heading of answers it is what stands behind their result line
-pub claimed_answer : (instance : PlainInstance) (claim : Claim) → claimed_under Answer instance claim ≡ claimed instance claim
-claimed_answer instance Fitting = refl
-claimed_answer instance NotFitting = refl
-claimed_answer instance (LeastHeight h) = refl
-claimed_answer instance (HeightBetween a b) = refl
-claimed_answer instance NoHeight = refl
-claimed_answer instance (LeastBins k) = refl
-claimed_answer instance (BinsBetween a b) = refl
-claimed_answer instance NoBins = refl
-claimed_answer instance (GreatestValue v) = refl
-claimed_answer instance (ValueBetween a b) = refl
-
--- what backs the claim
-record IsBackedUnder (heading : Heading) (instance : PlainInstance) (claim told : Claim) (lines : List (List (List ℕ))) : Type 0 where
-  backing : List (List (List ℕ))
-  are : lines ≡ backing ++ (codes "end" ∷ []) ∷ []
-  backs : BacksUnder heading instance claim backing
-  same : claim ≡ told
-
-backed_under : (heading : Heading) (instance : PlainInstance) (claim told : Claim) (lines : List (List (List ℕ))) → IsHeaded heading (job_of claim)
-    → read_words (claimed_under heading instance claim) lines ≡ Ok told → IsBackedUnder heading instance claim told lines
-backed_under Answer instance claim told lines j e =
-    let b = backed_told instance claim told lines (sym (ap (λ s. read_words s lines) (claimed_answer instance claim)) ∙ e) in record { backing = b.backing; are = b.are; backs = b.backs; same = b.same }
-backed_under Reduced instance Fitting told lines j e =
-    let b = backed_told instance Fitting told lines e in record { backing = b.backing; are = b.are; backs = b.backs; same = b.same }
-backed_under Reduced instance NotFitting told lines j e =
-    let t = no_told instance told lines e in record { backing = t.body; are = t.are; backs = t.refuting; same = t.same }
-backed_under Reduced instance (LeastHeight h) told lines j e = absurd (cc (j))
-backed_under Reduced instance (HeightBetween a b) told lines j e = absurd (cc (j))
-backed_under Reduced instance NoHeight told lines j e = absurd (cc (j))
-backed_under Reduced instance (LeastBins k) told lines j e = absurd (cc (j))
-backed_under Reduced instance (BinsBetween a b) told lines j e = absurd (cc (j))
-backed_under Reduced instance NoBins told lines j e = absurd (cc (j))
-backed_under Reduced instance (GreatestValue v) told lines j e = absurd (cc (j))
-backed_under Reduced instance (ValueBetween a b) told lines j e = absurd (cc (j))
-
 -- a document of a claim that is the one told
 same_document : (heading : Heading) (text : List ℕ) (claim told : Claim) → claim ≡ told → IsHeadedDocument heading text claim → IsHeadedDocument heading text told
 same_document heading text claim told e d = subst (λ c. IsHeadedDocument heading text c) e d
@@ -291,9 +251,9 @@ form_told heading text claim e =
     let a = heading_told heading 0 (text_lines text) claim e in
     let r = reading_told heading a.job no_parts a.number a.rest claim a.reads in
     let later = claimed_later heading r.instance r.claim in
-    let w = words_read (claimed_under heading r.instance r.claim) r.number r.after claim later r.rest in
+    let w = words_read (claimed heading r.instance r.claim) r.number r.after claim later r.rest in
     let l = result_told r.instance r.claim a.job r.words r.says in
-    let b = backed_under heading r.instance r.claim claim (filled_lines r.after) (subst (λ j. IsHeaded heading j) (sym l.job_is) a.headed) w.1 in
+    let b = backed_told heading r.instance r.claim claim (filled_lines r.after) w.1 in
     let i = (lines_have_form r.before 0 r.instance).0 (r.reads 0) in
     let clean_rest : AreClean a.rest = subst (λ ls. AreClean ls) (sym r.are) (clean_append r.before (r.line ∷ r.after) i.0 (clean_from r.line r.after r.clean_line w.0)) in
     let filled_rest : filled_lines a.rest ≡ filled_lines r.before ++ (codes "result" ∷ r.words) ∷ (b.backing ++ (codes "end" ∷ []) ∷ []) =
@@ -304,6 +264,7 @@ form_told heading text claim e =
       written = filled_lines r.before;
       result = r.words;
       backing = b.backing;
+      headed = subst (λ j. MayName heading j) (sym l.job_is) a.headed;
       clean = a.clean clean_rest;
       are = a.are ∙ ap₂ (λ j ls. (heading_word heading ∷ job_word j ∷ []) ∷ ls) (sym l.job_is) filled_rest;
       is_instance = i.1;

@@ -17,5 +17,4 @@ pub mod FormGiven
 pub mod Stays
 pub mod Cuts
 pub mod FedGiven
-pub mod ReducedTrees
 pub mod RowsReduced

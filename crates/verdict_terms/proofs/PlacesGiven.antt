@@ -16,6 +16,7 @@ use Rattle.check_terms.specs.Placing.{place_verdict}
 use Rattle.check_terms.specs.Judging.{names_box}
 use Rattle.check_terms.proofs.Places.{places_tested}
 use Rattle.document_terms.specs.declared.claim.Claim.{Claim}
+use Rattle.verdict_terms.specs.declared.heading.Heading.TheVariants.{Answer}
 use Rattle.verdict_terms.specs.declared.reason.Reason.{Reason}
 use Rattle.verdict_terms.specs.Reasons.{range}
 use Rattle.verdict_terms.specs.declared.reason.Reason.TheVariants.{TooLittle}
@@ -130,7 +131,7 @@ places_given instance claim refuted places more (words ∷ front) back some (xs,
 
 abbrev behind_share : PlainInstance → Claim → ℕ → List ℕ → List ℕ → Bool → Result Stage Reason
 behind_share instance claim k bins places t =
-    elim t as (λ x. Result Stage Reason) [ true ↦ refused_by (bins_reason instance k bins places) (Ok (placed claim (to_refute instance claim))) | false ↦ Ok (Sharing instance claim k bins places) ]
+    elim t as (λ x. Result Stage Reason) [ true ↦ refused_by (bins_reason instance k bins places) (Ok (placed claim (to_refute Answer instance claim))) | false ↦ Ok (Sharing instance claim k bins places) ]
 
 -- the numbers of a line with a number in front
 numbered_taken : (key : List ℕ) (most d n : ℕ) (words : List (List ℕ)) (xs : List ℕ) → IsNumberedLine key most d words n xs → numbers_line key (suc d) words ≡ Ok (suc n ∷ xs)
@@ -152,7 +153,7 @@ share_taken instance claim k n bins places xs words t line e =
 
 pub shares_given : (instance : PlainInstance) (claim : Claim) (k : ℕ) (bins places more_bins more : List ℕ) (front back : List (List (List ℕ)))
     → AreNumberedLines (codes "place") k (dims instance) front more_bins more → length (bins ++ more_bins) ≡ box_count instance → length bins < box_count instance
-    → bins_reason instance k (bins ++ more_bins) (places ++ more) ≡ None → read_words (Sharing instance claim k bins places) (front ++ back) ≡ read_words (placed claim (to_refute instance claim)) back
+    → bins_reason instance k (bins ++ more_bins) (places ++ more) ≡ None → read_words (Sharing instance claim k bins places) (front ++ back) ≡ read_words (placed claim (to_refute Answer instance claim)) back
 shares_given instance claim k bins places [] more [] back are count low good =
     absurd (let a = ap length (append-nil bins) in omega (arith, a, count, low))
 shares_given instance claim k bins places (n ∷ ns) more [] back are count low good = absurd are
@@ -168,13 +169,13 @@ shares_given instance claim k bins places (n ∷ ns) more (words ∷ front) back
     after_share : (t : Bool) → (length (bins ++ n ∷ []) == box_count instance) ≡ t → (xs rest : List ℕ) → IsNumberedLine (codes "place") k (dims instance) words n xs
         → (ms : List ℕ) (lines : List (List (List ℕ))) → AreNumberedLines (codes "place") k (dims instance) lines ms rest → length ((bins ++ n ∷ []) ++ ms) ≡ box_count instance
         → bins_reason instance k ((bins ++ n ∷ []) ++ ms) ((places ++ xs) ++ rest) ≡ None
-        → (length (bins ++ n ∷ []) < box_count instance → read_words (Sharing instance claim k (bins ++ n ∷ []) (places ++ xs)) (lines ++ back) ≡ read_words (placed claim (to_refute instance claim)) back)
-        → read_words (Sharing instance claim k bins places) (words ∷ (lines ++ back)) ≡ read_words (placed claim (to_refute instance claim)) back
+        → (length (bins ++ n ∷ []) < box_count instance → read_words (Sharing instance claim k (bins ++ n ∷ []) (places ++ xs)) (lines ++ back) ≡ read_words (placed claim (to_refute Answer instance claim)) back)
+        → read_words (Sharing instance claim k bins places) (words ∷ (lines ++ back)) ≡ read_words (placed claim (to_refute Answer instance claim)) back
     after_share true t xs rest line [] [] are total calm go_on =
         let quiet : bins_reason instance k (bins ++ n ∷ []) (places ++ xs) ≡ None =
         ap₂ (λ b p. bins_reason instance k b p) (sym (append-nil (bins ++ n ∷ []))) (sym (append-nil (places ++ xs)) ∙ ap (λ r. (places ++ xs) ++ r) (sym are)) ∙ calm in
-        bound (words_line (Sharing instance claim k bins places) words) (placed claim (to_refute instance claim)) (λ next. read_words next back)
-        (share_taken instance claim k n bins places xs words true line t ∙ ap (λ o. refused_by o (Ok (placed claim (to_refute instance claim)))) quiet)
+        bound (words_line (Sharing instance claim k bins places) words) (placed claim (to_refute Answer instance claim)) (λ next. read_words next back)
+        (share_taken instance claim k n bins places xs words true line t ∙ ap (λ o. refused_by o (Ok (placed claim (to_refute Answer instance claim)))) quiet)
     after_share true t xs rest line [] (w ∷ ws) are total calm go_on = absurd are
     after_share true t xs rest line (m ∷ ms) [] are total calm go_on = absurd are
     after_share true t xs rest line (m ∷ ms) (w ∷ ws) are total calm go_on =
@@ -205,7 +206,7 @@ below_all (u ∷ us) v vs h =
 abbrev behind_take : PlainInstance → Claim → ℕ → List ℕ → List ℕ → List (List ℕ) → Bool → Result Stage Reason
 behind_take instance claim value taken places words t =
     elim t as (λ x. Result Stage Reason) [
-      | true ↦ refused_by (taken_reason instance value taken places) (Ok (Refuting claim (begun (to_refute instance claim))))
+      | true ↦ refused_by (taken_reason instance value taken places) (Ok (Refuting claim (begun (to_refute Answer instance claim))))
       | false ↦ numbers_line (codes "take") (suc (dims instance)) words >>= λ ns. take_box_line instance claim value taken places ns
     ]
 
@@ -223,12 +224,12 @@ take_taken instance claim value v taken places xs words line below =
 pub takes_given : (instance : PlainInstance) (claim : Claim) (value : ℕ) (taken places more_taken more : List ℕ) (front back : List (List (List ℕ)))
     → AreNumberedLines (codes "take") (box_count instance) (dims instance) front more_taken more → IsStrictlyIncreasing (taken ++ more_taken)
     → taken_reason instance value (taken ++ more_taken) (places ++ more) ≡ None
-    → read_words (Taking instance claim value taken places) (front ++ (codes "proof" ∷ []) ∷ back) ≡ read_words (Refuting claim (begun (to_refute instance claim))) back
+    → read_words (Taking instance claim value taken places) (front ++ (codes "proof" ∷ []) ∷ back) ≡ read_words (Refuting claim (begun (to_refute Answer instance claim))) back
 takes_given instance claim value taken places [] more [] back are rising good =
     let quiet : taken_reason instance value taken places ≡ None =
     ap₂ (λ t p. taken_reason instance value t p) (sym (append-nil taken)) (sym (append-nil places) ∙ ap (λ r. places ++ r) (sym are)) ∙ good in
-    bound (words_line (Taking instance claim value taken places) (codes "proof" ∷ [])) (Refuting claim (begun (to_refute instance claim))) (λ next. read_words next back)
-    (ap (behind_take instance claim value taken places (codes "proof" ∷ [])) (is_same (codes "proof")) ∙ ap (λ o. refused_by o (Ok (Refuting claim (begun (to_refute instance claim))))) quiet)
+    bound (words_line (Taking instance claim value taken places) (codes "proof" ∷ [])) (Refuting claim (begun (to_refute Answer instance claim))) (λ next. read_words next back)
+    (ap (behind_take instance claim value taken places (codes "proof" ∷ [])) (is_same (codes "proof")) ∙ ap (λ o. refused_by o (Ok (Refuting claim (begun (to_refute Answer instance claim))))) quiet)
 takes_given instance claim value taken places (v ∷ vs) more [] back are rising good = absurd are
 takes_given instance claim value taken places [] more (words ∷ front) back are rising good = absurd are
 takes_given instance claim value taken places (v ∷ vs) more (words ∷ front) back (xs, rest, e, line, later) rising good =

@@ -17,6 +17,7 @@ use Rattle.check_terms.specs.Placing.{place_verdict}
 use Rattle.check_terms.specs.Judging.{names_box}
 use Rattle.check_terms.proofs.Places.{places_tested}
 use Rattle.document_terms.specs.declared.claim.Claim.{Claim}
+use Rattle.verdict_terms.specs.declared.heading.Heading.TheVariants.{Answer}
 use Rattle.verdict_terms.specs.declared.reason.Reason.{Reason}
 use Rattle.verdict_terms.specs.Reasons.{range}
 use Rattle.verdict_terms.specs.Numbers.{wanted, all_wanted, numbers_line, coordinates}
@@ -176,7 +177,7 @@ pub record SharesTold (instance : PlainInstance) (claim told : Claim) (k : ℕ) 
   pub below : All (λ b. b < k) more_bins
   pub count : length (bins ++ more_bins) ≡ box_count instance
   pub good : bins_reason instance k (bins ++ more_bins) (places ++ more) ≡ None
-  pub rest : read_words (placed claim (to_refute instance claim)) back ≡ Ok told
+  pub rest : read_words (placed claim (to_refute Answer instance claim)) back ≡ Ok told
 
 all_cons : (P : ℕ → Type 0) (x : ℕ) (xs : List ℕ) → P x → All P xs → All P (x ∷ xs)
 all_cons P x xs p ps zero d h = p
@@ -186,14 +187,14 @@ all_cons P x xs p ps (suc i) d h = ps i d (omega arith)
 share_told : (instance : PlainInstance) (claim told : Claim) (k : ℕ) (bins places : List ℕ) (words : List (List ℕ)) (lines : List (List (List ℕ))) (n : ℕ) (xs : List ℕ)
     → IsNumberedLine (codes "place") k (dims instance) words n xs → n < k → (t : Bool) → (length (bins ++ n ∷ []) == box_count instance) ≡ t → (next : Stage)
     → ◌≡◌ {A = Result Stage Reason} (elim t [
-      | true ↦ refused_by (bins_reason instance k (bins ++ n ∷ []) (places ++ xs)) (Ok (placed claim (to_refute instance claim)))
+      | true ↦ refused_by (bins_reason instance k (bins ++ n ∷ []) (places ++ xs)) (Ok (placed claim (to_refute Answer instance claim)))
       | false ↦ Ok (Sharing instance claim k (bins ++ n ∷ []) (places ++ xs))
     ]) (Ok next)
     → read_words next lines ≡ Ok told
     → ((c ps : List ℕ) → read_words (Sharing instance claim k c ps) lines ≡ Ok told → SharesTold instance claim told k c ps lines)
     → SharesTold instance claim told k bins places (words ∷ lines)
 share_told instance claim told k bins places words lines n xs line small true t next f r later =
-    let g = refused_ok (bins_reason instance k (bins ++ n ∷ []) (places ++ xs)) (Ok (placed claim (to_refute instance claim))) next f in record {
+    let g = refused_ok (bins_reason instance k (bins ++ n ∷ []) (places ++ xs)) (Ok (placed claim (to_refute Answer instance claim))) next f in record {
       front = words ∷ [];
       back = lines;
       more_bins = n ∷ [];
@@ -203,7 +204,7 @@ share_told instance claim told k bins places words lines n xs line small true t 
       below = all_cons (λ b. b < k) n [] small (λ i d h. absurd (omega arith));
       count = eqb-true (length (bins ++ n ∷ [])) (box_count instance) t;
       good = g.0;
-      rest = subst (λ s. read_words s lines ≡ Ok told) (sym (ok_is (placed claim (to_refute instance claim)) next g.1)) r;
+      rest = subst (λ s. read_words s lines ≡ Ok told) (sym (ok_is (placed claim (to_refute Answer instance claim)) next g.1)) r;
     }
 share_told instance claim told k bins places words lines n xs line small false t next f r later =
     let d = later (bins ++ n ∷ []) (places ++ xs) (subst (λ s. read_words s lines ≡ Ok told) (sym (ok_is (Sharing instance claim k (bins ++ n ∷ []) (places ++ xs)) next f)) r) in
@@ -257,7 +258,7 @@ pub record TakesTold (instance : PlainInstance) (claim told : Claim) (value : �
   pub are_lines : AreNumberedLines (codes "take") (box_count instance) (dims instance) front more_taken more
   pub set : IsBoxSet instance (taken ++ more_taken)
   pub good : taken_reason instance value (taken ++ more_taken) (places ++ more) ≡ None
-  pub rest : read_words (Refuting claim (begun (to_refute instance claim))) back ≡ Ok told
+  pub rest : read_words (Refuting claim (begun (to_refute Answer instance claim))) back ≡ Ok told
 
 rising_push : (us : List ℕ) (v : ℕ) → IsStrictlyIncreasing us → list_all (λ u. nat_lt u v) us ≡ true → IsStrictlyIncreasing (us ++ v ∷ [])
 rising_push us v rising below k h = go (cases_lt (k + 1) (length us))
@@ -325,14 +326,14 @@ takes_told instance claim told value taken places (words ∷ lines) set e =
   where
     go : (t : Bool) → is_word (codes "proof") words ≡ t → (next : Stage)
         → ◌≡◌ {A = Result Stage Reason} (elim t [
-          | true ↦ refused_by (taken_reason instance value taken places) (Ok (Refuting claim (begun (to_refute instance claim))))
+          | true ↦ refused_by (taken_reason instance value taken places) (Ok (Refuting claim (begun (to_refute Answer instance claim))))
           | false ↦ numbers_line (codes "take") (suc (dims instance)) words >>= λ ns. take_box_line instance claim value taken places ns
         ]) (Ok next)
         → read_words next lines ≡ Ok told
         → ((c ps : List ℕ) → IsBoxSet instance c → read_words (Taking instance claim value c ps) lines ≡ Ok told → TakesTold instance claim told value c ps lines)
         → TakesTold instance claim told value taken places (words ∷ lines)
     go true t next f r later =
-        let g = refused_ok (taken_reason instance value taken places) (Ok (Refuting claim (begun (to_refute instance claim)))) next f in record {
+        let g = refused_ok (taken_reason instance value taken places) (Ok (Refuting claim (begun (to_refute Answer instance claim)))) next f in record {
           front = [];
           back = lines;
           more_taken = [];
@@ -342,7 +343,7 @@ takes_told instance claim told value taken places (words ∷ lines) set e =
           set = subst (λ us. IsBoxSet instance us) (sym (append-nil taken)) set;
           good = subst (λ us. taken_reason instance value us (places ++ []) ≡ None) (sym (append-nil taken))
               (subst (λ ps. taken_reason instance value taken ps ≡ None) (sym (append-nil places)) g.0);
-          rest = subst (λ s. read_words s lines ≡ Ok told) (sym (ok_is (Refuting claim (begun (to_refute instance claim))) next g.1)) r;
+          rest = subst (λ s. read_words s lines ≡ Ok told) (sym (ok_is (Refuting claim (begun (to_refute Answer instance claim))) next g.1)) r;
         }
     go false t next f r later =
         let n = bind_ok (numbers_line (codes "take") (suc (dims instance)) words) (λ ns. take_box_line instance claim value taken places ns) next f in

@@ -1,13 +1,14 @@
 -- Reduced documents and the verdict on each, computed from the definitions.
-use Rattle.std.proofs.Common.{◌≡◌, refl, codes, Ok, Err}
+use Rattle.std.proofs.Common.{◌≡◌, refl, codes, [], ◌∷◌, Ok, Err}
+use Rattle.std.specs.Fmt.{decimal}
 use Rattle.text_terms.specs.Lines.{number_of, same_bytes}
 use Rattle.check_terms.specs.declared.answers.RefuseCode.TheVariants.{Choice, Conflict}
-use Rattle.document_terms.specs.declared.claim.Claim.TheVariants.{Fitting, NotFitting}
+use Rattle.document_terms.specs.declared.claim.Claim.TheVariants.{Fitting, NotFitting, LeastHeight, NoHeight}
 use Rattle.document_terms.specs.TokenLines.{token_of}
 use Rattle.verdict_terms.specs.Reasons.{form}
 use Rattle.verdict_terms.specs.declared.reason.Reason.TheVariants.{Token, NoClaim, OverlapAt, TooShort}
 use Rattle.verdict_terms.specs.Results.{claim_of}
-use Rattle.verdict_terms.specs.Documents.{headed_verdict, document_verdict, reduced_verdict, reduced_verdict_line}
+use Rattle.verdict_terms.specs.Documents.{headed_verdict, document_verdict, reduced_verdict, reduced_verdict_words, reduced_verdict_line}
 
 four_written : reduced_verdict (codes "reduced fit\nformat 1\ncontainer 10 10\nbox 3 6\nbox 3 6\nbox 3 6\nbox 3 6\nresult no\nx\nend\n") ≡ Ok NotFitting
 unfolding headed_verdict number_of same_bytes token_of claim_of
@@ -51,6 +52,37 @@ short : reduced_verdict (codes "reduced fit\nformat 1\ncontainer 10 10\nbox 3 6\
 unfolding headed_verdict number_of same_bytes token_of claim_of
 short = refl
 
-strip : reduced_verdict (codes "reduced strip\nformat 1\ncontainer 10 10\nbox 3 6\nresult least 6\n") ≡ Err (record { line = 1; reason = form })
+-- a strip: under the facts no row takes four, and two rows are higher than 11
+strip_least : reduced_verdict (codes "reduced strip\nformat 1\ncontainer 10 1\nbox 3 6\nbox 3 6\nbox 3 6\nbox 3 6\nresult least 12\nplace 0 0\nplace 3 0\nplace 6 0\nplace 0 6\nproof\nx\nend\n") ≡ Ok (LeastHeight 12)
 unfolding headed_verdict number_of same_bytes token_of claim_of
-strip = refl
+strip_least = refl
+
+strip_words : reduced_verdict_words (reduced_verdict (codes "reduced strip\nformat 1\ncontainer 10 1\nbox 3 6\nbox 3 6\nbox 3 6\nbox 3 6\nresult least 12\nplace 0 0\nplace 3 0\nplace 6 0\nplace 0 6\nproof\nx\nend\n")) ≡ codes "verified" ∷ codes "reduced" ∷ codes "strip" ∷ codes "least" ∷ decimal 12 ∷ []
+unfolding headed_verdict number_of same_bytes token_of claim_of
+strip_words = refl
+
+-- `check` reads no such document, and without the facts the rules alone don't refute that height
+strip_checked : document_verdict (codes "reduced strip\nformat 1\ncontainer 10 1\nbox 3 6\nbox 3 6\nbox 3 6\nbox 3 6\nresult least 12\nplace 0 0\nplace 3 0\nplace 6 0\nplace 0 6\nproof\nx\nend\n") ≡ Err (record { line = 1; reason = form })
+unfolding headed_verdict number_of same_bytes token_of claim_of
+strip_checked = refl
+
+strip_plain : document_verdict (codes "answer strip\nformat 1\ncontainer 10 1\nbox 3 6\nbox 3 6\nbox 3 6\nbox 3 6\nresult least 12\nplace 0 0\nplace 3 0\nplace 6 0\nplace 0 6\nproof\nx\nend\n") ≡ Err (record { line = 14; reason = Token Conflict })
+unfolding headed_verdict number_of same_bytes token_of claim_of
+strip_plain = refl
+
+strip_overlap : reduced_verdict (codes "reduced strip\nformat 1\ncontainer 10 1\nbox 3 6\nbox 3 6\nbox 3 6\nbox 3 6\nresult least 12\nplace 0 0\nplace 3 0\nplace 6 0\nplace 0 5\nproof\nx\nend\n") ≡ Err (record { line = 12; reason = OverlapAt 1 4 })
+unfolding headed_verdict number_of same_bytes token_of claim_of
+strip_overlap = refl
+
+strip_none : reduced_verdict (codes "reduced strip\nformat 1\ncontainer 10 1\nbox 11 2\nresult none\nt 1 1\nend\n") ≡ Ok NoHeight
+unfolding headed_verdict number_of same_bytes token_of claim_of
+strip_none = refl
+
+-- no reduced document is of bins or a knapsack
+bins : reduced_verdict (codes "reduced bins\nformat 1\ncontainer 10 10\nbox 3 6\nresult least 1\n") ≡ Err (record { line = 1; reason = form })
+unfolding headed_verdict number_of same_bytes token_of claim_of
+bins = refl
+
+knapsack : reduced_verdict (codes "reduced knapsack\nformat 1\ncontainer 10 10\nbox 3 6\nresult greatest 1\n") ≡ Err (record { line = 1; reason = form })
+unfolding headed_verdict number_of same_bytes token_of claim_of
+knapsack = refl

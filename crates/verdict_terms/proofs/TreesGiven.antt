@@ -11,14 +11,14 @@ use Rattle.check_terms.specs.Checking.{inner_after, bins_after, value_after}
 use Rattle.check_terms.proofs.Refuting.{inner_refutes, bins_refute, value_refutes}
 use Rattle.document_terms.specs.declared.claim.Claim.{Claim}
 use Rattle.document_terms.specs.TokenLines.{token_of}
-use Rattle.verdict_terms.specs.Trees.{Refuted, ToFit, ToFitIn, ToReach, tree_dims, AreRefutation, Tree, InnerTree, BinTree, ValueTree, begun, refuted_by, map_ok, tree_after, is_whole}
+use Rattle.verdict_terms.specs.Trees.{Refuted, ToFit, ToFitIn, ToReach, AreRefutation, Tree, InnerTree, BinTree, ValueTree, begun, tree_dims, map_ok, tree_after, is_whole}
 use Rattle.verdict_terms.specs.Stages.{is_word, tree_token, coded, grown_tree, tree_line, words_line, late_line}
 use Rattle.verdict_terms.specs.Stages.Stage.{Refuting, Ending, Ended}
 use Rattle.verdict_terms.specs.Form.{AreTokenLines, AreRefuting}
 use Rattle.verdict_terms.proofs.Passed.{is_word_ok, ok_is}
 use Rattle.verdict_terms.proofs.Taken.{is_same, required, bound}
 use Rattle.verdict_terms.proofs.Walk.{read_words}
-use Rattle.verdict_terms.proofs.TreesTold.{tree_after_all, all_after, refuted_same, refuted_begun}
+use Rattle.verdict_terms.proofs.TreesTold.{tree_after_all, all_after, dims_same, dims_begun}
 
 pub end_given : (claim : Claim) (behind : Option ℕ) → read_words (Ending claim behind) ((codes "end" ∷ []) ∷ []) ≡ Ok claim
 end_given claim behind =
@@ -46,26 +46,26 @@ whole_stuck (BinTree instance k (n ∷ nodes)) next t w e = absurd (cc (w))
 whole_stuck (ValueTree instance y []) next t w e = absurd (cc (e))
 whole_stuck (ValueTree instance y (n ∷ nodes)) next t w e = absurd (cc (w))
 
-token_line : (claim : Claim) (tree next : Tree) (words : List (List ℕ)) (t : PlainToken) → token_of (tree_dims (refuted_by tree)) words ≡ Some t → tree_after tree t ≡ Ok next
+token_line : (claim : Claim) (tree next : Tree) (words : List (List ℕ)) (t : PlainToken) → token_of (tree_dims tree) words ≡ Some t → tree_after tree t ≡ Ok next
     → tree_line claim tree words ≡ Ok (grown_tree claim next)
 token_line claim tree next words t is after =
-    bound (tree_token (is_word (codes "end") words) (token_of (tree_dims (refuted_by tree)) words)) t (λ t. coded (tree_after tree t) >>= λ more. Ok (grown_tree claim more))
-    (ap (λ b. tree_token b (token_of (tree_dims (refuted_by tree)) words)) (not_end (tree_dims (refuted_by tree)) words t is) ∙ ap (tree_token false) is)
+    bound (tree_token (is_word (codes "end") words) (token_of (tree_dims tree) words)) t (λ t. coded (tree_after tree t) >>= λ more. Ok (grown_tree claim more))
+    (ap (λ b. tree_token b (token_of (tree_dims tree) words)) (not_end (tree_dims tree) words t is) ∙ ap (tree_token false) is)
     ∙ ap (λ r. coded r >>= λ more. Ok (grown_tree claim more)) after
 
 -- the tree behind a token: whole with no line but `end` left, or open
-grown_given : (claim : Claim) (tree next left : Tree) (ts : List PlainToken) (body : List (List (List ℕ))) → AreTokenLines (tree_dims (refuted_by next)) body ts
+grown_given : (claim : Claim) (tree next left : Tree) (ts : List PlainToken) (body : List (List (List ℕ))) → AreTokenLines (tree_dims next) body ts
     → tree_after_all next ts ≡ Ok left → (w : Bool) → is_whole next ≡ w
     → (is_whole next ≡ false → read_words (Refuting claim next) (body ++ (codes "end" ∷ []) ∷ []) ≡ Ok claim)
-    → read_words (cond w (Ending claim (Some (tree_dims (refuted_by next)))) (Refuting claim next)) (body ++ (codes "end" ∷ []) ∷ []) ≡ Ok claim
-grown_given claim tree next left [] [] are e true w later = end_given claim (Some (tree_dims (refuted_by next)))
+    → read_words (cond w (Ending claim (Some (tree_dims next))) (Refuting claim next)) (body ++ (codes "end" ∷ []) ∷ []) ≡ Ok claim
+grown_given claim tree next left [] [] are e true w later = end_given claim (Some (tree_dims next))
 grown_given claim tree next left [] (words ∷ body) are e true w later = absurd are
 grown_given claim tree next left (t ∷ ts) [] are e true w later = absurd are
 grown_given claim tree next left (t ∷ ts) (words ∷ body) are e true w later =
     absurd (let b = bind_ok (tree_after next t) (λ more. tree_after_all more ts) left e in whole_stuck next b.0 t w b.1)
 grown_given claim tree next left ts body are e false w later = later w
 
-pub tree_given : (claim : Claim) (tree left : Tree) (tokens : List PlainToken) (body : List (List (List ℕ))) → AreTokenLines (tree_dims (refuted_by tree)) body tokens
+pub tree_given : (claim : Claim) (tree left : Tree) (tokens : List PlainToken) (body : List (List (List ℕ))) → AreTokenLines (tree_dims tree) body tokens
     → tree_after_all tree tokens ≡ Ok left → is_whole left ≡ true → is_whole tree ≡ false
     → read_words (Refuting claim tree) (body ++ (codes "end" ∷ []) ∷ []) ≡ Ok claim
 tree_given claim tree left [] [] are e whole not_whole = absurd (true≢false (sym whole ∙ ap is_whole (sym (ok_is tree left e)) ∙ not_whole))
@@ -73,15 +73,15 @@ tree_given claim tree left [] (words ∷ body) are e whole not_whole = absurd ar
 tree_given claim tree left (t ∷ ts) [] are e whole not_whole = absurd are
 tree_given claim tree left (t ∷ ts) (words ∷ body) are e whole not_whole =
     let b = bind_ok (tree_after tree t) (λ next. tree_after_all next ts) left e in
-    let d : AreTokenLines (tree_dims (refuted_by b.0)) body ts = subst (λ x. AreTokenLines (tree_dims x) body ts) (sym (refuted_same tree b.0 t b.1)) are.1 in
+    let d : AreTokenLines (tree_dims b.0) body ts = subst (λ m. AreTokenLines m body ts) (sym (dims_same tree b.0 t b.1)) are.1 in
     bound (words_line (Refuting claim tree) words) (grown_tree claim b.0) (λ next. read_words next (body ++ (codes "end" ∷ []) ∷ [])) (token_line claim tree b.0 words t are.0 b.1)
     ∙ grown_given claim tree b.0 left ts body d b.2 (is_whole b.0) refl (λ w. tree_given claim b.0 left ts body d b.2 whole w)
 
 -- a refutation leaves a begun tree whole
 refutes_whole : (refuted : Refuted) (tokens : List PlainToken) → AreRefutation refuted tokens → (left : Tree) × (tree_after_all (begun refuted) tokens ≡ Ok left) × (is_whole left ≡ true)
-refutes_whole (ToFit instance) tokens r = (
+refutes_whole (ToFit instance start) tokens r = (
   InnerTree instance [],
-  all_after (InnerTree instance) (inner_after instance) (λ nodes t. refl) ([] ∷ []) tokens ∙ ap (map_ok (InnerTree instance)) ((inner_refutes instance [] tokens).1 r),
+  all_after (InnerTree instance) (inner_after instance) (λ nodes t. refl) (start ∷ []) tokens ∙ ap (map_ok (InnerTree instance)) ((inner_refutes instance start tokens).1 r),
   refl,
 )
 refutes_whole (ToFitIn instance k) tokens r = (
@@ -96,7 +96,7 @@ refutes_whole (ToReach instance y) tokens r = (
 )
 
 begun_open : (refuted : Refuted) → is_whole (begun refuted) ≡ false
-begun_open (ToFit instance) = refl
+begun_open (ToFit instance start) = refl
 begun_open (ToFitIn instance k) = refl
 begun_open (ToReach instance y) = refl
 
@@ -104,4 +104,4 @@ pub refuting_given : (claim : Claim) (refuted : Refuted) (body : List (List (Lis
     → read_words (Refuting claim (begun refuted)) (body ++ (codes "end" ∷ []) ∷ []) ≡ Ok claim
 refuting_given claim refuted body r =
     let w = refutes_whole refuted r.tokens r.refute in
-    tree_given claim (begun refuted) w.0 r.tokens body (subst (λ x. AreTokenLines (tree_dims x) body r.tokens) (sym (refuted_begun refuted)) r.are_lines) w.1 w.2 (begun_open refuted)
+    tree_given claim (begun refuted) w.0 r.tokens body (subst (λ m. AreTokenLines m body r.tokens) (sym (dims_begun refuted)) r.are_lines) w.1 w.2 (begun_open refuted)

@@ -1,7 +1,7 @@
 -- Token lines up to `end` that are taken are those of a refutation.
 use Rattle.std.proofs.Common.{◌≡◌, ℕ, refl, sym, ap, ap₂, subst, ◌∙◌, Bool, true, false, cond, List, [], ◌∷◌, ◌++◌, Option, Some, None, Result, Ok, Err, codes}
 use Rattle.packing_terms.specs.declared.Exclusion.{Exclusion}
-use Rattle.packing_terms.specs.Packing.{PlainInstance}
+use Rattle.packing_terms.specs.Packing.{PlainInstance, dims}
 use Rattle.packing_terms.specs.Tokens.{PlainToken}
 use Rattle.packing_terms.specs.OuterRefutation.{no_choice}
 use Rattle.packing_terms.specs.OuterFeeding.{Outer}
@@ -12,7 +12,7 @@ use Rattle.check_terms.specs.Checking.{inner_after, bins_after, value_after, nod
 use Rattle.check_terms.proofs.Refuting.{inner_refutes, bins_refute, value_refutes}
 use Rattle.document_terms.specs.declared.claim.Claim.{Claim}
 use Rattle.document_terms.specs.TokenLines.{token_of}
-use Rattle.verdict_terms.specs.Trees.{Refuted, ToFit, ToFitIn, ToReach, tree_dims, AreRefutation, Tree, InnerTree, BinTree, ValueTree, begun, refuted_by, map_ok, tree_after, is_whole}
+use Rattle.verdict_terms.specs.Trees.{Refuted, ToFit, ToFitIn, ToReach, refuted_dims, AreRefutation, Tree, InnerTree, BinTree, ValueTree, begun, tree_dims, map_ok, tree_after, is_whole}
 use Rattle.verdict_terms.specs.Stages.{is_word, tree_token, coded, grown_tree, tree_line}
 use Rattle.verdict_terms.specs.Stages.Stage.{Refuting, Ending, Ended}
 use Rattle.verdict_terms.specs.Form.{AreTokenLines, AreRefuting}
@@ -74,10 +74,10 @@ value_whole instance y (n ∷ nodes) e = absurd (cc (e))
 -- tokens that leave a begun tree whole are a refutation
 pub whole_refutes : (refuted : Refuted) (tokens : List PlainToken) (tree : Tree) → tree_after_all (begun refuted) tokens ≡ Ok tree → is_whole tree ≡ true
     → AreRefutation refuted tokens
-whole_refutes (ToFit instance) tokens tree e w =
-    let m = made (InnerTree instance) (inner_after instance) (λ nodes t. refl) (nodes_after_all (inner_after instance) ([] ∷ []) tokens) tree
-    (sym (all_after (InnerTree instance) (inner_after instance) (λ nodes t. refl) ([] ∷ []) tokens) ∙ e) in
-    (inner_refutes instance [] tokens).0 (m.1 ∙ ap Ok (inner_whole instance m.0 (subst (λ x. is_whole x ≡ true) (sym m.2) w)))
+whole_refutes (ToFit instance start) tokens tree e w =
+    let m = made (InnerTree instance) (inner_after instance) (λ nodes t. refl) (nodes_after_all (inner_after instance) (start ∷ []) tokens) tree
+    (sym (all_after (InnerTree instance) (inner_after instance) (λ nodes t. refl) (start ∷ []) tokens) ∙ e) in
+    (inner_refutes instance start tokens).0 (m.1 ∙ ap Ok (inner_whole instance m.0 (subst (λ x. is_whole x ≡ true) (sym m.2) w)))
 whole_refutes (ToFitIn instance k) tokens tree e w =
     let m = made (BinTree instance k) (bins_after instance k) (λ nodes t. refl) (nodes_after_all (bins_after instance k) (Outer [] ∷ []) tokens) tree
     (sym (all_after (BinTree instance k) (bins_after instance k) (λ nodes t. refl) (Outer [] ∷ []) tokens) ∙ e) in
@@ -87,16 +87,16 @@ whole_refutes (ToReach instance y) tokens tree e w =
     (sym (all_after (ValueTree instance y) (value_after instance y) (λ nodes t. refl) (Outer no_choice ∷ []) tokens) ∙ e) in
     (value_refutes instance y tokens).0 (m.1 ∙ ap Ok (value_whole instance y m.0 (subst (λ x. is_whole x ≡ true) (sym m.2) w)))
 
--- a token leaves the tree's kind and instance
-made_same : {Node : Type 0} (make : List Node → Tree) (refuted : Refuted) (r : Result (List Node) RefuseCode) (next : Tree) → ((nodes : List Node) → refuted_by (make nodes) ≡ refuted)
-    → map_ok make r ≡ Ok next → refuted_by next ≡ refuted
-made_same make refuted (Ok left) next same e = ap refuted_by (sym (ok_is (make left) next e)) ∙ same left
-made_same make refuted (Err code) next same e = absurd (cc (e))
+-- a token leaves the tree's dimensions
+made_same : {Node : Type 0} (make : List Node → Tree) (d : ℕ) (r : Result (List Node) RefuseCode) (next : Tree) → ((nodes : List Node) → tree_dims (make nodes) ≡ d)
+    → map_ok make r ≡ Ok next → tree_dims next ≡ d
+made_same make d (Ok left) next same e = ap tree_dims (sym (ok_is (make left) next e)) ∙ same left
+made_same make d (Err code) next same e = absurd (cc (e))
 
-pub refuted_same : (tree next : Tree) (t : PlainToken) → tree_after tree t ≡ Ok next → refuted_by next ≡ refuted_by tree
-refuted_same (InnerTree instance nodes) next t e = made_same (InnerTree instance) (ToFit instance) (inner_after instance nodes t) next (λ n. refl) e
-refuted_same (BinTree instance k nodes) next t e = made_same (BinTree instance k) (ToFitIn instance k) (bins_after instance k nodes t) next (λ n. refl) e
-refuted_same (ValueTree instance y nodes) next t e = made_same (ValueTree instance y) (ToReach instance y) (value_after instance y nodes t) next (λ n. refl) e
+pub dims_same : (tree next : Tree) (t : PlainToken) → tree_after tree t ≡ Ok next → tree_dims next ≡ tree_dims tree
+dims_same (InnerTree instance nodes) next t e = made_same (InnerTree instance) (dims instance) (inner_after instance nodes t) next (λ n. refl) e
+dims_same (BinTree instance k nodes) next t e = made_same (BinTree instance k) (dims instance) (bins_after instance k nodes t) next (λ n. refl) e
+dims_same (ValueTree instance y nodes) next t e = made_same (ValueTree instance y) (dims instance) (value_after instance y nodes t) next (λ n. refl) e
 
 pub token_ok : (b : Bool) (o : Option PlainToken) (t : PlainToken) → tree_token b o ≡ Ok t → o ≡ Some t
 token_ok true o t e = absurd (cc (e))
@@ -113,7 +113,7 @@ pub record TreeTold (claim told : Claim) (tree : Tree) (lines : List (List (List
   pub tokens : List PlainToken
   pub left : Tree
   pub are : lines ≡ body ++ (codes "end" ∷ []) ∷ []
-  pub are_lines : AreTokenLines (tree_dims (refuted_by tree)) body tokens
+  pub are_lines : AreTokenLines (tree_dims tree) body tokens
   pub taken : tree_after_all tree tokens ≡ Ok left
   pub whole : is_whole left ≡ true
   pub same : claim ≡ told
@@ -122,17 +122,17 @@ pub tree_told : (claim told : Claim) (tree : Tree) (lines : List (List (List ℕ
 tree_told claim told tree [] e = absurd (cc (e))
 tree_told claim told tree (words ∷ lines) e =
     let b = bind_ok (tree_line claim tree words) (λ next. read_words next lines) told e in
-    let t = bind_ok (tree_token (is_word (codes "end") words) (token_of (tree_dims (refuted_by tree)) words)) (λ t. coded (tree_after tree t) >>= λ more. Ok (grown_tree claim more)) b.0 b.1 in
+    let t = bind_ok (tree_token (is_word (codes "end") words) (token_of (tree_dims tree) words)) (λ t. coded (tree_after tree t) >>= λ more. Ok (grown_tree claim more)) b.0 b.1 in
     let m = bind_ok (coded (tree_after tree t.0)) (λ more. Ok (grown_tree claim more)) b.0 t.2 in
     let after : tree_after tree t.0 ≡ Ok m.0 = coded_ok (tree_after tree t.0) m.0 m.1 in
     go t.0 m.0 (token_ok _ _ t.0 t.1) after (is_whole m.0) refl (subst (λ s. read_words s lines ≡ Ok told) (sym (ok_is (grown_tree claim m.0) b.0 m.2)) b.2)
     (λ r. tree_told claim told m.0 lines r)
   where
-    go : (t : PlainToken) (next : Tree) → token_of (tree_dims (refuted_by tree)) words ≡ Some t → tree_after tree t ≡ Ok next → (w : Bool) → is_whole next ≡ w
-        → read_words (cond w (Ending claim (Some (tree_dims (refuted_by next)))) (Refuting claim next)) lines ≡ Ok told
+    go : (t : PlainToken) (next : Tree) → token_of (tree_dims tree) words ≡ Some t → tree_after tree t ≡ Ok next → (w : Bool) → is_whole next ≡ w
+        → read_words (cond w (Ending claim (Some (tree_dims next))) (Refuting claim next)) lines ≡ Ok told
         → (read_words (Refuting claim next) lines ≡ Ok told → TreeTold claim told next lines) → TreeTold claim told tree (words ∷ lines)
     go t next is_token after true w r later =
-        let d = end_told claim told (Some (tree_dims (refuted_by next))) lines r in record {
+        let d = end_told claim told (Some (tree_dims next)) lines r in record {
           body = words ∷ [];
           tokens = t ∷ [];
           left = next;
@@ -148,16 +148,16 @@ tree_told claim told tree (words ∷ lines) e =
           tokens = t ∷ d.tokens;
           left = d.left;
           are = ap (λ ls. words ∷ ls) d.are;
-          are_lines = (is_token, subst (λ x. AreTokenLines (tree_dims x) d.body d.tokens) (refuted_same tree next t after) d.are_lines);
+          are_lines = (is_token, subst (λ m. AreTokenLines m d.body d.tokens) (dims_same tree next t after) d.are_lines);
           taken = ap (λ r. r >>= λ x. tree_after_all x d.tokens) after ∙ d.taken;
           whole = d.whole;
           same = d.same;
         }
 
-pub refuted_begun : (refuted : Refuted) → refuted_by (begun refuted) ≡ refuted
-refuted_begun (ToFit instance) = refl
-refuted_begun (ToFitIn instance k) = refl
-refuted_begun (ToReach instance y) = refl
+pub dims_begun : (refuted : Refuted) → tree_dims (begun refuted) ≡ refuted_dims refuted
+dims_begun (ToFit instance start) = refl
+dims_begun (ToFitIn instance k) = refl
+dims_begun (ToReach instance y) = refl
 
 -- from the start, the lines up to `end` are those of a refutation
 pub record RefutingTold (claim told : Claim) (refuted : Refuted) (lines : List (List (List ℕ))) : Type 0 where
@@ -174,7 +174,7 @@ refuting_told claim told refuted lines e =
       are = t.are;
       refuting = record {
         tokens = t.tokens;
-        are_lines = subst (λ x. AreTokenLines (tree_dims x) t.body t.tokens) (refuted_begun refuted) t.are_lines;
+        are_lines = subst (λ m. AreTokenLines m t.body t.tokens) (dims_begun refuted) t.are_lines;
         refute = whole_refutes refuted t.tokens t.left t.taken t.whole;
       };
       same = t.same;

@@ -2,14 +2,15 @@
 use Rattle.std.proofs.Common.{ℕ, zero, suc, ◌-◌, ◌<◌, ◌≤◌, ◌⊎◌, inl, inr, arith, List}
 use Rattle.std.proofs.Math.ListN.{length-set}
 use Rattle.std.proofs.lemmas.Bool.{cases_lt}
-use Rattle.packing_terms.specs.Packing.{PlainInstance, HasPositiveSides, dims, box_count}
+use Rattle.packing_terms.specs.Packing.{PlainInstance, HasPositiveSides, Fits, dims}
 use Rattle.packing_terms.specs.Goals.{with_last_side, HasTooWideBox, HasTooLargeBox, ReachesValue}
-use Rattle.packing_terms.specs.Refutation.{IsTooLarge}
+use Rattle.packing_terms.specs.Tokens.{PlainToken}
+use Rattle.packing_terms.specs.Refutation.{Refutes, IsTooLarge}
 use Rattle.packing_terms.specs.Limits.{IsInternalInstance}
 use Rattle.packing_terms.proofs.Internal.{internal_sides, written_internal, some_dimension}
 use Rattle.packing_terms.proofs.Neighbours.{fits_higher, fits_in_more, reaches_lower, least_height, least_bins, greatest_value}
 use Rattle.packing_terms.proofs.TooLarge.{too_wide, too_large}
-use Rattle.packing_terms.proofs.Refuted.{none_fits, refutes_sound}
+use Rattle.packing_terms.proofs.Refuted.{none_fits}
 use Rattle.packing_terms.proofs.BinsRefuted.{none_fits_bins}
 use Rattle.packing_terms.proofs.ValueRefuted.{none_reaches}
 use Rattle.scale_terms.proofs.Excess.{excess_law}
@@ -18,11 +19,12 @@ use Rattle.document_terms.specs.Claims.{IsTrueOf}
 use Rattle.document_terms.specs.declared.claim.Claim.TheVariants.{Fitting, NotFitting, LeastHeight, HeightBetween, NoHeight, LeastBins, BinsBetween, NoBins, GreatestValue, ValueBetween}
 use Rattle.verdict_terms.specs.declared.heading.Heading.{Heading}
 use Rattle.verdict_terms.specs.declared.heading.Heading.TheVariants.{Answer, Reduced}
-use Rattle.symmetry_terms.proofs.Respected.{some_packing_respects}
+use Rattle.symmetry_terms.proofs.Levels.{none_fits_under, none_fits_at}
 use Rattle.verdict_terms.proofs.FormGiven.{document_limits}
-use Rattle.verdict_terms.specs.Form.{IsResult, AreTaken, Backs, BacksUnder, DocumentsAreTrue}
+use Rattle.verdict_terms.specs.Stages.{start_exclusions}
+use Rattle.verdict_terms.specs.Form.{IsResult, AreTaken, BacksUnder, DocumentsAreTrue}
 
-module _ (instance : PlainInstance) (sides : HasPositiveSides instance) where
+module _ (instance : PlainInstance) (sides : HasPositiveSides instance) (some : 1 ≤ dims instance) where
   higher_sides : (h : ℕ) → HasPositiveSides (with_last_side instance h)
   higher_sides h v i l m = sides v i l (let e = length-set instance.container (dims instance - 1) h in omega (arith, e, m))
 
@@ -51,27 +53,37 @@ module _ (instance : PlainInstance) (sides : HasPositiveSides instance) where
   taken_reaches : (value : ℕ) (lines : List (List (List ℕ))) → AreTaken instance value lines → ReachesValue instance value
   taken_reaches value lines t = (t.taken, t.set, t.enough, (t.places, t.packing))
 
-  backed_true : (claim : Claim) (words : List (List ℕ)) (lines : List (List (List ℕ))) → IsResult instance claim words → Backs instance claim lines → IsTrueOf instance claim
-  backed_true Fitting words lines r b = (b.places, b.packing)
-  backed_true NotFitting words lines r b = none_fits excess_law instance sides b.tokens b.refute
-  backed_true (LeastHeight zero) words lines r b = absurd (let h = r.is_number.least in omega (arith, h))
-  backed_true (LeastHeight (suc h)) words lines r b =
+  -- what is refuted under what the trees of a heading begin with doesn't fit
+  never_fits : (heading : Heading) (tokens : List PlainToken) → Refutes instance (start_exclusions heading instance) tokens → ¬ Fits instance
+  never_fits Answer tokens refutes = none_fits excess_law instance sides tokens refutes
+  never_fits Reduced tokens refutes = none_fits_under instance sides some tokens refutes
+
+  never_fits_at : (heading : Heading) (h : ℕ) (tokens : List PlainToken) → Refutes (with_last_side instance h) (start_exclusions heading instance) tokens → ¬ Fits (with_last_side instance h)
+  never_fits_at Answer h tokens refutes = none_fits excess_law (with_last_side instance h) (higher_sides h) tokens refutes
+  never_fits_at Reduced h tokens refutes = none_fits_at instance h (higher_sides h) some tokens refutes
+
+  backed_true : (heading : Heading) (claim : Claim) (words : List (List ℕ)) (lines : List (List (List ℕ))) → IsResult instance claim words → BacksUnder heading instance claim lines
+      → IsTrueOf instance claim
+  backed_true heading Fitting words lines r b = (b.places, b.packing)
+  backed_true heading NotFitting words lines r b = never_fits heading b.tokens b.refute
+  backed_true heading (LeastHeight zero) words lines r b = absurd (let h = r.is_number.least in omega (arith, h))
+  backed_true heading (LeastHeight (suc h)) words lines r b =
       least_height instance h (b.is_front.places, b.is_front.packing)
-      (none_fits excess_law (with_last_side instance h) (higher_sides h) b.is_back.tokens b.is_back.refute)
-  backed_true (HeightBetween x y) words lines r b = record {
+      (never_fits_at heading h b.is_back.tokens b.is_back.refute)
+  backed_true heading (HeightBetween x y) words lines r b = record {
     above = λ h f. go h f (cases_lt x h);
     fits = (b.is_front.places, b.is_front.packing);
   }
     where
-      go : (h : ℕ) → Rattle.packing_terms.specs.Packing.Fits (with_last_side instance h) → (x < h) ⊎ (h ≤ x) → x < h
+      go : (h : ℕ) → Fits (with_last_side instance h) → (x < h) ⊎ (h ≤ x) → x < h
       go h f (inl l) = l
       go h f (inr l) =
-          absurd (none_fits excess_law (with_last_side instance x) (higher_sides x) b.is_back.tokens b.is_back.refute (fits_higher instance h x l f))
-  backed_true NoHeight words lines r b = λ h. too_wide instance h (wide b.box_no b.dim b.large b.among)
-  backed_true (LeastBins zero) words lines r b = absurd (let h = r.is_number.least in omega (arith, h))
-  backed_true (LeastBins (suc k)) words lines r b =
+          absurd (never_fits_at heading x b.is_back.tokens b.is_back.refute (fits_higher instance h x l f))
+  backed_true heading NoHeight words lines r b = λ h. too_wide instance h (wide b.box_no b.dim b.large b.among)
+  backed_true heading (LeastBins zero) words lines r b = absurd (let h = r.is_number.least in omega (arith, h))
+  backed_true heading (LeastBins (suc k)) words lines r b =
       least_bins instance k (b.is_front.bins, b.is_front.places, b.is_front.packing) (none_fits_bins excess_law instance sides k b.is_back.tokens b.is_back.refute)
-  backed_true (BinsBetween x y) words lines r b = record {
+  backed_true heading (BinsBetween x y) words lines r b = record {
     above = λ k f. go k f (cases_lt x k);
     fits = (b.is_front.bins, b.is_front.places, b.is_front.packing);
   }
@@ -79,10 +91,10 @@ module _ (instance : PlainInstance) (sides : HasPositiveSides instance) where
       go : (k : ℕ) → Rattle.packing_terms.specs.Goals.FitsInBins instance k → (x < k) ⊎ (k ≤ x) → x < k
       go k f (inl l) = l
       go k f (inr l) = absurd (none_fits_bins excess_law instance sides x b.is_back.tokens b.is_back.refute (fits_in_more instance k x l f))
-  backed_true NoBins words lines r b = λ k. too_large instance k (large b.box_no b.dim b.large)
-  backed_true (GreatestValue v) words lines r b =
+  backed_true heading NoBins words lines r b = λ k. too_large instance k (large b.box_no b.dim b.large)
+  backed_true heading (GreatestValue v) words lines r b =
       greatest_value instance v (taken_reaches v b.front b.is_front) (none_reaches excess_law instance sides (suc v) b.is_back.tokens b.is_back.refute)
-  backed_true (ValueBetween x y) words lines r b = record {
+  backed_true heading (ValueBetween x y) words lines r b = record {
     reached = taken_reaches x b.front b.is_front;
     below = λ t f. go t f (cases_lt t y);
   }
@@ -91,25 +103,8 @@ module _ (instance : PlainInstance) (sides : HasPositiveSides instance) where
       go t f (inl l) = l
       go t f (inr l) = absurd (none_reaches excess_law instance sides y b.is_back.tokens b.is_back.refute (reaches_lower instance y t l f))
 
--- the same under a heading
-module _ (instance : PlainInstance) (limits : IsInternalInstance instance) where
-  headed_true : (heading : Heading) (claim : Claim) (words : List (List ℕ)) (lines : List (List (List ℕ))) → IsResult instance claim words → BacksUnder heading instance claim lines
-      → IsTrueOf instance claim
-  headed_true Answer claim words lines r b = backed_true instance (internal_sides instance limits) claim words lines r b
-  headed_true Reduced Fitting words lines r b = (b.places, b.packing)
-  headed_true Reduced NotFitting words lines r b =
-      λ fits. (let k = some_packing_respects instance (internal_sides instance limits) (some_dimension instance limits) fits.0 fits.1 in
-      refutes_sound excess_law instance (internal_sides instance limits) k.0 k.1 b.refute k.2)
-  headed_true Reduced (LeastHeight h) words lines r b = absurd b
-  headed_true Reduced (HeightBetween x y) words lines r b = absurd b
-  headed_true Reduced NoHeight words lines r b = absurd b
-  headed_true Reduced (LeastBins k) words lines r b = absurd b
-  headed_true Reduced (BinsBetween x y) words lines r b = absurd b
-  headed_true Reduced NoBins words lines r b = absurd b
-  headed_true Reduced (GreatestValue v) words lines r b = absurd b
-  headed_true Reduced (ValueBetween x y) words lines r b = absurd b
-
 pub documents_are_true : DocumentsAreTrue
 documents_are_true heading text claim document =
-    headed_true document.instance (written_internal document.instance (document_limits heading text claim document))
+    let limits : IsInternalInstance document.instance = written_internal document.instance (document_limits heading text claim document) in
+    backed_true document.instance (internal_sides document.instance limits) (some_dimension document.instance limits)
     heading claim document.result document.backing document.is_result document.backed

@@ -12,12 +12,13 @@ use Rattle.text_terms.proofs.FormLines.{clean_from}
 use Rattle.packing_terms.specs.Packing.{PlainInstance, dims, box_count, container_side, side}
 use Rattle.packing_terms.specs.Tokens.{PlainToken}
 use Rattle.packing_terms.specs.Tokens.PlainToken.{Apart, Order, Rules, TooLarge, Scales, Assign, Choose, SetRefuted, ValueShort, GlobalScales}
-use Rattle.verdict_terms.specs.Trees.{Refuted, Tree, begun, is_whole, tree_dims, tree_after, refuted_by}
+use Rattle.verdict_terms.specs.Trees.{Refuted, Tree, begun, is_whole, tree_dims, tree_after}
 use Rattle.document_terms.specs.declared.claim.Claim.{Claim}
 use Rattle.document_terms.specs.declared.claim.Claim.TheVariants.{Fitting, NotFitting, LeastHeight, HeightBetween, NoHeight, LeastBins, BinsBetween, NoBins, GreatestValue, ValueBetween}
 use Rattle.check_terms.specs.Judging.{names_box}
 use Rattle.verdict_terms.specs.Numbers.{require, numbers_line, coordinates}
 use Rattle.document_terms.specs.TokenLines.{token_of}
+use Rattle.verdict_terms.specs.declared.heading.Heading.TheVariants.{Answer}
 use Rattle.verdict_terms.specs.declared.reason.Reason.{Reason}
 use Rattle.verdict_terms.specs.Reasons.{form, range, after}
 use Rattle.verdict_terms.specs.declared.reason.Reason.TheVariants.{TooShort}
@@ -133,7 +134,7 @@ share_later instance claim k bins places (b ∷ ns) next e =
     let q = require_ok (nat_le 1 b && nat_le b k) range _ next e in
     let c = bind_ok (coordinates ns) _ next q.1 in
     bool_gives (length (bins ++ pred b ∷ []) == box_count instance) _ _
-    (refused_gives (bins_reason instance k (bins ++ pred b ∷ []) (places ++ c.0)) (placed claim (to_refute instance claim)) (placed_later claim (to_refute instance claim)))
+    (refused_gives (bins_reason instance k (bins ++ pred b ∷ []) (places ++ c.0)) (placed claim (to_refute Answer instance claim)) (placed_later claim (to_refute Answer instance claim)))
     (gives (Sharing instance claim k (bins ++ pred b ∷ []) (places ++ c.0)) tt) next c.2
 
 take_later : (instance : PlainInstance) (claim : Claim) (value : ℕ) (taken places ns : List ℕ) → GivesLater (take_box_line instance claim value taken places ns)
@@ -146,7 +147,7 @@ take_later instance claim value taken places (v ∷ ns) next e =
 grown_later : (claim : Claim) (tree : Tree) → IsLater (grown_tree claim tree)
 grown_later claim tree = go (is_whole tree)
   where
-    go : (b : Bool) → IsLater (cond b (Ending claim (Some (tree_dims (refuted_by tree)))) (Refuting claim tree))
+    go : (b : Bool) → IsLater (cond b (Ending claim (Some (tree_dims tree))) (Refuting claim tree))
     go true = tt
     go false = tt
 
@@ -176,11 +177,11 @@ words_later (Placing i c r p) words later next e =
 words_later (Sharing i c k b p) words later next e =
     bind_gives (numbers_line (codes "place") (suc (dims i)) words) (λ ns. share_line i c k b p ns) (λ ns. share_later i c k b p ns) next e
 words_later (Taking i c v t p) words later next e =
-    bool_gives (is_word (codes "proof") words) _ _ (refused_gives (taken_reason i v t p) (Refuting c (begun (to_refute i c))) tt)
+    bool_gives (is_word (codes "proof") words) _ _ (refused_gives (taken_reason i v t p) (Refuting c (begun (to_refute Answer i c))) tt)
     (bind_gives (numbers_line (codes "take") (suc (dims i)) words) (λ ns. take_box_line i c v t p ns) (λ ns. take_later i c v t p ns)) next e
 words_later (Proving c r) words later next e = require_gives (is_word (codes "proof") words) form (Ok (Refuting c (begun r))) (gives (Refuting c (begun r)) tt) next e
 words_later (Refuting c t) words later next e =
-    let b = bind_ok (tree_token (is_word (codes "end") words) (token_of (tree_dims (refuted_by t)) words)) (λ x. coded (tree_after t x) >>= λ more. Ok (grown_tree c more)) next e in
+    let b = bind_ok (tree_token (is_word (codes "end") words) (token_of (tree_dims t) words)) (λ x. coded (tree_after t x) >>= λ more. Ok (grown_tree c more)) next e in
     let m = bind_ok (coded (tree_after t b.0)) (λ more. Ok (grown_tree c more)) next b.2 in
     gives (grown_tree c m.0) (grown_later c m.0) next m.2
 words_later (Exceeding i c m) words later next e =

@@ -6,7 +6,7 @@ use Rattle.packing_terms.specs.Results.{◌>>=◌}
 use Rattle.text_terms.specs.Feeding.{Lexer, new_lexer, ended_line, feed, finish}
 use Rattle.document_terms.specs.declared.claim.Claim.{Claim}
 use Rattle.verdict_terms.specs.declared.heading.Heading.{Heading}
-use Rattle.verdict_terms.specs.declared.heading.Heading.TheVariants.{Answer, Reduced}
+use Rattle.verdict_terms.specs.declared.heading.Heading.TheVariants.{Answer}
 use Rattle.verdict_terms.specs.Stages.{Stage, stage_after}
 use Rattle.verdict_terms.specs.Stages.Stage.{Beginning}
 use Rattle.verdict_terms.specs.Documents.{Refusal, document_at_line, document_at_end, headed_verdict}

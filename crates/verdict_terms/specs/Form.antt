@@ -8,10 +8,11 @@ use Rattle.packing_terms.specs.Packing.{PlainInstance, dims, box_count, IsPackin
 use Rattle.packing_terms.specs.Goals.{with_last_side, subset, IsBinPacking, IsBoxSet, worth}
 use Rattle.packing_terms.specs.Tokens.{PlainToken}
 use Rattle.packing_terms.specs.Tokens.PlainToken.{TooLarge}
-use Rattle.packing_terms.specs.Refutation.{Refutes, IsTooLarge}
-use Rattle.symmetry_terms.specs.Facts.{symmetry_facts}
+use Rattle.packing_terms.specs.Refutation.{IsTooLarge}
 use Rattle.text_terms.specs.Lines.{text_lines, number_of}
 use Rattle.text_terms.specs.Form.{AreClean, filled_lines, IsNumber, HasForm}
+use Rattle.document_terms.specs.declared.claim.SolvingJob.{SolvingJob}
+use Rattle.document_terms.specs.declared.claim.SolvingJob.TheVariants.{Fit, Strip, Bins, Knapsack}
 use Rattle.document_terms.specs.declared.claim.Claim.{Claim}
 use Rattle.document_terms.specs.Claims.{job_of, job_word, IsTrueOf}
 use Rattle.document_terms.specs.declared.claim.Claim.TheVariants.{Fitting, NotFitting, LeastHeight, HeightBetween, NoHeight, LeastBins, BinsBetween, NoBins, GreatestValue, ValueBetween}
@@ -19,10 +20,10 @@ use Rattle.packing_terms.specs.Limits.{most_height}
 use Rattle.document_terms.specs.Claims.{most_worth}
 use Rattle.verdict_terms.specs.Numbers.{most_coordinate}
 use Rattle.document_terms.specs.TokenLines.{token_of}
-use Rattle.verdict_terms.specs.Trees.{Refuted, ToFit, ToFitIn, ToReach, tree_dims, AreRefutation}
+use Rattle.verdict_terms.specs.Trees.{Refuted, ToFit, ToFitIn, ToReach, refuted_dims, AreRefutation}
 use Rattle.verdict_terms.specs.declared.heading.Heading.{Heading}
 use Rattle.verdict_terms.specs.declared.heading.Heading.TheVariants.{Answer, Reduced}
-use Rattle.verdict_terms.specs.Stages.{heading_word}
+use Rattle.verdict_terms.specs.Stages.{heading_word, start_exclusions}
 use Rattle.verdict_terms.specs.Documents.{headed_verdict}
 
 -- ---- the result line
@@ -130,7 +131,7 @@ AreTokenLines d (words ∷ lines) (t ∷ ts) = (token_of d words ≡ Some t) × 
 -- token lines of a refutation
 pub record AreRefuting (refuted : Refuted) (lines : List (List (List ℕ))) : Type 0 where
   pub tokens : List PlainToken
-  pub are_lines : AreTokenLines (tree_dims refuted) lines tokens
+  pub are_lines : AreTokenLines (refuted_dims refuted) lines tokens
   pub refute : AreRefutation refuted tokens
 
 -- one line `t V I` of a box that exceeds the container in one of the first m dimensions
@@ -153,42 +154,38 @@ pub record AreProved (First Second : List (List (List ℕ)) → Type 0) (lines :
   pub is_front : First front
   pub is_back : Second back
 
--- the lines between the result line and `end` back the claim
-abbrev pub Backs : PlainInstance → Claim → List (List (List ℕ)) → Type 0
-Backs instance Fitting lines = ArePlaced instance lines
-Backs instance NotFitting lines = AreRefuting (ToFit instance) lines
-Backs instance (LeastHeight h) lines =
-    AreProved (ArePlaced (with_last_side instance h)) (AreRefuting (ToFit (with_last_side instance (pred h)))) lines
-Backs instance (HeightBetween a b) lines =
-    AreProved (ArePlaced (with_last_side instance b)) (AreRefuting (ToFit (with_last_side instance a))) lines
-Backs instance NoHeight lines = IsExceedingLine instance (dims instance - 1) lines
-Backs instance (LeastBins k) lines = AreProved (AreShared instance k) (AreRefuting (ToFitIn instance (pred k))) lines
-Backs instance (BinsBetween a b) lines = AreProved (AreShared instance b) (AreRefuting (ToFitIn instance a)) lines
-Backs instance NoBins lines = IsExceedingLine instance (dims instance) lines
-Backs instance (GreatestValue v) lines = AreProved (AreTaken instance v) (AreRefuting (ToReach instance (suc v))) lines
-Backs instance (ValueBetween a b) lines = AreProved (AreTaken instance a) (AreRefuting (ToReach instance b)) lines
-
--- token lines of a refutation of the instance under its symmetry facts
-pub record AreRefutingReduced (instance : PlainInstance) (lines : List (List (List ℕ))) : Type 0 where
-  pub tokens : List PlainToken
-  pub are_lines : AreTokenLines (dims instance) lines tokens
-  pub refute : Refutes instance (symmetry_facts instance) tokens
-
--- the same under a heading: a reduced document claims yes or no, and backs a no by such a tree
+-- the lines between the result line and `end` back the claim under a heading
 abbrev pub BacksUnder : Heading → PlainInstance → Claim → List (List (List ℕ)) → Type 0
-BacksUnder Answer instance claim lines = Backs instance claim lines
-BacksUnder Reduced instance Fitting lines = ArePlaced instance lines
-BacksUnder Reduced instance NotFitting lines = AreRefutingReduced instance lines
-BacksUnder Reduced instance _ lines = ⊥
+BacksUnder heading instance Fitting lines = ArePlaced instance lines
+BacksUnder heading instance NotFitting lines = AreRefuting (ToFit instance (start_exclusions heading instance)) lines
+BacksUnder heading instance (LeastHeight h) lines =
+    AreProved (ArePlaced (with_last_side instance h)) (AreRefuting (ToFit (with_last_side instance (pred h)) (start_exclusions heading instance))) lines
+BacksUnder heading instance (HeightBetween a b) lines =
+    AreProved (ArePlaced (with_last_side instance b)) (AreRefuting (ToFit (with_last_side instance a) (start_exclusions heading instance))) lines
+BacksUnder heading instance NoHeight lines = IsExceedingLine instance (dims instance - 1) lines
+BacksUnder heading instance (LeastBins k) lines = AreProved (AreShared instance k) (AreRefuting (ToFitIn instance (pred k))) lines
+BacksUnder heading instance (BinsBetween a b) lines = AreProved (AreShared instance b) (AreRefuting (ToFitIn instance a)) lines
+BacksUnder heading instance NoBins lines = IsExceedingLine instance (dims instance) lines
+BacksUnder heading instance (GreatestValue v) lines = AreProved (AreTaken instance v) (AreRefuting (ToReach instance (suc v))) lines
+BacksUnder heading instance (ValueBetween a b) lines = AreProved (AreTaken instance a) (AreRefuting (ToReach instance b)) lines
 
--- The text is a document of the claim under this heading: no line has a bad byte, and the lines
--- that aren't blank are, in this order, the heading's word and the claim's job, the lines of an
--- instance, the result line, what backs the claim, and `end`.
+-- a heading names every job, or one of `fit` and `strip`
+abbrev pub MayName : Heading → SolvingJob → Type 0
+MayName Answer job = Unit {0}
+MayName Reduced Fit = Unit {0}
+MayName Reduced Strip = Unit {0}
+MayName Reduced Bins = ⊥
+MayName Reduced Knapsack = ⊥
+
+-- The text is a document of the claim under this heading, which may name the claim's job: no line has
+-- a bad byte, and the lines that aren't blank are, in this order, the heading's word and the job, the
+-- lines of an instance, the result line, what backs the claim, and `end`.
 pub record IsHeadedDocument (heading : Heading) (text : List ℕ) (claim : Claim) : Type 0 where
   pub instance : PlainInstance
   pub written : List (List (List ℕ))
   pub result : List (List ℕ)
   pub backing : List (List (List ℕ))
+  pub headed : MayName heading (job_of claim)
   pub clean : AreClean (text_lines text)
   pub are : filled_lines (text_lines text)
       ≡ (heading_word heading ∷ job_word (job_of claim) ∷ []) ∷ (written ++ (codes "result" ∷ result) ∷ (backing ++ (codes "end" ∷ []) ∷ []))

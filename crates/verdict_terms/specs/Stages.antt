@@ -38,7 +38,7 @@ use Rattle.verdict_terms.specs.Reasons.{form, range, after}
 use Rattle.verdict_terms.specs.declared.reason.Reason.TheVariants.{Text, Token, OutsideAt, OverlapAt, TooLittle, TooShort}
 use Rattle.verdict_terms.specs.Numbers.{require, numbers_line, coordinates}
 use Rattle.document_terms.specs.TokenLines.{token_of}
-use Rattle.verdict_terms.specs.Trees.{Refuted, ToFit, ToFitIn, ToReach, Tree, InnerTree, begun, refuted_by, tree_dims, tree_after, is_whole}
+use Rattle.verdict_terms.specs.Trees.{Refuted, ToFit, ToFitIn, ToReach, Tree, begun, tree_dims, tree_after, is_whole}
 use Rattle.verdict_terms.specs.Results.{claim_of}
 
 pub data Stage : Type 0 where
@@ -104,38 +104,33 @@ taken_reason instance value taken places =
 
 -- ---- lines
 
--- what a claim about heights, bins or values says to be refuted
-abbrev pub to_refute : PlainInstance → Claim → Refuted
-to_refute instance (LeastHeight h) = ToFit (with_last_side instance (pred h))
-to_refute instance (HeightBetween a b) = ToFit (with_last_side instance a)
-to_refute instance (LeastBins k) = ToFitIn instance (pred k)
-to_refute instance (BinsBetween a b) = ToFitIn instance a
-to_refute instance (GreatestValue v) = ToReach instance (suc v)
-to_refute instance (ValueBetween a b) = ToReach instance b
-to_refute instance _ = ToFit instance
-
--- behind the result line of an answer
-abbrev pub claimed : PlainInstance → Claim → Stage
-claimed instance Fitting = Placing instance Fitting (to_refute instance Fitting) []
-claimed instance NotFitting = Refuting NotFitting (begun (ToFit instance))
-claimed instance (LeastHeight h) = Placing (with_last_side instance h) (LeastHeight h) (to_refute instance (LeastHeight h)) []
-claimed instance (HeightBetween a b) = Placing (with_last_side instance b) (HeightBetween a b) (to_refute instance (HeightBetween a b)) []
-claimed instance NoHeight = Exceeding instance NoHeight (dims instance - 1)
-claimed instance (LeastBins k) = Sharing instance (LeastBins k) k [] []
-claimed instance (BinsBetween a b) = Sharing instance (BinsBetween a b) b [] []
-claimed instance NoBins = Exceeding instance NoBins (dims instance)
-claimed instance (GreatestValue v) = Taking instance (GreatestValue v) v [] []
-claimed instance (ValueBetween a b) = Taking instance (ValueBetween a b) a [] []
-
--- what the tree of a no begins with: in a reduced document the symmetry facts
+-- what the tree of an instance begins with: in a reduced document with the symmetry facts
 abbrev pub start_exclusions : Heading → PlainInstance → List Exclusion
 start_exclusions Answer instance = []
 start_exclusions Reduced instance = symmetry_facts instance
 
+-- what a claim under a heading says to be refuted; the facts of the instance are those of all heights
+abbrev pub to_refute : Heading → PlainInstance → Claim → Refuted
+to_refute heading instance (LeastHeight h) = ToFit (with_last_side instance (pred h)) (start_exclusions heading instance)
+to_refute heading instance (HeightBetween a b) = ToFit (with_last_side instance a) (start_exclusions heading instance)
+to_refute heading instance (LeastBins k) = ToFitIn instance (pred k)
+to_refute heading instance (BinsBetween a b) = ToFitIn instance a
+to_refute heading instance (GreatestValue v) = ToReach instance (suc v)
+to_refute heading instance (ValueBetween a b) = ToReach instance b
+to_refute heading instance _ = ToFit instance (start_exclusions heading instance)
+
 -- behind the result line
-abbrev pub claimed_under : Heading → PlainInstance → Claim → Stage
-claimed_under heading instance NotFitting = Refuting NotFitting (InnerTree instance (start_exclusions heading instance ∷ []))
-claimed_under heading instance claim = claimed instance claim
+abbrev pub claimed : Heading → PlainInstance → Claim → Stage
+claimed heading instance Fitting = Placing instance Fitting (to_refute heading instance Fitting) []
+claimed heading instance NotFitting = Refuting NotFitting (begun (to_refute heading instance NotFitting))
+claimed heading instance (LeastHeight h) = Placing (with_last_side instance h) (LeastHeight h) (to_refute heading instance (LeastHeight h)) []
+claimed heading instance (HeightBetween a b) = Placing (with_last_side instance b) (HeightBetween a b) (to_refute heading instance (HeightBetween a b)) []
+claimed heading instance NoHeight = Exceeding instance NoHeight (dims instance - 1)
+claimed heading instance (LeastBins k) = Sharing instance (LeastBins k) k [] []
+claimed heading instance (BinsBetween a b) = Sharing instance (BinsBetween a b) b [] []
+claimed heading instance NoBins = Exceeding instance NoBins (dims instance)
+claimed heading instance (GreatestValue v) = Taking instance (GreatestValue v) v [] []
+claimed heading instance (ValueBetween a b) = Taking instance (ValueBetween a b) a [] []
 
 -- the line is this one word
 abbrev pub is_word : List ℕ → List (List ℕ) → Bool
@@ -155,12 +150,14 @@ abbrev pub heading_word : Heading → List ℕ
 heading_word Answer = codes "answer"
 heading_word Reduced = codes "reduced"
 
--- the job behind it: of reduced documents there is only that of `fit`
+-- the job behind it: of reduced documents there are those of `fit` and `strip`
 abbrev pub job_headed : Heading → List ℕ → Result SolvingJob Reason
 job_headed Answer word = job_named word
-job_headed Reduced word = cond (same_bytes word (codes "fit")) (Ok Fit) (Err form)
+job_headed Reduced word =
+    cond (same_bytes word (codes "fit")) (Ok Fit) (
+    cond (same_bytes word (codes "strip")) (Ok Strip) (Err form))
 
--- the first line: `answer JOB`, or `reduced fit`
+-- the first line: `answer JOB`, or `reduced JOB`
 abbrev pub heading_line : Heading → List (List ℕ) → Result Stage Reason
 heading_line heading (key ∷ word ∷ []) = cond (same_bytes key (heading_word heading)) (job_headed heading word >>= λ job. Ok (Reading heading job no_parts)) (Err form)
 heading_line heading _ = Err form
@@ -177,7 +174,7 @@ end_of_parts (Err fault) = Err (Text fault.code)
 
 abbrev pub result_line : Heading → SolvingJob → Parts → List (List ℕ) → Result Stage Reason
 result_line heading job parts words =
-    end_of_parts (at_end parts 0) >>= λ instance. claim_of job instance words >>= λ claim. Ok (claimed_under heading instance claim)
+    end_of_parts (at_end parts 0) >>= λ instance. claim_of job instance words >>= λ claim. Ok (claimed heading instance claim)
 
 -- whether the line is a result line: its first word is `result`
 abbrev pub is_result : Line → Bool
@@ -206,13 +203,13 @@ place_line instance claim refuted places words =
       | false ↦ Ok (Placing instance claim refuted (places ++ xs))
     ]
 
--- a bin number and coordinates
+-- a bin number and coordinates; a tree of bins begins with no exclusion under any heading
 abbrev pub share_line : PlainInstance → Claim → ℕ → List ℕ → List ℕ → List ℕ → Result Stage Reason
 share_line instance claim k bins places [] = Err form
 share_line instance claim k bins places (b ∷ ns) =
     require (nat_le 1 b && nat_le b k) range (coordinates ns >>= λ xs.
     elim (length (bins ++ pred b ∷ []) == box_count instance) [
-      | true ↦ refused_by (bins_reason instance k (bins ++ pred b ∷ []) (places ++ xs)) (Ok (placed claim (to_refute instance claim)))
+      | true ↦ refused_by (bins_reason instance k (bins ++ pred b ∷ []) (places ++ xs)) (Ok (placed claim (to_refute Answer instance claim)))
       | false ↦ Ok (Sharing instance claim k (bins ++ pred b ∷ []) (places ++ xs))
     ])
 
@@ -235,11 +232,11 @@ tree_token false (Some t) = Ok t
 
 -- the tree, and `end` behind it where it is whole
 abbrev pub grown_tree : Claim → Tree → Stage
-grown_tree claim tree = cond (is_whole tree) (Ending claim (Some (tree_dims (refuted_by tree)))) (Refuting claim tree)
+grown_tree claim tree = cond (is_whole tree) (Ending claim (Some (tree_dims tree))) (Refuting claim tree)
 
 abbrev pub tree_line : Claim → Tree → List (List ℕ) → Result Stage Reason
 tree_line claim tree words =
-    tree_token (is_word (codes "end") words) (token_of (tree_dims (refuted_by tree)) words) >>= λ t. coded (tree_after tree t) >>= λ more. Ok (grown_tree claim more)
+    tree_token (is_word (codes "end") words) (token_of (tree_dims tree) words) >>= λ t. coded (tree_after tree t) >>= λ more. Ok (grown_tree claim more)
 
 -- the `t` line of `none`: the box exceeds the container in one of the first dimensions, of which
 -- there are so many
@@ -272,7 +269,7 @@ words_line (Sharing instance claim k bins places) words =
     numbers_line (codes "place") (suc (dims instance)) words >>= λ ns. share_line instance claim k bins places ns
 words_line (Taking instance claim value taken places) words =
     elim (is_word (codes "proof") words) [
-      | true ↦ refused_by (taken_reason instance value taken places) (Ok (Refuting claim (begun (to_refute instance claim))))
+      | true ↦ refused_by (taken_reason instance value taken places) (Ok (Refuting claim (begun (to_refute Answer instance claim))))
       | false ↦ numbers_line (codes "take") (suc (dims instance)) words >>= λ ns. take_box_line instance claim value taken places ns
     ]
 words_line (Proving claim refuted) words = require (is_word (codes "proof") words) form (Ok (Refuting claim (begun refuted)))

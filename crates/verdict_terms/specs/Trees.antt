@@ -9,21 +9,22 @@ use Rattle.packing_terms.specs.OuterFeeding.{OpenNode, Outer}
 use Rattle.check_terms.specs.declared.answers.RefuseCode.{RefuseCode}
 use Rattle.check_terms.specs.Checking.{inner_after, bins_after, value_after}
 
--- what is to be refuted: that the instance fits, that it fits in so many bins, that it reaches a
--- value
+-- what is to be refuted: that the instance fits, by a tree that begins with these exclusions; that it
+-- fits in so many bins; that it reaches a value
 pub data Refuted : Type 0 where
-  ToFit : (instance : PlainInstance) → Refuted
+  ToFit : (instance : PlainInstance) (start : List Exclusion) → Refuted
   ToFitIn : (instance : PlainInstance) (bins : ℕ) → Refuted
   ToReach : (instance : PlainInstance) (value : ℕ) → Refuted
 
-abbrev pub tree_dims : Refuted → ℕ
-tree_dims (ToFit instance) = dims instance
-tree_dims (ToFitIn instance k) = dims instance
-tree_dims (ToReach instance y) = dims instance
+-- the dimensions of the instance
+abbrev pub refuted_dims : Refuted → ℕ
+refuted_dims (ToFit instance start) = dims instance
+refuted_dims (ToFitIn instance k) = dims instance
+refuted_dims (ToReach instance y) = dims instance
 
 -- the tokens refute it
 abbrev pub AreRefutation : Refuted → List PlainToken → Type 0
-AreRefutation (ToFit instance) tokens = Refutes instance [] tokens
+AreRefutation (ToFit instance start) tokens = Refutes instance start tokens
 AreRefutation (ToFitIn instance k) tokens = IsBinRefutation instance k tokens
 AreRefutation (ToReach instance y) tokens = IsValueRefutation instance y tokens
 
@@ -35,15 +36,15 @@ pub data Tree : Type 0 where
 
 -- no token was fed yet
 abbrev pub begun : Refuted → Tree
-begun (ToFit instance) = InnerTree instance ([] ∷ [])
+begun (ToFit instance start) = InnerTree instance (start ∷ [])
 begun (ToFitIn instance k) = BinTree instance k (Outer [] ∷ [])
 begun (ToReach instance y) = ValueTree instance y (Outer no_choice ∷ [])
 
--- what it is to refute
-abbrev pub refuted_by : Tree → Refuted
-refuted_by (InnerTree instance nodes) = ToFit instance
-refuted_by (BinTree instance k nodes) = ToFitIn instance k
-refuted_by (ValueTree instance y nodes) = ToReach instance y
+-- the dimensions of the instance
+abbrev pub tree_dims : Tree → ℕ
+tree_dims (InnerTree instance nodes) = dims instance
+tree_dims (BinTree instance k nodes) = dims instance
+tree_dims (ValueTree instance y nodes) = dims instance
 
 -- what stands where there is a value
 abbrev pub map_ok : {A B E : Type 0} → (A → B) → Result A E → Result B E

@@ -5,6 +5,6 @@
 pub enum Heading {
     /// `answer`, and one of the four solving jobs.
     Answer,
-    /// `reduced fit`: the tree of a no begins with the symmetry facts of the instance.
+    /// `reduced`, and `fit` or `strip`: the tree of an instance begins with its symmetry facts.
     Reduced,
 }

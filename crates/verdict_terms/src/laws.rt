@@ -4,9 +4,9 @@ ghost use Rattle.verdict_terms.specs.Form.{DocumentsHaveForm, DocumentsAreTrue};
 
 /// A text is verified with a claim under a heading exactly where it is such a document of it: no
 /// line has a bad byte, and the lines that aren't blank are, in this order, `answer JOB` or
-/// `reduced fit` as the heading says, the lines of an instance, the result line of the claim, what
-/// backs it, and `end`. A reduced document backs a no by a tree that refutes the instance under its
-/// symmetry facts.
+/// `reduced JOB` as the heading says, the lines of an instance, the result line of the claim, what
+/// backs it, and `end`. Reduced documents are of `fit` and `strip`, and refute an instance, or a
+/// height of it, under the instance's symmetry facts.
 pub fn documents_have_form()
     ensures { DocumentsHaveForm }
 {}

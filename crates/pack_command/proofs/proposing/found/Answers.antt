@@ -5,7 +5,7 @@ use Rattle.pack_command.specs.Proposed.{IsProposedSolution}
 use Rattle.pack_command.proofs.ProposedFit.{fit_proposed}
 use Rattle.pack_command.proofs.ProposedStrip.{strip_proposed}
 use Rattle.pack_command.proofs.ProposedBins.{bins_proposed}
-use Rattle.pack_command.proofs.ProposedDecided.{choice_proposed}
+use Rattle.pack_command.proofs.ProposedChoice.{choice_proposed}
 use Rattle.pack_command.proofs.proposing.found.Goals as goal
 
 pub returns-in_ok-outcome-in-Fit : goal.returns-in_ok-outcome-in-Fit
@@ -28,4 +28,5 @@ returns-in_ok-bins-in-Bins g c =
 pub returns-in_ok-choice-in-Knapsack : goal.returns-in_ok-choice-in-Knapsack
 returns-in_ok-choice-in-Knapsack g c =
     subst (λ (job : SolvingJob). IsProposedSolution job c.args.settings.now c.args.instance.now (Knapsack c.in_ok-choice-in-Knapsack.choice)) (sym c.in-Knapsack.is)
-    (choice_proposed c.args.settings.now c.args.instance.now c.in_ok-choice-in-Knapsack.choice c.in_ok-choice-in-Knapsack.ensures.answer)
+    (choice_proposed c.args.settings.now c.args.instance.now c.in_ok-choice-in-Knapsack.choice c.in_ok-choice-in-Knapsack.ensures.right
+    c.in_ok-choice-in-Knapsack.ensures.limited c.in_ok-choice-in-Knapsack.ensures.past)
