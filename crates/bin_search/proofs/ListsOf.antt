@@ -1,7 +1,8 @@
 -- Lists of vectors, as lists of lists.
-use Rattle.std.proofs.Common.{◌≡◌, ℕ, zero, suc, ◌+◌, ◌<◌, ◌≤◌, refl, sym, ap, ◌∙◌, arith, List, [], ◌∷◌, ◌++◌, length, get_or, slice_set, Vec, Global, append_assoc, ◌==◌}
+use Rattle.std.proofs.Common.{◌≡◌, ℕ, zero, suc, pred, ◌+◌, ◌<◌, ◌≤◌, refl, sym, ap, ◌∙◌, arith, List, [], ◌∷◌, ◌++◌, length, take, get_or, slice_set, Vec, Global, append_assoc, ◌==◌}
 use Rattle.std.specs.List.{flat_map, position_or_len}
-use Rattle.std.proofs.lemmas.List.{get_or-map}
+use Rattle.std.proofs.Math.Seq.{take-append_seam}
+use Rattle.std.proofs.lemmas.List.{get_or-map, length-append}
 use Rattle.packing_terms.specs.Sums.{below}
 use Rattle.packing_terms.specs.OuterRefutation.{has_box}
 use Rattle.packing_terms.proofs.Ranges.{flat_map_last_below}
@@ -18,6 +19,24 @@ pushed [] zero list l = refl
 pushed [] (suc at) list l = refl
 pushed (x ∷ xs) zero list l = absurd (omega (arith, l))
 pushed (x ∷ xs) (suc at) list l = ap (λ (ys : List (List ℕ)). x.items ∷ ys) (pushed xs at list (omega (arith, l)))
+
+pub set_lists : (lists : List (Vec ℕ Global)) (at : ℕ) (list : Vec ℕ Global) → lists_of (slice_set lists at list) ≡ slice_set (lists_of lists) at list.items
+set_lists [] at list = refl
+set_lists (x ∷ xs) zero list = refl
+set_lists (x ∷ xs) (suc at) list = ap (λ (ys : List (List ℕ)). x.items ∷ ys) (set_lists xs at list)
+
+-- what was replaced is put back
+pub replaced_back : (lists : List (Vec ℕ Global)) (at : ℕ) (old list : Vec ℕ Global) → at < length lists → old ≡ get_or lists at old
+    → slice_set (lists_of (slice_set lists at list)) at old.items ≡ lists_of lists
+replaced_back [] at old list l e = absurd (omega (arith, l))
+replaced_back (x ∷ xs) zero old list l e = ap (λ (y : Vec ℕ Global). y.items ∷ lists_of xs) e
+replaced_back (x ∷ xs) (suc at) old list l e = ap (λ (ys : List (List ℕ)). x.items ∷ ys) (replaced_back xs at old list (omega (arith, l)) e)
+
+-- what was put behind the others is taken away
+pub pushed_back : (lists : List (List ℕ)) (list : List ℕ) → take (pred (length (lists ++ list ∷ []))) (lists ++ list ∷ []) ≡ lists
+pushed_back lists list =
+    let n : pred (length (lists ++ list ∷ [])) ≡ length lists = (let e = length-append lists (list ∷ []) in omega (arith, e)) in
+    rw n (take-append_seam lists (list ∷ []))
 
 pub list_at : (lists : List (Vec ℕ Global)) (b : ℕ) (x : Vec ℕ Global) → b < length lists → x ≡ get_or lists b x → x.items ≡ get_or (lists_of lists) b []
 list_at lists b x l e = ap (λ (y : Vec ℕ Global). y.items) e ∙ sym (get_or-map (λ (y : Vec ℕ Global). y.items) lists b x [] l)

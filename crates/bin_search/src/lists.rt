@@ -1,55 +1,45 @@
 //! Lists of lists of numbers.
 ghost use Rattle.std.specs.Prelude.{◌≡◌, IfOk, OnOk};
 ghost use Rattle.tree_terms.specs.OuterTrees.{with_answer};
-ghost use Rattle.bin_search.specs.Lists.{lists_of};
+ghost use Rattle.bin_search.specs.Lists.{lists_of, list_before, restored};
 
 use box_instances::NoMemory;
-use std::alloc::Global;
+use std::mem;
 
-// Equal lists, with room for one more.
-fn copied(alloc: Global, lists: &[Vec<u32>]) -> Result<Vec<Vec<u32>>, NoMemory>
-    ensures { IfOk result (λ all. lists_of all.items ≡ lists_of lists.now) }
-{
-    let Ok(mut all) = Vec::with_capacity(alloc, lists.len().saturating_add(1)) else {
-        return Err(NoMemory);
-    };
-    for list in lists {
-        let Ok(copy) = Vec::from_slice(alloc, list.as_slice()) else {
-            return Err(NoMemory);
-        };
-        let Ok(()) = all.push(copy) else {
-            return Err(NoMemory);
-        };
-    }
-    Ok(all)
-}
-
-// Replaces one of the lists, or puts one more behind them.
-pub fn put_list(lists: &mut Vec<Vec<u32>>, at: usize, list: Vec<u32>) -> Result<(), NoMemory>
-    ensures { OnOk result (lists_of lists.new.items
+// Replaces one of the lists, and gives what stood there; or puts one more behind them.
+pub fn replace_list(
+    lists: &mut Vec<Vec<u32>>,
+    at: usize,
+    list: Vec<u32>,
+) -> Result<Option<Vec<u32>>, NoMemory>
+    ensures lists { OnOk result (lists_of lists.new.items
         ≡ with_answer (lists_of lists.old.items) at list.items) }
+    ensures back { IfOk result (λ before. restored (lists_of lists.new.items) at
+        (list_before before) ≡ lists_of lists.old.items) }
 {
     if at < lists.len() {
-        lists[at] = list;
-        return Ok(());
+        return Ok(Some(mem::replace(&mut lists[at], list)));
     }
     let Ok(()) = lists.push(list) else {
         return Err(NoMemory);
     };
-    Ok(())
+    Ok(None)
 }
 
-// The lists with one of them replaced, or with one more behind them.
-pub fn with_list(
-    alloc: Global,
-    lists: &[Vec<u32>],
-    at: usize,
-    list: Vec<u32>,
-) -> Result<Vec<Vec<u32>>, NoMemory>
-    ensures { IfOk result (λ all. lists_of all.items
-        ≡ with_answer (lists_of lists.now) at list.items) }
+// Undoes a replacement: puts back what stood there, or takes away the list that was put behind
+// the others.
+pub fn restore_list(lists: &mut Vec<Vec<u32>>, at: usize, before: Option<Vec<u32>>)
+    ensures { lists_of lists.new.items
+        ≡ restored (lists_of lists.old.items) at (list_before before) }
 {
-    let mut all = copied(alloc, lists)?;
-    put_list(&mut all, at, list)?;
-    Ok(all)
+    match before {
+        Some(list) => {
+            if at < lists.len() {
+                lists[at] = list;
+            }
+        }
+        None => {
+            let _last = lists.pop();
+        }
+    }
 }

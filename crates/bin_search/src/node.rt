@@ -1,15 +1,15 @@
 //! The nodes of a bin tree.
-ghost use Rattle.std.specs.Prelude.{◌≡◌, ◌≤◌, ◌<◌, [], length, slice_index_or, IfOk};
+ghost use Rattle.std.specs.Prelude.{◌≡◌, ◌+◌, ◌≤◌, pred, [], length, slice_index_or, IfOk, OnOk};
 ghost use Rattle.packing_terms.specs.Goals.{IsBoxSet};
+ghost use Rattle.packing_terms.specs.Limits.{most_boxes};
 ghost use Rattle.packing_terms.specs.OuterRefutation.{insert_box};
-ghost use Rattle.packing_terms.specs.Rank.{ranked};
+ghost use Rattle.tree_terms.specs.OuterTrees.{with_answer};
 ghost use Rattle.set_search.specs.Children.{IsChild};
 ghost use Rattle.bin_search.specs.Lists.{lists_of};
-ghost use Rattle.bin_search.specs.Nodes.{child_count, grown_bin, IsOpened};
+ghost use Rattle.bin_search.specs.Nodes.{child_count, plain_placed, plain_change, undone};
 
-use crate::lists::with_list;
+use crate::lists::{replace_list, restore_list};
 use box_instances::NoMemory;
-use proof_tree::Token;
 use set_search::{Child, SetSearch};
 use std::alloc::Global;
 
@@ -24,13 +24,13 @@ pub struct Placed {
     pub visited: usize,
 }
 
-// What a child comes to: its own count is past what is left, its changed bin is refuted, or it is a
-// node of its own.
+// What the step into a child changed: the number of the node's children visited by then, the last
+// of which it is, and its changed bin with the answer as they stood before, where the bin isn't new.
 #[derive(Drop)]
-pub enum Opened {
-    Past,
-    Refuted { tokens: Vec<Token>, own: u64 },
-    Entered { node: Placed, own: u64 },
+pub struct Change {
+    pub visited: usize,
+    pub bin: Option<Vec<u32>>,
+    pub answer: Option<Vec<u32>>,
 }
 
 // How many children a node with a box left has: one for each used bin, and one for a new bin where
@@ -68,33 +68,37 @@ pub fn grow_bin(
     }
 }
 
-// Decides the child of a node that comes next, under what is left of a cap.
-pub fn open_next(
-    alloc: Global,
-    search: &mut SetSearch<'_>,
-    order: &[u32],
-    node: &Placed,
-    left: u64,
-) -> Result<Opened, NoMemory>
-    requires order { order.now ≡ ranked search.old.instance }
-    requires there { node.now.placed < length order.now }
-    requires set { IsBoxSet search.old.instance (grown_bin search.old.instance node.now) }
-    ensures same { search.new ≡ search.old }
-    ensures opened { IfOk result (λ r.
-        IsOpened search.old.instance search.old.scales node.now left r) }
+// Makes the node the child that was visited last: its changed bin is this set, with this answer.
+// Only what changes is touched, so a step costs nothing for the other bins.
+pub fn enter_child(node: &mut Placed, set: Vec<u32>, numbers: Vec<u32>) -> Result<Change, NoMemory>
+    requires few { node.old.placed ≤ most_boxes }
+    ensures child { OnOk result (plain_placed node.new ≡ record {
+      placed = node.old.placed + 1;
+      bins = with_answer (lists_of node.old.bins.items) (pred node.old.visited) set.items;
+      answers = with_answer (lists_of node.old.answers.items) (pred node.old.visited) numbers.items;
+      visited = 0;
+    }) }
+    ensures back { IfOk result (λ change.
+        undone (plain_placed node.new) (plain_change change) ≡ plain_placed node.old) }
 {
-    let b = node.visited;
-    match grow_bin(alloc, search, &node.bins, b, order[node.placed], left)? {
-        Child::Past => Ok(Opened::Past),
-        Child::Refuted { tokens, own } => Ok(Opened::Refuted { tokens, own }),
-        Child::Fits { set, numbers, own } => {
-            let node = Placed {
-                placed: node.placed + 1,
-                bins: with_list(alloc, &node.bins, b, set)?,
-                answers: with_list(alloc, &node.answers, b, numbers)?,
-                visited: 0,
-            };
-            Ok(Opened::Entered { node, own })
-        }
-    }
+    let b = node.visited.saturating_sub(1);
+    let change = Change {
+        visited: node.visited,
+        bin: replace_list(&mut node.bins, b, set)?,
+        answer: replace_list(&mut node.answers, b, numbers)?,
+    };
+    node.placed += 1;
+    node.visited = 0;
+    Ok(change)
+}
+
+// Makes a child the node above it again.
+pub fn leave_child(node: &mut Placed, change: Change)
+    ensures { plain_placed node.new ≡ undone (plain_placed node.old) (plain_change change) }
+{
+    let b = change.visited.saturating_sub(1);
+    restore_list(&mut node.bins, b, change.bin);
+    restore_list(&mut node.answers, b, change.answer);
+    node.placed = node.placed.saturating_sub(1);
+    node.visited = change.visited;
 }

@@ -13,7 +13,7 @@ ghost use Rattle.bin_search.specs.Lists.{lists_of};
 ghost use Rattle.bin_search.specs.Nodes.{AreInBins};
 ghost use Rattle.bin_search.specs.Paths.{grown, bins_along, answers_of, AreFound, IsAbove, IsLastStep, child_tree};
 
-use crate::lists::put_list;
+use crate::lists::replace_list;
 use crate::node::{Placed, children, grow_bin};
 use crate::numbers::bin_numbers;
 use crate::walk::{assign, walk};
@@ -52,7 +52,7 @@ fn bins_along(alloc: Global, order: &[u32], path: &[u32]) -> Result<Vec<Vec<u32>
     for k in 0..path.len() {
         let b = path[k] as usize;
         let set = grown_bin(alloc, &bins, b, order[k])?;
-        put_list(&mut bins, b, set)?;
+        replace_list(&mut bins, b, set)?;
     }
     Ok(bins)
 }
@@ -187,7 +187,7 @@ pub fn explore_step(
         Child::Fits { set, numbers, own } => {
             let answers = answers_with(alloc, search, &step.bins, b, numbers)?;
             let mut bins = step.bins;
-            put_list(&mut bins, b, set)?;
+            replace_list(&mut bins, b, set)?;
             let node = Placed {
                 placed: step.placed + 1,
                 bins,
@@ -272,7 +272,7 @@ pub fn tell_step(
             own,
         } => {
             let mut bins = step.bins;
-            put_list(&mut bins, b, set)?;
+            replace_list(&mut bins, b, set)?;
             Ok(tell(instance, order, most, step.placed + 1, &bins, own))
         }
     }

@@ -1,4 +1,5 @@
-//! The walk through the bin tree below a node, depth first, with a stack of the nodes above.
+//! The walk through the bin tree below a node, depth first. One node is held, and a stack of what
+//! each step down to it changed, so that no bin is copied.
 ghost use Rattle.std.specs.Prelude.{◌≡◌, ◌≤◌, ◌<◌, ◌∷◌, ◌++◌, [], suc, length, drop, map, slice_index_or, IfOk, OnOk};
 ghost use Rattle.packing_terms.specs.Packing.{box_count};
 ghost use Rattle.packing_terms.specs.Limits.{IsInternalInstance};
@@ -11,13 +12,12 @@ ghost use Rattle.proof_tree.specs.Plain.{plain_token};
 ghost use Rattle.bin_search.specs.Lists.{lists_of};
 ghost use Rattle.bin_search.specs.Nodes.{AreInBins};
 
-use crate::node::{Opened, Placed, children, open_next};
+use crate::node::{Change, Placed, children, enter_child, grow_bin, leave_child};
 use crate::numbers::bin_numbers;
 use box_instances::{Instance, NoMemory};
 use proof_tree::{Outcome, Token};
-use set_search::{SetSearch, push_refuted, push_token};
+use set_search::{Child, SetSearch, push_refuted, push_token};
 use std::alloc::Global;
-use std::mem;
 
 // The token of a node at which so many boxes have bins.
 pub fn assign(instance: &Instance, order: &[u32], placed: usize) -> Token
@@ -57,7 +57,7 @@ pub fn walk(
         (bin_node instance.now search.old.scales most (drop node.placed (ranked instance.now))
         (lists_of node.bins.items) (lists_of node.answers.items) own))) }
 {
-    let mut stack: Vec<Placed> = Vec::new(alloc);
+    let mut stack: Vec<Change> = Vec::new(alloc);
     let mut tokens = Vec::new(alloc);
     let mut count = own;
     let mut node = node;
@@ -66,25 +66,33 @@ pub fn walk(
         if node.visited == children(&node.bins, most) {
             match stack.pop() {
                 None => return Ok(Outcome::No { tokens, count }),
-                Some(above) => node = above,
+                Some(change) => leave_child(&mut node, change),
             }
         } else {
-            match open_next(alloc, search, order, &node, cap - count)? {
-                Opened::Past => return Ok(Outcome::Past),
-                Opened::Refuted { tokens: inner, own } => {
-                    node.visited += 1;
+            let b = node.visited;
+            node.visited += 1;
+            match grow_bin(
+                alloc,
+                search,
+                &node.bins,
+                b,
+                order[node.placed],
+                cap - count,
+            )? {
+                Child::Past => return Ok(Outcome::Past),
+                Child::Refuted { tokens: inner, own } => {
                     push_refuted(&mut tokens, Some(node.visited as u32), inner)?;
                     count += own;
                 }
-                Opened::Entered { node: child, own } => {
+                Child::Fits { set, numbers, own } => {
                     count += own;
-                    if child.placed == order.len() {
-                        let numbers = bin_numbers(alloc, instance, &child.bins, &child.answers)?;
+                    let change = enter_child(&mut node, set, numbers)?;
+                    if node.placed == order.len() {
+                        let numbers = bin_numbers(alloc, instance, &node.bins, &node.answers)?;
                         return Ok(Outcome::Yes { numbers, count });
                     }
-                    push_token(&mut tokens, assign(instance, order, child.placed))?;
-                    node.visited += 1;
-                    let Ok(()) = stack.push(mem::replace(&mut node, child)) else {
+                    push_token(&mut tokens, assign(instance, order, node.placed))?;
+                    let Ok(()) = stack.push(change) else {
                         return Err(NoMemory);
                     };
                 }

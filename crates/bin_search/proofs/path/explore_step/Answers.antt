@@ -36,7 +36,7 @@ pub enter-requires-clause-node : goal.enter-requires-clause-node
 enter-requires-clause-node c =
     let t : PlainBinTree = record { instance = c.args.instance.now; bins = c.args.most; scales = c.args.search.now.scales } in
     let h = rw (c.requires.search, c.requires.order, c.deref.ensures.value, c.in-Fits.is) at c.in_ok-grow_bin.ensures.child in
-    let e = rw h.same at c.in_ok-put_list-in-Fits.ensures in
+    let e = rw h.same at c.in_ok-replace_list-in-Fits.ensures.lists in
     let f = rw (c.in_ok-grow_bin.ensures.same, c.requires.search, c.deref-in-Fits.ensures.value) at c.in_ok-answers-in-Fits.ensures.answers in
     rw (e, f) (step_placed t c.requires.limits c.args.step.placed (lists_of c.args.step.bins.items) c.requires.above c.args.step.child c.requires.near c.in-Fits.numbers.items h.packing)
 
@@ -56,11 +56,11 @@ returns-in_ok-push_refuted-in-Refuted c =
     ap (λ (l : List PlainToken). Decided (No l c.in-Refuted.own)) e
     ∙ step_refuted t c.requires.limits c.args.step.placed (lists_of c.args.step.bins.items) c.requires.above c.args.step.child c.requires.near c.args.cap (map plain_token c.in-Refuted.inner.items) h.cost c.in-Refuted.own h.is h.counted h.within
 
-pub returns-in_ok-put_list-in-Fits : goal.returns-in_ok-put_list-in-Fits
-returns-in_ok-put_list-in-Fits c =
+pub returns-in_ok-replace_list-in-Fits : goal.returns-in_ok-replace_list-in-Fits
+returns-in_ok-replace_list-in-Fits c =
     let t : PlainBinTree = record { instance = c.args.instance.now; bins = c.args.most; scales = c.args.search.now.scales } in
     let h = rw (c.requires.search, c.requires.order, c.deref.ensures.value, c.in-Fits.is) at c.in_ok-grow_bin.ensures.child in
-    let e = rw h.same at c.in_ok-put_list-in-Fits.ensures in
+    let e = rw h.same at c.in_ok-replace_list-in-Fits.ensures.lists in
     let f = rw (c.in_ok-grow_bin.ensures.same, c.requires.search, c.deref-in-Fits.ensures.value) at c.in_ok-answers-in-Fits.ensures.answers in
     let g = c.in_ok-answers-in-Fits.ensures.same ∙ c.in_ok-grow_bin.ensures.same in
     let k = rw (g, e, f) at c.enter.ensures.outcome in

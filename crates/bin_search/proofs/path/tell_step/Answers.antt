@@ -17,7 +17,7 @@ pub tell-requires-clause-few : goal.tell-requires-clause-few
 tell-requires-clause-few c =
     let t : PlainBinTree = record { instance = c.args.instance.now; bins = c.args.most; scales = c.args.search.now.scales } in
     let h = rw (c.requires.search, c.requires.order, c.deref.ensures.value, c.in-Fits.is) at c.in_ok-grow_bin.ensures.child in
-    let e = rw h.same at c.in_ok-put_list-in-Fits.ensures in
+    let e = rw h.same at c.in_ok-replace_list-in-Fits.ensures.lists in
     let p = step_placed t c.requires.limits c.args.step.placed (lists_of c.args.step.bins.items) c.requires.above c.args.step.child c.requires.near _ h.packing in
     let few = p.few in
     let m = length-map c.deref-in-Fits.result.now (λ (x : Vec ℕ Global). x.items) in
@@ -36,10 +36,10 @@ returns-in-Refuted c =
     let h = rw (c.requires.search, c.requires.order, c.deref.ensures.value, c.in-Refuted.is) at c.in_ok-grow_bin.ensures.child in
     step_refuted_told t c.requires.limits c.args.step.placed (lists_of c.args.step.bins.items) c.requires.above c.args.step.child c.requires.near _ h.cost h.is
 
-pub returns-in_ok-put_list-in-Fits : goal.returns-in_ok-put_list-in-Fits
-returns-in_ok-put_list-in-Fits c =
+pub returns-in_ok-replace_list-in-Fits : goal.returns-in_ok-replace_list-in-Fits
+returns-in_ok-replace_list-in-Fits c =
     let t : PlainBinTree = record { instance = c.args.instance.now; bins = c.args.most; scales = c.args.search.now.scales } in
     let h = rw (c.requires.search, c.requires.order, c.deref.ensures.value, c.in-Fits.is) at c.in_ok-grow_bin.ensures.child in
-    let e = rw h.same at c.in_ok-put_list-in-Fits.ensures in
+    let e = rw h.same at c.in_ok-replace_list-in-Fits.ensures.lists in
     let k = rw (c.deref-in-Fits.ensures.value, e) at c.tell.ensures c.args.search.now.scales (with_answer (answers_of c.args.instance.now c.args.search.now.scales (lists_of c.args.step.bins.items)) c.args.step.child c.in-Fits._numbers.items) in
     k ∙ ap node_told (step_fits t c.requires.limits c.args.step.placed (lists_of c.args.step.bins.items) c.requires.above c.args.step.child c.requires.near c.in-Fits._numbers.items h.cost c.in-Fits.own h.is h.counted)
