@@ -116,8 +116,8 @@ fn write_none<K: Sink>(
     write_on(sink, said, b"end\n")
 }
 
-/// Writes the document of an answer of `strip` under a heading: the least height or two between which it lies, with
-/// both certificates, or the box that no height holds.
+/// Writes the document of an answer of `strip` under a heading: the least height or two between
+/// which it lies, with both certificates, or the box that no height holds.
 pub fn write_strip<K: Sink>(
     sink: &mut K,
     heading: Heading,

@@ -140,8 +140,8 @@ fn run_past(alloc: Global, tree: &ClassTree<'_>) -> Result<Option<Outcome>, NoMe
 // Eight times the leftmost task that waits is taken and split.
 const DOWN_TO_EIGHT: [u32; 16] = [0, 3, 0, 3, 0, 3, 0, 3, 0, 3, 0, 3, 0, 3, 0, 3];
 
-// Tasks are split down to depth 8, and then all that wait are explored: eight splits and nine tasks,
-// each of them taken first.
+// Tasks are split down to depth 8, and then all that wait are explored: eight splits and nine
+// tasks, each of them taken first.
 fn run_deep(alloc: Global, tree: &ClassTree<'_>) -> Result<Option<Outcome>, NoMemory> {
     let mut met = Met::new(alloc);
     let mut board = Board::start(alloc, tree, 5039)?;

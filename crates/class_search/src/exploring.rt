@@ -18,7 +18,7 @@ use std::alloc::Global;
 
 // What the tree of a node gives under a cap. This is what the path to it came to, and the node's
 // closed state.
-pub fn explored(
+pub(crate) fn explored(
     alloc: Global,
     instance: &Instance,
     pairs: &[(u32, u32)],
@@ -58,7 +58,7 @@ pub fn explored(
 }
 
 // The outcome of an instance's class tree under a budget, in a state whose masks are full.
-pub fn searched(
+pub(crate) fn searched(
     alloc: Global,
     instance: &Instance,
     pairs: &[(u32, u32)],

@@ -20,7 +20,7 @@ use work_share::{Gate, Node, Settings, Tree, solve_shared};
 
 // What is kept of the node at a path of a class tree.
 #[derive(Drop)]
-pub struct Piece<'a> {
+pub(crate) struct Piece<'a> {
     tree: &'a ClassTree<'a>,
     path: Vec<u32>,
     kept: Kept<'a>,
@@ -84,7 +84,7 @@ impl<'a> Piece<'a> {
 // each piece is right for its node, and where the room stays in use by another thread, or there is
 // no memory for a piece, the walk is lost and its node is begun anew.
 #[derive(Drop)]
-pub struct KeepingTree<'a> {
+pub(crate) struct KeepingTree<'a> {
     tree: &'a ClassTree<'a>,
     room: Mutex<Vec<Piece<'a>>>,
 }

@@ -16,7 +16,7 @@ use std::alloc::{AllocError, Global};
 
 // A walk, with the closed state of the node where it stands.
 #[derive(Drop)]
-pub struct Standing<'a> {
+pub(crate) struct Standing<'a> {
     pub instance: &'a Instance,
     pub state: EdgeState,
     pub closer: Closer,
@@ -25,14 +25,14 @@ pub struct Standing<'a> {
 
 // What a finished node gave: no, with these tokens and this count.
 #[derive(Drop)]
-pub struct Refuted {
+pub(crate) struct Refuted {
     pub tokens: Vec<Token>,
     pub count: u64,
 }
 
 // What is kept of a node: all that it gives, or a walk through its tree.
 #[derive(Drop)]
-pub enum Kept<'a> {
+pub(crate) enum Kept<'a> {
     Refuted(Refuted),
     Standing(Standing<'a>),
 }
@@ -40,14 +40,14 @@ pub enum Kept<'a> {
 // What a walk leaves to the children of its node: it goes on in the first; or the first is
 // finished, and it goes on in the second.
 #[derive(Drop)]
-pub enum Parts<'a> {
+pub(crate) enum Parts<'a> {
     First(Standing<'a>),
     Second(Refuted, Standing<'a>),
 }
 
 // What exploring gives: what is told, and the walk where the cap was spent.
 #[derive(Drop)]
-pub struct Explored<'a> {
+pub(crate) struct Explored<'a> {
     pub outcome: Outcome,
     pub left: Option<Standing<'a>>,
 }

@@ -13,7 +13,7 @@ fn in_order(u: u32, v: u32) -> (u32, u32)
 }
 
 // All pairs of boxes, by the rank of their later box, then by the rank of their earlier one.
-pub fn ranked_pairs(alloc: Global, instance: &Instance) -> Result<Vec<(u32, u32)>, NoMemory>
+pub(crate) fn ranked_pairs(alloc: Global, instance: &Instance) -> Result<Vec<(u32, u32)>, NoMemory>
     ensures { IfOk result (λ pairs. pairs.items ≡ ranked_pairs instance.now) }
 {
     let order = instance.rank_order(alloc)?;

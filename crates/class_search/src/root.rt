@@ -19,7 +19,7 @@ use std::alloc::Global;
 
 // What a path comes to: a root that one of its own tests refutes, or a node of the inner tree.
 #[derive(Drop)]
-pub enum Arrival {
+pub(crate) enum Arrival {
     RefutedRoot(Token),
     Inner(NodeKind),
 }
@@ -105,7 +105,7 @@ fn visit_fitting_root(
 }
 
 // The root of a class tree. It closes the state, but where a box is longer than the container.
-pub fn visit_class_root(
+pub(crate) fn visit_class_root(
     alloc: Global,
     instance: &Instance,
     pairs: &[(u32, u32)],

@@ -5,7 +5,6 @@ ghost use Rattle.class_search.specs.Same.{AreSameContainers, AreSameBoxes};
 
 use box_instances::Instance;
 use edge_state::Exclusion;
-use relation_table::Rel;
 
 // Whether both instances have the same container and kerfs.
 fn are_same_containers(first: &Instance, second: &Instance) -> bool
@@ -62,45 +61,9 @@ pub fn are_same_instances(first: &Instance, second: &Instance) -> bool
     true
 }
 
-// Whether the relations are the same.
-fn are_same_relations(first: Rel, second: Rel) -> bool
-    ensures { MatchBool result (first ≡ second) (¬ (first ≡ second)) }
-{
-    match (first, second) {
-        (Rel::Overlap, Rel::Overlap) => true,
-        (Rel::Before, Rel::Before) => true,
-        (Rel::After, Rel::After) => true,
-        _ => false,
-    }
-}
-
-// Whether the exclusions are the same.
-fn are_same(first: Exclusion, second: Exclusion) -> bool
-    ensures { MatchBool result (first ≡ second) (¬ (first ≡ second)) }
-{
-    if first.dim != second.dim {
-        return false;
-    }
-    if first.u != second.u {
-        return false;
-    }
-    if first.v != second.v {
-        return false;
-    }
-    are_same_relations(first.rel, second.rel)
-}
-
 // Whether the lists of exclusions are the same.
-pub fn are_same_exclusions(first: &[Exclusion], second: &[Exclusion]) -> bool
+pub(crate) fn are_same_exclusions(first: &[Exclusion], second: &[Exclusion]) -> bool
     ensures { MatchBool result (first.now ≡ second.now) (¬ (first.now ≡ second.now)) }
 {
-    if first.len() != second.len() {
-        return false;
-    }
-    for k in 0..first.len() {
-        if !are_same(first[k], second[k]) {
-            return false;
-        }
-    }
-    true
+    first == second
 }

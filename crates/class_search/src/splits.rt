@@ -12,14 +12,14 @@ use relation_table::Rel;
 
 /// How a pair is split: into apart and joined, or (once it is apart) into one order and the other.
 #[derive(Clone, Copy, Debug, PartialEq, Eq)]
-pub enum Choice {
+pub(crate) enum Choice {
     Apart,
     Order,
 }
 
 /// A child of a split. The first is visited first.
 #[derive(Clone, Copy, Debug, PartialEq, Eq)]
-pub enum Child {
+pub(crate) enum Child {
     First,
     Second,
 }
@@ -38,7 +38,7 @@ impl Child {
 
 /// A split of a pair in a dimension. `u` is the lower number.
 #[derive(Clone, Copy, Debug, PartialEq, Eq)]
-pub struct Split {
+pub(crate) struct Split {
     pub choice: Choice,
     pub dim: u32,
     pub u: u32,

@@ -18,14 +18,14 @@ use rule_closure::{Closed, Closer};
 // What a node is: one with a conflict, one whose pairs are all settled, or one that is split at the
 // first unsettled pair, whose position by rank is told.
 #[derive(Clone, Copy, Debug, PartialEq, Eq)]
-pub enum NodeKind {
+pub(crate) enum NodeKind {
     Conflict,
     Settled,
     Divided { split: Split, rank: usize },
 }
 
 // The kind of a closed state, where the pairs before `from` are settled.
-pub fn next_kind(
+pub(crate) fn next_kind(
     instance: &Instance,
     pairs: &[(u32, u32)],
     state: &EdgeState,
@@ -50,7 +50,7 @@ pub fn next_kind(
 }
 
 // Closes the state of the root of an inner tree, and tells its kind.
-pub fn visit_root(
+pub(crate) fn visit_root(
     instance: &Instance,
     pairs: &[(u32, u32)],
     state: &mut EdgeState,
@@ -73,7 +73,7 @@ pub fn visit_root(
 
 // Goes from a node that is split, whose closed state this is, to a child. It closes what follows
 // from the child's own exclusions, and tells the child's kind.
-pub fn visit_child(
+pub(crate) fn visit_child(
     instance: &Instance,
     pairs: &[(u32, u32)],
     state: &mut EdgeState,

@@ -25,7 +25,7 @@ use work_share::Node;
 
 // What was finished of a subtree: so many tokens, and this count.
 #[derive(Clone, Copy)]
-pub struct Size {
+pub(crate) struct Size {
     pub tokens: usize,
     pub count: u64,
 }
@@ -34,7 +34,7 @@ pub struct Size {
 // and the size of its first child, once that is finished. The way goes on in the second child then,
 // and before that in the first.
 #[derive(Clone, Copy)]
-pub struct Frame {
+pub(crate) struct Frame {
     pub split: Split,
     pub mark: Mark,
     pub rank: usize,
@@ -44,7 +44,7 @@ pub struct Frame {
 // A walk: the splits on the way from its root, the tokens and the count so far, and the kind of the
 // node that was met and isn't counted yet.
 #[derive(Drop)]
-pub struct Walk {
+pub(crate) struct Walk {
     pub frames: Vec<Frame>,
     pub tokens: Vec<Token>,
     pub count: u64,
@@ -53,7 +53,7 @@ pub struct Walk {
 
 // What becomes of a walk under a cap: it has come to its end, or it stands where the cap is spent.
 #[derive(Drop)]
-pub enum End {
+pub(crate) enum End {
     Whole(Outcome),
     Stopped(Walk),
 }
@@ -139,7 +139,7 @@ fn go_into(
 
 // Goes on with a walk under a cap, depth first. This is the closed state of the node where it
 // stands.
-pub fn go_on(
+pub(crate) fn go_on(
     alloc: Global,
     instance: &Instance,
     pairs: &[(u32, u32)],
@@ -225,7 +225,7 @@ pub fn go_on(
 }
 
 // Goes from a node down a path. Both nodes are told by their kind and their closed state.
-pub fn descend(
+pub(crate) fn descend(
     instance: &Instance,
     pairs: &[(u32, u32)],
     state: &mut EdgeState,
@@ -262,7 +262,7 @@ pub fn descend(
 }
 
 // What is told of a node of this kind.
-pub fn told(node: NodeKind) -> Node
+pub(crate) fn told(node: NodeKind) -> Node
     requires { IsAmong 4 128 node }
     ensures { (instance : PlainInstance) (es : List PlainExclusion)
         → plain_node result ≡ node_told (kind_tree instance es node) }

@@ -309,6 +309,7 @@ pub fn check_heights<S: Source>(
         at.old (Placing (with_last_side head.now.instance reached) head.now.claim
         (to_refute head.now.heading head.now.instance head.now.claim) []) result }
 {
+    // For the proof alone: tells that there is a last dimension.
     let _some_dims = head.instance.dims();
     let Ok(held) = head.instance.with_last_side(alloc, reached) else {
         return CheckEnd::NoMemory;

@@ -25,7 +25,7 @@ use Rattle.document_terms.proofs.Cuts.{token_lines_are_told}
 use Rattle.verdict_terms.specs.declared.heading.Heading.TheVariants.{Answer}
 use Rattle.verdict_terms.specs.Documents.{document_verdict}
 use Rattle.verdict_terms.specs.Form.{IsDocument, AreTokenLines}
-use Rattle.verdict_terms.proofs.FormGiven.{SplitAt, documents_have_form}
+use Rattle.verdict_terms.proofs.FormGiven.{split_at, clean_split, documents_have_form}
 use Rattle.verdict_terms.proofs.FormTold.{any_end}
 use Rattle.explained_documents.proofs.InstanceLines.{no_result, at_line_ok, added_words}
 use Rattle.document_refutations.specs.Rereading.{says_result, Reread, described, describing_line, proving, headed, with_token, reread_line, reread_lines}
@@ -45,42 +45,6 @@ raw_is at n (line ∷ lines) = raw_is (reread_line at (cut_line (line_of line)))
 raw_append : (at : Reread) (xs ys : List (List ℕ)) → reread_raw at (xs ++ ys) ≡ reread_raw (reread_raw at xs) ys
 raw_append at [] ys = refl
 raw_append at (x ∷ xs) ys = raw_append (reread_line at (cut_line (line_of x))) xs ys
-
--- ---- where a line stands among those that aren't blank
-
-split_at : (lines : List (List ℕ)) (front : List (List (List ℕ))) (words : List (List ℕ)) (back : List (List (List ℕ))) → filled_lines lines ≡ front ++ words ∷ back → SplitAt lines front words back
-split_at [] [] words back e = absurd (cc (e))
-split_at [] (f ∷ front) words back e = absurd (cc (e))
-split_at (line ∷ lines) front words back e = by_words_of (words_of (content line)) refl front e (λ fs f. split_at lines fs words back f)
-  where
-    by_words_of : (ws : List (List ℕ)) → words_of (content line) ≡ ws → (fs : List (List (List ℕ))) → filled_with ws lines ≡ fs ++ words ∷ back
-        → ((gs : List (List (List ℕ))) → filled_lines lines ≡ gs ++ words ∷ back → SplitAt lines gs words back) → SplitAt (line ∷ lines) fs words back
-    by_words_of [] is fs e later =
-        let s = later fs e in record {
-          before = line ∷ s.before;
-          line = s.line;
-          after = s.after;
-          are = ap (λ ls. line ∷ ls) s.are;
-          front_is = ap (λ ws. filled_with ws s.before) is ∙ s.front_is;
-          words_are = s.words_are;
-          back_is = s.back_is;
-        }
-    by_words_of (w ∷ ws) is [] e later =
-        let h = heads e in record { before = []; line = line; after = lines; are = refl; front_is = refl; words_are = is ∙ h.0; back_is = h.1 }
-    by_words_of (w ∷ ws) is (f ∷ fs) e later =
-        let h = heads e in
-        let s = later fs h.1 in record {
-          before = line ∷ s.before;
-          line = s.line;
-          after = s.after;
-          are = ap (λ ls. line ∷ ls) s.are;
-          front_is = ap (λ ws. filled_with ws s.before) is ∙ ap₂ (λ x xs. x ∷ xs) h.0 s.front_is;
-          words_are = s.words_are;
-          back_is = s.back_is;
-        }
-
-clean_split : (xs ys : List (List ℕ)) → AreClean (xs ++ ys) → AreClean xs × AreClean ys
-clean_split xs ys c = or_parts _ _ (sym (list_any-append (λ line. list_any is_bad (content line)) xs ys) ∙ c)
 
 -- ---- the first line
 

@@ -7,12 +7,13 @@ ghost use Rattle.document_refutations.specs.Rereading.Reread.{Unheaded, Proving}
 
 use box_instances::{Instance, NoMemory};
 use instance_text::{InstanceReader, LexStep, LineLexer, ReadTextError};
+use line_cursor::is_first;
 use proof_tree::{Token, read_token};
 use std::alloc::Global;
 
 /// Where the reading stands.
 #[derive(Drop)]
-pub enum Reading {
+pub(crate) enum Reading {
     /// The first line that isn't blank is still to come.
     Heading,
     /// The lines of the instance come, and then the result line.
@@ -27,13 +28,10 @@ pub enum Reading {
 }
 
 /// Whether the first word of the line is `result`.
-pub fn is_result(line: &LineLexer) -> bool
+pub(crate) fn is_result(line: &LineLexer) -> bool
     ensures { result ≡ says_result line.now.held.words }
 {
-    if line.word_count() == 0 {
-        return false;
-    }
-    line.word(0) == b"result".as_slice()
+    is_first(line, b"result")
 }
 
 // A line where the first one is wanted.
@@ -110,7 +108,7 @@ fn read_line(alloc: Global, at: Reading, line: &LineLexer) -> Result<Reading, No
 }
 
 /// Reads all lines.
-pub fn read_again(alloc: Global, bytes: &[u8]) -> Result<Reading, NoMemory>
+pub(crate) fn read_again(alloc: Global, bytes: &[u8]) -> Result<Reading, NoMemory>
     ensures { IfOk result (λ r. plain_reading r
         ≡ reread_lines Unheaded (lines_fed new_lexer bytes.now)) }
 {

@@ -25,7 +25,7 @@ pub enum ExplainedAudit {
 }
 
 /// The end of the bytes behind so many lines, where a line is wanted.
-pub fn short(lines: u64) -> ExplainedAudit
+pub(crate) fn short(lines: u64) -> ExplainedAudit
     requires { lines < 2 ^ 63 }
     ensures { result ≡ ExplainedAudit.Refused (lines + 1) TooShort }
 {

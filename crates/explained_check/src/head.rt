@@ -5,7 +5,9 @@ ghost use Rattle.text_terms.specs.Feeding.{ended_line};
 ghost use Rattle.explained_documents.specs.Stages.{Heading, Reading, begun, filled_line, result_line};
 ghost use Rattle.line_cursor.specs.Lines.{IsAmong};
 ghost use Rattle.explained_check.specs.Audits.{IsVerdict, verdict_left};
-ghost use Rattle.explained_check.specs.Heads.{map_ok, held_parts, IsHeldHead, TakesText};
+ghost use Rattle.verdict_terms.specs.Trees.{map_ok};
+ghost use Rattle.line_cursor.specs.Readers.{held_parts, IsHeldHead};
+ghost use Rattle.explained_check.specs.Heads.{TakesText};
 
 use crate::audit::{ExplainedAudit, short};
 use crate::lines::next_taken;
@@ -18,13 +20,13 @@ use line_cursor::{Cursor, is_result};
 use std::alloc::Global;
 
 /// The line has another form than the place wants.
-pub const FORM: ExplainedReason = ExplainedReason::Line {
+pub(crate) const FORM: ExplainedReason = ExplainedReason::Line {
     code: AuditCode::Kind,
 };
 
 // Why a line of the instance text wasn't taken.
 #[derive(Clone, Copy, Debug, PartialEq, Eq)]
-pub enum TextStop {
+pub(crate) enum TextStop {
     Refused(ExplainedReason),
     NoMemory,
 }
@@ -128,7 +130,11 @@ fn read_instance(alloc: Global, bytes: &[u8], at: &mut Cursor) -> Result<Instanc
 }
 
 /// Reads the lines up to the result line.
-pub fn read_head(alloc: Global, bytes: &[u8], at: &mut Cursor) -> Result<Instance, ExplainedAudit>
+pub(crate) fn read_head(
+    alloc: Global,
+    bytes: &[u8],
+    at: &mut Cursor,
+) -> Result<Instance, ExplainedAudit>
     requires { IsAmong bytes.now at.old }
     ensures at { IsAmong bytes.now at.new }
     ensures read { IfOk result (λ i. verdict_left bytes.now at.old Heading

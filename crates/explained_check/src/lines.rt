@@ -6,7 +6,7 @@ ghost use Rattle.explained_check.specs.Audits.{IsNextTaken, IsKindTold};
 use line_cursor::{Cursor, next_filled};
 
 /// Takes the lines up to the next one that isn't blank. Answers whether there was one.
-pub fn next_taken(bytes: &[u8], at: &mut Cursor) -> bool
+pub(crate) fn next_taken(bytes: &[u8], at: &mut Cursor) -> bool
     requires { IsAmong bytes.now at.old }
     ensures at { IsAmong bytes.now at.new }
     ensures line { IsNextTaken bytes.now at.old at.new result }

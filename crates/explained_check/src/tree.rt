@@ -5,7 +5,7 @@ ghost use Rattle.text_terms.specs.Feeding.{ended_line};
 ghost use Rattle.explained_documents.specs.Stages.{Explaining, Ending, Ended, filled_line};
 ghost use Rattle.line_cursor.specs.Lines.{IsAmong};
 ghost use Rattle.explained_check.specs.Audits.{IsVerdict, IsStopped, verdict_left};
-ghost use Rattle.explained_check.specs.Heads.{map_ok};
+ghost use Rattle.verdict_terms.specs.Trees.{map_ok};
 ghost use Rattle.explained_check.specs.Trees.{IsGoing, IsGrown};
 
 use crate::audit::{ExplainedAudit, short};
@@ -50,7 +50,7 @@ fn take_step(
 }
 
 /// Reads the lines of the tree. `None` tells that it is whole.
-pub fn read_tree(
+pub(crate) fn read_tree(
     alloc: Global,
     bytes: &[u8],
     at: &mut Cursor,
@@ -101,7 +101,7 @@ fn end_line(alloc: Global, dims: u32, line: &LineLexer) -> Result<(), ExplainedR
 }
 
 /// Reads `end`, behind the tree of an instance of so many dimensions, and what is left behind it.
-pub fn read_end(alloc: Global, bytes: &[u8], at: &mut Cursor, dims: u32) -> ExplainedAudit
+pub(crate) fn read_end(alloc: Global, bytes: &[u8], at: &mut Cursor, dims: u32) -> ExplainedAudit
     requires at { IsAmong bytes.now at.old }
     requires least { 2 ≤ dims }
     requires most { dims ≤ 4 }

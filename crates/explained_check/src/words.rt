@@ -6,7 +6,7 @@ use instance_text::LineLexer;
 use line_cursor::is_same;
 
 /// Whether the line is these two words.
-pub fn are_two(line: &LineLexer, key: &[u8], other: &[u8]) -> bool
+pub(crate) fn are_two(line: &LineLexer, key: &[u8], other: &[u8]) -> bool
     ensures { result ≡ are_two key.now other.now line.now.held.words }
 {
     if line.word_count() != 2 {

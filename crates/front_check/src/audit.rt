@@ -124,8 +124,8 @@ fn one_step(
 /// all points, and so many points are announced.
 ///
 /// `Refused` names the first line that isn't allowed, counted from 0, and `Short` comes exactly
-/// where all lines are allowed and more are missing. Where the lines are `Good` their points are the
-/// front, or all of it up to the last of them.
+/// where all lines are allowed and more are missing. Where the lines are `Good` their points are
+/// the front, or all of it up to the last of them.
 pub fn audit_front(
     alloc: Global,
     instance: &Instance,

@@ -29,7 +29,8 @@ pub fn own_reduced_documents_are_verified()
     ensures { OwnReducedDocumentsAreVerified }
 {}
 
-/// Of the jobs that are decided from the symmetry facts on, none but `fit` is answered by undecided.
+/// Of the jobs that are decided from the symmetry facts on, none but `fit` is answered by
+/// undecided.
 pub fn only_reduced_fit_is_undecided()
     ensures { OnlyReducedFitIsUndecided }
 {}

@@ -64,13 +64,13 @@ pub fn run<R: Threads + Wait + Sync, S: Source, K: Sink, E: Sink, G: Gate + Sync
     err: &mut E,
     gate: &G,
 ) -> u8
-    // The answer of a solving job, of `reduced` or of `strip` with facts is true of the instance that
-    // the input is the text of: `fit` and `reduced` are yes with a packing or no with a refutation,
-    // exactly as a packing exists, or undecided exactly where the tree has more branchings than the
-    // budget; the others are least or greatest over all packings, none exactly where there is none,
-    // or between two levels exactly where the tree of a level that is decided has more branchings
-    // than the budget, with both certificates. Of `reduced` and of `strip` with facts the trees begin
-    // with the symmetry facts, and the refutations are under them.
+    // The answer of a solving job, of `reduced` or of `strip` with facts is true of the instance
+    // that the input is the text of: `fit` and `reduced` are yes with a packing or no with a
+    // refutation, exactly as a packing exists, or undecided exactly where the tree has more
+    // branchings than the budget; the others are least or greatest over all packings, none exactly
+    // where there is none, or between two levels exactly where the tree of a level that is decided
+    // has more branchings than the budget, with both certificates. Of `reduced` and of `strip` with
+    // facts the trees begin with the symmetry facts, and the refutations are under them.
     ensures decides { (job : PlainJob) (settings : PlainSettings) (instance : PlainInstance)
         → IsSolving words.now (S.left input.old) job settings instance → IsAnswerStatus result
         → IsJobDecided job instance settings (K.written out.old) (K.written out.new) result }
@@ -92,8 +92,8 @@ pub fn run<R: Threads + Wait + Sync, S: Source, K: Sink, E: Sink, G: Gate + Sync
         → IsExactlyFit instance result }
 
     // The document is verified with a claim of the job about that instance, that of `reduced` or of
-    // `strip` with facts as a reduced one, or it says undecided, for `fit` and `reduced` alone, and is
-    // verified with none.
+    // `strip` with facts as a reduced one, or it says undecided, for `fit` and `reduced` alone, and
+    // is verified with none.
     ensures verified { (job : PlainJob) (settings : PlainSettings) (instance : PlainInstance)
         → IsSolving words.now (S.left input.old) job settings instance → IsAnswerStatus result
         → IsOwnDocument job instance (K.written out.old) (K.written out.new) result }
@@ -105,11 +105,11 @@ pub fn run<R: Threads + Wait + Sync, S: Source, K: Sink, E: Sink, G: Gate + Sync
     ensures claimed { AsksCheck words.now → result ≡ 0
         → IsClaimed (S.left input.old) (S.left input.new) (K.written out.old) (K.written out.new) }
 
-    // `audit` writes exactly the line of the verdict on the input as a document of its kind, reduced,
-    // explained or of a front, with its status, and what it verifies is true, whoever wrote it: the
-    // claim of a reduced document of the instance in it, that the instance of an explained one has no
-    // packing, and that the points of a front are all least sizes of its instance, or all up to the
-    // last of them, and as many as are told.
+    // `audit` writes exactly the line of the verdict on the input as a document of its kind,
+    // reduced, explained or of a front, with its status, and what it verifies is true, whoever
+    // wrote it: the claim of a reduced document of the instance in it, that the instance of an
+    // explained one has no packing, and that the points of a front are all least sizes of its
+    // instance, or all up to the last of them, and as many as are told.
     ensures audits { (bytes : List ℕ) → IsAuditing words.now (S.left input.old) bytes
         → IsAnswerStatus result
         → IsExactlyRead Audits bytes (K.written out.old) (K.written out.new) result }
@@ -118,9 +118,9 @@ pub fn run<R: Threads + Wait + Sync, S: Source, K: Sink, E: Sink, G: Gate + Sync
         (K.written out.new) }
 
     // `explain` refuses what `check` refuses, with its line, and at the result line any claim but a
-    // no of `fit`. Of such a no it writes a document that explains the refutation in it step by step:
-    // the instance is the same, its tokens stand among the steps in order, `audit` verifies it, and
-    // the instance has no packing.
+    // no of `fit`. Of such a no it writes a document that explains the refutation in it step by
+    // step: the instance is the same, its tokens stand among the steps in order, `audit` verifies
+    // it, and the instance has no packing.
     ensures explains { (bytes : List ℕ) → IsExplaining words.now (S.left input.old) bytes
         → IsAnswerStatus result
         → IsExactlyRead Explains bytes (K.written out.old) (K.written out.new) result }
@@ -134,8 +134,8 @@ pub fn run<R: Threads + Wait + Sync, S: Source, K: Sink, E: Sink, G: Gate + Sync
         → IsFrontDecided instance settings (K.written out.old) (K.written out.new) result }
 
     // It is the answer of the definition, in which the number of workers has no part; it is whole
-    // where the budget is enough for each container; and `audit` verifies its document as a front of
-    // that instance.
+    // where the budget is enough for each container; and `audit` verifies its document as a front
+    // of that instance.
     ensures fronts { (settings : PlainSettings) (instance : PlainInstance)
         → IsFronting words.now (S.left input.old) settings instance → IsAnswerStatus result
         → (result ≡ (front_for settings instance).status)
@@ -147,22 +147,22 @@ pub fn run<R: Threads + Wait + Sync, S: Source, K: Sink, E: Sink, G: Gate + Sync
         → IsFronting words.now (S.left input.old) settings instance → IsAnswerStatus result
         → IsOwnFront instance (K.written out.old) (K.written out.new) result }
 
-    // The answer of a job with proposals is true of the instance that the input is the text of. `fit`
-    // is yes only with a packing, no only with a refutation, and undecided only where the class tree
-    // has more branchings than the budget; it is the answer behind some proposal, in which the number
-    // of workers has no part. `strip` is the least height over all packings with both certificates,
-    // none exactly where there is none, or between two heights with both certificates, only where
-    // the class trees of both heights beside the two have more branchings than the budget. `bins` is
-    // the same of numbers of bins and their bin trees, and `knapsack` of values and their choice
-    // trees, with the greatest for the least, and never none.
+    // The answer of a job with proposals is true of the instance that the input is the text of.
+    // `fit` is yes only with a packing, no only with a refutation, and undecided only where the
+    // class tree has more branchings than the budget; it is the answer behind some proposal, in
+    // which the number of workers has no part. `strip` is the least height over all packings with
+    // both certificates, none exactly where there is none, or between two heights with both
+    // certificates, only where the class trees of both heights beside the two have more branchings
+    // than the budget. `bins` is the same of numbers of bins and their bin trees, and `knapsack` of
+    // values and their choice trees, with the greatest for the least, and never none.
     ensures proposes { (job : PlainSolvingJob) (settings : PlainSettings)
         (instance : PlainInstance)
         → IsProposing words.now (S.left input.old) job settings instance → IsAnswerStatus result
         → IsProposedDecided job instance settings (K.written out.old) (K.written out.new) result }
 
-    // Where the trees of the job have at most as many branchings as the budget allows, it is decided;
-    // where the budget is enough for every tree, the status of `fit` says exactly whether the
-    // instance fits.
+    // Where the trees of the job have at most as many branchings as the budget allows, it is
+    // decided; where the budget is enough for every tree, the status of `fit` says exactly whether
+    // the instance fits.
     ensures settles { (job : PlainSolvingJob) (settings : PlainSettings)
         (instance : PlainInstance)
         → IsProposing words.now (S.left input.old) job settings instance
@@ -172,8 +172,8 @@ pub fn run<R: Threads + Wait + Sync, S: Source, K: Sink, E: Sink, G: Gate + Sync
         → IsAnswerStatus result
         → class_bound instance ≤ settings.budget + 1 → IsExactlyFit instance result }
 
-    // The document is one of the job: verified with its claim about that instance, or, of `fit` alone,
-    // it says undecided and is verified with none.
+    // The document is one of the job: verified with its claim about that instance, or, of `fit`
+    // alone, it says undecided and is verified with none.
     ensures vouched { (job : PlainSolvingJob) (settings : PlainSettings)
         (instance : PlainInstance)
         → IsProposing words.now (S.left input.old) job settings instance → IsAnswerStatus result
@@ -195,8 +195,8 @@ pub fn run<R: Threads + Wait + Sync, S: Source, K: Sink, E: Sink, G: Gate + Sync
         → ((result ≡ 2) × IsTold (E.written err.old) (E.written err.new) (E.faults err.old)
         (E.faults err.new) (message_of stop)) ⊎ ((result ≡ 4) ⊎ (result ≡ 6)) }
 
-    // With an answer the whole input was taken and the whole document was written. `check` takes the
-    // whole input or no byte behind the refused line, and writes its whole line.
+    // With an answer the whole input was taken and the whole document was written. `check` takes
+    // the whole input or no byte behind the refused line, and writes its whole line.
     ensures answered { IsAnswerStatus result
         → IsDone words.now (S.left input.old) (S.left input.new) (K.written out.old)
         (K.written out.new) result

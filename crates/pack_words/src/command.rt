@@ -44,7 +44,7 @@ fn pack_command<'a>(alloc: Global) -> Result<Command<'a>, AllocError>
 }
 
 /// What `clap` finds in the words.
-pub fn matches_for<'a>(alloc: Global, words: &'a [String]) -> Result<ArgMatches<'a>, Error>
+pub(crate) fn matches_for<'a>(alloc: Global, words: &'a [String]) -> Result<ArgMatches<'a>, Error>
     ensures fails { FailsBy (fault_of pack_app (map string_bytes words.entry.now)) result }
     ensures rows { IfOk result
         (λ m. rows_of (found_of m) ≡ matches_of pack_app (map string_bytes words.entry.now)) }

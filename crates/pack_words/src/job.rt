@@ -34,8 +34,8 @@ pub enum Job {
 }
 
 /// A job with its settings, and the number that `make` generates from. Where the words don't give
-/// one, the workers are 1, the budget is 1,000,000, scales are used, the number is 0, and there are no
-/// proposals and no symmetry facts.
+/// one, the workers are 1, the budget is 1,000,000, scales are used, the number is 0, and there are
+/// no proposals and no symmetry facts.
 #[derive(Clone, Copy, Debug, PartialEq, Eq)]
 pub struct JobWords {
     pub job: Job,

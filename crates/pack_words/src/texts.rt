@@ -149,7 +149,7 @@ fn settings_of(job: Job, found: Found<'_>) -> Option<JobWords>
 }
 
 /// The job that these texts give.
-pub fn job_in(found: Found<'_>) -> Option<JobWords>
+pub(crate) fn job_in(found: Found<'_>) -> Option<JobWords>
     ensures { result ≡ job_of_texts (plain_found found.entry) }
 {
     let job = job_of_name(found.job?)?;

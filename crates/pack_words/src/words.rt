@@ -11,7 +11,7 @@ use std::alloc::Global;
 
 /// The text of the job word, and that of each option that is given.
 #[derive(Clone, Copy)]
-pub struct Found<'a> {
+pub(crate) struct Found<'a> {
     pub job: Option<&'a str>,
     pub workers: Option<&'a str>,
     pub budget: Option<&'a str>,
@@ -51,14 +51,14 @@ fn found_in<'a>(alloc: Global, words: &'a [String]) -> Result<Found<'a>, WordsEr
 /// contain the program's name.
 ///
 /// Up to a word `--`, `--NAME VALUE` and `--NAME=VALUE` are options, with `NAME` one of `workers`,
-/// `budget`, `scales`, `number`, `proposals` and `facts`; a value in a word of its own doesn't begin
-/// with `-`. Every other word is a job word, of which there must be exactly one: `fit`, `strip`,
-/// `bins`, `knapsack`, `check`, `make`, `explain`, `audit`, `reduced` or `front`. Each option stands
-/// at most once. `workers` is from 1 to 64, `budget` from 0 to 10,000,000, `scales`, `proposals` and
-/// `facts` are `yes` or `no`, and `number` is from 0 to 2,147,483,647. `check`, `explain` and `audit`
-/// take no option, `make` alone takes `number`, `fit`, `strip`, `bins` and `knapsack` alone take
-/// `proposals`, and `strip` alone takes `facts`, of which it takes one or the other with `yes`. It
-/// answers `Refused` exactly where the words name no job by these rules.
+/// `budget`, `scales`, `number`, `proposals` and `facts`; a value in a word of its own doesn't
+/// begin with `-`. Every other word is a job word, of which there must be exactly one: `fit`,
+/// `strip`, `bins`, `knapsack`, `check`, `make`, `explain`, `audit`, `reduced` or `front`. Each
+/// option stands at most once. `workers` is from 1 to 64, `budget` from 0 to 10,000,000, `scales`,
+/// `proposals` and `facts` are `yes` or `no`, and `number` is from 0 to 2,147,483,647. `check`,
+/// `explain` and `audit` take no option, `make` alone takes `number`, `fit`, `strip`, `bins` and
+/// `knapsack` alone take `proposals`, and `strip` alone takes `facts`, of which it takes one or the
+/// other with `yes`. It answers `Refused` exactly where the words name no job by these rules.
 pub fn read_words(alloc: Global, words: &[String]) -> Result<JobWords, WordsError>
     ensures { IsJobAnswer (job_of_words (map string_bytes words.now)) result }
 {

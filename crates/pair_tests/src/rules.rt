@@ -46,7 +46,8 @@ fn boxes_joined_elsewhere_are_apart(rt: HostRuntime) -> Result<(), Fail> {
     Ok(())
 }
 
-// What TRIPLE leaves of the first pair of three boxes in a dimension, where it takes something away.
+// What TRIPLE leaves of the first pair of three boxes in a dimension, where it takes something
+// away.
 fn left_by_triple(
     rt: &impl Abort,
     alloc: Global,

@@ -54,9 +54,9 @@ impl Gate for Holding {
 }
 
 // A job, the task that is held, and the one that is awaited. Two tasks wait at once: the root of
-// `fit`, of `strip` at height 6 and of `knapsack` at value 8 passes its cap, so that it is split into
-// the tasks 1 and 2; so does the only child of the root of `bins` at 4 bins, since eight boxes in one
-// bin have 5,039 branchings, and it is split into the tasks 2 and 3.
+// `fit`, of `strip` at height 6 and of `knapsack` at value 8 passes its cap, so that it is split
+// into the tasks 1 and 2; so does the only child of the root of `bins` at 4 bins, since eight boxes
+// in one bin have 5,039 branchings, and it is split into the tasks 2 and 3.
 const CASES: [(&str, u64, u64); 4] = [
     ("fit", 1, 2),
     ("strip", 1, 2),
@@ -101,8 +101,9 @@ impl Gate for Both {
     }
 }
 
-// Task 1 is held until task 2 was explored, whose worker then finds none that waits. Task 1 is split
-// into the tasks 3 and 4, and task 3 is held until that worker has come back and explored task 4.
+// Task 1 is held until task 2 was explored, whose worker then finds none that waits. Task 1 is
+// split into the tasks 3 and 4, and task 3 is held until that worker has come back and explored
+// task 4.
 #[test]
 fn a_worker_that_found_no_task_comes_back(rt: HostRuntime) -> Result<(), Fail> {
     let words = ["fit", "--scales", "no"];

@@ -123,8 +123,8 @@ fn bins_beside_a_tree_past_the_budget_are_two(rt: HostRuntime) -> Result<(), Fai
     Ok(())
 }
 
-// All three fit, which is proposed. Of the four one is left out, and that 13 is too much is refuted by
-// a tree with branchings, as that 14 is.
+// All three fit, which is proposed. Of the four one is left out, and that 13 is too much is refuted
+// by a tree with branchings, as that 14 is.
 #[test]
 fn values_by_proposals_are_verified(rt: HostRuntime) -> Result<(), Fail> {
     let plain = told_of(&rt, &["knapsack", "--budget", "0"], THREE_WORTH)?;

@@ -22,7 +22,8 @@ pub struct Span {
 }
 
 // A node that is open: which token is its own, how long the list of what is excluded was before it
-// and with what it excludes itself, and the place at which its token needs that overlap is excluded.
+// and with what it excludes itself, and the place at which its token needs that overlap is
+// excluded.
 #[derive(Clone, Copy)]
 struct Open {
     token: usize,

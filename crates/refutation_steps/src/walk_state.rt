@@ -6,8 +6,8 @@ use line_proofs::Step;
 use rule_closure::Closer;
 
 /// The exclusions that are held at a node, to which the lines lead; those that are given there, by
-/// the splits and by closings; what both take; the nodes that wait, the next one last; and the lines
-/// so far.
+/// the splits and by closings; what both take; the nodes that wait, the next one last; and the
+/// lines so far.
 #[derive(Drop)]
 pub struct Walk {
     pub state: EdgeState,

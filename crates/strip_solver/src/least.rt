@@ -40,8 +40,8 @@ fn no_height(alloc: Global, instance: &Instance) -> Result<Vec<Token>, NoMemory>
     Ok(tokens)
 }
 
-// The run of heights of an instance none of whose boxes is too wide, with trees that begin with these
-// exclusions.
+// The run of heights of an instance none of whose boxes is too wide, with trees that begin with
+// these exclusions.
 fn bisect_heights<R: Threads + Wait + Sync, G: Gate + Sync>(
     rt: &R,
     alloc: Global,
@@ -157,8 +157,8 @@ pub fn least_height<R: Threads + Wait + Sync, G: Gate + Sync>(
     least_from(rt, alloc, instance, &[], settings, gate)
 }
 
-/// The same, with trees that begin with the symmetry facts of the instance, which are those of every
-/// height. The tokens refute the height below under these facts.
+/// The same, with trees that begin with the symmetry facts of the instance, which are those of
+/// every height. The tokens refute the height below under these facts.
 pub fn least_height_reduced<R: Threads + Wait + Sync, G: Gate + Sync>(
     rt: &R,
     alloc: Global,

@@ -42,7 +42,7 @@ pub record SplitAt (lines : List (List ℕ)) (front : List (List (List ℕ))) (w
   pub words_are : words_of (content line) ≡ words
   pub back_is : filled_lines after ≡ back
 
-split_at : (lines : List (List ℕ)) (front : List (List (List ℕ))) (words : List (List ℕ)) (back : List (List (List ℕ))) → filled_lines lines ≡ front ++ words ∷ back → SplitAt lines front words back
+pub split_at : (lines : List (List ℕ)) (front : List (List (List ℕ))) (words : List (List ℕ)) (back : List (List (List ℕ))) → filled_lines lines ≡ front ++ words ∷ back → SplitAt lines front words back
 split_at [] [] words back e = absurd (cc (e))
 split_at [] (f ∷ front) words back e = absurd (cc (e))
 split_at (line ∷ lines) front words back e = by_words_of (words_of (content line)) refl front e (λ fs f. split_at lines fs words back f)
@@ -74,7 +74,7 @@ split_at (line ∷ lines) front words back e = by_words_of (words_of (content li
         }
 
 -- the parts of clean lines are clean
-clean_split : (xs ys : List (List ℕ)) → AreClean (xs ++ ys) → AreClean xs × AreClean ys
+pub clean_split : (xs ys : List (List ℕ)) → AreClean (xs ++ ys) → AreClean xs × AreClean ys
 clean_split xs ys c = or_parts _ _ (sym (list_any-append (λ line. list_any is_bad (content line)) xs ys) ∙ c)
 
 -- the stage behind a line without a bad byte, by its words

@@ -1,5 +1,5 @@
-//! Tests of single calls with ample memory: words, numbers, streams and lines of tokens. Rows worked
-//! out by hand, printed texts, and refusals one by one.
+//! Tests of single calls with ample memory: words, numbers, streams and lines of tokens. Rows
+//! worked out by hand, printed texts, and refusals one by one.
 #![tactic(auto)]
 
 #[cfg(test)]

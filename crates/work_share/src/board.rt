@@ -66,7 +66,7 @@ impl<'a, T: Tree> Model for Board<'a, T> {
 }
 
 // Whether an outcome is "past the budget".
-pub fn is_past(outcome: &Outcome) -> bool
+pub(crate) fn is_past(outcome: &Outcome) -> bool
     ensures { result ≡ is_past (plain_outcome outcome.now) }
 {
     match outcome {

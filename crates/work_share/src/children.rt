@@ -13,7 +13,7 @@ use std::alloc::{AllocError, Global};
 // The children of one split: their entries and their numbers from left to right, and their tasks
 // from right to left.
 #[derive(Drop)]
-pub struct Children {
+pub(crate) struct Children {
     pub slots: Vec<Slot>,
     pub numbers: Vec<usize>,
     pub tasks: Vec<Task>,
@@ -30,7 +30,7 @@ fn child_path(alloc: Global, path: &[u32], child: u32) -> Result<Vec<u32>, Alloc
 }
 
 // The children of a split of the node at this path, so many, numbered from `first` on.
-pub fn children_of(
+pub(crate) fn children_of(
     alloc: Global,
     path: &[u32],
     children: u32,
@@ -66,7 +66,7 @@ pub fn children_of(
 
 // Puts a split, which is this state, and its children in the place of its task. There is room for
 // them.
-pub fn put_children(
+pub(crate) fn put_children(
     slots: &mut Vec<Slot>,
     order: &mut Vec<usize>,
     waiting: &mut Vec<Task>,

@@ -14,7 +14,7 @@ use std::alloc::Global;
 // What exploring a task gives: the whole outcome of its node under the budget, or the split into
 // which it is cut.
 #[derive(Drop)]
-pub enum Found {
+pub(crate) enum Found {
     Whole(Outcome),
     Pieces {
         token: Token,
@@ -55,7 +55,7 @@ fn split_task<T: Tree>(alloc: Global, tree: &T, budget: u64, task: &Task) -> Res
 // Explores a task under the cap of its depth. Where the count exceeds that, and the cap is below
 // the budget, it gives the split, or explores again under the whole budget where the node is a
 // leaf.
-pub fn explore_task<T: Tree>(
+pub(crate) fn explore_task<T: Tree>(
     alloc: Global,
     tree: &T,
     budget: u64,

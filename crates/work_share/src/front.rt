@@ -10,7 +10,7 @@ use crate::slot::{Piece, Slot};
 // So many entries at the front are finished with no, with this count together, and whether the run
 // ends with the next.
 #[derive(Clone, Copy)]
-pub struct Front {
+pub(crate) struct Front {
     pub len: usize,
     pub count: u64,
     pub is_ended: bool,
@@ -39,7 +39,7 @@ fn piece_at(slots: &[Slot], order: &[usize], position: usize) -> Piece
 }
 
 // The front, taken on as far as it goes.
-pub fn advance(slots: &[Slot], order: &[usize], budget: u64, front: Front) -> Front
+pub(crate) fn advance(slots: &[Slot], order: &[usize], budget: u64, front: Front) -> Front
     requires below { AreBelow (length slots.now) order.now }
     requires known { HasFrontTo budget (entries_of slots.now order.now) front.len front.count
         front.is_ended }

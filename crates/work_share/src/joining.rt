@@ -93,7 +93,7 @@ fn join_tokens(
 }
 
 // What a run that is over comes to.
-pub fn join_run(
+pub(crate) fn join_run(
     alloc: Global,
     mut slots: Vec<Slot>,
     order: &[usize],

@@ -9,7 +9,7 @@ use crate::slot::Slot;
 
 // Where an entry stands in the order, and how many tasks that wait stand before it.
 #[derive(Clone, Copy)]
-pub struct Position {
+pub(crate) struct Position {
     pub index: usize,
     pub waiting: usize,
 }
@@ -25,7 +25,7 @@ fn waits_at(slots: &[Slot], order: &[usize], position: usize) -> bool
 
 // The position of a number in the order. Before the index `from` no task waits, and the number
 // doesn't stand there.
-pub fn position_of(slots: &[Slot], order: &[usize], from: usize, number: usize) -> Position
+pub(crate) fn position_of(slots: &[Slot], order: &[usize], from: usize, number: usize) -> Position
     requires below { AreBelow (length slots.now) order.now }
     requires before { waiting_tasks (entries_of slots.now (take from order.now)) ≡ [] }
     requires apart { IsNotIn number (take from order.now) }
@@ -53,7 +53,7 @@ pub fn position_of(slots: &[Slot], order: &[usize], from: usize, number: usize) 
 
 // Puts the items of one list into another, which has room for them, before the one at this
 // position.
-pub fn insert_all<T: Drop>(list: &mut Vec<T>, position: usize, mut items: Vec<T>)
+pub(crate) fn insert_all<T: Drop>(list: &mut Vec<T>, position: usize, mut items: Vec<T>)
     requires inside { position ≤ vec_len list.old }
     requires room { vec_len list.old + vec_len items ≤ vec_capacity list.old }
     ensures { list.new.items ≡ take position list.old.items

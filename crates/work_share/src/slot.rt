@@ -9,13 +9,13 @@ use proof_tree::{Outcome, Token};
 
 // An entry: its path, and what stands there.
 #[derive(Drop)]
-pub struct Slot {
+pub(crate) struct Slot {
     pub path: Vec<u32>,
     pub state: SlotState,
 }
 
 #[derive(Drop)]
-pub enum SlotState {
+pub(crate) enum SlotState {
     Waits,
     Out,
     Done(Outcome),
@@ -29,7 +29,7 @@ pub enum SlotState {
 // What an entry is for the leftmost finished run: it isn't finished; it is done with yes; it is
 // finished with no, with this count; or it is past the budget.
 #[derive(Clone, Copy)]
-pub enum Piece {
+pub(crate) enum Piece {
     Open,
     Found,
     Refuted(u64),
@@ -80,7 +80,7 @@ impl Slot {
 }
 
 // Puts something else at the entry of a number.
-pub fn put_state(slots: &mut Vec<Slot>, number: usize, state: SlotState)
+pub(crate) fn put_state(slots: &mut Vec<Slot>, number: usize, state: SlotState)
     requires { number < vec_len slots.old }
     ensures items { slots.new.items ≡ with_slot slots.old.items number state }
     ensures len { vec_len slots.new ≡ vec_len slots.old }

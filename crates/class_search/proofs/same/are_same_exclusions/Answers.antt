@@ -1,8 +1,16 @@
-use Rattle.std.proofs.Common.{◌≡◌, length, arith}
-use Rattle.std.proofs.lemmas.List.{same_lists}
+use Rattle.std.proofs.Common.{rules, ◌≡◌, Bool, true, false, MatchBool, refl}
+use Rattle.std.proofs.lemmas.Bool.Decides.{not_from_Decides}
+use Rattle.std.proofs.lemmas.Slice.Eq.{slice_eq-Decides}
+use Rattle.std.specs.Bool.{Decides}
 use Rattle.class_search.proofs.same.are_same_exclusions.Goals as goal
+
+by_decision : {P : Type 0} → (r : Bool) → Decides r P → MatchBool r P (¬ P)
+by_decision true d = d.0 refl
+by_decision false d = not_from_Decides false d refl
 
 pub returns : goal.returns
 returns c =
-    let count : length c.args.first.now ≡ length c.args.second.now = omega (arith, c.if-first-second.false) in
-    same_lists c.args.first.now c.args.second.now count (λ k d l. c.loop-k.invariant k d (omega (arith, l)))
+    let first = c.args.first.now in
+    let second = c.args.second.now in
+    let decides = slice_eq-Decides (λ a b. (search rules, search rules)) first second c.eq.result c.eq.ensures in
+    by_decision c.eq.result decides
