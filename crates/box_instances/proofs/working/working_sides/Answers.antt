@@ -22,10 +22,11 @@ working_row-requires-clause-small c = λ i l.
     rw (c.as_slice.ensures ∙ ap (λ (b : BoxItem). b.sides.items) (sym c.index-boxes-v.is)) (omega (arith, s))
 
 pub loop-v-preserved : goal.loop-v-preserved
-loop-v-preserved c =
-    (length-set c.loop-v.rows c.loop-v.v _ ∙ c.loop-v.invariant.0,
-    rows_next c.loop-v.rows c.working_row.result c.args.kerf.now (map plain_box c.args.boxes.now) no_box c.loop-v.v (length c.args.kerf.now)
-    (omega (arith, c.loop-v-test.true, c.requires.count, c.loop-v.invariant.0))
-    (λ i l. c.working_row.ensures i l ∙ (ap (λ (s : List ℕ). get_or s i 0 + get_or c.args.kerf.now i 0) (c.as_slice.ensures ∙ ap (λ (b : BoxItem). b.sides.items) (sym c.index-boxes-v.is))
-    ∙ sym (ap (λ (b : PlainBox). get_or b.sides i 0 + get_or c.args.kerf.now i 0) (box_at c.args.boxes.now c.loop-v.v c.index-boxes-v.result c.loop-v-test.true ∙ ap plain_box (sym c.index-boxes-v.is)))))
-    c.loop-v.invariant.1)
+loop-v-preserved c = (
+  length-set c.loop-v.rows c.loop-v.v _ ∙ c.loop-v.invariant.0,
+  rows_next c.loop-v.rows c.working_row.result c.args.kerf.now (map plain_box c.args.boxes.now) no_box c.loop-v.v (length c.args.kerf.now)
+      (omega (arith, c.loop-v-test.true, c.requires.count, c.loop-v.invariant.0))
+      (λ i l. c.working_row.ensures i l ∙ (ap (λ (s : List ℕ). get_or s i 0 + get_or c.args.kerf.now i 0) (c.as_slice.ensures ∙ ap (λ (b : BoxItem). b.sides.items) (sym c.index-boxes-v.is))
+      ∙ sym (ap (λ (b : PlainBox). get_or b.sides i 0 + get_or c.args.kerf.now i 0) (box_at c.args.boxes.now c.loop-v.v c.index-boxes-v.result c.loop-v-test.true ∙ ap plain_box (sym c.index-boxes-v.is)))))
+      c.loop-v.invariant.1,
+)

@@ -23,13 +23,13 @@ invariant_of-self c =
     let kerfs = ap (λ (i : PlainInstance). i.kerfs) c.from.view_is ∙ (sym c.requires.kerfs ∙ sym (ap (λ (i : PlainInstance). i.kerfs) c.self.view_is)) in
     let sizes = ap (λ (i : PlainInstance). dims i) c.from.view_is ∙ (sym c.requires.dims ∙ sym (ap (λ (i : PlainInstance). dims i) c.self.view_is)) in
     let good = subst (λ (k : List ℕ). IsBox (length c.self.inside.container.items) k (plain_box c.index-item.result.now)) kerfs
-        (subst (λ (d : ℕ). IsBox d c.from.inside.kerf.items (plain_box c.index-item.result.now)) sizes item) in
+    (subst (λ (d : ℕ). IsBox d c.from.inside.kerf.items (plain_box c.index-item.result.now)) sizes item) in
     let named = box_at c.from.inside.boxes.items c.args.box_no c.index-item.result.now
-        (let lt = box_there _ _ c.args.box_no c.from.view_is c.requires.box_no in omega (arith, lt, length-map c.from.inside.boxes.items plain_box))
-        ∙ ap plain_box (sym c.index-item.ensures) in
+    (let lt = box_there _ _ c.args.box_no c.from.view_is c.requires.box_no in omega (arith, lt, length-map c.from.inside.boxes.items plain_box))
+    ∙ ap plain_box (sym c.index-item.ensures) in
     let row = λ (i : ℕ) (l : i < length c.self.inside.container.items).
-        c.from.invariant.sides c.args.box_no i (box_there _ _ c.args.box_no c.from.view_is c.requires.box_no) (omega (arith, sizes, l))
-        ∙ ap₂ (λ (b : PlainBox) (k : List ℕ). get_or b.sides i 0 + get_or k i 0) named kerfs in
+    c.from.invariant.sides c.args.box_no i (box_there _ _ c.args.box_no c.from.view_is c.requires.box_no) (omega (arith, sizes, l))
+    ∙ ap₂ (λ (b : PlainBox) (k : List ℕ). get_or b.sides i 0 + get_or k i 0) named kerfs in
     subst (λ (l : List PlainBox). IsHeld (record { container = c.self.inside.container.items; kerfs = c.self.inside.kerf.items; boxes = l }) c.self.inside.limits
     (slice_set c.self.inside.working c.args.at (get_or c.from.inside.working c.args.box_no [])))
     (sym (boxes_replaced c.self.inside.boxes.items c.args.at c.index_mut-own.result.now c.index-item.result.now c.copy_from_slice.new.self
