@@ -61,11 +61,7 @@ impl Instance {
         let container = copied_sides(alloc, self.container.as_slice())?;
         let kerf = copied_sides(alloc, self.kerf.as_slice())?;
         let boxes = copied_boxes(alloc, self.boxes.as_slice())?;
-        Ok(Instance {
-            container,
-            kerf,
-            boxes,
-        })
+        Ok(Instance::of_parts(container, kerf, boxes))
     }
 
     /// The instance of the named boxes, in their order, with the same container and kerf. `keep`
@@ -84,11 +80,7 @@ impl Instance {
                 return Err(NoMemory);
             }
         }
-        Ok(Instance {
-            container,
-            kerf,
-            boxes: kept,
-        })
+        Ok(Instance::of_parts(container, kerf, kept))
     }
 
     /// The instance with another written last container side, from 0 to 128,000,000, whatever its
@@ -100,10 +92,6 @@ impl Instance {
         let container = raised(alloc, self.container.as_slice(), height)?;
         let kerf = copied_sides(alloc, self.kerf.as_slice())?;
         let boxes = copied_boxes(alloc, self.boxes.as_slice())?;
-        Ok(Instance {
-            container,
-            kerf,
-            boxes,
-        })
+        Ok(Instance::of_parts(container, kerf, boxes))
     }
 }

@@ -6,6 +6,7 @@ ghost use Rattle.box_instances.specs.Plain.{plain_box, plain_instance, without_k
 ghost use Rattle.box_instances.specs.Faults.{AreKerfsOf, IsFirstFaultySide, IsFirstKerfOutside, IsFirstFault, IsFirstBoxFault};
 
 use crate::InstanceFault;
+use crate::working::{working_row, working_sides};
 use smallvec::SmallVec;
 use std::alloc::Global;
 use std::marker::Model;
@@ -40,24 +41,28 @@ pub const MOST_VALUE: u32 = 1_000_000_000;
 /// 1,000,000,000. Each written container side is in the same range, but the last one may have been
 /// set to anything from 0 to 128,000,000. A working side is a written one with the kerf. Contracts
 /// see an instance as the plain instance of the written numbers.
+///
+/// Searches ask for working sides all the time, so these are held too, each in its place.
 #[derive(Drop)]
 pub struct Instance {
     pub(crate) container: Sides,
     pub(crate) kerf: Sides,
     pub(crate) boxes: Vec<BoxItem>,
+    pub(crate) limits: [u32; 4],
+    pub(crate) working: [[u32; 4]; MOST_BOXES],
 }
 
 impl Model for Instance {
     ghost use Rattle.packing_terms.specs.Packing.{PlainInstance};
-    ghost use Rattle.packing_terms.specs.Limits.{IsInternalInstance};
 
     ghost Value = { PlainInstance };
 
     ghost use Rattle.box_instances.specs.Plain.{plain_instance};
+    ghost use Rattle.box_instances.specs.Working.{IsHeld};
 
     ghost view = { λ i. plain_instance i.container i.kerf i.boxes };
 
-    ghost invariant = { λ i. IsInternalInstance (plain_instance i.container i.kerf i.boxes) };
+    ghost invariant = { λ i. IsHeld (plain_instance i.container i.kerf i.boxes) i.limits i.working };
 }
 
 // Kerf `i`, and 0 where there is none.
@@ -134,6 +139,22 @@ fn zeros(alloc: Global, count: usize) -> Sides
 }
 
 impl Instance {
+    // The instance of parts that are known to be one.
+    pub(crate) fn of_parts(container: Sides, kerf: Sides, boxes: Vec<BoxItem>) -> Instance
+        requires { IsInternalInstance (plain_instance container kerf boxes) }
+        ensures { result ≡ plain_instance container kerf boxes }
+    {
+        let limits = working_row(kerf.as_slice(), container.as_slice());
+        let working = working_sides(kerf.as_slice(), boxes.as_slice());
+        Instance {
+            container,
+            kerf,
+            boxes,
+            limits,
+            working,
+        }
+    }
+
     /// The instance of these parts with kerf 0, whose container sides are all from 1 to 1,000,000.
     /// It refuses as `with_kerf` does.
     pub fn new(container: Sides, boxes: Vec<BoxItem>) -> Result<Instance, InstanceFault>
@@ -185,11 +206,7 @@ impl Instance {
         if let Some(fault) = first_box_fault(container.len(), kerf.as_slice(), boxes.as_slice()) {
             return Err(fault);
         }
-        Ok(Instance {
-            container,
-            kerf,
-            boxes,
-        })
+        Ok(Instance::of_parts(container, kerf, boxes))
     }
 
     /// The number of dimensions, from 2 to 4. Every instance is within the limits.
@@ -209,20 +226,22 @@ impl Instance {
     }
 
     /// The container's working side in a dimension: the written one with the kerf.
+    #[inline]
     pub fn container_side(&self, dim: u32) -> u32
         requires { dim < dims self.now }
         ensures { result ≡ container_side self.now dim }
     {
-        self.written_container(dim) + self.kerf(dim)
+        self.limits[dim as usize]
     }
 
     /// A box's working side in a dimension: the written one with the kerf.
+    #[inline]
     pub fn side(&self, box_no: u32, dim: u32) -> u32
         requires box_in_range { box_no < box_count self.now }
         requires dim_in_range { dim < dims self.now }
         ensures { result ≡ side self.now box_no dim }
     {
-        self.written_side(box_no, dim) + self.kerf(dim)
+        self.working[box_no as usize][dim as usize]
     }
 
     /// The kerf in a dimension: the least gap between boxes that are apart there. Every instance is

@@ -8,6 +8,7 @@ mod making;
 mod rank;
 mod sets;
 mod sides;
+mod working;
 
 pub use fault::{InstanceFault, NoMemory};
 pub use instance::{BoxItem, Instance, MOST_BOXES, MOST_KERF, MOST_SIDE, MOST_VALUE, Sides};

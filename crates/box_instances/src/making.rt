@@ -74,9 +74,7 @@ pub fn make(alloc: Global, number: u32) -> Result<Instance, NoMemory>
             return Err(NoMemory);
         };
     }
-    Ok(Instance {
-        container: two_sides(alloc, MADE_CONTAINER_SIDE, MADE_CONTAINER_SIDE),
-        kerf: two_sides(alloc, 0, 0),
-        boxes,
-    })
+    let container = two_sides(alloc, MADE_CONTAINER_SIDE, MADE_CONTAINER_SIDE);
+    let kerf = two_sides(alloc, 0, 0);
+    Ok(Instance::of_parts(container, kerf, boxes))
 }

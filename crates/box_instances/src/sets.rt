@@ -28,6 +28,7 @@ impl Instance {
             .as_mut_slice()
             .copy_from_slice(item.sides.as_slice());
         own.value = item.value;
+        self.working[at as usize] = from.working[box_no as usize];
     }
 }
 

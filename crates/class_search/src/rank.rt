@@ -17,7 +17,10 @@ pub(crate) fn ranked_pairs(alloc: Global, instance: &Instance) -> Result<Vec<(u3
     ensures { IfOk result (λ pairs. pairs.items ≡ ranked_pairs instance.now) }
 {
     let order = instance.rank_order(alloc)?;
-    let mut pairs = Vec::new(alloc);
+    let room = order.len().saturating_mul(order.len()) / 2;
+    let Ok(mut pairs) = Vec::with_capacity(alloc, room) else {
+        return Err(NoMemory);
+    };
     for later in 0..order.len() {
         for earlier in 0..later {
             let Ok(()) = pairs.push(in_order(order[earlier], order[later])) else {

@@ -55,7 +55,7 @@ pub fn begin_closings(alloc: Global, instance: &Instance) -> Result<Closings, No
     let dims = instance.dims();
     let count = instance.len();
     let state = EdgeState::new(alloc, dims, count)?;
-    let closer = Closer::new(alloc, dims, count)?;
+    let closer = Closer::in_order(alloc, dims, count)?;
     let trace = Trace::new(alloc, instance)?;
     let mut waiting = Vec::new(alloc);
     let root = Node {

@@ -31,7 +31,7 @@ fn begin(alloc: Global, instance: &Instance) -> Result<Walk, NoMemory>
     let count = instance.len();
     let state = EdgeState::new(alloc, dims, count)?;
     let given = EdgeState::new(alloc, dims, count)?;
-    let closer = Closer::new(alloc, dims, count)?;
+    let closer = Closer::in_order(alloc, dims, count)?;
     let room = chain_room(alloc, count)?;
     let mut pending = Vec::new(alloc);
     let root = Pending {

@@ -2,3 +2,4 @@ mod Compositions
 mod Cycles
 mod Guards
 pub mod Levels
+pub mod ToldChains

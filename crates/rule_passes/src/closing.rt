@@ -12,6 +12,7 @@ ghost use Rattle.closure_terms.specs.Work.{IsUpToDate, IsChained};
 ghost use Rattle.rule_passes.specs.Rooms.{AreKept, AreMade};
 
 use crate::chains::cover_chains;
+use crate::guess::Guess;
 use crate::settle::settle;
 use crate::sides::longest_sides;
 use box_instances::Instance;
@@ -46,6 +47,7 @@ pub fn close_with<const K: usize>(
     state: &mut EdgeState,
     all: BitRow<K>,
     kept: &mut [KeptLevels<K>],
+    guess: &mut Guess,
     closed: Mark,
 ) -> bool
     requires words { HoldsBoxes K (box_count instance.now) }
@@ -68,8 +70,17 @@ pub fn close_with<const K: usize>(
         × HasNoEmptyMask instance.now (excludes state.new.trail)) }
 {
     begin_each(kept);
+    guess.begin(closed);
     let longest = longest_sides(instance);
-    let Some(first) = settle(instance, state, all, closed, BitRow::empty(), &longest) else {
+    let Some(first) = settle(
+        instance,
+        state,
+        all,
+        closed,
+        BitRow::empty(),
+        &longest,
+        guess,
+    ) else {
         return true;
     };
     let mut dirty = first;
@@ -80,7 +91,7 @@ pub fn close_with<const K: usize>(
             return true;
         }
         let rest = dirty.without(dim);
-        let Some(more) = settle(instance, state, all, next, rest, &longest) else {
+        let Some(more) = settle(instance, state, all, next, rest, &longest, guess) else {
             return true;
         };
         // For the proof alone: tells the limits of the state.

@@ -6,6 +6,8 @@ mod chains;
 mod closing;
 mod edges;
 mod empties;
+mod guess;
+mod lines;
 mod orders;
 mod pairs;
 mod room;

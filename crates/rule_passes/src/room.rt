@@ -14,6 +14,7 @@ ghost use Rattle.orientation_rules.specs.KeptWeights.{PlainLevels};
 ghost use Rattle.rule_passes.specs.Rooms.{AreKept, AreMade};
 
 use crate::closing::close_with;
+use crate::guess::Guess;
 use crate::pairs::pass_pairs;
 use crate::rows::all_boxes;
 use box_instances::{Instance, NoMemory};
@@ -36,6 +37,7 @@ pub struct ClosingRoom {
     wide: BitRow<2>,
     narrow_kept: Vec<KeptLevels<1>>,
     wide_kept: Vec<KeptLevels<2>>,
+    guess: Guess,
 }
 
 impl Model for ClosingRoom {
@@ -94,9 +96,8 @@ fn set_each<const K: usize>(kept: &mut [KeptLevels<K>], boxes: u32)
 }
 
 impl ClosingRoom {
-    /// The working room for states of so many dimensions and boxes. `dims` is from 2 to 4, `boxes`
-    /// from 1 to 128.
-    pub fn new(alloc: Global, dims: u32, boxes: u32) -> Result<ClosingRoom, NoMemory>
+    // The working room in which a chain that is too long is looked for early, or not.
+    fn made(alloc: Global, dims: u32, boxes: u32, is_early: bool) -> Result<ClosingRoom, NoMemory>
         requires dimensions { IsDimCount dims }
         requires boxes { IsBoxCount boxes }
         ensures { IfOk result
@@ -104,6 +105,7 @@ impl ClosingRoom {
     {
         let narrow_kept = levels_of::<1>(alloc, count_if(dims, boxes <= 64), boxes)?;
         let wide_kept = levels_of::<2>(alloc, count_if(dims, boxes > 64), boxes)?;
+        let guess = Guess::new(alloc, is_early)?;
         Ok(ClosingRoom {
             dims,
             boxes,
@@ -112,7 +114,29 @@ impl ClosingRoom {
             wide: all_boxes(boxes),
             narrow_kept,
             wide_kept,
+            guess,
         })
+    }
+
+    /// The working room for states of so many dimensions and boxes. `dims` is from 2 to 4, `boxes`
+    /// from 1 to 128. A closing ends as soon as it comes upon a chain that is too long.
+    pub fn new(alloc: Global, dims: u32, boxes: u32) -> Result<ClosingRoom, NoMemory>
+        requires dimensions { IsDimCount dims }
+        requires boxes { IsBoxCount boxes }
+        ensures { IfOk result
+            (λ room. room ≡ record { dims = dims; boxes = boxes; most = boxes }) }
+    {
+        ClosingRoom::made(alloc, dims, boxes, true)
+    }
+
+    /// The same, but a closing goes along what changed, in its order, to the mask that is empty.
+    pub fn in_order(alloc: Global, dims: u32, boxes: u32) -> Result<ClosingRoom, NoMemory>
+        requires dimensions { IsDimCount dims }
+        requires boxes { IsBoxCount boxes }
+        ensures { IfOk result
+            (λ room. room ≡ record { dims = dims; boxes = boxes; most = boxes }) }
+    {
+        ClosingRoom::made(alloc, dims, boxes, false)
     }
 
     /// Uses it for states of so many boxes, at most as many as it was made for. It takes no memory.
@@ -153,10 +177,10 @@ impl ClosingRoom {
         let _sizes = state.dims();
         if self.most <= 64 {
             let kept = self.narrow_kept.as_mut_slice();
-            return close_with(instance, state, self.narrow, kept, closed);
+            return close_with(instance, state, self.narrow, kept, &mut self.guess, closed);
         }
         let kept = self.wide_kept.as_mut_slice();
-        close_with(instance, state, self.wide, kept, closed)
+        close_with(instance, state, self.wide, kept, &mut self.guess, closed)
     }
 
     /// Excludes what follows from the exclusions of the state, by the seven rules, until no rule
@@ -178,6 +202,7 @@ impl ClosingRoom {
     {
         // For the proof alone: tells the limits of the state.
         let _sizes = state.dims();
+        self.guess.restart(instance);
         if pass_pairs(instance, state) {
             return true;
         }

@@ -15,6 +15,8 @@ ghost use Rattle.rule_passes.specs.Reached.{HasNoLonger};
 
 use crate::edges::spread;
 use crate::empties::is_empty_left;
+use crate::guess::Guess;
+use crate::lines::shut_pair;
 use box_instances::Instance;
 use edge_state::{BitRow, EdgeState, Exclusion, Mark, Mask, Rel};
 
@@ -65,7 +67,8 @@ fn dirtied(state: &EdgeState, dirty: BitRow<1>, change: Exclusion, left: Mask) -
 /// Looks through the exclusions that came after a position of the list, and those that follow, the
 /// oldest first. Afterwards no rule but CHAIN adds anything, and CHAIN only in the dimensions of
 /// the answer; to those that were given come those in which two boxes became ordered. `None` comes
-/// where a mask is empty. `longest` has the greatest side of a box in each dimension.
+/// where a mask is empty. `longest` has the greatest side of a box in each dimension, and `guess`
+/// the weights of chains as they are thought to be.
 pub fn settle<const K: usize>(
     instance: &Instance,
     state: &mut EdgeState,
@@ -73,6 +76,7 @@ pub fn settle<const K: usize>(
     closed: Mark,
     dirty: BitRow<1>,
     longest: &[u32],
+    guess: &mut Guess,
 ) -> Option<BitRow<1>>
     requires words { HoldsBoxes K (box_count instance.now) }
     requires dims { state.old.dims ≡ dims instance.now }
@@ -98,6 +102,11 @@ pub fn settle<const K: usize>(
         let _sizes = state.dims();
         let left = state.mask_in::<K>(change.dim, change.u, change.v);
         if is_empty_left(instance, state, change.dim, change.u, change.v, left) {
+            return None;
+        }
+        let (dim, u, v) = (change.dim, change.u, change.v);
+        if let Some((a, b)) = guess.long_pair::<K>(instance, state, dim, u, v, left) {
+            shut_pair(instance, state, dim, a, b);
             return None;
         }
         let after = behind(state, next, change);

@@ -10,4 +10,4 @@ returns-clause-between c z r = begins c.args.instance.now _ _ _ _ z
     (ap (λ (s : PlainEdges). s.trail) c.in_ok-given.ensures) (ap (λ (s : PlainEdges). s.trail) c.in_ok-state.ensures)
     (root_there _ _ c.push_pending.new.pending.items c.new-pending.result.items c.in_ok-push_pending.ensures
     c.first.ensures c.first-2.ensures c.new-pending.ensures.items)
-    (ap (λ (l : List Step). plain_steps l) c.new-4.ensures.items) r
+    (ap (λ (l : List Step). plain_steps l) c.new-3.ensures.items) r

@@ -38,6 +38,19 @@ is_empty_left-requires g c =
       left = c.mask_in-left.ensures;
     }
 
+pub long_pair-requires-clause-sizes : goal.long_pair-requires-clause-sizes
+long_pair-requires-clause-sizes g c =
+    let s = c.loop-change.state in
+    let edge = change_edge s.dims s.boxes s.trail c.loop-change.next _ c.in-Some.change c.dims-sizes.ensures.limits.trail c.in-Some.ensures in
+    record {
+      same_dims = c.loop-change.invariant.same_dims ∙ c.requires.dims;
+      same_boxes = c.loop-change.invariant.same_boxes ∙ c.requires.boxes;
+      there = omega (arith, edge.dim, c.loop-change.invariant.same_dims, c.requires.dims);
+    }
+
+pub returns-in-Some-long_pair-clause-extends : goal.returns-in-Some-long_pair-clause-extends
+returns-in-Some-long_pair-clause-extends g c = extends_trans _ _ _ _ c.loop-change.invariant.extends c.shut_pair.ensures.extends
+
 pub dirtied-more-requires-clause-dim : goal.dirtied-more-requires-clause-dim
 dirtied-more-requires-clause-dim g c =
     let s = c.loop-change.state in

@@ -1,0 +1,42 @@
+//! Working sides, each in its place, so that they are read at once.
+ghost use Rattle.std.specs.Prelude.{◌≡◌, ◌<◌, ◌≤◌, ◌+◌, ◌^◌, ℕ, [], map, length, slice_index, slice_index_or};
+ghost use Rattle.packing_terms.specs.Packing.{no_box};
+ghost use Rattle.packing_terms.specs.Limits.{most_boxes, IsBox};
+ghost use Rattle.box_instances.specs.Plain.{plain_box};
+
+use crate::{BoxItem, MOST_BOXES};
+
+/// The working sides of a box or of a container: the written ones with the kerfs.
+pub fn working_row(kerf: &[u32], sides: &[u32]) -> [u32; 4]
+    requires few { length kerf.now ≤ 4 }
+    requires same { length sides.now ≡ length kerf.now }
+    requires small { (i : ℕ) → i < length kerf.now
+        → slice_index sides.now i + slice_index kerf.now i < 2 ^ 32 }
+    ensures { (i : ℕ) → i < length kerf.now
+        → slice_index result i ≡ slice_index sides.now i + slice_index kerf.now i }
+{
+    let mut row = [0; 4];
+    for i in 0..kerf.len() {
+        row[i] = sides[i] + kerf[i];
+    }
+    row
+}
+
+/// The same of each box.
+pub fn working_sides(kerf: &[u32], boxes: &[BoxItem]) -> [[u32; 4]; MOST_BOXES]
+    requires few { length kerf.now ≤ 4 }
+    requires count { length boxes.now ≤ most_boxes }
+    requires each { (v : ℕ) → v < length boxes.now → IsBox (length kerf.now) kerf.now
+        (slice_index_or (map plain_box boxes.now) v no_box) }
+    ensures count { length result ≡ most_boxes }
+    ensures each { (v i : ℕ) → v < length boxes.now → i < length kerf.now
+        → slice_index (slice_index_or result v []) i
+        ≡ slice_index (slice_index_or (map plain_box boxes.now) v no_box).sides i
+        + slice_index kerf.now i }
+{
+    let mut rows = [[0; 4]; MOST_BOXES];
+    for v in 0..boxes.len() {
+        rows[v] = working_row(kerf, boxes[v].sides.as_slice());
+    }
+    rows
+}
