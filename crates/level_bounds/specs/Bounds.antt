@@ -2,7 +2,7 @@
 --
 --     refuted      lowest     highest      placed      while they aren't neighbours, the level halfway between refuted and
 --        |-----x------|          |------------|        lowest is asked, and then the one halfway between highest and placed
-use Rattle.std.specs.Prelude.{ℕ, suc, pred, ◌+◌, ◌-◌, ◌/◌, ◌<◌, ◌≤◌, ◌≡◌, ◌⊎◌, List, nat_lt, if◌then◌else◌}
+use Rattle.std.specs.Prelude.{ℕ, suc, pred, ◌+◌, ◌-◌, ◌/◌, ◌^◌, min, ◌<◌, ◌≤◌, ◌≡◌, ◌⊎◌, Bool, true, false, List, nat_lt, if◌then◌else◌}
 use Rattle.packing_terms.specs.Tokens.{PlainToken}
 use Rattle.tree_terms.specs.Levels.{PlainLevel, PlacedBy, RefutedBy, SpentAt}
 use Rattle.proof_tree.specs.Plain.{plain_tokens}
@@ -65,6 +65,27 @@ abbrev pub IsAskedNext : PlainBounds → ℕ → Type 0
 IsAskedNext b level =
     ((suc b.refuted < b.lowest) × (level ≡ middle b.refuted b.lowest))
     ⊎ (IsNear b.refuted b.lowest × ((suc b.highest < b.placed) × (level ≡ middle b.highest b.placed)))
+
+-- the level is asked right beside an end: above the refuted one, or, where that is the neighbour of
+-- the lowest, below the placed one
+abbrev pub IsAskedBeside : PlainBounds → ℕ → Type 0
+IsAskedBeside b level =
+    ((suc b.refuted < b.lowest) × (level ≡ suc b.refuted))
+    ⊎ (IsNear b.refuted b.lowest × ((suc b.highest < b.placed) × (level ≡ pred b.placed)))
+
+-- the level is asked behind so many in vain
+abbrev pub IsAskedAfter : ℕ → PlainBounds → ℕ → Type 0
+IsAskedAfter in_vain b level = ((in_vain < 3) × IsAskedNext b level) ⊎ ((3 ≤ in_vain) × IsAskedBeside b level)
+
+-- how many were asked in vain behind one more: none where that narrowed the gap, and else one more, as
+-- far as numbers of 32 bits reach
+abbrev pub vain_behind : ℕ → Bool → ℕ
+vain_behind in_vain true = 0
+vain_behind in_vain false = min (in_vain + 1) (2 ^ 32 - 1)
+
+-- how far the two levels are from one another
+abbrev pub gap_of : PlainBounds → ℕ
+gap_of b = b.placed - b.refuted
 
 -- nothing is left to be asked
 abbrev pub IsNarrow : PlainBounds → Type 0

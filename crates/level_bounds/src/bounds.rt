@@ -1,11 +1,14 @@
 //! A refuted level and a greater one that is placed, and what was asked between them.
-ghost use Rattle.std.specs.Prelude.{◌≡◌, ◌<◌, suc, MatchOption};
+ghost use Rattle.std.specs.Prelude.{◌≡◌, ◌<◌, suc, pred, MatchOption};
 ghost use Rattle.proof_tree.specs.Plain.{plain_tokens};
 ghost use Rattle.level_search.specs.Runs.{plain_level};
-ghost use Rattle.level_bounds.specs.Bounds.{plain_bounds, first_bounds, narrowed, afresh, middle, IsAsked, IsAskedNext, IsNarrow, IsInside, IsNear};
+ghost use Rattle.level_bounds.specs.Bounds.{plain_bounds, first_bounds, narrowed, afresh, middle, gap_of, vain_behind, IsAsked, IsAskedNext, IsAskedBeside, IsAskedAfter, IsNarrow, IsInside, IsNear};
 
 use level_search::Level;
 use proof_tree::Token;
+
+// Behind so many levels in vain, one after another, those right beside the ends come.
+const MOST_IN_VAIN: u32 = 3;
 
 /// A level that the tokens refute, and a greater one that the numbers show.
 ///
@@ -74,6 +77,49 @@ impl Bounds {
         }
     }
 
+    /// The level right beside an end: the one above the refuted level, or, where that is the lowest,
+    /// the one below the placed level. None comes exactly where that is the highest too.
+    pub fn level_beside(&self) -> Option<u64>
+        ensures asked { MatchOption result (IsNarrow (plain_bounds self.now))
+            (IsAsked (plain_bounds self.now)) }
+        ensures beside { MatchOption result (Unit {0}) (IsAskedBeside (plain_bounds self.now)) }
+    {
+        if self.lowest.saturating_sub(self.refuted) > 1 {
+            return Some(self.refuted + 1);
+        }
+        if self.placed.saturating_sub(self.highest) > 1 {
+            return Some(self.placed - 1);
+        }
+        None
+    }
+
+    /// The level that is asked behind so many in vain, one after another: that of `next_level`, and
+    /// behind three and more that of `level_beside`.
+    ///
+    /// A level in vain costs the whole budget. So where nothing can be decided it comes soon to the
+    /// two levels beside the ends, and a wide gap costs no more than a narrow one; halved from both
+    /// ends it cost twice as many levels as it has bits. Where the level beside an end is decided,
+    /// more is, and it goes on halfway.
+    pub fn level_behind(&self, in_vain: u32) -> Option<u64>
+        ensures asked { MatchOption result (IsNarrow (plain_bounds self.now))
+            (IsAsked (plain_bounds self.now)) }
+        ensures next { MatchOption result (Unit {0})
+            (IsAskedAfter in_vain (plain_bounds self.now)) }
+    {
+        if in_vain < MOST_IN_VAIN {
+            self.next_level()
+        } else {
+            self.level_beside()
+        }
+    }
+
+    /// How far the two levels are from one another.
+    pub fn gap(&self) -> u64
+        ensures { result ≡ gap_of (plain_bounds self.now) }
+    {
+        self.placed.saturating_sub(self.refuted)
+    }
+
     /// The bounds after the answer at a level: it is the next placed one, the next refuted one, or
     /// one of which neither was found.
     pub fn after(self, level: u64, answer: Level) -> Bounds
@@ -105,5 +151,17 @@ impl Bounds {
             }
         }
         bounds
+    }
+}
+
+/// How many levels were asked in vain, one after another, behind one more: none where that one
+/// narrowed the gap.
+pub fn vain_behind(in_vain: u32, is_narrower: bool) -> u32
+    ensures { result ≡ vain_behind in_vain is_narrower }
+{
+    if is_narrower {
+        0
+    } else {
+        in_vain.saturating_add(1)
     }
 }
