@@ -1,8 +1,9 @@
 -- What an outcome behind a proposal is worth.
-use Rattle.std.proofs.Common.{◌≡◌, ℕ, ◌+◌, ◌-◌, ◌*◌, ◌/◌, ◌^◌, ◌<◌, ◌≤◌, refl, sym, ◌∙◌, subst, arith, Bool, true, false, nat_lt, ltb, if◌then◌else◌, List, []}
+use Rattle.std.proofs.Common.{◌≡◌, ℕ, ◌+◌, ◌-◌, ◌*◌, ◌/◌, ◌^◌, ◌<◌, ◌≤◌, refl, sym, ◌∙◌, subst, arith, Bool, true, false, nat_lt, ltb, if◌then◌else◌, List, [], map}
 use Rattle.std.proofs.lemmas.Bool.{ltb-true}
 use Rattle.packing_terms.specs.Packing.{PlainInstance, Fits, dims, box_count, IsPacking}
 use Rattle.packing_terms.specs.Limits.{IsInternalInstance}
+use Rattle.packing_terms.specs.Refutation.{Refutes}
 use Rattle.packing_terms.specs.Tokens.{PlainToken}
 use Rattle.packing_terms.proofs.Internal.{internal_sides}
 use Rattle.packing_terms.proofs.Refuted.{none_fits}
@@ -15,6 +16,8 @@ use Rattle.check_terms.specs.declared.answers.PlaceVerdict.TheVariants.{Good, Ou
 use Rattle.check_terms.specs.Placing.{place_verdict}
 use Rattle.check_terms.proofs.Places.{places_tested}
 use Rattle.check_terms.proofs.Refuting.{inner_fed}
+use Rattle.proof_tree.specs.declared.token.Token.{Token}
+use Rattle.proof_tree.specs.Plain.{plain_token}
 use Rattle.class_search.specs.Right.{IsRight, Decides, IsYesOrNo}
 use Rattle.class_search.proofs.Rights.{class_right}
 use Rattle.conflict_search.specs.Sizes.{IsSized}
@@ -72,6 +75,42 @@ module _ (instance : PlainInstance) where
       go true = tt
       go false = h
   behind_decided Nothing other h = h
+
+  -- where nothing stands behind it, it is itself or past
+  pub behind_shown : (p : PlainProposal) (v : Verdict) (other : PlainOutcome) → answer_behind instance p Past ≡ Decided v → Decided v ≡ answer_behind instance p other
+  behind_shown (Places places) v other e = go (place_verdict instance places) e
+    where
+      go : (x : PlaceVerdict) → by_places x places Past ≡ Decided v → Decided v ≡ by_places x places other
+      go Good f = sym f
+      go (Outside w i) f = absurd (cc (f))
+      go (Overlap u w) f = absurd (cc (f))
+  behind_shown (Tokens tokens) v other e = go (is_refutation instance tokens) e
+    where
+      go : (b : Bool) → by_tokens b tokens Past ≡ Decided v → Decided v ≡ by_tokens b tokens other
+      go true f = sym f
+      go false f = absurd (cc (f))
+  behind_shown Nothing v other e = absurd (cc (e))
+
+  -- and where it is past, the other outcome comes
+  pub behind_other : (p : PlainProposal) (other : PlainOutcome) → answer_behind instance p Past ≡ Past → other ≡ answer_behind instance p other
+  behind_other (Places places) other e = go (place_verdict instance places) e
+    where
+      go : (x : PlaceVerdict) → by_places x places Past ≡ Past → other ≡ by_places x places other
+      go Good f = absurd (cc (f))
+      go (Outside w i) f = refl
+      go (Overlap u w) f = refl
+  behind_other (Tokens tokens) other e = go (is_refutation instance tokens) e
+    where
+      go : (b : Bool) → by_tokens b tokens Past ≡ Past → other ≡ by_tokens b tokens other
+      go true f = absurd (cc (f))
+      go false f = refl
+  behind_other Nothing other e = refl
+
+-- tokens that were taken one by one, and leave no node open, refute the instance
+pub tokens_right : (instance : PlainInstance) (tokens all : List Token) (b : Bool) → all ≡ tokens → b ≡ is_refutation instance (map plain_token all) → b ≡ true
+    → Refutes instance [] (map plain_token tokens)
+tokens_right instance tokens all b e f g =
+    subst (λ (ts : List Token). Refutes instance [] (map plain_token ts)) e ((inner_fed instance [] (map plain_token all)).0 (sym f ∙ g))
 
 -- what is told of a tree is past only where the tree has more branchings than the budget
 pub told_more : (budget : ℕ) (v : Verdict) → told budget v ≡ Past → budget < count_of v

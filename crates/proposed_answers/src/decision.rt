@@ -20,6 +20,43 @@ use std::sync::Wait;
 use std::thread::Threads;
 use work_share::{Gate, Settings};
 
+/// What a proposal shows of an instance, with no tree behind it: places that are a packing a yes, and
+/// tokens that are a refutation a no. `Past` comes where the proposal fails its test, and where there
+/// is none.
+///
+/// Proposed places are tested by `check_places`, proposed tokens by `Refuter`. A yes has a count of
+/// 0, and a no that of the splits in its tokens. Proposed places have one coordinate for each box and
+/// dimension.
+pub fn answer_of(
+    alloc: Global,
+    instance: &Instance,
+    proposal: Proposal,
+) -> Result<Outcome, NoMemory>
+    requires sized { IsSized instance.now proposal }
+    ensures outcome { IfOk result (λ r. plain_outcome r
+        ≡ answer_behind instance.now (plain_proposal proposal) PlainPast) }
+    ensures right { IfOk result (λ r. IsRight instance.now [] (plain_outcome r)) }
+{
+    match proposal {
+        Proposal::Places(places) => match check_places(instance, &places) {
+            PlaceVerdict::Good => Ok(Outcome::Yes {
+                numbers: places,
+                count: 0,
+            }),
+            _ => Ok(Outcome::Past),
+        },
+        Proposal::Tokens(tokens) => {
+            if is_refutation(alloc, instance, &tokens)? {
+                let count = (tokens.len() / 2) as u64;
+                Ok(Outcome::No { tokens, count })
+            } else {
+                Ok(Outcome::Past)
+            }
+        }
+        Proposal::Nothing => Ok(Outcome::Past),
+    }
+}
+
 /// Whether an instance fits, by a proposal that passes its test, and else by the class tree under
 /// the budget of the settings, with as many workers as these say.
 ///
@@ -40,23 +77,10 @@ pub fn decide_behind<R: Threads + Wait + Sync, G: Gate + Sync>(
         ≡ answer_behind instance.now (plain_proposal proposal)
         (tree_told instance.now settings.now.budget settings.now.scales)) }
 {
-    match proposal {
-        Proposal::Places(places) => match check_places(instance, &places) {
-            PlaceVerdict::Good => Ok(Outcome::Yes {
-                numbers: places,
-                count: 0,
-            }),
-            _ => decide(rt, alloc, instance, settings, gate),
-        },
-        Proposal::Tokens(tokens) => {
-            if is_refutation(alloc, instance, &tokens)? {
-                let count = (tokens.len() / 2) as u64;
-                Ok(Outcome::No { tokens, count })
-            } else {
-                decide(rt, alloc, instance, settings, gate)
-            }
-        }
-        Proposal::Nothing => decide(rt, alloc, instance, settings, gate),
+    match answer_of(alloc, instance, proposal)? {
+        Outcome::Yes { numbers, count } => Ok(Outcome::Yes { numbers, count }),
+        Outcome::No { tokens, count } => Ok(Outcome::No { tokens, count }),
+        Outcome::Past => decide(rt, alloc, instance, settings, gate),
     }
 }
 

@@ -6,6 +6,6 @@ mod proposing;
 mod testing;
 
 pub use conflict_search::Proposal;
-pub use decision::{decide_behind, decide_proposed};
-pub use proposing::propose;
+pub use decision::{answer_of, decide_behind, decide_proposed};
+pub use proposing::{most_splits, propose, propose_within};
 pub use testing::is_refutation;

@@ -18,20 +18,32 @@ const MOST_SPLITS: u64 = 700_000;
 // A split is the dearer the more pairs of boxes there are, so for more than 14 boxes they are fewer.
 const PAIR_VISITS: u64 = 140_000_000;
 
-// The splits of the search for a refutation.
-fn refutation_splits(instance: &Instance) -> u64 {
+/// The most splits of the search for a refutation of an instance.
+pub fn most_splits(instance: &Instance) -> u64 {
     let count = u64::from(instance.len());
     let splits = PAIR_VISITS / (count * count).max(1);
     splits.min(MOST_SPLITS)
 }
 
-/// A proposal for an instance: places, a refutation, or nothing. It is made by one worker, and how
-/// many there are is no matter of it.
-pub fn propose(alloc: Global, instance: &Instance, scales: bool) -> Result<Proposal, NoMemory>
+/// A proposal for an instance, of a search for a refutation with at most so many splits: places, a
+/// refutation, or nothing. It is made by one worker, and how many there are is no matter of it.
+pub fn propose_within(
+    alloc: Global,
+    instance: &Instance,
+    scales: bool,
+    splits: u64,
+) -> Result<Proposal, NoMemory>
     ensures { IfOk result (IsSized instance.now) }
 {
     if let Some(places) = propose_places(alloc, instance, PLACE_STEPS)? {
         return Ok(Proposal::Places(places));
     }
-    propose_refutation(alloc, instance, scales, refutation_splits(instance))
+    propose_refutation(alloc, instance, scales, splits)
+}
+
+/// A proposal for an instance, of a search with the most splits.
+pub fn propose(alloc: Global, instance: &Instance, scales: bool) -> Result<Proposal, NoMemory>
+    ensures { IfOk result (IsSized instance.now) }
+{
+    propose_within(alloc, instance, scales, most_splits(instance))
 }

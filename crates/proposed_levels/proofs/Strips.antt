@@ -53,10 +53,10 @@ between_bounds instance settings refuted height tokens places t most =
     are_first (IsPackedAt instance) (IsRefutedAt instance) (IsPastHeight instance settings Rough) most_height refuted height tokens places t.order most t.refutes t.packed
 
 -- the same two heights, of which no other is known to be past the budget
-pub bounds_afresh : (instance : PlainInstance) (settings : Settings) (b : PlainBounds) → AreHeightBounds instance settings Rough b
-    → AreHeightBounds instance settings Whole (afresh b)
-bounds_afresh instance settings b h =
-    are_first (IsPackedAt instance) (IsRefutedAt instance) (IsPastHeight instance settings Whole) most_height b.refuted b.placed b.tokens b.numbers h.order h.within h.denied h.shown
+pub bounds_afresh : (instance : PlainInstance) (settings : Settings) (e f : Effort) (b : PlainBounds) → AreHeightBounds instance settings e b
+    → AreHeightBounds instance settings f (afresh b)
+bounds_afresh instance settings e f b h =
+    are_first (IsPackedAt instance) (IsRefutedAt instance) (IsPastHeight instance settings f) most_height b.refuted b.placed b.tokens b.numbers h.order h.within h.denied h.shown
 
 -- ---- what the bounds that were reached tell
 

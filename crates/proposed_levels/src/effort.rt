@@ -1,17 +1,30 @@
 //! How much is done at a level.
 ghost use Rattle.std.specs.Prelude.{◌≡◌};
 
+use box_instances::Instance;
+use proposed_answers::most_splits;
 use work_share::Settings;
 
 // With so few branchings a tree takes some milliseconds. Most levels are decided by them, far from
 // the optimum nearly all: proposals are dear there, since each looks for places in vain first.
 const FEW_BRANCHINGS: u64 = 2_000;
 
-/// How much is done at a level: a part of the described tree, whose root the scale functions refute,
-/// or proposals and then the tree under the budget.
+// A light proposal has such a part of the splits, and one behind a tree such a part. Each is halved
+// behind a level in vain, so those in vain of a run cost about as much as one of `fit`.
+const LIGHT_PART: u64 = 16;
+
+const WHOLE_PART: u64 = 2;
+
+/// How much is done at a level: a part of the described tree, whose root the scale functions refute;
+/// a proposal with few splits alone; or the tree under the budget, and then a proposal with more.
+///
+/// The tree comes before the dear proposal, since of 16 texts more heights are decided by it: those
+/// near the optimum, of which the light one finds no refutation, take the tree 2 to 4 s, and the
+/// proposal 7 s in vain.
 #[derive(Clone, Copy, Debug, PartialEq, Eq)]
 pub enum Effort {
     Rough,
+    Light,
     Whole,
 }
 
@@ -24,4 +37,18 @@ pub fn rough(settings: &Settings) -> Settings
         budget: settings.budget.min(FEW_BRANCHINGS),
         scales: settings.scales,
     }
+}
+
+/// The splits of the first proposal with such an effort.
+pub fn first_splits(instance: &Instance, effort: Effort) -> u64 {
+    match effort {
+        Effort::Rough => 0,
+        Effort::Light => most_splits(instance) / LIGHT_PART,
+        Effort::Whole => most_splits(instance) / WHOLE_PART,
+    }
+}
+
+/// The splits of the proposal behind a level: half as many where that was in vain.
+pub fn splits_behind(splits: u64, is_narrower: bool) -> u64 {
+    if is_narrower { splits } else { splits / 2 }
 }

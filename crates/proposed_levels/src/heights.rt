@@ -8,17 +8,50 @@ ghost use Rattle.level_search.specs.Runs.{plain_level};
 ghost use Rattle.level_bounds.specs.Bounds.{plain_bounds, IsNarrow};
 ghost use Rattle.proposed_levels.specs.Heights.{IsPastTree, IsHeightAnswer, AreHeightBounds};
 
-use crate::effort::{Effort, rough};
+use crate::effort::{Effort, first_splits, rough, splits_behind};
 use box_instances::{Instance, NoMemory};
-use class_search::decide_alone;
-use level_bounds::Bounds;
+use class_search::{decide, decide_alone};
+use level_bounds::{Bounds, vain_behind};
 use level_search::{Level, level_of};
 use proof_tree::Outcome;
-use proposed_answers::decide_proposed;
+use proposed_answers::{answer_of, propose_within};
 use std::alloc::Global;
 use std::sync::Wait;
 use std::thread::Threads;
 use work_share::{Gate, Settings};
+
+// What a proposal shows of the instance of one height.
+fn propose_tall(
+    alloc: Global,
+    tall: &Instance,
+    scales: bool,
+    splits: u64,
+) -> Result<Outcome, NoMemory>
+    ensures { IfOk result (λ o. IsRight tall.now [] (plain_outcome o)) }
+{
+    let proposal = propose_within(alloc, tall, scales, splits)?;
+    answer_of(alloc, tall, proposal)
+}
+
+// What the tree of one height shows, and where it is past the budget what a proposal shows.
+fn search_tall<R: Threads + Wait + Sync, G: Gate + Sync>(
+    rt: &R,
+    alloc: Global,
+    tall: &Instance,
+    splits: u64,
+    settings: &Settings,
+    gate: &G,
+) -> Result<Outcome, NoMemory>
+    ensures right { IfOk result (λ o. IsRight tall.now [] (plain_outcome o)) }
+    ensures past { IfOk result
+        (λ o. plain_outcome o ≡ PlainPast → IsPastTree tall.now settings.now Effort.Whole) }
+{
+    match decide(rt, alloc, tall, settings, gate)? {
+        Outcome::Yes { numbers, count } => Ok(Outcome::Yes { numbers, count }),
+        Outcome::No { tokens, count } => Ok(Outcome::No { tokens, count }),
+        Outcome::Past => propose_tall(alloc, tall, settings.scales, splits),
+    }
+}
 
 // What is found of the instance of one height.
 fn decide_tall<R: Threads + Wait + Sync, G: Gate + Sync>(
@@ -26,6 +59,7 @@ fn decide_tall<R: Threads + Wait + Sync, G: Gate + Sync>(
     alloc: Global,
     tall: &Instance,
     effort: Effort,
+    splits: u64,
     settings: &Settings,
     gate: &G,
 ) -> Result<Outcome, NoMemory>
@@ -35,7 +69,8 @@ fn decide_tall<R: Threads + Wait + Sync, G: Gate + Sync>(
 {
     match effort {
         Effort::Rough => decide_alone(alloc, tall, rough(settings).budget, settings.scales),
-        Effort::Whole => decide_proposed(rt, alloc, tall, settings, gate),
+        Effort::Light => propose_tall(alloc, tall, settings.scales, splits),
+        Effort::Whole => search_tall(rt, alloc, tall, splits, settings, gate),
     }
 }
 
@@ -46,6 +81,7 @@ fn decide_height<R: Threads + Wait + Sync, G: Gate + Sync>(
     instance: &Instance,
     height: u32,
     effort: Effort,
+    splits: u64,
     settings: &Settings,
     gate: &G,
 ) -> Result<Level, NoMemory>
@@ -54,7 +90,7 @@ fn decide_height<R: Threads + Wait + Sync, G: Gate + Sync>(
         (plain_level level)) }
 {
     let tall = instance.with_last_side(alloc, height)?;
-    let outcome = decide_tall(rt, alloc, &tall, effort, settings, gate)?;
+    let outcome = decide_tall(rt, alloc, &tall, effort, splits, settings, gate)?;
     Ok(level_of(outcome))
 }
 
@@ -75,10 +111,16 @@ pub fn narrow_heights<R: Threads + Wait + Sync, G: Gate + Sync>(
     ensures narrow { IfOk result (λ b. IsNarrow (plain_bounds b)) }
 {
     let mut bounds = bounds;
-    while let Some(level) = bounds.next_level() {
+    let mut in_vain = 0;
+    let mut splits = first_splits(instance, effort);
+    while let Some(level) = bounds.level_behind(in_vain) {
+        let gap = bounds.gap();
         let height = level as u32;
-        let answer = decide_height(rt, alloc, instance, height, effort, settings, gate)?;
+        let answer = decide_height(rt, alloc, instance, height, effort, splits, settings, gate)?;
         bounds = bounds.after(level, answer);
+        let is_narrower = bounds.gap() < gap;
+        in_vain = vain_behind(in_vain, is_narrower);
+        splits = splits_behind(splits, is_narrower);
     }
     Ok(bounds)
 }

@@ -37,8 +37,8 @@ fn told(bounds: Bounds) -> Strip
     }
 }
 
-// The answer from first bounds on: they are narrowed by a part of the tree of each height, and then
-// by proposals and the whole tree.
+// The answer from first bounds on: they are narrowed by a part of the tree of each height, then by
+// light proposals, and then by the whole tree with proposals behind it.
 fn narrowed<R: Threads + Wait + Sync, G: Gate + Sync>(
     rt: &R,
     alloc: Global,
@@ -59,7 +59,9 @@ fn narrowed<R: Threads + Wait + Sync, G: Gate + Sync>(
     let _limits = instance.len();
     let near = narrow_heights(rt, alloc, instance, first, Effort::Rough, settings, gate)?;
     let from = near.afresh();
-    let bounds = narrow_heights(rt, alloc, instance, from, Effort::Whole, settings, gate)?;
+    let nearer = narrow_heights(rt, alloc, instance, from, Effort::Light, settings, gate)?;
+    let last = nearer.afresh();
+    let bounds = narrow_heights(rt, alloc, instance, last, Effort::Whole, settings, gate)?;
     Ok(told(bounds))
 }
 
@@ -67,8 +69,8 @@ fn narrowed<R: Threads + Wait + Sync, G: Gate + Sync>(
 /// container's last side isn't looked at.
 ///
 /// It begins at bounds that the first branchings of the heights' trees give, whose roots the scale
-/// functions refute. Each height between is decided by proposals and then by its class tree under
-/// the budget, from both ends on. `Between` comes only where the trees of both heights beside the
+/// functions refute, and narrows them by light proposals. Each height that is left between is decided
+/// by its class tree under the budget, and then by a proposal. `Between` comes only where the trees of both heights beside the
 /// two have more branchings than the budget: the one above the refuted height and the one below the
 /// placed height. `NoneFits` comes exactly where a box is longer than the container in a dimension
 /// other than the last, and names the first. Which packing, which refutation and how many heights
