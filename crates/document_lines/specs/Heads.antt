@@ -7,18 +7,11 @@ use Rattle.document_terms.specs.declared.claim.SolvingJob.{SolvingJob}
 use Rattle.verdict_terms.specs.declared.heading.Heading.{Heading}
 use Rattle.verdict_terms.specs.Stages.{Stage, claimed, text_fault}
 use Rattle.verdict_terms.specs.Stages.Stage.{Beginning, Reading}
+use Rattle.line_cursor.specs.Readers.{held_parts, IsHeldHead}
 use Rattle.document_lines.specs.Ranges.{IsRanged}
 use Rattle.document_lines.specs.declared.head.Claimed.{Claimed}
 use Rattle.document_lines.specs.declared.judge.LineStop.{LineStop}
 use Rattle.document_lines.specs.declared.judge.LineStop.TheVariants.{Refused, NoMemory}
-
--- the parts that are held
-abbrev pub held_parts : Result Parts ReadTextError → Parts
-held_parts (Ok parts) = parts
-held_parts (Err error) = no_parts
-
-abbrev pub IsHeldHead : Result Parts ReadTextError → Type 0
-IsHeldHead parts = parts ≡ Ok (held_parts parts)
 
 -- a reader of no line before the first one
 abbrev pub IsHeldBehind : Option SolvingJob → Result Parts ReadTextError → Type 0

@@ -12,10 +12,11 @@ ghost use Rattle.verdict_terms.specs.Trees.{map_ok};
 ghost use Rattle.document_lines.specs.Words.{claimed_fit};
 ghost use Rattle.verdict_terms.specs.Stages.{rest_of};
 
-use crate::words::{FORM, RANGE, is_same, number_at};
+use crate::words::{FORM, RANGE, number_at};
 use box_instances::Instance;
 use document_terms::{Claim, SolvingJob};
 use instance_text::LineLexer;
+use line_cursor::is_same;
 use verdict_terms::Reason;
 
 // The most that a height is, and the most that a value is.
@@ -233,7 +234,11 @@ fn knapsack_claim(line: &LineLexer) -> Result<Claim, Reason>
 
 /// The claim of a result line of the job. Its words are tested for their form, then for the ranges
 /// of their numbers, and then for claiming something.
-pub fn read_claim(job: SolvingJob, instance: &Instance, line: &LineLexer) -> Result<Claim, Reason>
+pub(crate) fn read_claim(
+    job: SolvingJob,
+    instance: &Instance,
+    line: &LineLexer,
+) -> Result<Claim, Reason>
     requires { 1 ≤ length line.now.held.words }
     ensures { result ≡ claim_of job instance.now (rest_of line.now.held.words) }
 {

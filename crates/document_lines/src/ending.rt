@@ -7,9 +7,10 @@ ghost use Rattle.document_lines.specs.Reading.{Judges, IsAt, ended_claim};
 ghost use Rattle.document_lines.specs.Endings.{end_stage, AreDims};
 
 use crate::judge::{LineJudge, LineStop};
-use crate::words::{AFTER, FORM, is_blank, is_word};
+use crate::words::{AFTER, FORM};
 use document_terms::Claim;
 use instance_text::LineLexer;
+use line_cursor::{is_blank, is_word};
 use proof_tree::read_token;
 use std::alloc::Global;
 use std::marker::Model;

@@ -11,11 +11,12 @@ ghost use Rattle.document_lines.specs.Reading.{Judges, IsAt, ended_claim};
 ghost use Rattle.document_lines.specs.Exceedings.{TakesExceeding};
 
 use crate::judge::{LineJudge, LineStop};
-use crate::words::{FORM, RANGE, is_blank, is_word};
+use crate::words::{FORM, RANGE};
 use box_instances::Instance;
 use check_terms::RefuseCode;
 use document_terms::Claim;
 use instance_text::LineLexer;
+use line_cursor::{is_blank, is_word};
 use proof_tree::{Token, read_token};
 use std::alloc::Global;
 use std::marker::Model;

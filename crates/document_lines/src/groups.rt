@@ -18,7 +18,7 @@ fn named_in(keep: &[u32], box_no: u32) -> u32
 }
 
 /// Why the places of a set of boxes are refused, if they are; the set is an instance of its own.
-pub fn group_reason(set: &Instance, keep: &[u32], places: &[u32]) -> Option<Reason>
+pub(crate) fn group_reason(set: &Instance, keep: &[u32], places: &[u32]) -> Option<Reason>
     requires same { length keep.now ≡ box_count set.now }
     requires few { All (λ v. v < 128) keep.now }
     requires places { length places.now ≡ box_count set.now * dims set.now }

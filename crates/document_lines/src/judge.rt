@@ -57,7 +57,7 @@ pub trait LineJudge {
 }
 
 /// The most bytes that are read.
-pub const MOST_BYTES: u64 = 1 << 40;
+pub(crate) const MOST_BYTES: u64 = 1 << 40;
 
 // Takes a byte, and the line that it ends.
 fn take_byte<J: LineJudge>(judge: &mut J, lexer: &mut LineLexer, byte: u8) -> Result<(), LineStop>

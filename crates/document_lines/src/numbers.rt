@@ -3,13 +3,18 @@ ghost use Rattle.std.specs.Prelude.{◌≡◌, ◌≤◌, ◌<◌, IfOk, length}
 ghost use Rattle.verdict_terms.specs.Numbers.{numbers_line};
 ghost use Rattle.document_lines.specs.Words.{items_of};
 
-use crate::words::{FORM, is_same, number_at};
+use crate::words::{FORM, number_at};
 use arrayvec::ArrayVec;
 use instance_text::LineLexer;
+use line_cursor::is_same;
 use verdict_terms::Reason;
 
 /// The numbers behind a first word, of which there have to be so many, at most five.
-pub fn read_numbers(line: &LineLexer, key: &[u8], count: u32) -> Result<ArrayVec<u128, 5>, Reason>
+pub(crate) fn read_numbers(
+    line: &LineLexer,
+    key: &[u8],
+    count: u32,
+) -> Result<ArrayVec<u128, 5>, Reason>
     requires few { count ≤ 5 }
     requires some { 1 ≤ length line.now.held.words }
     ensures numbers { items_of result ≡ numbers_line key.now count line.now.held.words }

@@ -10,10 +10,11 @@ ghost use Rattle.document_lines.specs.Placings.{TakesCoordinates};
 
 use crate::judge::{LineJudge, LineStop};
 use crate::numbers::read_numbers;
-use crate::words::{FORM, RANGE, is_blank};
+use crate::words::{FORM, RANGE};
 use box_instances::Instance;
 use document_terms::Claim;
 use instance_text::LineLexer;
+use line_cursor::is_blank;
 use placement_check::{PlaceVerdict, check_places};
 use std::alloc::Global;
 use std::marker::Model;
@@ -30,7 +31,7 @@ fn are_coordinates(numbers: &[u128]) -> bool
 }
 
 // Puts coordinates behind the others.
-pub fn push_coordinates(places: &mut Vec<u32>, numbers: &[u128]) -> Result<(), LineStop>
+pub(crate) fn push_coordinates(places: &mut Vec<u32>, numbers: &[u128]) -> Result<(), LineStop>
     ensures { TakesCoordinates places.old.items numbers.now places.new.items result }
 {
     if !are_coordinates(numbers) {

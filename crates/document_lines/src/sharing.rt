@@ -11,10 +11,11 @@ use crate::bins::bins_reason;
 use crate::judge::{LineJudge, LineStop};
 use crate::numbers::read_numbers;
 use crate::places::push_coordinates;
-use crate::words::{FORM, RANGE, is_blank};
+use crate::words::{FORM, RANGE};
 use box_instances::Instance;
 use document_terms::Claim;
 use instance_text::LineLexer;
+use line_cursor::is_blank;
 use std::alloc::Global;
 use std::marker::Model;
 

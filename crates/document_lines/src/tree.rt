@@ -7,10 +7,11 @@ ghost use Rattle.document_lines.specs.Reading.{Judges, IsAt, ended_claim};
 ghost use Rattle.document_lines.specs.Proofs.{refuted_by, IsFed, TakesToken};
 
 use crate::judge::{LineJudge, LineStop};
-use crate::words::{FORM, is_blank, is_word};
+use crate::words::FORM;
 use check_terms::FeedVerdict;
 use document_terms::Claim;
 use instance_text::LineLexer;
+use line_cursor::{is_blank, is_word};
 use proof_tree::{Token, read_token};
 use std::alloc::Global;
 use std::marker::Model;
@@ -61,7 +62,7 @@ fn take_token<C: TreeChecker>(
 
 /// What a reader of a tree wants next.
 #[derive(Clone, Copy, Debug, PartialEq, Eq)]
-pub enum TreeStep {
+pub(crate) enum TreeStep {
     /// The line `proof`.
     Proof,
     /// The next token.
