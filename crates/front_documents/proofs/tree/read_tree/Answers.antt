@@ -3,7 +3,7 @@ use Rattle.text_terms.specs.Feeding.{ended_line}
 use Rattle.verdict_terms.specs.declared.reason.Reason.TheVariants.{TooShort}
 use Rattle.front_documents.specs.declared.audit.FrontAudit.TheVariants.{Refused}
 use Rattle.front_documents.specs.Parts.{IsGrown}
-use Rattle.front_documents.proofs.Read.{tree_more, tree_done, tree_refused, tree_short}
+use Rattle.front_documents.proofs.Read.{tree_begun, tree_more, tree_done, tree_refused, tree_short}
 use Rattle.front_documents.proofs.tree.read_tree.Goals as goal
 
 pub returns-then-not-there-clause-read : goal.returns-then-not-there-clause-read
@@ -25,3 +25,6 @@ pub returns-in-Err-clause-read : goal.returns-in-Err-clause-read
 returns-in-Err-clause-read c = λ complete points left.
     tree_refused c.args.bytes.now c.args.at.now c.loop-alloc.at c.next_taken-there.new.at c.args.instance.now c.args.width c.args.height c.loop-alloc.refuter c.take_token.new.refuter c.loop-alloc.invariant.1 c.if-not-there.ensures.line c.in-Err.reason c.in-Err.ensures complete points left
     ∙ ap (λ (n : ℕ). Err (record { line = n; reason = c.in-Err.reason })) (sym c.line_number-line.ensures)
+
+pub loop-alloc-init : goal.loop-alloc-init
+loop-alloc-init c = (c.requires.at, tree_begun c.args.bytes.now c.args.at.now c.args.instance.now c.args.width c.args.height _ c.in-Ok-new.refuter c.in-Ok-new.ensures c.in-Ok.ensures)
