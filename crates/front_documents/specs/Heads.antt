@@ -2,8 +2,7 @@
 use Rattle.std.specs.Prelude.{ℕ, ◌≡◌, cond, Bool, true, false, List, Result, Ok, Err, nat_le, codes}
 use Rattle.packing_terms.specs.Results.{◌>>=◌}
 use Rattle.text_terms.specs.Lines.{Line, same_bytes}
-use Rattle.text_terms.specs.Texts.{Parts, no_parts, add_line}
-use Rattle.instance_text.specs.declared.reader.ReadTextError.{ReadTextError}
+use Rattle.text_terms.specs.Texts.{Parts, add_line}
 use Rattle.verdict_terms.specs.declared.reason.Reason.{Reason}
 use Rattle.verdict_terms.specs.Reasons.{form, range}
 use Rattle.verdict_terms.specs.Numbers.{require, wanted}
@@ -14,14 +13,6 @@ use Rattle.front_documents.specs.Audits.{claim_of}
 use Rattle.front_documents.specs.declared.head.Head.{Head}
 use Rattle.front_documents.specs.declared.head.TextStop.{TextStop}
 use Rattle.front_documents.specs.declared.head.TextStop.TheVariants.{Refused, NoMemory}
-
--- the parts that are held
-abbrev pub held_parts : Result Parts ReadTextError → Parts
-held_parts (Ok parts) = parts
-held_parts (Err error) = no_parts
-
-abbrev pub IsHeldHead : Result Parts ReadTextError → Type 0
-IsHeldHead parts = parts ≡ Ok (held_parts parts)
 
 -- a line of the instance text that was taken: the parts with it, or the reason of the refusal
 abbrev pub TakesText : Parts → Line → Parts → Result (Unit {0}) TextStop → Type 0

@@ -24,7 +24,7 @@ pub enum FrontAudit {
 }
 
 /// The end of the bytes behind so many lines, where a line is wanted.
-pub fn short(lines: u64) -> FrontAudit
+pub(crate) fn short(lines: u64) -> FrontAudit
     requires { lines < 2 ^ 63 }
     ensures { result ≡ FrontAudit.Refused (lines + 1) TooShort }
 {

@@ -8,7 +8,8 @@ ghost use Rattle.verdict_terms.specs.Trees.{map_ok};
 ghost use Rattle.front_verdict_terms.specs.Verdicts.{Opening, Reading, front_claim, front_filled_line, front_result_line};
 ghost use Rattle.line_cursor.specs.Lines.{IsAmong};
 ghost use Rattle.front_documents.specs.Audits.{IsVerdict, verdict_left};
-ghost use Rattle.front_documents.specs.Heads.{held_parts, IsHeldHead, TakesText, completeness, counted_points, claim_told, head_stage};
+ghost use Rattle.line_cursor.specs.Readers.{held_parts, IsHeldHead};
+ghost use Rattle.front_documents.specs.Heads.{TakesText, completeness, counted_points, claim_told, head_stage};
 
 use crate::audit::{FrontAudit, short};
 use crate::lines::{FORM, RANGE, next_taken};
@@ -24,7 +25,7 @@ const MOST_POINTS: u128 = 1_000_000;
 
 /// What the lines up to the result line say.
 #[derive(Drop)]
-pub struct Head {
+pub(crate) struct Head {
     pub instance: Instance,
     pub complete: bool,
     pub points: u32,
@@ -32,7 +33,7 @@ pub struct Head {
 
 // Why a line of the instance text wasn't taken.
 #[derive(Clone, Copy, Debug, PartialEq, Eq)]
-pub enum TextStop {
+pub(crate) enum TextStop {
     Refused(Reason),
     NoMemory,
 }
@@ -179,7 +180,7 @@ fn read_instance(alloc: Global, bytes: &[u8], at: &mut Cursor) -> Result<Head, F
 }
 
 /// Reads the lines up to the result line.
-pub fn read_head(alloc: Global, bytes: &[u8], at: &mut Cursor) -> Result<Head, FrontAudit>
+pub(crate) fn read_head(alloc: Global, bytes: &[u8], at: &mut Cursor) -> Result<Head, FrontAudit>
     requires { IsAmong bytes.now at.old }
     ensures at { IsAmong bytes.now at.new }
     ensures plane { IfOk result (λ h. dims h.instance ≡ 2) }

@@ -14,22 +14,22 @@ use text_terms::read_number;
 use verdict_terms::Reason;
 
 /// The line has another form than the place wants.
-pub const FORM: Reason = Reason::Token {
+pub(crate) const FORM: Reason = Reason::Token {
     code: RefuseCode::Kind,
 };
 
 /// A number is out of its range.
-pub const RANGE: Reason = Reason::Token {
+pub(crate) const RANGE: Reason = Reason::Token {
     code: RefuseCode::Range,
 };
 
 /// The document was whole before the line.
-pub const AFTER: Reason = Reason::Token {
+pub(crate) const AFTER: Reason = Reason::Token {
     code: RefuseCode::After,
 };
 
 /// Takes the lines up to the next one that isn't blank. Answers whether there was one.
-pub fn next_taken(bytes: &[u8], at: &mut Cursor) -> bool
+pub(crate) fn next_taken(bytes: &[u8], at: &mut Cursor) -> bool
     requires { IsAmong bytes.now at.old }
     ensures at { IsAmong bytes.now at.new }
     ensures line { IsNextTaken bytes.now at.old at.new result }
@@ -41,7 +41,7 @@ pub fn next_taken(bytes: &[u8], at: &mut Cursor) -> bool
 
 /// A line of a front, by its words.
 #[derive(Drop)]
-pub enum NamedLine {
+pub(crate) enum NamedLine {
     Corner { width: u128, height: u128 },
     Point { width: u128, height: u128 },
     Place { first: u128, second: u128 },
@@ -65,7 +65,7 @@ fn pair_behind(line: &LineLexer) -> Option<(u128, u128)>
 }
 
 /// The line of a front that a line is, if it is one.
-pub fn named_line(alloc: Global, line: &LineLexer) -> Option<NamedLine>
+pub(crate) fn named_line(alloc: Global, line: &LineLexer) -> Option<NamedLine>
     requires { line.now.held.bad ≡ false }
     ensures { option_map plain_named result ≡ line_named line.now.held.words }
 {

@@ -16,7 +16,7 @@ use verdict_terms::Reason;
 
 /// A corner whose tree is wanted, or a point whose places are.
 #[derive(Clone, Copy, Debug, PartialEq, Eq)]
-pub enum OpenPart {
+pub(crate) enum OpenPart {
     Corner { width: u32, height: u32 },
     Point { width: u32, height: u32 },
 }
@@ -87,7 +87,7 @@ fn open_point(
 }
 
 /// What a line opens behind whole parts: a corner, a point, or nothing at `end`.
-pub fn open_part(
+pub(crate) fn open_part(
     alloc: Global,
     instance: &Instance,
     complete: bool,

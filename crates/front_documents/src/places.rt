@@ -35,7 +35,7 @@ fn places_reason(instance: &Instance, places: &[u32]) -> Option<Reason>
 }
 
 /// Reads the places of a point. `None` tells that they are a packing.
-pub fn read_places(
+pub(crate) fn read_places(
     alloc: Global,
     bytes: &[u8],
     at: &mut Cursor,

@@ -16,7 +16,11 @@ use verdict_terms::Reason;
 const MOST_COORDINATE: u128 = 4_294_967_295;
 
 /// Gives a line to the refuter. Answers whether the tree is whole with it.
-pub fn take_token(alloc: Global, refuter: &mut Refuter, line: &LineLexer) -> Result<bool, Reason>
+pub(crate) fn take_token(
+    alloc: Global,
+    refuter: &mut Refuter,
+    line: &LineLexer,
+) -> Result<bool, Reason>
     requires { IsOpenTree refuter.old }
     ensures { IsGrown refuter.old refuter.new (ended_line line.now.held) result }
 {
@@ -38,7 +42,7 @@ pub fn take_token(alloc: Global, refuter: &mut Refuter, line: &LineLexer) -> Res
 
 /// Why a place wasn't taken.
 #[derive(Clone, Copy, Debug, PartialEq, Eq)]
-pub enum PlaceStop {
+pub(crate) enum PlaceStop {
     Refused(Reason),
     NoMemory,
 }
@@ -63,7 +67,11 @@ fn read_place(alloc: Global, line: &LineLexer) -> Result<(u32, u32), Reason>
 }
 
 /// Puts the place of a line behind the others.
-pub fn take_place(alloc: Global, places: &mut Vec<u32>, line: &LineLexer) -> Result<(), PlaceStop>
+pub(crate) fn take_place(
+    alloc: Global,
+    places: &mut Vec<u32>,
+    line: &LineLexer,
+) -> Result<(), PlaceStop>
     ensures { TakesPlace places.old.items (ended_line line.now.held) places.new.items result }
 {
     match read_place(alloc, line) {

@@ -71,7 +71,7 @@ fn read_part(
 }
 
 /// Reads the lines behind the result line, which announces so many points.
-pub fn read_front(
+pub(crate) fn read_front(
     alloc: Global,
     bytes: &[u8],
     at: &mut Cursor,

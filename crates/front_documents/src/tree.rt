@@ -15,7 +15,7 @@ use sized_instances::with_container;
 use std::alloc::Global;
 
 /// Reads the tree of a corner. `None` tells that it is whole.
-pub fn read_tree(
+pub(crate) fn read_tree(
     alloc: Global,
     bytes: &[u8],
     at: &mut Cursor,

@@ -3,7 +3,7 @@ use Rattle.text_terms.specs.Texts.{no_parts}
 use Rattle.front_verdict_terms.specs.Verdicts.{Reading}
 use Rattle.line_cursor.specs.Lines.{IsAmong, lines_left}
 use Rattle.front_documents.specs.Audits.{verdict_left}
-use Rattle.front_documents.specs.Heads.{held_parts, IsHeldHead}
+use Rattle.line_cursor.specs.Readers.{held_parts, IsHeldHead}
 use Rattle.front_documents.proofs.head.read_instance.Given as goal
 
 abbrev pub invariant-loop-reader : goal.invariant-loop-reader
