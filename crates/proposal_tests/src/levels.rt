@@ -1,5 +1,5 @@
 //! Optima by proposals first.
-use crate::instances::{at_roots, instance_of, pinwheel, settings};
+use crate::instances::{at_roots, instance_of, pinwheel};
 use box_instances::Instance;
 use check_terms::PlaceVerdict;
 use placement_check::check_places;
@@ -57,27 +57,6 @@ fn a_height_is_refuted_by_proposals(rt: HostRuntime) -> Result<(), Fail> {
     let instance = instance_of(alloc, &[10, 1], boxes)?;
     let strip = least_height_proposed(&rt, alloc, &instance, &at_roots(1), &NoGate)?;
     assert!(rt; is_least(alloc, &instance, 12, &strip)?);
-    Ok(())
-}
-
-// Of 65 boxes no refutation is proposed, and without scales and branchings the rules alone refute
-// height 1, at which no box is above another. 33 rows of two hold all, and places show it.
-#[test]
-fn heights_that_nothing_decides_are_two(rt: HostRuntime) -> Result<(), Fail> {
-    let alloc = rt.alloc();
-    let boxes: [&[u32]; 65] = [&[1, 1]; 65];
-    let instance = instance_of(alloc, &[2, 1], &boxes)?;
-    let strip = least_height_proposed(&rt, alloc, &instance, &settings(1, 0), &NoGate)?;
-    assert!(rt;
-        matches!(
-            &strip,
-            Strip::Between {
-                refuted: 1,
-                height: 33,
-                ..
-            }
-        )
-    );
     Ok(())
 }
 
