@@ -1,9 +1,12 @@
 -- What a block holds back, and what that says of the sink behind it.
-use Rattle.std.proofs.Common.{ℕ, ◌≡◌, ◌≤◌, ◌+◌, ◌-◌, min, List, [], ◌++◌, take, drop, length, arith, refl, sym, ap, subst, ◌∙◌, append-nil, append_assoc, Option, Some, None, Bool, true, false, Result, Ok, Err, OnOk}
+use Rattle.std.proofs.Common.{ℕ, ◌≡◌, ◌≤◌, ◌+◌, ◌-◌, min, List, [], ◌++◌, take, drop, length, arith, refl, sym, ap}
+use Rattle.std.proofs.Common.{subst, ◌∙◌, append-nil, append_assoc, Option, Some, None, Bool, true, false, Result, Ok}
+use Rattle.std.proofs.Common.{Err, OnOk}
 use Rattle.std.specs.Result.{is_err}
 use Rattle.pack_streams.specs.Faults.{FailedOnce}
 use Rattle.std.proofs.lemmas.Bool.{true≢false}
-use Rattle.std.proofs.lemmas.List.{drop-take, drop-drop, drop-append-le, take-append-drop, length-take, length-take-le, take-take, append_cancel_left}
+use Rattle.std.proofs.lemmas.List.{drop-take, drop-drop, drop-append-le, take-append-drop, length-take, length-take-le}
+use Rattle.std.proofs.lemmas.List.{take-take, append_cancel_left}
 use Rattle.std.proofs.Math.Seq.{take-append_seam, take-length}
 use Rattle.std.specs.Io.KnownBytes.{append_known}
 use Rattle.pack_streams.specs.Moves.{Gains}
@@ -17,11 +20,14 @@ part_is block start end le =
     sym (ap (λ k. drop start (take k block)) split ∙ drop-take start (end - start) block)
 
 -- what is given from the front of the part is no longer held back
-known_split : (w : Option (List ℕ)) (t : ℕ) (held : List ℕ) → append_known (append_known w (take t held)) (drop t held) ≡ append_known w held
+known_split : (w : Option (List ℕ)) (t : ℕ) (held : List ℕ) → append_known (append_known w (take t held)) (drop t held)
+    ≡ append_known w held
 known_split None t held = refl
-known_split (Some xs) t held = ap Some (append_assoc xs (take t held) (drop t held) ∙ ap (λ ys. xs ++ ys) (take-append-drop t held))
+known_split (Some xs) t held =
+    ap Some (append_assoc xs (take t held) (drop t held) ∙ ap (λ ys. xs ++ ys) (take-append-drop t held))
 
-part_drop : (block : List ℕ) (start end t : ℕ) → start + t ≤ end → part_of block (start + t) end ≡ drop t (part_of block start end)
+part_drop : (block : List ℕ) (start end t : ℕ) → start + t ≤ end
+    → part_of block (start + t) end ≡ drop t (part_of block start end)
 part_drop block start end t le =
     part_is block (start + t) end le ∙ sym (drop-drop t start (take end block))
     ∙ ap (drop t) (sym (part_is block start end (omega (arith, le))))
@@ -37,14 +43,16 @@ known_more : (w : Option (List ℕ)) (xs ys : List ℕ) → append_known w (xs +
 known_more None xs ys = refl
 known_more (Some zs) xs ys = ap Some (sym (append_assoc zs xs ys))
 
-take_within : (k p : ℕ) (xs bytes : List ℕ) → length bytes ≡ k → take k (take p xs) ≡ bytes → take k (take p xs) ≡ take k xs
+take_within : (k p : ℕ) (xs bytes : List ℕ) → length bytes ≡ k → take k (take p xs) ≡ bytes
+    → take k (take p xs) ≡ take k xs
 take_within k p xs bytes len is =
     let count : min k (length (take p xs)) ≡ length bytes = sym (length-take k (take p xs)) ∙ ap length is in
     let most : length (take p xs) ≡ min p (length xs) = length-take p xs in
     take-take k p xs (omega (arith, count, most, len))
 
 -- what is put into the block is held back too
-pub shown_put : (w : Option (List ℕ)) (old new : List ℕ) (start end count : ℕ) (piece : List ℕ) → start ≤ end → end ≤ length old
+pub shown_put : (w : Option (List ℕ)) (old new : List ℕ) (start end count : ℕ) (piece : List ℕ) → start ≤ end
+    → end ≤ length old
     → take (end + count) new ≡ take end old ++ take count piece
     → shown w new start (end + count) ≡ append_known (shown w old start end) (take count piece)
 shown_put w old new start end count piece le few is =
@@ -65,7 +73,8 @@ is_told None = false
 is_told (Some xs) = true
 
 -- the sink behind took a part of the text, where what it took and what is held back is a part of the text
-pub part_behind : (w v : Option (List ℕ)) (held text : List ℕ) → IsToldFront w v → GainsPart w (append_known v held) text → GainsPart w v text
+pub part_behind : (w v : Option (List ℕ)) (held text : List ℕ) → IsToldFront w v
+    → GainsPart w (append_known v held) text → GainsPart w v text
 part_behind None None held text front part = (0, refl)
 part_behind None (Some ys) held text front part = absurd (true≢false (ap is_told part.1))
 part_behind (Some xs) None held text front part = absurd (true≢false (sym (ap is_told front)))
@@ -75,14 +84,19 @@ part_behind (Some xs) (Some ys) held text front part =
     let e : xs ++ (bytes ++ held) ≡ xs ++ take part.0 text =
     sym (append_assoc xs bytes held) ∙ ap (λ zs. zs ++ held) (sym split) ∙ ap of_some part.1 in
     let rest : bytes ++ held ≡ take part.0 text = append_cancel_left xs (bytes ++ held) (take part.0 text) e in
-    let is : take (length bytes) (take part.0 text) ≡ bytes = ap (take (length bytes)) (sym rest) ∙ take-append_seam bytes held in
-    (length bytes, ap Some (split ∙ ap (λ zs. xs ++ zs) (sym is ∙ take_within (length bytes) part.0 text bytes refl is)))
+    let is : take (length bytes) (take part.0 text) ≡ bytes =
+    ap (take (length bytes)) (sym rest) ∙ take-append_seam bytes held in (
+      length bytes,
+      ap Some (split ∙ ap (λ zs. xs ++ zs)
+          (sym is ∙ take_within (length bytes) part.0 text bytes refl is)),
+    )
 
 -- a part without bytes
 part_none : (block : List ℕ) (start end : ℕ) → start ≡ end → part_of block start end ≡ []
 part_none block start end e = let none : end - start ≡ 0 = omega (arith, e) in ap (λ k. take k (drop start block)) none
 
-pub shown_none : (w : Option (List ℕ)) (block : List ℕ) (start end : ℕ) → start ≡ end → shown w block start end ≡ append_known w []
+pub shown_none : (w : Option (List ℕ)) (block : List ℕ) (start end : ℕ) → start ≡ end
+    → shown w block start end ≡ append_known w []
 shown_none w block start end e = ap (append_known w) (part_none block start end e)
 
 pub known_none : (w : Option (List ℕ)) → append_known w [] ≡ w
@@ -98,7 +112,8 @@ whole_part w v text gains = (length text, gains ∙ ap (append_known w) (sym (ta
 
 -- a failed text through a front is a failed text to the sink behind it
 pub behind_err : {E : Type 0} (w s v : Option (List ℕ)) (held : List ℕ) (f g h : ℕ) (text : List ℕ) (e d : E)
-    → s ≡ w → g ≡ f → IsToldFront w v → Writes {E = E} s (append_known v held) g h text (Err e) → Writes {E = E} w v f h text (Err d)
+    → s ≡ w → g ≡ f → IsToldFront w v → Writes {E = E} s (append_known v held) g h text (Err e)
+    → Writes {E = E} w v f h text (Err d)
 behind_err w s v held f g h text e d p q front t =
     record {
       whole = tt;
@@ -107,8 +122,10 @@ behind_err w s v held f g h text e d p q front t =
     }
 
 -- a whole text through a front, and then what is held back, or a part of it
-pub behind_end : {E : Type 0} (w s u v : Option (List ℕ)) (block : List ℕ) (start end : ℕ) (f g h k : ℕ) (text : List ℕ) (r : Result (Unit {0}) E)
-    → s ≡ w → g ≡ f → IsToldFront w v → Writes {E = E} s u g h text (Ok tt) → shown v block start end ≡ u → OnOk r (start ≡ end)
+pub behind_end : {E : Type 0} (w s u v : Option (List ℕ)) (block : List ℕ) (start end : ℕ) (f g h k : ℕ) (text : List ℕ)
+    (r : Result (Unit {0}) E)
+    → s ≡ w → g ≡ f → IsToldFront w v → Writes {E = E} s u g h text (Ok tt) → shown v block start end ≡ u
+    → OnOk r (start ≡ end)
     → CountsWriting h k r → Writes {E = E} w v f k text r
 behind_end w s u v block start end f g h k text (Ok x) p q front t same none count =
     let gains : v ≡ append_known w text =
@@ -117,11 +134,14 @@ behind_end w s u v block start end f g h k text (Ok x) p q front t same none cou
 behind_end w s u v block start end f g h k text (Err x) p q front t same none count =
     record {
       whole = tt;
-      part = part_behind w v (part_of block start end) text front (whole_part w (shown v block start end) text (same ∙ t.whole ∙ ap (λ z. append_known z text) p));
+      part = part_behind w v (part_of block start end) text front
+          (whole_part w (shown v block start end) text (same ∙ t.whole ∙ ap (λ z. append_known z text) p));
       count = subst (λ n. FailedOnce n k) (t.count ∙ q) count;
     }
 
 -- a text that was written from the same start
-pub same_start : {E : Type 0} (s w u : Option (List ℕ)) (f g h : ℕ) (text : List ℕ) (r : Result (Unit {0}) E) → s ≡ w → f ≡ g
+pub same_start : {E : Type 0} (s w u : Option (List ℕ)) (f g h : ℕ) (text : List ℕ) (r : Result (Unit {0}) E)
+    → s ≡ w → f ≡ g
     → Writes {E = E} s u f h text r → Writes {E = E} w u g h text r
-same_start s w u f g h text r p q wrote = subst (λ z. Writes z u g h text r) p (subst (λ n. Writes s u n h text r) q wrote)
+same_start s w u f g h text r p q wrote =
+    subst (λ z. Writes z u g h text r) p (subst (λ n. Writes s u n h text r) q wrote)

@@ -1,10 +1,13 @@
 -- The line of a verdict, written piece by piece.
-use Rattle.std.proofs.Common.{◌≡◌, ℕ, List, [], ◌∷◌, ◌++◌, refl, sym, ap, ◌∙◌, append-nil, append_assoc, Bool, true, false, Ok, Err, codes}
+use Rattle.std.proofs.Common.{◌≡◌, ℕ, List, [], ◌∷◌, ◌++◌, refl, sym, ap, ◌∙◌, append-nil, append_assoc, Bool, true}
+use Rattle.std.proofs.Common.{false, Ok, Err, codes}
 use Rattle.std.specs.List.{flat_map}
 use Rattle.std.specs.Fmt.{decimal}
 use Rattle.packing_terms.specs.Packing.{PlainInstance}
 use Rattle.document_terms.specs.declared.claim.Claim.{Claim}
-use Rattle.document_terms.specs.declared.claim.Claim.TheVariants.{Fitting, NotFitting, LeastHeight, HeightBetween, NoHeight, LeastBins, BinsBetween, NoBins, GreatestValue, ValueBetween}
+use Rattle.document_terms.specs.declared.claim.Claim.TheVariants.{Fitting, NotFitting, LeastHeight, HeightBetween}
+use Rattle.document_terms.specs.declared.claim.Claim.TheVariants.{NoHeight, LeastBins, BinsBetween, NoBins}
+use Rattle.document_terms.specs.declared.claim.Claim.TheVariants.{GreatestValue, ValueBetween}
 use Rattle.verdict_terms.specs.declared.reason.Reason.{Reason}
 use Rattle.verdict_terms.specs.Reasons.{reason_words}
 use Rattle.verdict_terms.specs.Documents.{verdict_line, reduced_verdict_line}
@@ -54,20 +57,27 @@ reduced_line (ValueBetween a b) = two_numbers (codes "verified reduced knapsack 
 
 -- the line of a refusal
 pub refusal_line : (line : ℕ) (reason : Reason)
-    → (codes "refused " ++ decimal line) ++ reason_end reason ≡ verdict_line (Err (record { line = line; reason = reason }))
+    → (codes "refused " ++ decimal line) ++ reason_end reason
+    ≡ verdict_line (Err (record { line = line; reason = reason }))
 refusal_line line reason =
     sym (append_assoc (codes "refused " ++ decimal line) (flat_map (λ word. 32 ∷ word) (reason_words reason)) (10 ∷ []))
-    ∙ ap (λ z. z ++ 10 ∷ []) (append_assoc (codes "refused ") (decimal line) (flat_map (λ word. 32 ∷ word) (reason_words reason)))
+    ∙ ap (λ z. z ++ 10 ∷ []) (append_assoc (codes "refused ") (decimal line)
+    (flat_map (λ word. 32 ∷ word) (reason_words reason)))
 
 -- that of an explained document
 pub explained_refusal_line : (line : ℕ) (reason : ExplainedReason)
-    → (codes "refused " ++ decimal line) ++ explained_end reason ≡ explained_line (Err (record { line = line; reason = reason }))
+    → (codes "refused " ++ decimal line) ++ explained_end reason
+    ≡ explained_line (Err (record { line = line; reason = reason }))
 explained_refusal_line line reason =
-    sym (append_assoc (codes "refused " ++ decimal line) (flat_map (λ word. 32 ∷ word) (explained_words_of reason)) (10 ∷ []))
-    ∙ ap (λ z. z ++ 10 ∷ []) (append_assoc (codes "refused ") (decimal line) (flat_map (λ word. 32 ∷ word) (explained_words_of reason)))
+    sym (append_assoc (codes "refused " ++ decimal line)
+    (flat_map (λ word. 32 ∷ word) (explained_words_of reason)) (10 ∷ []))
+    ∙ ap (λ z. z ++ 10 ∷ []) (append_assoc (codes "refused ") (decimal line)
+    (flat_map (λ word. 32 ∷ word) (explained_words_of reason)))
 
 -- that of a document of a front that is verified
 pub front_line : (complete : Bool) (points : ℕ) (instance : PlainInstance)
-    → number_line (verified_front complete) points ≡ front_verdict_line (Ok (record { instance = instance; claim = record { complete = complete; points = points } }))
+    → number_line (verified_front complete) points
+    ≡ front_verdict_line (Ok (record
+    { instance = instance; claim = record { complete = complete; points = points } }))
 front_line true points instance = one_number (codes "verified front ") (decimal points)
 front_line false points instance = one_number (codes "verified front partial ") (decimal points)

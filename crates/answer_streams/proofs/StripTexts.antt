@@ -17,42 +17,61 @@ use Rattle.answer_streams.specs.Headed.{strip_line, headed_text}
 use Rattle.answer_streams.proofs.ResultTexts.{whole, none_whole}
 
 least_whole : (heading : Heading) (instance : PlainInstance) (height : ℕ) (places : List ℕ) (tokens : List PlainToken)
-    → (strip_line heading ++ instance_text instance) ++ (lines_text ((codes "result" ∷ codes "least" ∷ decimal height ∷ []) ∷ [])
-    ++ (lines_text (proved_lines (place_lines instance places) tokens) ++ codes "end\n")) ≡ headed_text heading instance (Claimed (LeastHeight height) places tokens)
+    → (strip_line heading ++ instance_text instance)
+    ++ (lines_text ((codes "result" ∷ codes "least" ∷ decimal height ∷ []) ∷ [])
+    ++ (lines_text (proved_lines (place_lines instance places) tokens) ++ codes "end\n"))
+    ≡ headed_text heading instance (Claimed (LeastHeight height) places tokens)
 unfolding answer_text reduced_text
-least_whole Answered instance height places tokens = whole (codes "answer" ∷ codes "strip" ∷ []) instance (codes "least" ∷ decimal height ∷ []) (proved_lines (place_lines instance places) tokens)
-least_whole Reduced instance height places tokens = whole (codes "reduced" ∷ codes "strip" ∷ []) instance (codes "least" ∷ decimal height ∷ []) (proved_lines (place_lines instance places) tokens)
+least_whole Answered instance height places tokens =
+    whole (codes "answer" ∷ codes "strip" ∷ []) instance (codes "least" ∷ decimal height ∷ [])
+    (proved_lines (place_lines instance places) tokens)
+least_whole Reduced instance height places tokens =
+    whole (codes "reduced" ∷ codes "strip" ∷ []) instance (codes "least" ∷ decimal height ∷ [])
+    (proved_lines (place_lines instance places) tokens)
 
-between_whole : (heading : Heading) (instance : PlainInstance) (refuted placed : ℕ) (places : List ℕ) (tokens : List PlainToken)
-    → (strip_line heading ++ instance_text instance) ++ (lines_text ((codes "result" ∷ codes "between" ∷ decimal refuted ∷ decimal placed ∷ []) ∷ [])
-    ++ (lines_text (proved_lines (place_lines instance places) tokens) ++ codes "end\n")) ≡ headed_text heading instance (Claimed (HeightBetween refuted placed) places tokens)
+between_whole : (heading : Heading) (instance : PlainInstance) (refuted placed : ℕ) (places : List ℕ)
+    (tokens : List PlainToken)
+    → (strip_line heading ++ instance_text instance)
+    ++ (lines_text ((codes "result" ∷ codes "between" ∷ decimal refuted ∷ decimal placed ∷ []) ∷ [])
+    ++ (lines_text (proved_lines (place_lines instance places) tokens) ++ codes "end\n"))
+    ≡ headed_text heading instance (Claimed (HeightBetween refuted placed) places tokens)
 unfolding answer_text reduced_text
 between_whole Answered instance refuted placed places tokens =
-    whole (codes "answer" ∷ codes "strip" ∷ []) instance (codes "between" ∷ decimal refuted ∷ decimal placed ∷ []) (proved_lines (place_lines instance places) tokens)
+    whole (codes "answer" ∷ codes "strip" ∷ []) instance (codes "between" ∷ decimal refuted ∷ decimal placed ∷ [])
+    (proved_lines (place_lines instance places) tokens)
 between_whole Reduced instance refuted placed places tokens =
-    whole (codes "reduced" ∷ codes "strip" ∷ []) instance (codes "between" ∷ decimal refuted ∷ decimal placed ∷ []) (proved_lines (place_lines instance places) tokens)
+    whole (codes "reduced" ∷ codes "strip" ∷ []) instance (codes "between" ∷ decimal refuted ∷ decimal placed ∷ [])
+    (proved_lines (place_lines instance places) tokens)
 
 no_height_whole : (heading : Heading) (instance : PlainInstance) (v i : ℕ)
-    → (strip_line heading ++ instance_text instance) ++ ((codes "result none\n" ++ token_line (TooLarge (v + 1) (i + 1))) ++ codes "end\n") ≡ headed_text heading instance (none_answer NoHeight (v, i))
+    → (strip_line heading ++ instance_text instance)
+    ++ ((codes "result none\n" ++ token_line (TooLarge (v + 1) (i + 1))) ++ codes "end\n")
+    ≡ headed_text heading instance (none_answer NoHeight (v, i))
 unfolding answer_text reduced_text
 no_height_whole Answered instance v i = none_whole (codes "answer" ∷ codes "strip" ∷ []) instance v i
 no_height_whole Reduced instance v i = none_whole (codes "reduced" ∷ codes "strip" ∷ []) instance v i
 
 -- the first line, however it is given
 module _ (heading : Heading) (first : List ℕ) (is : first ≡ strip_line heading) (instance : PlainInstance) where
-  opened : (rest text : List ℕ) → (strip_line heading ++ instance_text instance) ++ rest ≡ text → (first ++ instance_text instance) ++ rest ≡ text
+  opened : (rest text : List ℕ) → (strip_line heading ++ instance_text instance) ++ rest ≡ text
+      → (first ++ instance_text instance) ++ rest ≡ text
   opened rest text e = ap (λ line. (line ++ instance_text instance) ++ rest) is ∙ e
 
   pub least_text : (height : ℕ) (places : List ℕ) (tokens : List PlainToken)
       → (first ++ instance_text instance) ++ (lines_text ((codes "result" ∷ codes "least" ∷ decimal height ∷ []) ∷ [])
-      ++ (lines_text (proved_lines (place_lines instance places) tokens) ++ codes "end\n")) ≡ headed_text heading instance (Claimed (LeastHeight height) places tokens)
+      ++ (lines_text (proved_lines (place_lines instance places) tokens) ++ codes "end\n"))
+      ≡ headed_text heading instance (Claimed (LeastHeight height) places tokens)
   least_text height places tokens = opened _ _ (least_whole heading instance height places tokens)
 
   pub between_text : (refuted placed : ℕ) (places : List ℕ) (tokens : List PlainToken)
-      → (first ++ instance_text instance) ++ (lines_text ((codes "result" ∷ codes "between" ∷ decimal refuted ∷ decimal placed ∷ []) ∷ [])
-      ++ (lines_text (proved_lines (place_lines instance places) tokens) ++ codes "end\n")) ≡ headed_text heading instance (Claimed (HeightBetween refuted placed) places tokens)
+      → (first ++ instance_text instance)
+      ++ (lines_text ((codes "result" ∷ codes "between" ∷ decimal refuted ∷ decimal placed ∷ []) ∷ [])
+      ++ (lines_text (proved_lines (place_lines instance places) tokens) ++ codes "end\n"))
+      ≡ headed_text heading instance (Claimed (HeightBetween refuted placed) places tokens)
   between_text refuted placed places tokens = opened _ _ (between_whole heading instance refuted placed places tokens)
 
   pub none_text : (v i : ℕ)
-      → (first ++ instance_text instance) ++ ((codes "result none\n" ++ token_line (TooLarge (v + 1) (i + 1))) ++ codes "end\n") ≡ headed_text heading instance (none_answer NoHeight (v, i))
+      → (first ++ instance_text instance)
+      ++ ((codes "result none\n" ++ token_line (TooLarge (v + 1) (i + 1))) ++ codes "end\n")
+      ≡ headed_text heading instance (none_answer NoHeight (v, i))
   none_text v i = opened _ _ (no_height_whole heading instance v i)

@@ -10,17 +10,21 @@ use Rattle.answer_terms.specs.Made.{made_words, fit_word, branching_words, made_
 
 -- three words in a line, between pieces that are written as they are
 ends : (a b c : List ℕ)
-    → ((a ++ (codes " boxes " ++ (b ++ (codes " volume " ++ (c ++ []))))) ++ 10 ∷ []) ++ [] ≡ a ++ (codes " boxes " ++ (b ++ (codes " volume " ++ (c ++ 10 ∷ []))))
+    → ((a ++ (codes " boxes " ++ (b ++ (codes " volume " ++ (c ++ []))))) ++ 10 ∷ []) ++ [] ≡ a
+    ++ (codes " boxes " ++ (b ++ (codes " volume " ++ (c ++ 10 ∷ []))))
 ends a b c =
     append-nil _
     ∙ (append_assoc a (codes " boxes " ++ (b ++ (codes " volume " ++ (c ++ [])))) (10 ∷ [])
     ∙ ap (λ t. a ++ (codes " boxes " ++ t)) (append_assoc b (codes " volume " ++ (c ++ [])) (10 ∷ [])
     ∙ ap (λ t. b ++ (codes " volume " ++ (t ++ 10 ∷ []))) (append-nil c)))
 
-pub made_line : (number : ℕ) (instance : PlainInstance) (n b : ℕ) (v : List ℕ) → n ≡ number → b ≡ box_count instance → v ≡ decimal (total_volume instance)
-    → codes "made " ++ (decimal n ++ (codes " boxes " ++ (decimal b ++ (codes " volume " ++ (v ++ codes "\n"))))) ≡ lines_text (made_words number instance ∷ [])
+pub made_line : (number : ℕ) (instance : PlainInstance) (n b : ℕ) (v : List ℕ) → n ≡ number → b ≡ box_count instance
+    → v ≡ decimal (total_volume instance)
+    → codes "made " ++ (decimal n ++ (codes " boxes " ++ (decimal b ++ (codes " volume " ++ (v ++ codes "\n")))))
+    ≡ lines_text (made_words number instance ∷ [])
 made_line number instance n b v e f h =
-    ap (λ t. codes "made " ++ t) (rw (e, f, h) (sym (ends (decimal number) (decimal (box_count instance)) (decimal (total_volume instance)))))
+    ap (λ t. codes "made " ++ t) (rw (e, f, h)
+    (sym (ends (decimal number) (decimal (box_count instance)) (decimal (total_volume instance)))))
 
 -- the three lines together
 pub three_lines : (number : ℕ) (instance : PlainInstance) (budget : ℕ) (o : PlainOutcome)
@@ -33,4 +37,5 @@ three_lines number instance budget o =
     let a : List (List ℕ) = made_words number instance in
     let b : List (List ℕ) = codes "fit" ∷ fit_word o ∷ [] in
     let c : List (List ℕ) = codes "branchings" ∷ branching_words budget o in
-    sym (flat_map-append line (a ∷ b ∷ []) (c ∷ []) ∙ ap (λ t. t ++ lines_text (c ∷ [])) (flat_map-append line (a ∷ []) (b ∷ [])))
+    sym (flat_map-append line (a ∷ b ∷ []) (c ∷ [])
+    ∙ ap (λ t. t ++ lines_text (c ∷ [])) (flat_map-append line (a ∷ []) (b ∷ [])))

@@ -9,11 +9,14 @@ use Rattle.verdict_terms.specs.Documents.{Refusal, verdict_line, reduced_verdict
 use Rattle.verdict_terms.specs.Form.{IsReducedDocument}
 use Rattle.explained_terms.specs.declared.answers.AuditCode.{AuditCode}
 use Rattle.explained_documents.specs.declared.kind.DocumentKind.{DocumentKind}
-use Rattle.explained_documents.specs.declared.kind.DocumentKind.TheVariants.{Explained as OfExplained, Front as OfFront, Reduced as OfReduced}
+use Rattle.explained_documents.specs.declared.kind.DocumentKind.TheVariants.{Explained as OfExplained, Front as OfFront}
+use Rattle.explained_documents.specs.declared.kind.DocumentKind.TheVariants.{Reduced as OfReduced}
 use Rattle.explained_documents.specs.declared.reason.ExplainedReason.{ExplainedReason}
 use Rattle.explained_documents.specs.Kinds.{document_kind}
-use Rattle.explained_documents.specs.Documents.{ExplainedRefusal, explained_verdict, explained_line, explained_status, code_word, reason_words, IsShown}
-use Rattle.front_verdict_terms.specs.Verdicts.{FrontRead, front_document_verdict, front_verdict_line, front_verdict_status}
+use Rattle.explained_documents.specs.Documents.{ExplainedRefusal, explained_verdict, explained_line, explained_status}
+use Rattle.explained_documents.specs.Documents.{code_word, reason_words, IsShown}
+use Rattle.front_verdict_terms.specs.Verdicts.{FrontRead, front_document_verdict, front_verdict_line}
+use Rattle.front_verdict_terms.specs.Verdicts.{front_verdict_status}
 use Rattle.front_verdict_terms.specs.Laws.{IsTrueFrontOf}
 use Rattle.answer_streams.specs.Lines.{number_line}
 use Rattle.answer_streams.specs.Verdicts.{plain_verdict, verdict_status}
@@ -22,7 +25,8 @@ use Rattle.answer_streams.specs.declared.audited.AuditedVerdict.TheVariants.{Red
 use Rattle.answer_streams.specs.declared.audited.ExplainedVerdict.{ExplainedVerdict}
 use Rattle.answer_streams.specs.declared.audited.ExplainedVerdict.TheVariants.{Verified, Refused}
 use Rattle.answer_streams.specs.declared.audited_fronts.FrontAudited.{FrontAudited}
-use Rattle.answer_streams.specs.declared.audited_fronts.FrontAudited.TheVariants.{Verified as VerifiedFront, Refused as RefusedFront}
+use Rattle.answer_streams.specs.declared.audited_fronts.FrontAudited.TheVariants.{Verified as VerifiedFront}
+use Rattle.answer_streams.specs.declared.audited_fronts.FrontAudited.TheVariants.{Refused as RefusedFront}
 
 -- a verdict, under the kind of the document
 pub data KindVerdict : Type 0 where
@@ -63,7 +67,8 @@ pub record IsTrueFrontRead (text : List ℕ) (r : FrontRead) : Type 0 where
 -- it; the instance of an explained document has no packing; and the points of a document of a front
 -- are what its claim says.
 abbrev pub IsTrueVerdict : List ℕ → KindVerdict → Type 0
-IsTrueVerdict text (ReducedVerdictOf (Ok claim)) = (document : IsReducedDocument text claim) × IsTrueOf document.instance claim
+IsTrueVerdict text (ReducedVerdictOf (Ok claim)) =
+    (document : IsReducedDocument text claim) × IsTrueOf document.instance claim
 IsTrueVerdict text (ReducedVerdictOf (Err refusal)) = ⊥
 IsTrueVerdict text (ExplainedVerdictOf (Ok instance)) = (explained_verdict text ≡ Ok instance) × IsShown instance
 IsTrueVerdict text (ExplainedVerdictOf (Err refusal)) = ⊥
@@ -108,7 +113,8 @@ IsExplainedAs verdict (Refused line reason) = verdict ≡ Err (record { line = l
 -- the verdict on a document of a front
 abbrev pub IsFrontToldAs : Result FrontRead Refusal → FrontAudited → Type 0
 IsFrontToldAs verdict (VerifiedFront complete points) =
-    (instance : PlainInstance) × (verdict ≡ Ok (record { instance = instance; claim = record { complete = complete; points = points } }))
+    (instance : PlainInstance) × (verdict
+    ≡ Ok (record { instance = instance; claim = record { complete = complete; points = points } }))
 IsFrontToldAs verdict (RefusedFront line reason) = verdict ≡ Err (record { line = line; reason = reason })
 
 -- the verdict is told by its line and its status

@@ -4,7 +4,9 @@ use Rattle.std.specs.List.{flat_map}
 use Rattle.std.specs.Fmt.{decimal}
 use Rattle.check_terms.specs.declared.answers.RefuseCode.{RefuseCode}
 use Rattle.document_terms.specs.declared.claim.Claim.{Claim}
-use Rattle.document_terms.specs.declared.claim.Claim.TheVariants.{Fitting, NotFitting, LeastHeight, HeightBetween, NoHeight, LeastBins, BinsBetween, NoBins, GreatestValue, ValueBetween}
+use Rattle.document_terms.specs.declared.claim.Claim.TheVariants.{Fitting, NotFitting, LeastHeight, HeightBetween}
+use Rattle.document_terms.specs.declared.claim.Claim.TheVariants.{NoHeight, LeastBins, BinsBetween, NoBins}
+use Rattle.document_terms.specs.declared.claim.Claim.TheVariants.{GreatestValue, ValueBetween}
 use Rattle.verdict_terms.specs.declared.reason.Reason.{Reason}
 use Rattle.verdict_terms.specs.Reasons.{code_word, reason_words}
 

@@ -1,7 +1,8 @@
 -- What a job finds, as an answer of the definition.
 use Rattle.std.specs.Prelude.{ℕ, ◌+◌, ◌*◌, ◌<◌, ◌≡◌, List, length}
 use Rattle.packing_terms.specs.Packing.{PlainInstance, dims, box_count}
-use Rattle.document_terms.specs.declared.claim.Claim.TheVariants.{LeastHeight, HeightBetween, NoHeight, LeastBins, BinsBetween, NoBins, GreatestValue, ValueBetween}
+use Rattle.document_terms.specs.declared.claim.Claim.TheVariants.{LeastHeight, HeightBetween, NoHeight, LeastBins}
+use Rattle.document_terms.specs.declared.claim.Claim.TheVariants.{BinsBetween, NoBins, GreatestValue, ValueBetween}
 use Rattle.answer_terms.specs.Answers.{Answer, answer_text, status_of}
 use Rattle.answer_terms.specs.Answers.Answer.{Claimed}
 use Rattle.answer_terms.specs.Reduced.{reduced_text, document_answer}
@@ -12,30 +13,35 @@ use Rattle.proof_tree.specs.Plain.{plain_tokens}
 use Rattle.strip_solver.specs.declared.strip.Strip.{Strip as FoundStrip}
 use Rattle.strip_solver.specs.declared.strip.Strip.TheVariants.{Least, Between, NoneFits}
 use Rattle.bin_knapsack.specs.declared.bins.Bins.{Bins as FoundBins}
-use Rattle.bin_knapsack.specs.declared.bins.Bins.TheVariants.{Least as LeastCount, Between as CountBetween, NoneFits as NoBin}
+use Rattle.bin_knapsack.specs.declared.bins.Bins.TheVariants.{Least as LeastCount, Between as CountBetween}
+use Rattle.bin_knapsack.specs.declared.bins.Bins.TheVariants.{NoneFits as NoBin}
 use Rattle.bin_knapsack.specs.declared.choice.Choice.{Choice as FoundChoice}
 use Rattle.bin_knapsack.specs.declared.choice.Choice.TheVariants.{Greatest, Between as WorthBetween}
 use Rattle.text_terms.specs.declared.settings.Settings.{Settings}
 use Rattle.answer_streams.specs.Placed.{IsPlaced}
 use Rattle.answer_streams.specs.declared.solution.Solution.{Solution}
-use Rattle.answer_streams.specs.declared.solution.Solution.TheVariants.{Fit, Strip, Bins, Knapsack, Reduced, ReducedStrip}
+use Rattle.answer_streams.specs.declared.solution.Solution.TheVariants.{Fit, Strip, Bins, Knapsack, Reduced}
+use Rattle.answer_streams.specs.declared.solution.Solution.TheVariants.{ReducedStrip}
 
 -- the answer of a strip
 abbrev pub strip_found : FoundStrip → Answer
 strip_found (Least height places tokens) = Claimed (LeastHeight height) places.items (plain_tokens tokens.items)
-strip_found (Between refuted tokens height places) = Claimed (HeightBetween refuted height) places.items (plain_tokens tokens.items)
+strip_found (Between refuted tokens height places) =
+    Claimed (HeightBetween refuted height) places.items (plain_tokens tokens.items)
 strip_found (NoneFits v i) = none_answer NoHeight (v, i)
 
 -- the answer for bins
 abbrev pub bins_found : FoundBins → Answer
 bins_found (LeastCount bins numbers tokens) = Claimed (LeastBins bins) numbers.items (plain_tokens tokens.items)
-bins_found (CountBetween refuted tokens bins numbers) = Claimed (BinsBetween refuted bins) numbers.items (plain_tokens tokens.items)
+bins_found (CountBetween refuted tokens bins numbers) =
+    Claimed (BinsBetween refuted bins) numbers.items (plain_tokens tokens.items)
 bins_found (NoBin v i) = none_answer NoBins (v, i)
 
 -- the answer for a value
 abbrev pub choice_found : FoundChoice → Answer
 choice_found (Greatest value numbers tokens) = Claimed (GreatestValue value) numbers.items (plain_tokens tokens.items)
-choice_found (WorthBetween placed numbers refuted tokens) = Claimed (ValueBetween placed refuted) numbers.items (plain_tokens tokens.items)
+choice_found (WorthBetween placed numbers refuted tokens) =
+    Claimed (ValueBetween placed refuted) numbers.items (plain_tokens tokens.items)
 
 abbrev pub answer_found : Solution → Answer
 answer_found (Fit outcome) = fit_answer (plain_outcome outcome)
@@ -85,7 +91,8 @@ IsPlacedSolution instance (Reduced outcome) = IsPlaced instance (plain_outcome o
 IsPlacedSolution instance (ReducedStrip strip) = IsPlacedStrip instance strip
 
 -- its status and its document are those of the job's answer for the instance, under these settings
-pub record IsSolution (job : DocumentJob) (settings : Settings) (instance : PlainInstance) (solution : Solution) : Type 0 where
+pub record IsSolution (job : DocumentJob) (settings : Settings) (instance : PlainInstance) (solution : Solution) :
+    Type 0 where
   pub status : status_of (answer_found solution) ≡ (document_answer job settings.budget settings.scales instance).status
   pub text : solution_text instance solution ≡ (document_answer job settings.budget settings.scales instance).text
   pub placed : IsPlacedSolution instance solution

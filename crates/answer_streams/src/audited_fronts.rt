@@ -44,7 +44,7 @@ fn verified_front(complete: bool) -> &'static [u8]
 }
 
 /// Writes the line of a verdict on a document of a front.
-pub fn write_front_verdict<K: Sink>(sink: &mut K, verdict: FrontAudited) -> Written
+pub(crate) fn write_front_verdict<K: Sink>(sink: &mut K, verdict: FrontAudited) -> Written
     ensures { Writes (K.written sink.old) (K.written sink.new) (K.faults sink.old)
         (K.faults sink.new)
         (front_audit_text verdict) result }

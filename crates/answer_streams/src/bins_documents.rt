@@ -99,7 +99,7 @@ fn write_none<K: Sink>(sink: &mut K, instance: &Instance, box_no: u32, dim: u32)
 
 /// Writes the document of an answer of `bins`: the least number of bins or two between which it
 /// lies, with both certificates, or the box that no bin holds.
-pub fn write_bins<K: Sink>(sink: &mut K, instance: &Instance, bins: &Bins) -> Written
+pub(crate) fn write_bins<K: Sink>(sink: &mut K, instance: &Instance, bins: &Bins) -> Written
     requires limits { IsInstance instance.now }
     requires placed { ArePlacedBins instance.now bins.now }
     ensures { Writes (K.written sink.old) (K.written sink.new) (K.faults sink.old)

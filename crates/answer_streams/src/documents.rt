@@ -71,7 +71,7 @@ fn write_place<K: Sink>(
 }
 
 /// Writes the lines of all places.
-pub fn write_places<K: Sink>(
+pub(crate) fn write_places<K: Sink>(
     sink: &mut K,
     so_far: Written,
     instance: &Instance,
@@ -90,7 +90,11 @@ pub fn write_places<K: Sink>(
 }
 
 /// Writes the lines of the instance.
-pub fn write_instance_on<K: Sink>(sink: &mut K, so_far: Written, instance: &Instance) -> Written
+pub(crate) fn write_instance_on<K: Sink>(
+    sink: &mut K,
+    so_far: Written,
+    instance: &Instance,
+) -> Written
     requires { IsInstance instance.now }
     ensures { Continues (K.written sink.old) (K.written sink.new) (K.faults sink.old)
         (K.faults sink.new)
@@ -165,7 +169,7 @@ fn write_undecided<K: Sink>(sink: &mut K, heading: Heading, instance: &Instance)
 
 /// Writes the document of an answer of `fit`, or of `reduced`: a yes with the place of each box, a
 /// no with its refutation, or undecided.
-pub fn write_fit<K: Sink>(
+pub(crate) fn write_fit<K: Sink>(
     sink: &mut K,
     heading: Heading,
     instance: &Instance,

@@ -136,7 +136,7 @@ impl<'a, K: Sink, B: Behind> Front<'a, K, B> {
 
 /// A front before the sink, which is named by the ghost name of the reference to it. Nothing is
 /// held back yet.
-pub fn front_before<'a, K: Sink, B: Behind>(out: &'a mut K) -> Front<'a, K, B>
+pub(crate) fn front_before<'a, K: Sink, B: Behind>(out: &'a mut K) -> Front<'a, K, B>
     requires name { out.ghost_name ≡ B.name }
     requires begun { K.written out.now ≡ B.begun }
     ensures shown { shown (K.written result.out.now) result.block result.start result.end
@@ -177,7 +177,7 @@ fn sink_behind<'a, K: Sink, B: Behind>(
 
 /// Hands back the sink behind a front to which a text was written. Where all of it was, what is
 /// held back is given on first.
-pub fn hand_back<'a, K: Sink, B: Behind>(
+pub(crate) fn hand_back<'a, K: Sink, B: Behind>(
     mut front: Front<'a, K, B>,
     written: Result<(), WriteFault>,
 ) -> Done<'a, K>

@@ -91,7 +91,7 @@ fn write_between<K: Sink>(
 
 /// Writes the document of an answer of `knapsack`: the greatest value or two between which it lies,
 /// with both certificates.
-pub fn write_choice<K: Sink>(sink: &mut K, instance: &Instance, choice: &Choice) -> Written
+pub(crate) fn write_choice<K: Sink>(sink: &mut K, instance: &Instance, choice: &Choice) -> Written
     requires { IsInstance instance.now }
     ensures { Writes (K.written sink.old) (K.written sink.new) (K.faults sink.old)
         (K.faults sink.new)

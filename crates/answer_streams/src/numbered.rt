@@ -56,7 +56,7 @@ fn write_numbered<K: Sink>(
 }
 
 /// Writes a line of each of so many numbers, with its coordinates.
-pub fn write_all_numbered<K: Sink>(
+pub(crate) fn write_all_numbered<K: Sink>(
     sink: &mut K,
     so_far: Written,
     key: &[u8],

@@ -16,7 +16,7 @@ use pack_streams::{Sink, write_number, write_on};
 use proof_tree::{Token, write_token_on, write_tokens_on};
 
 /// Writes the first line, and the lines of the instance.
-pub fn write_opening<K: Sink>(sink: &mut K, first: &[u8], instance: &Instance) -> Written
+pub(crate) fn write_opening<K: Sink>(sink: &mut K, first: &[u8], instance: &Instance) -> Written
     requires { IsInstance instance.now }
     ensures { Writes (K.written sink.old) (K.written sink.new) (K.faults sink.old)
         (K.faults sink.new)
@@ -27,7 +27,7 @@ pub fn write_opening<K: Sink>(sink: &mut K, first: &[u8], instance: &Instance) -
 }
 
 /// Writes the result line of a least level.
-pub fn write_least_line<K: Sink>(sink: &mut K, so_far: Written, level: u64) -> Written
+pub(crate) fn write_least_line<K: Sink>(sink: &mut K, so_far: Written, level: u64) -> Written
     ensures { Continues (K.written sink.old) (K.written sink.new) (K.faults sink.old)
         (K.faults sink.new)
         (lines_text ((codes "result" ∷ codes "least" ∷ decimal level ∷ []) ∷ [])) so_far result }
@@ -38,7 +38,12 @@ pub fn write_least_line<K: Sink>(sink: &mut K, so_far: Written, level: u64) -> W
 }
 
 /// Writes the result line of two levels between which the best one lies.
-pub fn write_between_line<K: Sink>(sink: &mut K, so_far: Written, low: u64, high: u64) -> Written
+pub(crate) fn write_between_line<K: Sink>(
+    sink: &mut K,
+    so_far: Written,
+    low: u64,
+    high: u64,
+) -> Written
     ensures { Continues (K.written sink.old) (K.written sink.new) (K.faults sink.old)
         (K.faults sink.new)
         (lines_text ((codes "result" ∷ codes "between" ∷ decimal low ∷ decimal high ∷ []) ∷ []))
@@ -52,7 +57,7 @@ pub fn write_between_line<K: Sink>(sink: &mut K, so_far: Written, low: u64, high
 }
 
 /// Writes the line `proof`, and a refutation.
-pub fn write_proof<K: Sink>(sink: &mut K, so_far: Written, tokens: &[Token]) -> Written
+pub(crate) fn write_proof<K: Sink>(sink: &mut K, so_far: Written, tokens: &[Token]) -> Written
     ensures { Continues (K.written sink.old) (K.written sink.new) (K.faults sink.old)
         (K.faults sink.new)
         (codes "proof\n" ++ token_text (plain_tokens tokens.now)) so_far result }
@@ -62,7 +67,7 @@ pub fn write_proof<K: Sink>(sink: &mut K, so_far: Written, tokens: &[Token]) -> 
 }
 
 /// Writes that there is no level, because of this box.
-pub fn write_none_line<K: Sink>(
+pub(crate) fn write_none_line<K: Sink>(
     sink: &mut K,
     so_far: Written,
     instance: &Instance,

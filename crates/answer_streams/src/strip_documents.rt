@@ -118,7 +118,7 @@ fn write_none<K: Sink>(
 
 /// Writes the document of an answer of `strip` under a heading: the least height or two between
 /// which it lies, with both certificates, or the box that no height holds.
-pub fn write_strip<K: Sink>(
+pub(crate) fn write_strip<K: Sink>(
     sink: &mut K,
     heading: Heading,
     instance: &Instance,

@@ -36,7 +36,12 @@ impl Verdict {
 }
 
 /// Writes the text, a number and a line feed.
-pub fn write_numbered<K: Sink>(sink: &mut K, so_far: Written, text: &[u8], number: u64) -> Written
+pub(crate) fn write_numbered<K: Sink>(
+    sink: &mut K,
+    so_far: Written,
+    text: &[u8],
+    number: u64,
+) -> Written
     ensures { Continues (K.written sink.old) (K.written sink.new) (K.faults sink.old)
         (K.faults sink.new)
         (number_line text.now number) so_far result }
@@ -160,7 +165,7 @@ fn write_reason<K: Sink>(sink: &mut K, so_far: Written, reason: Reason) -> Writt
 }
 
 /// Writes the line of a refusal.
-pub fn write_refusal<K: Sink>(sink: &mut K, line: u64, reason: Reason) -> Written
+pub(crate) fn write_refusal<K: Sink>(sink: &mut K, line: u64, reason: Reason) -> Written
     ensures { Writes (K.written sink.old) (K.written sink.new) (K.faults sink.old)
         (K.faults sink.new)
         (verdict_line (Err (record { line = line; reason = reason }))) result }
@@ -187,7 +192,7 @@ impl Streamed for Verdict {
 
 /// The verdict on a reduced document.
 #[derive(Clone, Copy, Debug, PartialEq, Eq)]
-pub struct ReducedVerdict {
+pub(crate) struct ReducedVerdict {
     pub verdict: Verdict,
 }
 

@@ -1,4 +1,5 @@
--- Answers and their lines, computed from the definitions. `decimal` doesn't compute, so the numbers of a line stand as `decimal n`.
+-- Answers and their lines, computed from the definitions. `decimal` doesn't compute, so the numbers
+-- of a line stand as `decimal n`.
 use Rattle.std.proofs.Common.{◌≡◌, ℕ, refl, ap, ◌∙◌, arith, [], ◌∷◌, ◌++◌, true, List, None, codes}
 use Rattle.std.specs.Fmt.{decimal}
 use Rattle.std.proofs.lemmas.Fmt.{decimal_digit, decimal_step}
@@ -9,7 +10,8 @@ use Rattle.tree_terms.specs.Trees.{Decided, Past, Yes, No}
 use Rattle.packing_terms.specs.Tokens.PlainToken.{Rules, TooLarge, Choose, SetRefuted, ValueShort, GlobalScales}
 use Rattle.text_terms.specs.Spelling.{lines_text}
 use Rattle.document_terms.specs.declared.claim.SolvingJob.TheVariants.{Fit, Strip, Bins, Knapsack}
-use Rattle.document_terms.specs.declared.claim.Claim.TheVariants.{Fitting, NotFitting, LeastHeight, HeightBetween, NoHeight, LeastBins, BinsBetween, GreatestValue}
+use Rattle.document_terms.specs.declared.claim.Claim.TheVariants.{Fitting, NotFitting, LeastHeight, HeightBetween}
+use Rattle.document_terms.specs.declared.claim.Claim.TheVariants.{NoHeight, LeastBins, BinsBetween, GreatestValue}
 use Rattle.answer_terms.specs.Answers.{answer_lines, Lines}
 use Rattle.answer_terms.specs.Answers.Answer.{Undecided, Claimed}
 use Rattle.answer_terms.specs.Solved.{solved}
@@ -31,8 +33,10 @@ unfolding solved
 unit_fits = refl
 
 unit_lines : answer_lines unit (Claimed Fitting (0 ∷ 0 ∷ []) [])
-    ≡ (codes "answer" ∷ codes "fit" ∷ []) ∷ (codes "format" ∷ decimal 1 ∷ []) ∷ (codes "container" ∷ decimal 1 ∷ decimal 1 ∷ [])
-    ∷ (codes "box" ∷ decimal 1 ∷ decimal 1 ∷ []) ∷ (codes "result" ∷ codes "yes" ∷ []) ∷ (codes "place" ∷ decimal 0 ∷ decimal 0 ∷ [])
+    ≡ (codes "answer" ∷ codes "fit" ∷ []) ∷ (codes "format" ∷ decimal 1 ∷ [])
+    ∷ (codes "container" ∷ decimal 1 ∷ decimal 1 ∷ [])
+    ∷ (codes "box" ∷ decimal 1 ∷ decimal 1 ∷ []) ∷ (codes "result" ∷ codes "yes" ∷ [])
+    ∷ (codes "place" ∷ decimal 0 ∷ decimal 0 ∷ [])
     ∷ (codes "end" ∷ []) ∷ []
 unit_lines = refl
 
@@ -42,9 +46,12 @@ unfolding solved
 pair_fits = refl
 
 pair_lines : answer_lines (pair 6 4 6 6) (solved Fit 1 true (pair 6 4 6 6))
-    ≡ (codes "answer" ∷ codes "fit" ∷ []) ∷ (codes "format" ∷ decimal 1 ∷ []) ∷ (codes "container" ∷ decimal 10 ∷ decimal 10 ∷ [])
-    ∷ (codes "box" ∷ decimal 6 ∷ decimal 4 ∷ []) ∷ (codes "box" ∷ decimal 6 ∷ decimal 6 ∷ []) ∷ (codes "result" ∷ codes "yes" ∷ [])
-    ∷ (codes "place" ∷ decimal 0 ∷ decimal 0 ∷ []) ∷ (codes "place" ∷ decimal 0 ∷ decimal 4 ∷ []) ∷ (codes "end" ∷ []) ∷ []
+    ≡ (codes "answer" ∷ codes "fit" ∷ []) ∷ (codes "format" ∷ decimal 1 ∷ [])
+    ∷ (codes "container" ∷ decimal 10 ∷ decimal 10 ∷ [])
+    ∷ (codes "box" ∷ decimal 6 ∷ decimal 4 ∷ []) ∷ (codes "box" ∷ decimal 6 ∷ decimal 6 ∷ [])
+    ∷ (codes "result" ∷ codes "yes" ∷ [])
+    ∷ (codes "place" ∷ decimal 0 ∷ decimal 0 ∷ []) ∷ (codes "place" ∷ decimal 0 ∷ decimal 4 ∷ [])
+    ∷ (codes "end" ∷ []) ∷ []
 unfolding solved
 pair_lines = refl
 
@@ -54,8 +61,10 @@ unfolding solved
 pair_undecided = refl
 
 undecided_lines : answer_lines (pair 6 4 6 6) Undecided
-    ≡ (codes "answer" ∷ codes "fit" ∷ []) ∷ (codes "format" ∷ decimal 1 ∷ []) ∷ (codes "container" ∷ decimal 10 ∷ decimal 10 ∷ [])
-    ∷ (codes "box" ∷ decimal 6 ∷ decimal 4 ∷ []) ∷ (codes "box" ∷ decimal 6 ∷ decimal 6 ∷ []) ∷ (codes "result" ∷ codes "undecided" ∷ [])
+    ≡ (codes "answer" ∷ codes "fit" ∷ []) ∷ (codes "format" ∷ decimal 1 ∷ [])
+    ∷ (codes "container" ∷ decimal 10 ∷ decimal 10 ∷ [])
+    ∷ (codes "box" ∷ decimal 6 ∷ decimal 4 ∷ []) ∷ (codes "box" ∷ decimal 6 ∷ decimal 6 ∷ [])
+    ∷ (codes "result" ∷ codes "undecided" ∷ [])
     ∷ (codes "end" ∷ []) ∷ []
 undecided_lines = refl
 
@@ -65,8 +74,10 @@ unfolding solved
 pair_does_not = refl
 
 no_lines : answer_lines (pair 6 6 6 6) (Claimed NotFitting [] (Rules ∷ []))
-    ≡ (codes "answer" ∷ codes "fit" ∷ []) ∷ (codes "format" ∷ decimal 1 ∷ []) ∷ (codes "container" ∷ decimal 10 ∷ decimal 10 ∷ [])
-    ∷ (codes "box" ∷ decimal 6 ∷ decimal 6 ∷ []) ∷ (codes "box" ∷ decimal 6 ∷ decimal 6 ∷ []) ∷ (codes "result" ∷ codes "no" ∷ [])
+    ≡ (codes "answer" ∷ codes "fit" ∷ []) ∷ (codes "format" ∷ decimal 1 ∷ [])
+    ∷ (codes "container" ∷ decimal 10 ∷ decimal 10 ∷ [])
+    ∷ (codes "box" ∷ decimal 6 ∷ decimal 6 ∷ []) ∷ (codes "box" ∷ decimal 6 ∷ decimal 6 ∷ [])
+    ∷ (codes "result" ∷ codes "no" ∷ [])
     ∷ (codes "x" ∷ []) ∷ (codes "end" ∷ []) ∷ []
 no_lines = refl
 
@@ -83,15 +94,18 @@ unfolding solved
 strip_between = refl
 
 strip_lines : answer_lines strip (Claimed (LeastHeight 5) (0 ∷ 0 ∷ 0 ∷ 3 ∷ 6 ∷ 0 ∷ []) (Rules ∷ []))
-    ≡ (codes "answer" ∷ codes "strip" ∷ []) ∷ (codes "format" ∷ decimal 1 ∷ []) ∷ (codes "container" ∷ decimal 10 ∷ decimal 1 ∷ [])
-    ∷ (codes "box" ∷ decimal 6 ∷ decimal 3 ∷ []) ∷ (codes "box" ∷ decimal 6 ∷ decimal 2 ∷ []) ∷ (codes "box" ∷ decimal 4 ∷ decimal 4 ∷ [])
+    ≡ (codes "answer" ∷ codes "strip" ∷ []) ∷ (codes "format" ∷ decimal 1 ∷ [])
+    ∷ (codes "container" ∷ decimal 10 ∷ decimal 1 ∷ [])
+    ∷ (codes "box" ∷ decimal 6 ∷ decimal 3 ∷ []) ∷ (codes "box" ∷ decimal 6 ∷ decimal 2 ∷ [])
+    ∷ (codes "box" ∷ decimal 4 ∷ decimal 4 ∷ [])
     ∷ (codes "result" ∷ codes "least" ∷ decimal 5 ∷ []) ∷ (codes "place" ∷ decimal 0 ∷ decimal 0 ∷ [])
     ∷ (codes "place" ∷ decimal 0 ∷ decimal 3 ∷ []) ∷ (codes "place" ∷ decimal 6 ∷ decimal 0 ∷ []) ∷ (codes "proof" ∷ [])
     ∷ (codes "x" ∷ []) ∷ (codes "end" ∷ []) ∷ []
 strip_lines = refl
 
 -- a box that is wider than the strip
-strip_none : solved Strip 1000000 true (record { container = 10 ∷ 10 ∷ []; kerfs = 0 ∷ 0 ∷ []; boxes = box 11 2 ∷ [] }) ≡ Claimed NoHeight [] (TooLarge 1 1 ∷ [])
+strip_none : solved Strip 1000000 true (record { container = 10 ∷ 10 ∷ []; kerfs = 0 ∷ 0 ∷ []; boxes = box 11 2 ∷ [] })
+    ≡ Claimed NoHeight [] (TooLarge 1 1 ∷ [])
 unfolding solved
 strip_none = refl
 
@@ -109,11 +123,15 @@ bins_between : solved Bins 4 true planks
 unfolding solved
 bins_between = refl
 
-bins_lines : answer_lines planks (Claimed (LeastBins 2) (0 ∷ 0 ∷ 0 ∷ 0 ∷ 0 ∷ 5 ∷ 1 ∷ 0 ∷ 0 ∷ []) (GlobalScales (Id ∷ Id ∷ []) ∷ []))
-    ≡ (codes "answer" ∷ codes "bins" ∷ []) ∷ (codes "format" ∷ decimal 1 ∷ []) ∷ (codes "container" ∷ decimal 10 ∷ decimal 10 ∷ [])
-    ∷ (codes "box" ∷ decimal 10 ∷ decimal 5 ∷ []) ∷ (codes "box" ∷ decimal 10 ∷ decimal 5 ∷ []) ∷ (codes "box" ∷ decimal 10 ∷ decimal 5 ∷ [])
+bins_lines : answer_lines planks
+    (Claimed (LeastBins 2) (0 ∷ 0 ∷ 0 ∷ 0 ∷ 0 ∷ 5 ∷ 1 ∷ 0 ∷ 0 ∷ []) (GlobalScales (Id ∷ Id ∷ []) ∷ []))
+    ≡ (codes "answer" ∷ codes "bins" ∷ []) ∷ (codes "format" ∷ decimal 1 ∷ [])
+    ∷ (codes "container" ∷ decimal 10 ∷ decimal 10 ∷ [])
+    ∷ (codes "box" ∷ decimal 10 ∷ decimal 5 ∷ []) ∷ (codes "box" ∷ decimal 10 ∷ decimal 5 ∷ [])
+    ∷ (codes "box" ∷ decimal 10 ∷ decimal 5 ∷ [])
     ∷ (codes "result" ∷ codes "least" ∷ decimal 2 ∷ []) ∷ (codes "place" ∷ decimal 1 ∷ decimal 0 ∷ decimal 0 ∷ [])
-    ∷ (codes "place" ∷ decimal 1 ∷ decimal 0 ∷ decimal 5 ∷ []) ∷ (codes "place" ∷ decimal 2 ∷ decimal 0 ∷ decimal 0 ∷ []) ∷ (codes "proof" ∷ [])
+    ∷ (codes "place" ∷ decimal 1 ∷ decimal 0 ∷ decimal 5 ∷ [])
+    ∷ (codes "place" ∷ decimal 2 ∷ decimal 0 ∷ decimal 0 ∷ []) ∷ (codes "proof" ∷ [])
     ∷ (codes "g" ∷ codes "id" ∷ codes "id" ∷ []) ∷ (codes "end" ∷ []) ∷ []
 bins_lines = refl
 
@@ -125,15 +143,21 @@ abbrev sack : PlainInstance
 sack = record { container = 10 ∷ 10 ∷ []; kerfs = 0 ∷ 0 ∷ []; boxes = valued 6 6 5 ∷ valued 6 6 4 ∷ valued 4 4 3 ∷ [] }
 
 sack_greatest : solved Knapsack 1000000 true sack
-    ≡ Claimed (GreatestValue 8) (0 ∷ 0 ∷ 0 ∷ 2 ∷ 6 ∷ 0 ∷ []) (Choose 1 ∷ Choose 2 ∷ SetRefuted None ∷ Rules ∷ ValueShort ∷ ValueShort ∷ [])
+    ≡ Claimed (GreatestValue 8) (0 ∷ 0 ∷ 0 ∷ 2 ∷ 6 ∷ 0 ∷ [])
+    (Choose 1 ∷ Choose 2 ∷ SetRefuted None ∷ Rules ∷ ValueShort ∷ ValueShort ∷ [])
 unfolding solved
 sack_greatest = refl
 
-sack_lines : answer_lines sack (Claimed (GreatestValue 8) (0 ∷ 0 ∷ 0 ∷ 2 ∷ 6 ∷ 0 ∷ []) (Choose 1 ∷ SetRefuted None ∷ ValueShort ∷ []))
-    ≡ (codes "answer" ∷ codes "knapsack" ∷ []) ∷ (codes "format" ∷ decimal 1 ∷ []) ∷ (codes "container" ∷ decimal 10 ∷ decimal 10 ∷ [])
-    ∷ (codes "box" ∷ decimal 6 ∷ decimal 6 ∷ codes "value" ∷ decimal 5 ∷ []) ∷ (codes "box" ∷ decimal 6 ∷ decimal 6 ∷ codes "value" ∷ decimal 4 ∷ [])
-    ∷ (codes "box" ∷ decimal 4 ∷ decimal 4 ∷ codes "value" ∷ decimal 3 ∷ []) ∷ (codes "result" ∷ codes "greatest" ∷ decimal 8 ∷ [])
-    ∷ (codes "take" ∷ decimal 1 ∷ decimal 0 ∷ decimal 0 ∷ []) ∷ (codes "take" ∷ decimal 3 ∷ decimal 6 ∷ decimal 0 ∷ []) ∷ (codes "proof" ∷ [])
+sack_lines : answer_lines sack
+    (Claimed (GreatestValue 8) (0 ∷ 0 ∷ 0 ∷ 2 ∷ 6 ∷ 0 ∷ []) (Choose 1 ∷ SetRefuted None ∷ ValueShort ∷ []))
+    ≡ (codes "answer" ∷ codes "knapsack" ∷ []) ∷ (codes "format" ∷ decimal 1 ∷ [])
+    ∷ (codes "container" ∷ decimal 10 ∷ decimal 10 ∷ [])
+    ∷ (codes "box" ∷ decimal 6 ∷ decimal 6 ∷ codes "value" ∷ decimal 5 ∷ [])
+    ∷ (codes "box" ∷ decimal 6 ∷ decimal 6 ∷ codes "value" ∷ decimal 4 ∷ [])
+    ∷ (codes "box" ∷ decimal 4 ∷ decimal 4 ∷ codes "value" ∷ decimal 3 ∷ [])
+    ∷ (codes "result" ∷ codes "greatest" ∷ decimal 8 ∷ [])
+    ∷ (codes "take" ∷ decimal 1 ∷ decimal 0 ∷ decimal 0 ∷ []) ∷ (codes "take" ∷ decimal 3 ∷ decimal 6 ∷ decimal 0 ∷ [])
+    ∷ (codes "proof" ∷ [])
     ∷ (codes "c" ∷ decimal 1 ∷ []) ∷ (codes "s" ∷ []) ∷ (codes "w" ∷ []) ∷ (codes "end" ∷ []) ∷ []
 sack_lines = refl
 
@@ -153,7 +177,8 @@ unfolding made_instance
 made_no = refl
 
 made_undecided : made_lines 0 (made_instance 0) 5 Past
-    ≡ made_front ((codes "fit" ∷ codes "undecided" ∷ []) ∷ (codes "branchings" ∷ codes "more" ∷ codes "than" ∷ decimal 5 ∷ []) ∷ [])
+    ≡ made_front ((codes "fit" ∷ codes "undecided" ∷ [])
+    ∷ (codes "branchings" ∷ codes "more" ∷ codes "than" ∷ decimal 5 ∷ []) ∷ [])
 unfolding made_instance
 made_undecided = refl
 

@@ -12,7 +12,9 @@ use Rattle.document_terms.specs.declared.claim.SolvingJob.{SolvingJob}
 use Rattle.document_terms.specs.declared.claim.Claim.{Claim}
 use Rattle.document_terms.specs.Claims.{job_of, job_word, result_words}
 use Rattle.document_terms.specs.declared.claim.SolvingJob.TheVariants.{Fit}
-use Rattle.document_terms.specs.declared.claim.Claim.TheVariants.{Fitting, NotFitting, LeastHeight, HeightBetween, NoHeight, LeastBins, BinsBetween, NoBins, GreatestValue, ValueBetween}
+use Rattle.document_terms.specs.declared.claim.Claim.TheVariants.{Fitting, NotFitting, LeastHeight, HeightBetween}
+use Rattle.document_terms.specs.declared.claim.Claim.TheVariants.{NoHeight, LeastBins, BinsBetween, NoBins}
+use Rattle.document_terms.specs.declared.claim.Claim.TheVariants.{GreatestValue, ValueBetween}
 use Rattle.document_terms.specs.TokenLines.{token_words}
 
 -- Undecided, or a claim with the flat numbers of an answer, which show what the claim places, and
@@ -53,7 +55,8 @@ place_words instance places v = codes "place" ∷ map (λ i. decimal (place inst
 -- bin or a box, which the text counts from 1.
 abbrev pub numbered_words : List ℕ → ℕ → List ℕ → ℕ → List (List ℕ)
 numbered_words key d numbers k =
-    key ∷ decimal (suc (slice_index numbers (k * (d + 1)))) ∷ map (λ i. decimal (slice_index numbers (k * (d + 1) + (1 + i)))) (below d)
+    key ∷ decimal (suc (slice_index numbers (k * (d + 1))))
+    ∷ map (λ i. decimal (slice_index numbers (k * (d + 1) + (1 + i)))) (below d)
 
 -- a line for each box
 abbrev pub place_lines : PlainInstance → List ℕ → Lines
@@ -91,7 +94,8 @@ backing_lines instance (ValueBetween a b) numbers tokens = proved_lines (take_li
 -- a first word with the job, the instance, `result` with these words, what follows, and `end`
 abbrev pub document_lines : List ℕ → PlainInstance → SolvingJob → List (List ℕ) → Lines → Lines
 document_lines key instance job result backing =
-    (key ∷ job_word job ∷ []) ∷ (instance_words instance ++ (codes "result" ∷ result) ∷ (backing ++ (codes "end" ∷ []) ∷ []))
+    (key ∷ job_word job ∷ []) ∷ (instance_words instance ++ (codes "result" ∷ result)
+    ∷ (backing ++ (codes "end" ∷ []) ∷ []))
 
 -- the lines of an answer behind this first word
 abbrev pub headed_lines : List ℕ → PlainInstance → Answer → Lines

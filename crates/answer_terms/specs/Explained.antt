@@ -14,7 +14,8 @@ step_lines steps = map step_words steps
 
 abbrev pub explained_lines : PlainInstance → List PlainStep → Lines
 explained_lines instance steps =
-    (codes "explained" ∷ codes "fit" ∷ []) ∷ (instance_words instance ++ (codes "result" ∷ codes "no" ∷ []) ∷ (step_lines steps ++ (codes "end" ∷ []) ∷ []))
+    (codes "explained" ∷ codes "fit" ∷ [])
+    ∷ (instance_words instance ++ (codes "result" ∷ codes "no" ∷ []) ∷ (step_lines steps ++ (codes "end" ∷ []) ∷ []))
 
 -- the document, a line feed after each line
 unfoldable pub explained_text : PlainInstance → List PlainStep → List ℕ

@@ -29,13 +29,15 @@ branching_words budget Past = codes "more" ∷ codes "than" ∷ decimal budget �
 -- a number, the boxes of its instance, and their volume
 abbrev pub made_words : ℕ → PlainInstance → List (List ℕ)
 made_words number instance =
-    codes "made" ∷ decimal number ∷ codes "boxes" ∷ decimal (box_count instance) ∷ codes "volume" ∷ decimal (total_volume instance) ∷ []
+    codes "made" ∷ decimal number ∷ codes "boxes" ∷ decimal (box_count instance) ∷ codes "volume"
+    ∷ decimal (total_volume instance) ∷ []
 
 -- the three lines: of a number and its instance, and of what is told of its class tree under a
 -- budget
 abbrev pub made_lines : ℕ → PlainInstance → ℕ → PlainOutcome → Lines
 made_lines number instance budget decision =
-    made_words number instance ∷ (codes "fit" ∷ fit_word decision ∷ []) ∷ (codes "branchings" ∷ branching_words budget decision) ∷ []
+    made_words number instance ∷ (codes "fit" ∷ fit_word decision ∷ [])
+    ∷ (codes "branchings" ∷ branching_words budget decision) ∷ []
 
 -- a line feed after each line
 unfoldable pub made_text : ℕ → PlainInstance → ℕ → PlainOutcome → List ℕ

@@ -29,7 +29,8 @@ reduced_outcome budget scales instance = told budget (outcome (class_tree instan
 
 unfoldable pub reduced_solved : ReducedJob → ℕ → Bool → PlainInstance → Answer
 reduced_solved Fit budget scales instance = fit_answer (reduced_outcome budget scales instance)
-reduced_solved Strip budget scales instance = strip_answer (first_too_wide instance) (reduced_height_run instance budget scales)
+reduced_solved Strip budget scales instance =
+    strip_answer (first_too_wide instance) (reduced_height_run instance budget scales)
 
 -- the lines of the document: those of the answer, behind `reduced`
 abbrev pub reduced_answer_lines : PlainInstance → Answer → Lines
@@ -42,7 +43,8 @@ reduced_text instance answer = lines_text (reduced_answer_lines instance answer)
 -- the status and the bytes
 abbrev pub reduced_answer_of : ReducedJob → ℕ → Bool → PlainInstance → JobAnswer
 reduced_answer_of job budget scales instance =
-    let answer = reduced_solved job budget scales instance in record { status = status_of answer; text = reduced_text instance answer }
+    let answer = reduced_solved job budget scales instance in
+    record { status = status_of answer; text = reduced_text instance answer }
 
 -- the answer of a job that answers an instance with a document
 abbrev pub document_answer : DocumentJob → ℕ → Bool → PlainInstance → JobAnswer
@@ -58,19 +60,25 @@ solving_job Strip = SolvesStrip
 
 -- what is claimed is of the job, and shown from the facts of the instance on
 abbrev pub IsShownReduced : ReducedJob → PlainInstance → Claim → List ℕ → List PlainToken → Type 0
-IsShownReduced job instance claim numbers tokens = IsShownFrom (symmetry_facts instance) (solving_job job) instance claim numbers tokens
+IsShownReduced job instance claim numbers tokens =
+    IsShownFrom (symmetry_facts instance) (solving_job job) instance claim numbers tokens
 
 abbrev pub ReducedAnswersAreShown : Type 0
-ReducedAnswersAreShown = (job : ReducedJob) (budget : ℕ) (scales : Bool) (instance : PlainInstance) (claim : Claim) (numbers : List ℕ) (tokens : List PlainToken)
-    → IsInstance instance → reduced_solved job budget scales instance ≡ Claimed claim numbers tokens → IsShownReduced job instance claim numbers tokens
+ReducedAnswersAreShown = (job : ReducedJob) (budget : ℕ) (scales : Bool) (instance : PlainInstance) (claim : Claim)
+    (numbers : List ℕ) (tokens : List PlainToken)
+    → IsInstance instance → reduced_solved job budget scales instance ≡ Claimed claim numbers tokens
+    → IsShownReduced job instance claim numbers tokens
 
 -- what such a job claims is true
 abbrev pub ReducedAnswersAreTrue : Type 0
-ReducedAnswersAreTrue = (job : ReducedJob) (budget : ℕ) (scales : Bool) (instance : PlainInstance) (claim : Claim) (numbers : List ℕ) (tokens : List PlainToken)
-    → IsInstance instance → reduced_solved job budget scales instance ≡ Claimed claim numbers tokens → IsTrueOf instance claim
+ReducedAnswersAreTrue = (job : ReducedJob) (budget : ℕ) (scales : Bool) (instance : PlainInstance) (claim : Claim)
+    (numbers : List ℕ) (tokens : List PlainToken)
+    → IsInstance instance → reduced_solved job budget scales instance ≡ Claimed claim numbers tokens
+    → IsTrueOf instance claim
 
 -- `fit` is undecided from the facts on exactly where the class tree that begins with them has more
 -- branchings than the budget
 abbrev pub ReducedUndecidedExactlyPast : Type 0
 ReducedUndecidedExactlyPast = (budget : ℕ) (scales : Bool) (instance : PlainInstance)
-    → (reduced_solved Fit budget scales instance ≡ Undecided) ↔ (budget < count_of (outcome (class_tree instance (symmetry_facts instance) scales)))
+    → (reduced_solved Fit budget scales instance ≡ Undecided) ↔
+    (budget < count_of (outcome (class_tree instance (symmetry_facts instance) scales)))

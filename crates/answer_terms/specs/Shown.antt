@@ -16,27 +16,32 @@ use Rattle.document_terms.specs.declared.claim.SolvingJob.{SolvingJob}
 use Rattle.document_terms.specs.declared.claim.Claim.{Claim}
 use Rattle.document_terms.specs.Claims.{job_of, most_worth, IsTrueOf}
 use Rattle.document_terms.specs.declared.claim.SolvingJob.TheVariants.{Fit}
-use Rattle.document_terms.specs.declared.claim.Claim.TheVariants.{Fitting, NotFitting, LeastHeight, HeightBetween, NoHeight, LeastBins, BinsBetween, NoBins, GreatestValue, ValueBetween}
+use Rattle.document_terms.specs.declared.claim.Claim.TheVariants.{Fitting, NotFitting, LeastHeight, HeightBetween}
+use Rattle.document_terms.specs.declared.claim.Claim.TheVariants.{NoHeight, LeastBins, BinsBetween, NoBins}
+use Rattle.document_terms.specs.declared.claim.Claim.TheVariants.{GreatestValue, ValueBetween}
 use Rattle.answer_terms.specs.Answers.Answer.{Undecided, Claimed}
 use Rattle.answer_terms.specs.Solved.{solved}
 
 -- the instance fits at the one height by these places, and at the other not by these tokens, which
 -- refute it under the exclusions
-pub record ShowsHeight (start : List Exclusion) (instance : PlainInstance) (refuted placed : ℕ) (numbers : List ℕ) (tokens : List PlainToken) : Type 0 where
+pub record ShowsHeight (start : List Exclusion) (instance : PlainInstance) (refuted placed : ℕ) (numbers : List ℕ)
+    (tokens : List PlainToken) : Type 0 where
   pub rising : refuted < placed
   pub most : placed ≤ most_height
   pub packing : IsPacking (with_last_side instance placed) numbers
   pub refutation : Refutes (with_last_side instance refuted) start tokens
 
 -- the same of numbers of bins
-pub record ShowsBins (instance : PlainInstance) (refuted placed : ℕ) (numbers : List ℕ) (tokens : List PlainToken) : Type 0 where
+pub record ShowsBins (instance : PlainInstance) (refuted placed : ℕ) (numbers : List ℕ) (tokens : List PlainToken) :
+    Type 0 where
   pub rising : refuted < placed
   pub most : placed ≤ box_count instance
   pub packing : AreBinNumbers instance placed numbers
   pub refutation : IsBinRefutation instance refuted tokens
 
 -- the one value is reached by these numbers, and the other not by these tokens
-pub record ShowsValue (instance : PlainInstance) (placed refuted : ℕ) (numbers : List ℕ) (tokens : List PlainToken) : Type 0 where
+pub record ShowsValue (instance : PlainInstance) (placed refuted : ℕ) (numbers : List ℕ) (tokens : List PlainToken) :
+    Type 0 where
   pub rising : placed < refuted
   pub most : refuted ≤ most_worth
   pub packing : AreTakenNumbers instance placed numbers
@@ -69,7 +74,8 @@ abbrev pub Shows : PlainInstance → Claim → List ℕ → List PlainToken → 
 Shows instance claim numbers tokens = ShowsFrom [] instance claim numbers tokens
 
 -- what a job claims is of the job, and shown from these exclusions on
-pub record IsShownFrom (start : List Exclusion) (job : SolvingJob) (instance : PlainInstance) (claim : Claim) (numbers : List ℕ) (tokens : List PlainToken) : Type 0 where
+pub record IsShownFrom (start : List Exclusion) (job : SolvingJob) (instance : PlainInstance) (claim : Claim)
+    (numbers : List ℕ) (tokens : List PlainToken) : Type 0 where
   pub of_job : job_of claim ≡ job
   pub shown : ShowsFrom start instance claim numbers tokens
 
@@ -78,12 +84,15 @@ abbrev pub IsShown : SolvingJob → PlainInstance → Claim → List ℕ → Lis
 IsShown job instance claim numbers tokens = IsShownFrom [] job instance claim numbers tokens
 
 abbrev pub AnswersAreShown : Type 0
-AnswersAreShown = (job : SolvingJob) (budget : ℕ) (scales : Bool) (instance : PlainInstance) (claim : Claim) (numbers : List ℕ) (tokens : List PlainToken)
-    → IsInstance instance → solved job budget scales instance ≡ Claimed claim numbers tokens → IsShown job instance claim numbers tokens
+AnswersAreShown = (job : SolvingJob) (budget : ℕ) (scales : Bool) (instance : PlainInstance) (claim : Claim)
+    (numbers : List ℕ) (tokens : List PlainToken)
+    → IsInstance instance → solved job budget scales instance ≡ Claimed claim numbers tokens
+    → IsShown job instance claim numbers tokens
 
 -- what a job claims is true
 abbrev pub AnswersAreTrue : Type 0
-AnswersAreTrue = (job : SolvingJob) (budget : ℕ) (scales : Bool) (instance : PlainInstance) (claim : Claim) (numbers : List ℕ) (tokens : List PlainToken)
+AnswersAreTrue = (job : SolvingJob) (budget : ℕ) (scales : Bool) (instance : PlainInstance) (claim : Claim)
+    (numbers : List ℕ) (tokens : List PlainToken)
     → IsInstance instance → solved job budget scales instance ≡ Claimed claim numbers tokens → IsTrueOf instance claim
 
 -- `fit` is undecided exactly where its class tree has more branchings than the budget

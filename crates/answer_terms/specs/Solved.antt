@@ -9,7 +9,9 @@ use Rattle.tree_terms.specs.Levels.{PlainReached, height_run, bin_run, value_run
 use Rattle.document_terms.specs.declared.claim.SolvingJob.{SolvingJob}
 use Rattle.document_terms.specs.declared.claim.Claim.{Claim}
 use Rattle.document_terms.specs.declared.claim.SolvingJob.TheVariants.{Fit, Strip, Bins, Knapsack}
-use Rattle.document_terms.specs.declared.claim.Claim.TheVariants.{Fitting, NotFitting, LeastHeight, HeightBetween, NoHeight, LeastBins, BinsBetween, NoBins, GreatestValue, ValueBetween}
+use Rattle.document_terms.specs.declared.claim.Claim.TheVariants.{Fitting, NotFitting, LeastHeight, HeightBetween}
+use Rattle.document_terms.specs.declared.claim.Claim.TheVariants.{NoHeight, LeastBins, BinsBetween, NoBins}
+use Rattle.document_terms.specs.declared.claim.Claim.TheVariants.{GreatestValue, ValueBetween}
 use Rattle.answer_terms.specs.Answers.{Answer, status_of, answer_text}
 use Rattle.answer_terms.specs.Answers.Answer.{Undecided, Claimed}
 
@@ -60,4 +62,5 @@ pub record JobAnswer : Type 0 where
 
 abbrev pub answer_of : SolvingJob → ℕ → Bool → PlainInstance → JobAnswer
 answer_of job budget scales instance =
-    let answer = solved job budget scales instance in record { status = status_of answer; text = answer_text instance answer }
+    let answer = solved job budget scales instance in
+    record { status = status_of answer; text = answer_text instance answer }

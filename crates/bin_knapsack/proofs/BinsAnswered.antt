@@ -26,10 +26,12 @@ use Rattle.bin_knapsack.specs.BinAnswers.{Tells, IsAnswer, AreTrueBins, IsSpentE
 has_large : (instance : PlainInstance) (v i : ℕ) → IsFirstTooLarge instance v i → HasTooLargeBox instance
 has_large instance v i h = record { box_no = v; dim = i; there = h.there; in_range = h.in_range; large = h.large }
 
-pub none_at_all : (instance : PlainInstance) (v i : ℕ) → IsFirstTooLarge instance v i → (k : ℕ) → ¬ FitsInBins instance k
+pub none_at_all : (instance : PlainInstance) (v i : ℕ) → IsFirstTooLarge instance v i → (k : ℕ)
+    → ¬ FitsInBins instance k
 none_at_all instance v i w k = too_large instance k (has_large instance v i w)
 
-module _ (instance : PlainInstance) (limits : IsInternalInstance instance) (small : ¬ HasTooLargeBox instance) (budget : ℕ) (scales : Bool)
+module _ (instance : PlainInstance) (limits : IsInternalInstance instance) (small : ¬ HasTooLargeBox instance)
+    (budget : ℕ) (scales : Bool)
     (r : PlainReached) (run : r ≡ bin_run instance budget scales) where
   pub answer_told : (b : Bins) → Tells r b → IsAnswer instance budget scales b
   answer_told (Least bins numbers tokens) t = (small, sym run ∙ t)
@@ -50,7 +52,8 @@ module _ (instance : PlainInstance) (limits : IsInternalInstance instance) (smal
 
   -- where the run ends
   pub ended : IsRisingEnd (first_bins instance scales) r
-  ended = subst (λ (y : PlainReached). IsRisingEnd (first_bins instance scales) y) (sym run) (bins_end instance limits budget scales)
+  ended = subst (λ (y : PlainReached). IsRisingEnd (first_bins instance scales) y) (sym run)
+      (bins_end instance limits budget scales)
 
   pub placed_small : r.placed ≤ most_boxes
   placed_small = let a = ended.high in let b = limits.boxes.count.1 in omega (arith, a, b)
@@ -66,7 +69,8 @@ module _ (instance : PlainInstance) (limits : IsInternalInstance instance) (smal
       let b : r.placed ≡ bins = ap (λ (y : PlainReached). y.placed) t in
       record {
         order = omega (arith, a, b, order);
-        none_fits = (λ j l f. none_fits_bins excess_law instance (internal_sides instance limits) refuted (plain_tokens tokens.items) k.0
+        none_fits = (λ j l f. none_fits_bins excess_law instance (internal_sides instance limits) refuted
+            (plain_tokens tokens.items) k.0
             (fits_in_more instance j refuted l f));
         packed = k.1;
         refutes = k.0;
@@ -78,13 +82,17 @@ module _ (instance : PlainInstance) (limits : IsInternalInstance instance) (smal
 
   pub spent_told : (b : Bins) → Tells r b → IsSpentExactly instance budget scales b
   spent_told (Least bins numbers tokens) t =
-      (λ large. true≢false (sym ((bins_spent instance budget scales).1 large) ∙ spent_run false (ap (λ (y : PlainReached). y.spent) t)))
-  spent_told (Between refuted tokens bins numbers) t = (bins_spent instance budget scales).0 (spent_run true (ap (λ (y : PlainReached). y.spent) t))
+      (λ large. true≢false (sym ((bins_spent instance budget scales).1 large)
+      ∙ spent_run false (ap (λ (y : PlainReached). y.spent) t)))
+  spent_told (Between refuted tokens bins numbers) t =
+      (bins_spent instance budget scales).0 (spent_run true (ap (λ (y : PlainReached). y.spent) t))
   spent_told (NoneFits v i) t = tt
 
   pub final_told : 3 ^ (dims instance * box_count instance * (box_count instance - 1) / 2)
-      * sum_below (box_count instance) (λ j. (box_count instance - 1) ^ (j + 1)) ≤ budget → (b : Bins) → Tells r b → IsFinal b
+      * sum_below (box_count instance) (λ j. (box_count instance - 1) ^ (j + 1)) ≤ budget → (b : Bins)
+      → Tells r b → IsFinal b
   final_told l (Least bins numbers tokens) t = tt
   final_told l (Between refuted tokens bins numbers) t =
-      true≢false (sym (spent_run true (ap (λ (y : PlainReached). y.spent) t)) ∙ bins_enough instance limits budget scales l)
+      true≢false (sym (spent_run true (ap (λ (y : PlainReached). y.spent) t))
+      ∙ bins_enough instance limits budget scales l)
   final_told l (NoneFits v i) t = tt

@@ -35,7 +35,8 @@ module _ (instance : PlainInstance) (limits : IsInternalInstance instance) (budg
 
   -- where the run ends
   pub ended : IsFallingEnd (first_values instance) r
-  ended = subst (λ (y : PlainReached). IsFallingEnd (first_values instance) y) (sym run) (value_end instance budget scales)
+  ended = subst (λ (y : PlainReached). IsFallingEnd (first_values instance) y) (sym run)
+      (value_end instance budget scales)
 
   pub true_told : (c : Choice) → Tells r c → IsTrueChoice instance c
   true_told (Greatest value numbers tokens) t =
@@ -48,7 +49,8 @@ module _ (instance : PlainInstance) (limits : IsInternalInstance instance) (budg
       let b : r.placed ≡ placed = ap (λ (y : PlainReached). y.placed) t in
       record {
         order = omega (arith, a, b, order);
-        none_reaches = (λ j l f. none_reaches excess_law instance (internal_sides instance limits) refuted (plain_tokens tokens.items) k.0
+        none_reaches = (λ j l f. none_reaches excess_law instance (internal_sides instance limits) refuted
+            (plain_tokens tokens.items) k.0
             (reaches_lower instance refuted j l f));
         packed = k.1;
         refutes = k.0;
@@ -59,11 +61,15 @@ module _ (instance : PlainInstance) (limits : IsInternalInstance instance) (budg
 
   pub spent_told : (c : Choice) → Tells r c → IsSpentExactly instance budget scales c
   spent_told (Greatest value numbers tokens) t =
-      (λ large. true≢false (sym ((value_spent instance budget scales).1 large) ∙ spent_run false (ap (λ (y : PlainReached). y.spent) t)))
-  spent_told (Between placed numbers refuted tokens) t = (value_spent instance budget scales).0 (spent_run true (ap (λ (y : PlainReached). y.spent) t))
+      (λ large. true≢false (sym ((value_spent instance budget scales).1 large)
+      ∙ spent_run false (ap (λ (y : PlainReached). y.spent) t)))
+  spent_told (Between placed numbers refuted tokens) t =
+      (value_spent instance budget scales).0 (spent_run true (ap (λ (y : PlainReached). y.spent) t))
 
-  pub final_told : 3 ^ (dims instance * box_count instance * (box_count instance - 1) / 2) * (2 ^ (box_count instance + 1) - 2) ≤ budget
+  pub final_told : 3 ^ (dims instance * box_count instance * (box_count instance - 1) / 2)
+      * (2 ^ (box_count instance + 1) - 2) ≤ budget
       → (c : Choice) → Tells r c → IsFinal c
   final_told l (Greatest value numbers tokens) t = tt
   final_told l (Between placed numbers refuted tokens) t =
-      true≢false (sym (spent_run true (ap (λ (y : PlainReached). y.spent) t)) ∙ value_enough instance limits budget scales l)
+      true≢false (sym (spent_run true (ap (λ (y : PlainReached). y.spent) t))
+      ∙ value_enough instance limits budget scales l)

@@ -15,9 +15,21 @@ use Rattle.bin_knapsack.specs.declared.bins.Bins.TheVariants.{Least, Between, No
 -- the answer tells where a run of numbers of bins ended
 abbrev pub Tells : PlainReached → Bins → Type 0
 Tells r (Least bins numbers tokens) =
-    r ≡ record { refuted = bins - 1; tokens = plain_tokens tokens.items; placed = bins; numbers = numbers.items; spent = false }
+    r ≡ record {
+      refuted = bins - 1;
+      tokens = plain_tokens tokens.items;
+      placed = bins;
+      numbers = numbers.items;
+      spent = false;
+    }
 Tells r (Between refuted tokens bins numbers) =
-    r ≡ record { refuted = refuted; tokens = plain_tokens tokens.items; placed = bins; numbers = numbers.items; spent = true }
+    r ≡ record {
+      refuted = refuted;
+      tokens = plain_tokens tokens.items;
+      placed = bins;
+      numbers = numbers.items;
+      spent = true;
+    }
 Tells r (NoneFits v i) = ⊥
 
 -- The answer is that of the definition: the first box that is too large, or, where none is, where
@@ -30,14 +42,16 @@ IsAnswer instance budget scales (Between refuted tokens bins numbers) =
     (¬ HasTooLargeBox instance) × Tells (bin_run instance budget scales) (Between refuted tokens bins numbers)
 
 -- the least number of bins, with both certificates
-pub record IsCertifiedLeast (instance : PlainInstance) (bins : ℕ) (numbers : List ℕ) (tokens : List PlainToken) : Type 0 where
+pub record IsCertifiedLeast (instance : PlainInstance) (bins : ℕ) (numbers : List ℕ) (tokens : List PlainToken) :
+    Type 0 where
   pub least : IsLeastBins instance bins
   pub packed : AreBinNumbers instance bins numbers
   pub refuted : IsBinRefutation instance (bins - 1) tokens
 
 -- so many bins as are refuted don't hold the boxes, nor do fewer, and the placed number does, with
 -- both certificates
-pub record IsCertifiedBetween (instance : PlainInstance) (refuted : ℕ) (tokens : List PlainToken) (bins : ℕ) (numbers : List ℕ) : Type 0 where
+pub record IsCertifiedBetween (instance : PlainInstance) (refuted : ℕ) (tokens : List PlainToken) (bins : ℕ)
+    (numbers : List ℕ) : Type 0 where
   pub order : refuted < bins
   pub none_fits : (k : ℕ) → k ≤ refuted → ¬ FitsInBins instance k
   pub packed : AreBinNumbers instance bins numbers
@@ -45,8 +59,10 @@ pub record IsCertifiedBetween (instance : PlainInstance) (refuted : ℕ) (tokens
 
 -- what the answer says is true
 abbrev pub AreTrueBins : PlainInstance → Bins → Type 0
-AreTrueBins instance (Least bins numbers tokens) = IsCertifiedLeast instance bins numbers.items (plain_tokens tokens.items)
-AreTrueBins instance (Between refuted tokens bins numbers) = IsCertifiedBetween instance refuted (plain_tokens tokens.items) bins numbers.items
+AreTrueBins instance (Least bins numbers tokens) =
+    IsCertifiedLeast instance bins numbers.items (plain_tokens tokens.items)
+AreTrueBins instance (Between refuted tokens bins numbers) =
+    IsCertifiedBetween instance refuted (plain_tokens tokens.items) bins numbers.items
 AreTrueBins instance (NoneFits v i) = (k : ℕ) → ¬ FitsInBins instance k
 
 -- `Between` exactly where some number of bins on the run has more branchings than the budget

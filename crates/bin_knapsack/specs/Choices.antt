@@ -14,23 +14,37 @@ use Rattle.bin_knapsack.specs.declared.choice.Choice.TheVariants.{Greatest, Betw
 -- the answer tells where a run of values ended
 abbrev pub Tells : PlainReached → Choice → Type 0
 Tells r (Greatest value numbers tokens) =
-    r ≡ record { refuted = suc value; tokens = plain_tokens tokens.items; placed = value; numbers = numbers.items; spent = false }
+    r ≡ record {
+      refuted = suc value;
+      tokens = plain_tokens tokens.items;
+      placed = value;
+      numbers = numbers.items;
+      spent = false;
+    }
 Tells r (Between placed numbers refuted tokens) =
-    r ≡ record { refuted = refuted; tokens = plain_tokens tokens.items; placed = placed; numbers = numbers.items; spent = true }
+    r ≡ record {
+      refuted = refuted;
+      tokens = plain_tokens tokens.items;
+      placed = placed;
+      numbers = numbers.items;
+      spent = true;
+    }
 
 -- the answer is that of the definition: where the run of values ended
 abbrev pub IsAnswer : PlainInstance → ℕ → Bool → Choice → Type 0
 IsAnswer instance budget scales choice = Tells (value_run instance budget scales) choice
 
 -- the greatest value, with both certificates
-pub record IsCertifiedGreatest (instance : PlainInstance) (value : ℕ) (numbers : List ℕ) (tokens : List PlainToken) : Type 0 where
+pub record IsCertifiedGreatest (instance : PlainInstance) (value : ℕ) (numbers : List ℕ) (tokens : List PlainToken) :
+    Type 0 where
   pub greatest : IsGreatestValue instance value
   pub packed : AreTakenNumbers instance value numbers
   pub refuted : IsValueRefutation instance (suc value) tokens
 
 -- no set of boxes that fits is worth as much as the refuted value or more, and one is worth the
 -- placed value, with both certificates
-pub record IsCertifiedBetween (instance : PlainInstance) (placed : ℕ) (numbers : List ℕ) (refuted : ℕ) (tokens : List PlainToken) : Type 0 where
+pub record IsCertifiedBetween (instance : PlainInstance) (placed : ℕ) (numbers : List ℕ) (refuted : ℕ)
+    (tokens : List PlainToken) : Type 0 where
   pub order : placed < refuted
   pub none_reaches : (t : ℕ) → refuted ≤ t → ¬ ReachesValue instance t
   pub packed : AreTakenNumbers instance placed numbers
@@ -38,8 +52,10 @@ pub record IsCertifiedBetween (instance : PlainInstance) (placed : ℕ) (numbers
 
 -- what the answer says is true
 abbrev pub IsTrueChoice : PlainInstance → Choice → Type 0
-IsTrueChoice instance (Greatest value numbers tokens) = IsCertifiedGreatest instance value numbers.items (plain_tokens tokens.items)
-IsTrueChoice instance (Between placed numbers refuted tokens) = IsCertifiedBetween instance placed numbers.items refuted (plain_tokens tokens.items)
+IsTrueChoice instance (Greatest value numbers tokens) =
+    IsCertifiedGreatest instance value numbers.items (plain_tokens tokens.items)
+IsTrueChoice instance (Between placed numbers refuted tokens) =
+    IsCertifiedBetween instance placed numbers.items refuted (plain_tokens tokens.items)
 
 -- `Between` exactly where some value on the run has more branchings than the budget
 abbrev pub IsSpentExactly : PlainInstance → ℕ → Bool → Choice → Type 0

@@ -22,7 +22,7 @@ fn push_alone(numbers: &mut Vec<u32>, dims: u32, bin: u32) -> Result<(), NoMemor
 }
 
 // A bin for each box, with the box at the origin.
-pub fn spread_all(alloc: Global, instance: &Instance) -> Result<Vec<u32>, NoMemory>
+pub(crate) fn spread_all(alloc: Global, instance: &Instance) -> Result<Vec<u32>, NoMemory>
     ensures { IfOk result (λ numbers. numbers.items ≡ spread_numbers instance.now) }
 {
     let mut numbers = Vec::new(alloc);

@@ -6,4 +6,5 @@ use Rattle.tree_terms.specs.ClassTree.{first_too_large_box}
 use Rattle.tree_terms.proofs.FirstFound.{none_large_is}
 
 pub fit_none : (instance : PlainInstance) → SidesFit instance → first_too_large_box instance ≡ None
-fit_none instance fit = (none_large_is instance).1 (λ h. let l = fit h.box_no h.dim h.there h.in_range in let m = h.large in omega (arith, l, m))
+fit_none instance fit = (none_large_is instance).1
+    (λ h. let l = fit h.box_no h.dim h.there h.in_range in let m = h.large in omega (arith, l, m))

@@ -1,5 +1,6 @@
 -- Nodes of a bin tree and their children.
-use Rattle.std.specs.Prelude.{ℕ, pred, ◌+◌, ◌<◌, ◌≤◌, ◌≡◌, ◌⊎◌, List, [], ◌∷◌, length, drop, nat_lt, if◌then◌else◌, slice_index_or, Option, Bool, true, false}
+use Rattle.std.specs.Prelude.{ℕ, pred, ◌+◌, ◌<◌, ◌≤◌, ◌≡◌, ◌⊎◌, List, [], ◌∷◌, length, drop, nat_lt, if◌then◌else◌}
+use Rattle.std.specs.Prelude.{slice_index_or, Option, Bool, true, false}
 use Rattle.std.specs.List.{AllByRecursion, list_any}
 use Rattle.packing_terms.specs.Packing.{PlainInstance, IsPacking, box_count}
 use Rattle.packing_terms.specs.Rules.{AreBoxes}
@@ -23,12 +24,14 @@ pub record AreInBins (instance : PlainInstance) (k placed : ℕ) (bins : Bins) (
   pub there : placed ≤ length (ranked instance)
   pub rest : AreBoxes instance (drop placed (ranked instance))
   pub unplaced : AllByRecursion (λ v. list_any (has_box v) bins ≡ false) (drop placed (ranked instance))
-  pub covered : (v : ℕ) → v < box_count instance → (has_box v (drop placed (ranked instance)) ≡ true) ⊎ (list_any (has_box v) bins ≡ true)
+  pub covered : (v : ℕ) → v < box_count instance → (has_box v (drop placed (ranked instance)) ≡ true)
+      ⊎ (list_any (has_box v) bins ≡ true)
   pub few : length bins ≤ k
   pub lengths : length answers ≡ length bins
   pub sets : (b : ℕ) → b < length bins → AreBoxes instance (slice_index_or bins b [])
   pub rising : (b : ℕ) → b < length bins → AreRising (slice_index_or bins b [])
-  pub packs : (b : ℕ) → b < length bins → IsPacking (subset instance (slice_index_or bins b [])) (slice_index_or answers b [])
+  pub packs : (b : ℕ) → b < length bins
+      → IsPacking (subset instance (slice_index_or bins b [])) (slice_index_or answers b [])
 
 -- a node, as lists
 pub record PlainPlaced : Type 0 where
@@ -38,7 +41,12 @@ pub record PlainPlaced : Type 0 where
   pub visited : ℕ
 
 abbrev pub plain_placed : Placed → PlainPlaced
-plain_placed c = record { placed = c.placed; bins = lists_of c.bins.items; answers = lists_of c.answers.items; visited = c.visited }
+plain_placed c = record {
+  placed = c.placed;
+  bins = lists_of c.bins.items;
+  answers = lists_of c.answers.items;
+  visited = c.visited;
+}
 
 -- what the step into a child changed: the number of children visited by then, and the changed bin
 -- with its answer as they stood before, where the bin isn't new
@@ -73,7 +81,8 @@ abbrev pub grown_bin : PlainInstance → PlainPlaced → List ℕ
 grown_bin instance c = insert_box (box_of instance c) (slice_index_or c.bins c.visited [])
 
 -- the child that comes next is this node: its changed bin has an answer
-pub record IsEntered (instance : PlainInstance) (scales : Bool) (c : PlainPlaced) (left : ℕ) (d : PlainPlaced) (own : ℕ) : Type 0 where
+pub record IsEntered (instance : PlainInstance) (scales : Bool) (c : PlainPlaced) (left : ℕ) (d : PlainPlaced)
+    (own : ℕ) : Type 0 where
   pub numbers : List ℕ
   pub cost : ℕ
   pub is : set_verdict instance scales (grown_bin instance c) ≡ Yes numbers cost

@@ -1,5 +1,6 @@
 -- Nodes of a bin tree by their paths, and the answers of their bins.
-use Rattle.std.specs.Prelude.{ℕ, ◌+◌, ◌-◌, ◌*◌, ◌<◌, ◌≤◌, ◌≡◌, ◌==◌, List, [], ◌∷◌, length, map, take, drop, slice_index_or, Option, Some, Bool}
+use Rattle.std.specs.Prelude.{ℕ, ◌+◌, ◌-◌, ◌*◌, ◌<◌, ◌≤◌, ◌≡◌, ◌==◌, List, [], ◌∷◌, length, map, take, drop}
+use Rattle.std.specs.Prelude.{slice_index_or, Option, Some, Bool}
 use Rattle.std.specs.List.{position_or_len}
 use Rattle.packing_terms.specs.Packing.{PlainInstance, dims, box_count}
 use Rattle.packing_terms.specs.OuterRefutation.{Bins, insert_box, has_box, placements}
@@ -14,7 +15,8 @@ use Rattle.bin_search.specs.Trees.{PlainBinTree}
 abbrev pub HasAnswers : PlainInstance → Bins → List (List ℕ) → Type 0
 HasAnswers instance bins answers = (v : ℕ) → v < box_count instance → (b : ℕ) → b ≡ position_or_len (has_box v) bins
     → (b < length bins) × (b < length answers) × (length bins ≤ 128)
-    × ((position_or_len (λ u. u == v) (slice_index_or bins b []) + 1) * dims instance ≤ length (slice_index_or answers b []))
+    × ((position_or_len (λ u. u == v) (slice_index_or bins b []) + 1) * dims instance ≤ length
+    (slice_index_or answers b []))
 
 -- the box that comes next
 abbrev pub box_at : PlainInstance → ℕ → ℕ
@@ -48,7 +50,8 @@ pub record IsAbove (t : PlainBinTree) (placed : ℕ) (bins : Bins) : Type 0 wher
 abbrev pub child_tree : PlainBinTree → ℕ → Bins → ℕ → SearchTree
 child_tree t placed bins b =
     bin_child b (set_verdict t.instance t.scales (grown bins (box_at t.instance placed) b))
-    (λ numbers count. bin_node t.instance t.scales t.bins (drop (placed + 1) (ranked t.instance)) (with_answer bins b (grown bins (box_at t.instance placed) b))
+    (λ numbers count. bin_node t.instance t.scales t.bins (drop (placed + 1) (ranked t.instance))
+    (with_answer bins b (grown bins (box_at t.instance placed) b))
     (with_answer (answers_of t.instance t.scales bins) b numbers) count)
 
 -- the node at the end of a path is this child of a node with a box left

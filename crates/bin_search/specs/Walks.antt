@@ -19,7 +19,8 @@ next_bins t c b = slice_index_or (placements t.bins c.bins (box_of t.instance c)
 abbrev pub child_of : PlainBinTree → PlainPlaced → ℕ → SearchTree
 child_of t c b =
     bin_child b (set_verdict t.instance t.scales (slice_index_or (next_bins t c b) b []))
-    (λ numbers count. bin_node t.instance t.scales t.bins (later_boxes t c) (next_bins t c b) (with_answer c.answers b numbers) count)
+    (λ numbers count. bin_node t.instance t.scales t.bins (later_boxes t c) (next_bins t c b)
+    (with_answer c.answers b numbers) count)
 
 -- the number of children
 abbrev pub width : PlainBinTree → PlainPlaced → ℕ
@@ -47,7 +48,8 @@ AreSplit t (c ∷ cs) = IsSplit t c × AreSplit t cs
 -- What a walk has still to give: the tokens and the count so far, joined with the children of the
 -- node in hand that haven't been visited, and with those of the nodes above, are what the whole
 -- tree gives.
-pub record IsLeft (t : PlainBinTree) (whole : Verdict) (tokens : List PlainToken) (count : ℕ) (c : PlainPlaced) (waiting : List PlainPlaced) : Type 0 where
+pub record IsLeft (t : PlainBinTree) (whole : Verdict) (tokens : List PlainToken) (count : ℕ) (c : PlainPlaced)
+    (waiting : List PlainPlaced) : Type 0 where
   pub joined : join (No tokens count) (join (rest_verdict t c) (waiting_verdict t waiting)) ≡ whole
   pub node : IsSplit t c
   pub waits : AreSplit t waiting

@@ -7,7 +7,7 @@ use box_instances::NoMemory;
 use std::mem;
 
 // Replaces one of the lists, and gives what stood there; or puts one more behind them.
-pub fn replace_list(
+pub(crate) fn replace_list(
     lists: &mut Vec<Vec<u32>>,
     at: usize,
     list: Vec<u32>,
@@ -28,7 +28,7 @@ pub fn replace_list(
 
 // Undoes a replacement: puts back what stood there, or takes away the list that was put behind
 // the others.
-pub fn restore_list(lists: &mut Vec<Vec<u32>>, at: usize, before: Option<Vec<u32>>)
+pub(crate) fn restore_list(lists: &mut Vec<Vec<u32>>, at: usize, before: Option<Vec<u32>>)
     ensures { lists_of lists.new.items
         ≡ restored (lists_of lists.old.items) at (list_before before) }
 {

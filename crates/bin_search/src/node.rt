@@ -35,7 +35,7 @@ pub struct Change {
 
 // How many children a node with a box left has: one for each used bin, and one for a new bin where
 // fewer than all are used.
-pub fn children(bins: &[Vec<u32>], most: u32) -> usize
+pub(crate) fn children(bins: &[Vec<u32>], most: u32) -> usize
     requires { length bins.now ≤ most }
     ensures { result ≡ child_count most (lists_of bins.now) }
 {
@@ -47,7 +47,7 @@ pub fn children(bins: &[Vec<u32>], most: u32) -> usize
 }
 
 // Decides the set of a box's bin with the box in it, where a new bin stands behind the used ones.
-pub fn grow_bin(
+pub(crate) fn grow_bin(
     alloc: Global,
     search: &mut SetSearch<'_>,
     bins: &[Vec<u32>],
@@ -70,7 +70,11 @@ pub fn grow_bin(
 
 // Makes the node the child that was visited last: its changed bin is this set, with this answer.
 // Only what changes is touched, so a step costs nothing for the other bins.
-pub fn enter_child(node: &mut Placed, set: Vec<u32>, numbers: Vec<u32>) -> Result<Change, NoMemory>
+pub(crate) fn enter_child(
+    node: &mut Placed,
+    set: Vec<u32>,
+    numbers: Vec<u32>,
+) -> Result<Change, NoMemory>
     requires few { node.old.placed ≤ most_boxes }
     ensures child { OnOk result (plain_placed node.new ≡ record {
       placed = node.old.placed + 1;
@@ -93,7 +97,7 @@ pub fn enter_child(node: &mut Placed, set: Vec<u32>, numbers: Vec<u32>) -> Resul
 }
 
 // Makes a child the node above it again.
-pub fn leave_child(node: &mut Placed, change: Change)
+pub(crate) fn leave_child(node: &mut Placed, change: Change)
     ensures { plain_placed node.new ≡ undone (plain_placed node.old) (plain_change change) }
 {
     let b = change.visited.saturating_sub(1);

@@ -34,7 +34,7 @@ fn bin_of(bins: &[Vec<u32>], v: u32) -> usize
 }
 
 // The answer of the bin tree: of each box its bin and its coordinates.
-pub fn bin_numbers(
+pub(crate) fn bin_numbers(
     alloc: Global,
     instance: &Instance,
     bins: &[Vec<u32>],

@@ -58,7 +58,7 @@ fn bins_along(alloc: Global, order: &[u32], path: &[u32]) -> Result<Vec<Vec<u32>
 }
 
 // The last step of a path that isn't empty.
-pub fn last_step(alloc: Global, order: &[u32], path: &[u32]) -> Result<Step, NoMemory>
+pub(crate) fn last_step(alloc: Global, order: &[u32], path: &[u32]) -> Result<Step, NoMemory>
     requires some { 1 ≤ length path.now }
     requires few { length path.now ≤ length order.now }
     ensures { IfOk result (λ step. IsLastStep order.now path.now step.placed
@@ -120,7 +120,7 @@ fn answers_with(
 }
 
 // What the tree below a node gives under a cap, with the node's own count.
-pub fn enter(
+pub(crate) fn enter(
     alloc: Global,
     search: &mut SetSearch<'_>,
     instance: &Instance,
@@ -154,7 +154,7 @@ pub fn enter(
 }
 
 // What the tree below the child at the end of a path gives under a cap.
-pub fn explore_step(
+pub(crate) fn explore_step(
     alloc: Global,
     search: &mut SetSearch<'_>,
     instance: &Instance,
@@ -201,7 +201,7 @@ pub fn explore_step(
 
 // What is told of a node at which so many boxes have bins, whose own count is within the greatest
 // budget.
-pub fn tell(
+pub(crate) fn tell(
     instance: &Instance,
     order: &[u32],
     most: u32,
@@ -231,7 +231,7 @@ pub fn tell(
 }
 
 // What is told of the child at the end of a path.
-pub fn tell_step(
+pub(crate) fn tell_step(
     alloc: Global,
     search: &mut SetSearch<'_>,
     instance: &Instance,

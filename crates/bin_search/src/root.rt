@@ -12,7 +12,12 @@ use std::alloc::Global;
 
 // The token of the first tuple of scale functions that exceeds for so many bins, where scales are
 // wanted.
-pub fn scales_token(alloc: Global, instance: &Instance, bins: u32, scales: bool) -> Option<Token>
+pub(crate) fn scales_token(
+    alloc: Global,
+    instance: &Instance,
+    bins: u32,
+    scales: bool,
+) -> Option<Token>
     requires fit { SidesFit instance.now }
     requires few { bins ≤ box_count instance.now }
     ensures { MatchOption result (first_exceeding instance.now bins scales ≡ None)

@@ -20,7 +20,7 @@ use set_search::{Child, SetSearch, push_refuted, push_token};
 use std::alloc::Global;
 
 // The token of a node at which so many boxes have bins.
-pub fn assign(instance: &Instance, order: &[u32], placed: usize) -> Token
+pub(crate) fn assign(instance: &Instance, order: &[u32], placed: usize) -> Token
     requires order { order.now ≡ ranked instance.now }
     requires there { placed < length order.now }
     ensures { plain_token result ≡ Assign (suc (slice_index_or (ranked instance.now) placed 0)) }
@@ -33,7 +33,7 @@ pub fn assign(instance: &Instance, order: &[u32], placed: usize) -> Token
 }
 
 // What the tree below a node with a box left gives under a cap, with the node's own count.
-pub fn walk(
+pub(crate) fn walk(
     alloc: Global,
     search: &mut SetSearch<'_>,
     instance: &Instance,

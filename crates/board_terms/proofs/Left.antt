@@ -8,7 +8,8 @@ pub left_of_longer : (p q rest : List ℕ) → leads_left p q ≡ true → leads
 left_of_longer [] q rest h = absurd (true≢false (sym h))
 left_of_longer (i ∷ p) [] rest h = absurd (true≢false (sym h))
 left_of_longer (i ∷ p) (j ∷ q) rest h =
-    elim (eqb i j) as (λ b. (if b then leads_left p q else ltb i j) ≡ true → (if b then leads_left p (q ++ rest) else ltb i j) ≡ true) [
+    elim (eqb i j) as (λ b. (if b then leads_left p q else ltb i j) ≡ true
+    → (if b then leads_left p (q ++ rest) else ltb i j) ≡ true) [
       | true ↦ λ f. left_of_longer p q rest f
       | false ↦ λ f. f
     ] h
@@ -17,7 +18,8 @@ pub longer_is_left : (p q rest : List ℕ) → leads_left p q ≡ true → leads
 longer_is_left [] q rest h = absurd (true≢false (sym h))
 longer_is_left (i ∷ p) [] rest h = absurd (true≢false (sym h))
 longer_is_left (i ∷ p) (j ∷ q) rest h =
-    elim (eqb i j) as (λ b. (if b then leads_left p q else ltb i j) ≡ true → (if b then leads_left (p ++ rest) q else ltb i j) ≡ true) [
+    elim (eqb i j) as (λ b. (if b then leads_left p q else ltb i j) ≡ true
+    → (if b then leads_left (p ++ rest) q else ltb i j) ≡ true) [
       | true ↦ λ f. longer_is_left p q rest f
       | false ↦ λ f. f
     ] h
@@ -69,7 +71,8 @@ pub left_rest : (p : List ℕ) (qs rs : List (List ℕ)) → IsLeftOf p (qs ++ r
 left_rest p [] rs a = a
 left_rest p (q ∷ qs) rs a = left_rest p qs rs a.1
 
-pub from_left_append : (ps qs : List (List ℕ)) → AreFromLeft ps → AreFromLeft qs → AreAllLeftOf ps qs → AreFromLeft (ps ++ qs)
+pub from_left_append : (ps qs : List (List ℕ)) → AreFromLeft ps → AreFromLeft qs → AreAllLeftOf ps qs
+    → AreFromLeft (ps ++ qs)
 from_left_append [] qs a b c = b
 from_left_append (p ∷ ps) qs a b c = (left_append p ps qs a.0 c.0, from_left_append ps qs a.1 b c.1)
 

@@ -55,12 +55,14 @@ length_numbers n (suc c) = let e = length_numbers (suc n) c in omega (arith, e)
 pub fresh_distinct : (n c : ℕ) (ys : List ℕ) → AreBelow n ys → AreDistinct ys → AreDistinct (numbers_from n c ++ ys)
 fresh_distinct n zero ys a d = d
 fresh_distinct n (suc c) ys a d = (
-  not_in_append n (numbers_from (suc n) c) ys (not_in_numbers n (suc n) c (omega arith)) (not_in_below n n ys a (omega arith)),
+  not_in_append n (numbers_from (suc n) c) ys (not_in_numbers n (suc n) c (omega arith))
+      (not_in_below n n ys a (omega arith)),
   fresh_distinct (suc n) c ys (below_more n (suc n) ys (omega arith) a) d,
 )
 
 -- fresh numbers between older ones
-pub inserted_distinct : (n c : ℕ) (xs ys : List ℕ) → AreBelow n (xs ++ ys) → AreDistinct (xs ++ ys) → AreDistinct (xs ++ (numbers_from n c ++ ys))
+pub inserted_distinct : (n c : ℕ) (xs ys : List ℕ) → AreBelow n (xs ++ ys) → AreDistinct (xs ++ ys)
+    → AreDistinct (xs ++ (numbers_from n c ++ ys))
 inserted_distinct n c [] ys a d = fresh_distinct n c ys a d
 inserted_distinct n c (x ∷ xs) ys a d = (
   not_in_append x xs (numbers_from n c ++ ys) (not_in_left x xs ys d.0)
@@ -68,8 +70,10 @@ inserted_distinct n c (x ∷ xs) ys a d = (
   inserted_distinct n c xs ys a.1 d.1,
 )
 
-pub inserted_below : (n c : ℕ) (xs ys : List ℕ) → AreBelow n (xs ++ ys) → AreBelow (n + c) (xs ++ (numbers_from n c ++ ys))
+pub inserted_below : (n c : ℕ) (xs ys : List ℕ) → AreBelow n (xs ++ ys)
+    → AreBelow (n + c) (xs ++ (numbers_from n c ++ ys))
 inserted_below n c xs ys a =
     let more = below_more n (n + c) (xs ++ ys) (omega arith) a in
     below_append (n + c) xs (numbers_from n c ++ ys) (below_left (n + c) xs ys more)
-    (below_append (n + c) (numbers_from n c) ys (numbers_below n c (n + c) (omega arith)) (below_right (n + c) xs ys more))
+    (below_append (n + c) (numbers_from n c) ys (numbers_below n c (n + c) (omega arith))
+    (below_right (n + c) xs ys more))

@@ -7,7 +7,8 @@ use Rattle.tree_terms.specs.Trees.{SearchTree, No, Decided, Past, node_at}
 use Rattle.tree_terms.specs.ClassTree.{class_tree}
 use Rattle.board_terms.specs.Board.{BoardState, PlainTask, board_start, SplitEntry, TaskEntry, Waits, Out, Done}
 use Rattle.board_terms.specs.Runs.{is_board_over, board_joined}
-use Rattle.board_terms.specs.Steps.{Request, AskTask, AskSplit, AskFinish, Reply, Job, NoneWaits, IsOver, IsDone, Call, AreSteps}
+use Rattle.board_terms.specs.Steps.{Request, AskTask, AskSplit, AskFinish, Reply, Job, NoneWaits, IsOver, IsDone, Call}
+use Rattle.board_terms.specs.Steps.{AreSteps}
 use Rattle.board_terms.specs.Replay.{replay}
 use Rattle.board_terms.specs.declared.Event.TheVariants as stored
 
@@ -16,7 +17,12 @@ box a b = record { sides = a ∷ b ∷ []; value = 1 }
 
 -- four boxes that must stand in a row, where only three have room
 abbrev row_of_four : PlainInstance
-row_of_four = record { container = 10 ∷ 10 ∷ []; kerfs = 0 ∷ 0 ∷ []; boxes = box 3 6 ∷ box 3 6 ∷ box 3 6 ∷ box 3 6 ∷ [] }
+row_of_four = record {
+  container = 10 ∷ 10 ∷ [];
+  kerfs = 0 ∷ 0 ∷ [];
+  boxes = box 3 6 ∷ box 3 6 ∷ box 3 6
+      ∷ box 3 6 ∷ [];
+}
 
 abbrev four : SearchTree
 four = class_tree row_of_four [] false
@@ -29,7 +35,8 @@ second_tokens = Order 1 1 3 ∷ Rules ∷ Order 1 2 3 ∷ Rules ∷ Rules ∷ []
 
 abbrev all_tokens : List PlainToken
 all_tokens =
-    Order 1 1 2 ∷ Order 1 1 3 ∷ Order 1 2 3 ∷ Rules ∷ Rules ∷ Rules ∷ Order 1 1 3 ∷ Rules ∷ Order 1 2 3 ∷ Rules ∷ Rules ∷ []
+    Order 1 1 2 ∷ Order 1 1 3 ∷ Order 1 2 3 ∷ Rules ∷ Rules ∷ Rules ∷ Order 1 1 3 ∷ Rules ∷ Order 1 2 3 ∷ Rules
+    ∷ Rules ∷ []
 
 abbrev task : List ℕ → ℕ → PlainTask
 task path number = record { path = path; number = number }
@@ -40,8 +47,10 @@ asked request reply = record { request = request; reply = reply }
 -- Under a budget of 5 the second child is finished before the first.
 abbrev whole_calls : List Call
 whole_calls =
-    asked AskTask (Job (task [] 0)) ∷ asked (AskSplit 0) IsDone ∷ asked AskTask (Job (task (0 ∷ []) 1)) ∷ asked AskTask (Job (task (1 ∷ []) 2))
-    ∷ asked AskTask NoneWaits ∷ asked (AskFinish 2 false) IsDone ∷ asked AskTask NoneWaits ∷ asked (AskFinish 1 false) IsDone ∷ asked AskTask IsOver ∷ []
+    asked AskTask (Job (task [] 0)) ∷ asked (AskSplit 0) IsDone ∷ asked AskTask (Job (task (0 ∷ []) 1))
+    ∷ asked AskTask (Job (task (1 ∷ []) 2))
+    ∷ asked AskTask NoneWaits ∷ asked (AskFinish 2 false) IsDone ∷ asked AskTask NoneWaits
+    ∷ asked (AskFinish 1 false) IsDone ∷ asked AskTask IsOver ∷ []
 
 abbrev root_out : BoardState
 root_out = record { entries = TaskEntry 0 [] Out ∷ []; is_short = false }
@@ -66,7 +75,8 @@ both_out = record {
 
 abbrev second_done : BoardState
 second_done = record {
-  entries = SplitEntry 0 [] (Order 1 1 2) 1 2 ∷ TaskEntry 1 (0 ∷ []) Out ∷ TaskEntry 2 (1 ∷ []) (Done (Decided (No second_tokens 2))) ∷ [];
+  entries = SplitEntry 0 [] (Order 1 1 2) 1 2 ∷ TaskEntry 1 (0 ∷ []) Out
+      ∷ TaskEntry 2 (1 ∷ []) (Done (Decided (No second_tokens 2))) ∷ [];
   is_short = false;
 }
 
@@ -87,7 +97,17 @@ whole_run = (
   (refl, refl, refl),
   (
     after_split,
-    record { path = []; handed = refl; node = four; there = refl; token = Order 1 1 2; own = 1; children = 2; told = refl; after = refl },
+    record {
+      path = [];
+      handed = refl;
+      node = four;
+      there = refl;
+      token = Order 1 1 2;
+      own = 1;
+      children = 2;
+      told = refl;
+      after = refl;
+    },
     (
       first_out,
       (refl, refl, refl),
@@ -99,13 +119,27 @@ whole_run = (
           (refl, refl, refl),
           (
             second_done,
-            record { path = 1 ∷ []; handed = refl; verdict = No second_tokens 2; there = refl; above = λ e. absurd (cc e); after = refl },
+            record {
+              path = 1 ∷ [];
+              handed = refl;
+              verdict = No second_tokens 2;
+              there = refl;
+              above = λ e. absurd (cc e);
+              after = refl;
+            },
             (
               second_done,
               (refl, refl, refl),
               (
                 both_done,
-                record { path = 0 ∷ []; handed = refl; verdict = No first_tokens 2; there = refl; above = λ e. absurd (cc e); after = refl },
+                record {
+                  path = 0 ∷ [];
+                  handed = refl;
+                  verdict = No first_tokens 2;
+                  there = refl;
+                  above = λ e. absurd (cc e);
+                  after = refl;
+                },
                 (both_done, (refl, refl), refl),
               ),
             ),
@@ -119,18 +153,22 @@ whole_run = (
 whole_joined : board_joined 5 both_done ≡ Decided (No all_tokens 5)
 whole_joined = refl
 
-whole_replayed : replay four 5 (stored.Take 0 ∷ stored.Split 0 ∷ stored.Take 1 ∷ stored.Take 2 ∷ stored.Finish 2 false ∷ stored.Finish 1 false ∷ []) ≡ both_done
+whole_replayed : replay four 5
+    (stored.Take 0 ∷ stored.Split 0 ∷ stored.Take 1 ∷ stored.Take 2 ∷ stored.Finish 2 false ∷ stored.Finish 1 false
+    ∷ []) ≡ both_done
 whole_replayed = refl
 
 -- Under a budget of 2 the leftmost run is past the budget while the second child waits.
 abbrev past_calls : List Call
 past_calls =
-    asked AskTask (Job (task [] 0)) ∷ asked (AskSplit 0) IsDone ∷ asked AskTask (Job (task (0 ∷ []) 1)) ∷ asked (AskFinish 1 false) IsDone
+    asked AskTask (Job (task [] 0)) ∷ asked (AskSplit 0) IsDone ∷ asked AskTask (Job (task (0 ∷ []) 1))
+    ∷ asked (AskFinish 1 false) IsDone
     ∷ asked AskTask IsOver ∷ []
 
 abbrev first_done : BoardState
 first_done = record {
-  entries = SplitEntry 0 [] (Order 1 1 2) 1 2 ∷ TaskEntry 1 (0 ∷ []) (Done (Decided (No first_tokens 2))) ∷ TaskEntry 2 (1 ∷ []) Waits ∷ [];
+  entries = SplitEntry 0 [] (Order 1 1 2) 1 2 ∷ TaskEntry 1 (0 ∷ []) (Done (Decided (No first_tokens 2)))
+      ∷ TaskEntry 2 (1 ∷ []) Waits ∷ [];
   is_short = false;
 }
 
@@ -140,13 +178,30 @@ past_run = (
   (refl, refl, refl),
   (
     after_split,
-    record { path = []; handed = refl; node = four; there = refl; token = Order 1 1 2; own = 1; children = 2; told = refl; after = refl },
+    record {
+      path = [];
+      handed = refl;
+      node = four;
+      there = refl;
+      token = Order 1 1 2;
+      own = 1;
+      children = 2;
+      told = refl;
+      after = refl;
+    },
     (
       first_out,
       (refl, refl, refl),
       (
         first_done,
-        record { path = 0 ∷ []; handed = refl; verdict = No first_tokens 2; there = refl; above = λ e. absurd (cc e); after = refl },
+        record {
+          path = 0 ∷ [];
+          handed = refl;
+          verdict = No first_tokens 2;
+          there = refl;
+          above = λ e. absurd (cc e);
+          after = refl;
+        },
         (first_done, (refl, refl), refl),
       ),
     ),

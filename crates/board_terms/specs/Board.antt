@@ -3,7 +3,8 @@
 -- A board is for one search tree and one budget. Its entries stand in prefix order: each is a
 -- split, or a task that waits, is out with a worker, or is done with an outcome. Each entry has a
 -- number and the path of its node.
-use Rattle.std.specs.Prelude.{ℕ, suc, zero, List, [], ◌∷◌, ◌++◌, Option, Some, None, Bool, true, false, ◌==◌, if◌then◌else◌}
+use Rattle.std.specs.Prelude.{ℕ, suc, zero, List, [], ◌∷◌, ◌++◌, Option, Some, None, Bool, true, false, ◌==◌}
+use Rattle.std.specs.Prelude.{if◌then◌else◌}
 use Rattle.packing_terms.specs.Tokens.{PlainToken}
 use Rattle.tree_terms.specs.Trees.{PlainOutcome}
 
@@ -92,9 +93,11 @@ with_state state (TaskEntry number path old) = TaskEntry number path state
 -- the given number on
 abbrev pub children_from : List ℕ → ℕ → ℕ → ℕ → List PlainEntry
 children_from path k zero number = []
-children_from path k (suc more) number = TaskEntry number (path ++ k ∷ []) Waits ∷ children_from path (suc k) more (suc number)
+children_from path k (suc more) number =
+    TaskEntry number (path ++ k ∷ []) Waits ∷ children_from path (suc k) more (suc number)
 
 -- a split, which keeps its task's number, followed by its children
 abbrev pub split_into : PlainToken → ℕ → ℕ → ℕ → PlainEntry → List PlainEntry
 split_into token own children fresh (SplitEntry number path t o n) = SplitEntry number path t o n ∷ []
-split_into token own children fresh (TaskEntry number path state) = SplitEntry number path token own children ∷ children_from path 0 children fresh
+split_into token own children fresh (TaskEntry number path state) =
+    SplitEntry number path token own children ∷ children_from path 0 children fresh

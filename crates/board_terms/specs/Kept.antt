@@ -1,8 +1,10 @@
 -- What every board keeps, whatever happened and in whatever order.
-use Rattle.std.specs.Prelude.{ℕ, ◌≡◌, ◌<◌, ◌⊎◌, List, [], ◌∷◌, ◌++◌, Some, Bool, true, false, ◌==◌, nat_lt, if◌then◌else◌, option_to_list}
+use Rattle.std.specs.Prelude.{ℕ, ◌≡◌, ◌<◌, ◌⊎◌, List, [], ◌∷◌, ◌++◌, Some, Bool, true, false, ◌==◌, nat_lt}
+use Rattle.std.specs.Prelude.{if◌then◌else◌, option_to_list}
 use Rattle.tree_terms.specs.Trees.{SearchTree, Verdict, PlainOutcome, Decided, Past, count_of}
 use Rattle.tree_terms.specs.Paths.{outcome_at, IsReachable}
-use Rattle.board_terms.specs.Board.{PlainEntry, SplitEntry, TaskEntry, PlainTaskState, Waits, Out, Done, entry_path, out_path}
+use Rattle.board_terms.specs.Board.{PlainEntry, SplitEntry, TaskEntry, PlainTaskState, Waits, Out, Done, entry_path}
+use Rattle.board_terms.specs.Board.{out_path}
 
 -- x isn't in the list
 abbrev pub IsNotIn : {A : Type 0} → A → List A → Type 0
@@ -43,7 +45,8 @@ task_paths (e ∷ es) = option_to_list (entry_path e) ++ task_paths es
 
 -- no path of a task that is out is a prefix of the path of another one
 abbrev pub OutsAreApart : List PlainEntry → Type 0
-OutsAreApart entries = (n m : ℕ) (p q rest : List ℕ) → ¬ (n ≡ m) → out_path n entries ≡ Some p → out_path m entries ≡ Some q → ¬ (q ≡ p ++ rest)
+OutsAreApart entries = (n m : ℕ) (p q rest : List ℕ) → ¬ (n ≡ m) → out_path n entries ≡ Some p
+    → out_path m entries ≡ Some q → ¬ (q ≡ p ++ rest)
 
 -- some task is out
 abbrev pub HasOut : List PlainEntry → Type 0
@@ -57,7 +60,8 @@ IsOutcomeOf budget verdict outcome = (outcome ≡ Decided verdict) ⊎ ((outcome
 abbrev pub IsStateRight : SearchTree → ℕ → List ℕ → PlainTaskState → Type 0
 IsStateRight tree budget path Waits = Unit {0}
 IsStateRight tree budget path Out = Unit {0}
-IsStateRight tree budget path (Done outcome) = (verdict : Verdict) × (outcome_at tree path ≡ Some verdict) × IsOutcomeOf budget verdict outcome
+IsStateRight tree budget path (Done outcome) = (verdict : Verdict) × (outcome_at tree path ≡ Some verdict)
+    × IsOutcomeOf budget verdict outcome
 
 -- each task's path may be reached, and each done task has its node's outcome, or past where the
 -- count of that exceeds the budget

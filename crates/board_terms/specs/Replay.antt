@@ -1,9 +1,11 @@
 -- The replay of a history: what each stored event makes of a board, with all else read from the
 -- tree.
-use Rattle.std.specs.Prelude.{ℕ, List, [], ◌∷◌, ◌++◌, length, Option, Some, None, Bool, true, false, fold, option_to_list}
+use Rattle.std.specs.Prelude.{ℕ, List, [], ◌∷◌, ◌++◌, length, Option, Some, None, Bool, true, false, fold}
+use Rattle.std.specs.Prelude.{option_to_list}
 use Rattle.tree_terms.specs.Trees.{SearchTree, Verdict, PlainOutcome, Decided, told, node_at}
 use Rattle.tree_terms.specs.Paths.{PlainNode, Leaf, Splits, node_told, outcome_at}
-use Rattle.board_terms.specs.Board.{BoardState, board_start, PlainEntry, SplitEntry, TaskEntry, is_out, out_path, at_first, with_state, Done, split_into}
+use Rattle.board_terms.specs.Board.{BoardState, board_start, PlainEntry, SplitEntry, TaskEntry, is_out, out_path}
+use Rattle.board_terms.specs.Board.{at_first, with_state, Done, split_into}
 use Rattle.board_terms.specs.Steps.{handed_out, with_entries}
 use Rattle.board_terms.specs.declared.Event.{Event}
 use Rattle.board_terms.specs.declared.Event.TheVariants as stored
@@ -21,7 +23,8 @@ split_as (Splits token own children) fresh e = split_into token own children fre
 -- an entry, split as the tree has it at its path
 abbrev pub split_by : SearchTree → ℕ → PlainEntry → List PlainEntry
 split_by tree fresh (SplitEntry number path token own children) = SplitEntry number path token own children ∷ []
-split_by tree fresh (TaskEntry number path state) = split_as (told_there (node_at (Some tree) path)) fresh (TaskEntry number path state)
+split_by tree fresh (TaskEntry number path state) =
+    split_as (told_there (node_at (Some tree) path)) fresh (TaskEntry number path state)
 
 -- the outcome that is read from the tree: as told under the budget where past was given, and else
 -- whole
@@ -45,7 +48,8 @@ abbrev pub happens : SearchTree → ℕ → BoardState → Event → BoardState
 happens tree budget board (stored.Take number) = with_entries board (handed_out number board.entries)
 happens tree budget board (stored.Split number) =
     with_entries board (at_first (is_out number) (split_by tree (length board.entries)) board.entries)
-happens tree budget board (stored.Finish number past) = with_entries board (at_first (is_out number) (done_by tree budget past) board.entries)
+happens tree budget board (stored.Finish number past) =
+    with_entries board (at_first (is_out number) (done_by tree budget past) board.entries)
 happens tree budget board stored.Short = record board { is_short = true }
 
 abbrev pub replay_from : SearchTree → ℕ → BoardState → List Event → BoardState
@@ -65,4 +69,5 @@ path_finished board stored.Short = []
 -- the paths that a history finishes, in the order in which it finishes them
 abbrev pub finished_paths : SearchTree → ℕ → BoardState → List Event → List (List ℕ)
 finished_paths tree budget board [] = []
-finished_paths tree budget board (e ∷ es) = path_finished board e ++ finished_paths tree budget (happens tree budget board e) es
+finished_paths tree budget board (e ∷ es) =
+    path_finished board e ++ finished_paths tree budget (happens tree budget board e) es

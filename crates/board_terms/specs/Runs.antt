@@ -37,7 +37,8 @@ run_of budget (e ∷ es) = with_entry budget e (run_of budget es)
 -- A board is over where a worker was short of memory, or its run is whole, or the run's count
 -- exceeds the budget.
 abbrev pub is_board_over : ℕ → BoardState → Bool
-is_board_over budget board = board.is_short || (run_of budget board.entries).is_whole || nat_lt budget (count_of (run_of budget board.entries).verdict)
+is_board_over budget board = board.is_short || (run_of budget board.entries).is_whole
+    || nat_lt budget (count_of (run_of budget board.entries).verdict)
 
 -- What a board that is over and not short joins to: the run's verdict, or past where the run's
 -- count exceeds the budget. A whole run without a yes has the tokens of all entries in order.

@@ -3,7 +3,8 @@ use Rattle.std.specs.Prelude.{ℕ, ◌≡◌, ◌<◌, List, [], ◌∷◌, ◌+
 use Rattle.packing_terms.specs.Tokens.{PlainToken}
 use Rattle.tree_terms.specs.Trees.{SearchTree, Verdict, count_of, PlainOutcome, Decided, Past, node_at}
 use Rattle.tree_terms.specs.Paths.{node_told, Splits, outcome_at}
-use Rattle.board_terms.specs.Board.{BoardState, PlainTask, PlainEntry, waits_as, is_out, first_waiting, out_path, at_first, with_state, Out, Done, split_into}
+use Rattle.board_terms.specs.Board.{BoardState, PlainTask, PlainEntry, waits_as, is_out, first_waiting, out_path}
+use Rattle.board_terms.specs.Board.{at_first, with_state, Out, Done, split_into}
 use Rattle.board_terms.specs.Runs.{is_board_over}
 use Rattle.board_terms.specs.declared.Event.{Event}
 use Rattle.board_terms.specs.declared.Event.TheVariants as stored
@@ -30,7 +31,8 @@ handed_out number = at_first (waits_as number) (λ e. with_state Out e ∷ [])
 -- the task of this number, which is out, is split, with its children waiting, numbered from the
 -- number of entries before on
 abbrev pub divided : PlainToken → ℕ → ℕ → ℕ → List PlainEntry → List PlainEntry
-divided token own children number entries = at_first (is_out number) (split_into token own children (length entries)) entries
+divided token own children number entries =
+    at_first (is_out number) (split_into token own children (length entries)) entries
 
 -- the task of this number, which is out, is done
 abbrev pub finished : PlainOutcome → ℕ → List PlainEntry → List PlainEntry
@@ -60,7 +62,8 @@ pub record Divides (tree : SearchTree) (old : BoardState) (number : ℕ) (new : 
 
 -- The task of this number is out, and is done with the tree's outcome at its path, or with past
 -- where the count of that exceeds the budget.
-pub record Finishes (tree : SearchTree) (budget : ℕ) (old : BoardState) (number : ℕ) (past : Bool) (new : BoardState) : Type 0 where
+pub record Finishes (tree : SearchTree) (budget : ℕ) (old : BoardState) (number : ℕ) (past : Bool) (new : BoardState) :
+    Type 0 where
   pub path : List ℕ
   pub handed : out_path number old.entries ≡ Some path
   pub verdict : Verdict
@@ -73,8 +76,10 @@ pub record Finishes (tree : SearchTree) (budget : ℕ) (old : BoardState) (numbe
 abbrev pub BoardStep : SearchTree → ℕ → BoardState → Request → Reply → BoardState → Type 0
 BoardStep tree budget old AskTask IsOver new = (is_board_over budget old ≡ true) × (new ≡ old)
 BoardStep tree budget old AskTask (Job task) new =
-    (is_board_over budget old ≡ false) × (first_waiting old.entries ≡ Some task) × (new ≡ with_entries old (handed_out task.number old.entries))
-BoardStep tree budget old AskTask NoneWaits new = (is_board_over budget old ≡ false) × (first_waiting old.entries ≡ None) × (new ≡ old)
+    (is_board_over budget old ≡ false) × (first_waiting old.entries ≡ Some task)
+    × (new ≡ with_entries old (handed_out task.number old.entries))
+BoardStep tree budget old AskTask NoneWaits new =
+    (is_board_over budget old ≡ false) × (first_waiting old.entries ≡ None) × (new ≡ old)
 BoardStep tree budget old AskTask IsDone new = ⊥
 BoardStep tree budget old (AskSplit number) IsDone new = Divides tree old number new
 BoardStep tree budget old (AskSplit number) IsOver new = ⊥
@@ -97,7 +102,8 @@ pub record Call : Type 0 where
 -- each call is one step, from the first board to the last
 abbrev pub AreSteps : SearchTree → ℕ → BoardState → List Call → BoardState → Type 0
 AreSteps tree budget old [] new = new ≡ old
-AreSteps tree budget old (c ∷ cs) new = (between : BoardState) × BoardStep tree budget old c.request c.reply between × AreSteps tree budget between cs new
+AreSteps tree budget old (c ∷ cs) new = (between : BoardState) × BoardStep tree budget old c.request c.reply between
+    × AreSteps tree budget between cs new
 
 -- the event of a call that changes the board: a reply without a task changes nothing
 abbrev pub event_of : Request → Reply → List Event

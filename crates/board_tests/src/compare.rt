@@ -30,7 +30,7 @@ fn are_same_tokens(tokens: &[Token], others: &[Token]) -> bool {
 }
 
 /// Whether two outcomes are the same, with their numbers, tokens and counts.
-pub fn is_same(outcome: &Outcome, other: &Outcome) -> bool {
+pub(crate) fn is_same(outcome: &Outcome, other: &Outcome) -> bool {
     match (outcome, other) {
         (
             Outcome::Yes { numbers, count },

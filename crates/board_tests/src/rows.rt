@@ -15,7 +15,7 @@ pub struct Row {
 
 /// Two boxes that stand on one another, the pinwheel, four boxes in a row where three have room, a
 /// layer of a pallet, a row of three boxes, and six boxes of which only three have room in a row.
-pub const ROWS: [Row; 6] = [
+pub(crate) const ROWS: [Row; 6] = [
     Row {
         container: [10, 10],
         boxes: &[[6, 4], [6, 6]],
@@ -50,7 +50,7 @@ pub const ROWS: [Row; 6] = [
 ];
 
 /// Four boxes that must stand in a row, where only three have room.
-pub const FOUR: Row = Row {
+pub(crate) const FOUR: Row = Row {
     container: [10, 10],
     boxes: &[[3, 6], [3, 6], [3, 6], [3, 6]],
     scales: false,
@@ -59,7 +59,7 @@ pub const FOUR: Row = Row {
 
 /// Eight boxes that must stand in a row, where only seven have room: there are 5,039 branchings,
 /// more than the first cap.
-pub const EIGHT: Row = Row {
+pub(crate) const EIGHT: Row = Row {
     container: [23, 10],
     boxes: &[
         [3, 6],
@@ -77,7 +77,7 @@ pub const EIGHT: Row = Row {
 
 /// Two boxes that must stand on one another, and six beside them: before that is tried, all eight
 /// are tried in a row, where they have no room. There are 5,062 branchings.
-pub const LATE: Row = Row {
+pub(crate) const LATE: Row = Row {
     container: [23, 10],
     boxes: &[
         [4, 5],
@@ -94,7 +94,7 @@ pub const LATE: Row = Row {
 };
 
 /// The instance of a row.
-pub fn instance_of(alloc: Global, row: &Row) -> Result<Instance, Fail> {
+pub(crate) fn instance_of(alloc: Global, row: &Row) -> Result<Instance, Fail> {
     let mut boxes = Vec::new(alloc);
     for sides in row.boxes {
         boxes.push(BoxItem {

@@ -42,7 +42,7 @@ impl Met {
 }
 
 /// Asks the board for a task, and answers whether it is over.
-pub fn take<T: Tree>(board: &mut Board<'_, T>, met: &mut Met) -> Result<bool, NoMemory>
+pub(crate) fn take<T: Tree>(board: &mut Board<'_, T>, met: &mut Met) -> Result<bool, NoMemory>
     ensures { board.new ≡ record board.old { state = board.new.state } }
 {
     match board.take() {
@@ -59,7 +59,7 @@ pub fn take<T: Tree>(board: &mut Board<'_, T>, met: &mut Met) -> Result<bool, No
 }
 
 /// Explores a task that is out, and hands in what it gives.
-pub fn finish<T: Tree>(
+pub(crate) fn finish<T: Tree>(
     alloc: Global,
     tree: &T,
     budget: u64,
@@ -81,7 +81,7 @@ pub fn finish<T: Tree>(
 }
 
 /// Splits a task that is out, or hands in what it gives where its node is a leaf.
-pub fn split<T: Tree>(
+pub(crate) fn split<T: Tree>(
     alloc: Global,
     tree: &T,
     budget: u64,
@@ -114,7 +114,7 @@ pub fn split<T: Tree>(
 
 /// One event: a number below 4 in its last two bits says which, and the rest of it which task that
 /// is out.
-pub fn turn<T: Tree>(
+pub(crate) fn turn<T: Tree>(
     alloc: Global,
     tree: &T,
     budget: u64,
@@ -141,7 +141,7 @@ pub fn turn<T: Tree>(
 }
 
 /// The events of a list of numbers.
-pub fn drive<T: Tree>(
+pub(crate) fn drive<T: Tree>(
     alloc: Global,
     tree: &T,
     budget: u64,
@@ -161,7 +161,7 @@ pub fn drive<T: Tree>(
 
 /// Takes and finishes tasks, the last taken first, until the board is over. It answers false where
 /// it isn't within so many turns.
-pub fn complete<T: Tree>(
+pub(crate) fn complete<T: Tree>(
     alloc: Global,
     tree: &T,
     budget: u64,

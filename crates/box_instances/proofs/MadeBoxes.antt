@@ -1,5 +1,6 @@
 -- Made instances, as their boxes are made one by one.
-use Rattle.std.proofs.Common.{◌≡◌, ℕ, suc, ◌+◌, ◌*◌, ◌/◌, ◌%◌, ◌≤◌, sym, ap, ap₂, subst, ◌∙◌, arith, List, [], ◌∷◌, ◌++◌, map}
+use Rattle.std.proofs.Common.{◌≡◌, ℕ, suc, ◌+◌, ◌*◌, ◌/◌, ◌%◌, ◌≤◌, sym, ap, ap₂, subst, ◌∙◌, arith, List, [], ◌∷◌}
+use Rattle.std.proofs.Common.{◌++◌, map}
 use Rattle.std.specs.List.{range_with_len}
 use Rattle.std.proofs.lemmas.List.FromFn.{map-range_with_len_more}
 use Rattle.std.proofs.lemmas.List.{map_push}
@@ -24,7 +25,8 @@ pub record AreMade (number v last : ℕ) (list : List PlainBox) : Type 0 where
   pub boxes : list ≡ map (made_box number) (range_with_len 0 v)
 
 -- one box more, by two draws more
-pub made_more : (number v last : ℕ) (boxes items : List BoxItem) (item : BoxItem) (after : ℕ) → AreMade number v last (map plain_box boxes)
+pub made_more : (number v last : ℕ) (boxes items : List BoxItem) (item : BoxItem) (after : ℕ)
+    → AreMade number v last (map plain_box boxes)
     → items ≡ boxes ++ item ∷ [] → plain_box item ≡ made_box number v → after ≡ next_seed (next_seed last)
     → AreMade number (v + 1) after (map plain_box items)
 made_more number v last boxes items item after made pushed is on = record {
@@ -34,22 +36,26 @@ made_more number v last boxes items item after made pushed is on = record {
 }
 
 -- the parts with all boxes are the instance
-pub made_whole : (number v last : ℕ) (container kerfs : List ℕ) (boxes : List PlainBox) → container ≡ 1000 ∷ 1000 ∷ [] → kerfs ≡ 0 ∷ 0 ∷ []
+pub made_whole : (number v last : ℕ) (container kerfs : List ℕ) (boxes : List PlainBox) → container ≡ 1000 ∷ 1000 ∷ []
+    → kerfs ≡ 0 ∷ 0 ∷ []
     → AreMade number v last boxes → v ≡ made_count number → with_parts container kerfs boxes ≡ made_instance number
 unfolding made_instance
 made_whole number v last container kerfs boxes c k made all =
     ap₂ (λ c k. with_parts c k boxes) c k
-    ∙ ap (λ bs. with_parts (1000 ∷ 1000 ∷ []) (0 ∷ 0 ∷ []) bs) (made.boxes ∙ ap (λ n. map (made_box number) (range_with_len 0 n)) all)
+    ∙ ap (λ bs. with_parts (1000 ∷ 1000 ∷ []) (0 ∷ 0 ∷ []) bs)
+    (made.boxes ∙ ap (λ n. map (made_box number) (range_with_len 0 n)) all)
 
 -- so they are within the limits
-pub made_parts : (number v last : ℕ) (container kerfs : List ℕ) (boxes : List PlainBox) → container ≡ 1000 ∷ 1000 ∷ [] → kerfs ≡ 0 ∷ 0 ∷ []
+pub made_parts : (number v last : ℕ) (container kerfs : List ℕ) (boxes : List PlainBox) → container ≡ 1000 ∷ 1000 ∷ []
+    → kerfs ≡ 0 ∷ 0 ∷ []
     → AreMade number v last boxes → v ≡ made_count number → IsInternalInstance (with_parts container kerfs boxes)
 made_parts number v last container kerfs boxes c k made all =
     subst IsInternalInstance (sym (made_whole number v last container kerfs boxes c k made all))
     (written_internal (made_instance number) (made_within number))
 
 -- the loop is at its end
-pub count_made : (number first v : ℕ) → first ≡ next_seed number / 65536 → v ≤ 1 + first % 64 → 1 + first % 64 ≤ v → v ≡ made_count number
+pub count_made : (number first v : ℕ) → first ≡ next_seed number / 65536 → v ≤ 1 + first % 64 → 1 + first % 64 ≤ v
+    → v ≡ made_count number
 count_made number first v is most least =
     let at : v ≡ 1 + first % 64 = omega (arith, most, least) in
     at ∙ ap (λ x. 1 + x % 64) is

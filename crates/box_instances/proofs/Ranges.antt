@@ -15,7 +15,8 @@ range_set instance k h = record { there = λ i d l. there i d l; rising = λ i l
     there : (i d : ℕ) → i < length (range_with_len 0 k) → get_or (range_with_len 0 k) i d < box_count instance
     there i d l = let m : i < k = omega (arith, l, few) in rw (get_or-range_with_len 0 k i d m) (omega (arith, m, h))
 
-    rising : (i : ℕ) → i + 1 < length (range_with_len 0 k) → get_or (range_with_len 0 k) i 0 < get_or (range_with_len 0 k) (i + 1) 0
+    rising : (i : ℕ) → i + 1 < length (range_with_len 0 k)
+        → get_or (range_with_len 0 k) i 0 < get_or (range_with_len 0 k) (i + 1) 0
     rising i l =
         let m : i + 1 < k = omega (arith, l, few) in
         rw (get_or-range_with_len 0 k i 0 (omega (arith, m)), get_or-range_with_len 0 k (i + 1) 0 m) (omega arith)

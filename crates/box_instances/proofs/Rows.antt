@@ -1,5 +1,6 @@
 -- Working sides as they are written: in a row, and row by row.
-use Rattle.std.proofs.Common.{◌≡◌, ℕ, ◌+◌, ◌<◌, ◌≤◌, ◌⊎◌, inl, inr, List, [], length, get_or, slice_set, arith, ap, sym, ◌∙◌}
+use Rattle.std.proofs.Common.{◌≡◌, ℕ, ◌+◌, ◌<◌, ◌≤◌, ◌⊎◌, inl, inr, List, [], length, get_or, slice_set, arith, ap, sym}
+use Rattle.std.proofs.Common.{◌∙◌}
 use Rattle.std.proofs.lemmas.Bool.{cases_eq}
 use Rattle.std.proofs.lemmas.List.{length-set, get_or-set_same, get_or-set_other}
 use Rattle.packing_terms.specs.Packing.{PlainInstance, PlainBox, no_box, dims, box_count, side}
@@ -18,18 +19,24 @@ row_next row sides kerf k x there e h j l = go (cases_eq j k)
     go (inr ne) = get_or-set_other row k j x 0 ne ∙ h j (omega (arith, l, ne))
 
 -- one box more
-pub rows_next : (rows : List (List ℕ)) (row kerf : List ℕ) (boxes : List PlainBox) (other : PlainBox) (k d : ℕ) → k < length rows
+pub rows_next : (rows : List (List ℕ)) (row kerf : List ℕ) (boxes : List PlainBox) (other : PlainBox) (k d : ℕ)
+    → k < length rows
     → ((i : ℕ) → i < d → get_or row i 0 ≡ get_or (get_or boxes k other).sides i 0 + get_or kerf i 0)
-    → ((v i : ℕ) → v < k → i < d → get_or (get_or rows v []) i 0 ≡ get_or (get_or boxes v other).sides i 0 + get_or kerf i 0)
-    → (v i : ℕ) → v < k + 1 → i < d → get_or (get_or (slice_set rows k row) v []) i 0 ≡ get_or (get_or boxes v other).sides i 0 + get_or kerf i 0
+    → ((v i : ℕ) → v < k → i < d → get_or (get_or rows v []) i 0
+    ≡ get_or (get_or boxes v other).sides i 0 + get_or kerf i 0)
+    → (v i : ℕ) → v < k + 1 → i < d → get_or (get_or (slice_set rows k row) v []) i 0
+    ≡ get_or (get_or boxes v other).sides i 0 + get_or kerf i 0
 rows_next rows row kerf boxes other k d there e h v i l m = go (cases_eq v k)
   where
-    go : (v ≡ k) ⊎ (v ≡ k → ⊥) → get_or (get_or (slice_set rows k row) v []) i 0 ≡ get_or (get_or boxes v other).sides i 0 + get_or kerf i 0
+    go : (v ≡ k) ⊎ (v ≡ k → ⊥) → get_or (get_or (slice_set rows k row) v []) i 0
+        ≡ get_or (get_or boxes v other).sides i 0 + get_or kerf i 0
     go (inl same) = rw same (ap (λ (r : List ℕ). get_or r i 0) (get_or-set_same rows k row [] there) ∙ e i m)
-    go (inr ne) = ap (λ (r : List ℕ). get_or r i 0) (get_or-set_other rows k v row [] ne) ∙ h v i (omega (arith, l, ne)) m
+    go (inr ne) = ap (λ (r : List ℕ). get_or r i 0) (get_or-set_other rows k v row [] ne)
+        ∙ h v i (omega (arith, l, ne)) m
 
 -- one box is replaced by another, with its row
-pub held_replaced : (instance : PlainInstance) (at : ℕ) (b : PlainBox) (limits : List ℕ) (working : List (List ℕ)) (row : List ℕ) → IsHeld instance limits working
+pub held_replaced : (instance : PlainInstance) (at : ℕ) (b : PlainBox) (limits : List ℕ) (working : List (List ℕ))
+    (row : List ℕ) → IsHeld instance limits working
     → IsBox (dims instance) instance.kerfs b → at < length instance.boxes
     → ((i : ℕ) → i < dims instance → get_or row i 0 ≡ get_or b.sides i 0 + get_or instance.kerfs i 0)
     → IsHeld (record instance { boxes = slice_set instance.boxes at b }) limits (slice_set working at row)
@@ -37,7 +44,8 @@ held_replaced instance at b limits working row h good there e = record {
   within = box_replaced instance at b h.within good;
   room = length-set working at row ∙ h.room;
   container = λ i l. h.container i l;
-  sides = λ v i l m. let k : v < box_count instance = (let f = length-set instance.boxes at b in omega (arith, f, l)) in go v i k m (cases_eq v at);
+  sides = λ v i l m. let k : v < box_count instance = (let f = length-set instance.boxes at b in omega (arith, f, l)) in
+      go v i k m (cases_eq v at);
 }
   where
     few : at < length working
@@ -46,10 +54,13 @@ held_replaced instance at b limits working row h good there e = record {
     after : PlainInstance
     after = record instance { boxes = slice_set instance.boxes at b }
 
-    go : (v i : ℕ) → v < box_count instance → i < dims instance → (v ≡ at) ⊎ (v ≡ at → ⊥) → get_or (get_or (slice_set working at row) v []) i 0 ≡ side after v i
+    go : (v i : ℕ) → v < box_count instance → i < dims instance → (v ≡ at) ⊎ (v ≡ at → ⊥)
+        → get_or (get_or (slice_set working at row) v []) i 0 ≡ side after v i
     go v i l m (inl same) =
         rw same (ap (λ (r : List ℕ). get_or r i 0) (get_or-set_same working at row [] few)
-        ∙ (e i m ∙ sym (ap (λ (c : PlainBox). get_or c.sides i 0 + get_or instance.kerfs i 0) (get_or-set_same instance.boxes at b no_box there))))
+        ∙ (e i m ∙ sym (ap (λ (c : PlainBox). get_or c.sides i 0 + get_or instance.kerfs i 0)
+        (get_or-set_same instance.boxes at b no_box there))))
     go v i l m (inr ne) =
         ap (λ (r : List ℕ). get_or r i 0) (get_or-set_other working at v row [] ne)
-        ∙ (h.sides v i l m ∙ sym (ap (λ (c : PlainBox). get_or c.sides i 0 + get_or instance.kerfs i 0) (get_or-set_other instance.boxes at v b no_box ne)))
+        ∙ (h.sides v i l m ∙ sym (ap (λ (c : PlainBox). get_or c.sides i 0 + get_or instance.kerfs i 0)
+        (get_or-set_other instance.boxes at v b no_box ne)))

@@ -28,10 +28,13 @@ module _ (instance : PlainInstance) (keep : List ℕ) (set : IsBoxSet instance k
   subset_within limits = record {
     container = limits.container;
     boxes = record {
-      count = let e = length-map keep (λ u. get_or instance.boxes u no_box) in let f = few in let n = limits.boxes.count.1 in (omega (arith, e, some), omega (arith, e, f, n));
+      count = let e = length-map keep (λ u. get_or instance.boxes u no_box) in let f = few in let n =
+          limits.boxes.count.1 in (omega (arith, e, some), omega (arith, e, f, n));
       each = λ v l.
-          let m : v < length keep = (let e = length-map keep (λ u. get_or instance.boxes u no_box) in omega (arith, e, l)) in
-          subst (λ b. IsBox (dims instance) instance.kerfs b) (sym (get_or-map (λ u. get_or instance.boxes u no_box) keep v 0 no_box m))
+          let m : v < length keep = (let e = length-map keep (λ u. get_or instance.boxes u no_box) in
+          omega (arith, e, l)) in
+          subst (λ b. IsBox (dims instance) instance.kerfs b)
+          (sym (get_or-map (λ u. get_or instance.boxes u no_box) keep v 0 no_box m))
           (limits.boxes.each (get_or keep v 0) (set.there v 0 m));
     };
   }

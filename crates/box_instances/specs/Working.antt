@@ -8,4 +8,5 @@ pub record IsHeld (instance : PlainInstance) (limits : List ℕ) (working : List
   pub within : IsInternalInstance instance
   pub room : length working ≡ most_boxes
   pub container : (i : ℕ) → i < dims instance → slice_index limits i ≡ container_side instance i
-  pub sides : (v i : ℕ) → v < box_count instance → i < dims instance → slice_index (slice_index_or working v []) i ≡ side instance v i
+  pub sides : (v i : ℕ) → v < box_count instance → i < dims instance
+      → slice_index (slice_index_or working v []) i ≡ side instance v i

@@ -7,7 +7,7 @@ ghost use Rattle.box_instances.specs.Plain.{plain_box};
 use crate::{BoxItem, MOST_BOXES};
 
 /// The working sides of a box or of a container: the written ones with the kerfs.
-pub fn working_row(kerf: &[u32], sides: &[u32]) -> [u32; 4]
+pub(crate) fn working_row(kerf: &[u32], sides: &[u32]) -> [u32; 4]
     requires few { length kerf.now ≤ 4 }
     requires same { length sides.now ≡ length kerf.now }
     requires small { (i : ℕ) → i < length kerf.now
@@ -23,7 +23,7 @@ pub fn working_row(kerf: &[u32], sides: &[u32]) -> [u32; 4]
 }
 
 /// The same of each box.
-pub fn working_sides(kerf: &[u32], boxes: &[BoxItem]) -> [[u32; 4]; MOST_BOXES]
+pub(crate) fn working_sides(kerf: &[u32], boxes: &[BoxItem]) -> [[u32; 4]; MOST_BOXES]
     requires few { length kerf.now ≤ 4 }
     requires count { length boxes.now ≤ most_boxes }
     requires each { (v : ℕ) → v < length boxes.now → IsBox (length kerf.now) kerf.now

@@ -1,5 +1,6 @@
 -- The first of an ordered list that passes a test.
-use Rattle.std.proofs.Common.{◌≡◌, ℕ, zero, suc, ◌+◌, ◌<◌, ◌≤◌, ◌⊎◌, inl, inr, refl, sym, ap, subst, ◌∙◌, arith, Bool, true, false, cond, List, [], ◌∷◌, ◌++◌, map, Some}
+use Rattle.std.proofs.Common.{◌≡◌, ℕ, zero, suc, ◌+◌, ◌<◌, ◌≤◌, ◌⊎◌, inl, inr, refl, sym, ap, subst, ◌∙◌, arith, Bool}
+use Rattle.std.proofs.Common.{true, false, cond, List, [], ◌∷◌, ◌++◌, map, Some}
 use Rattle.std.specs.List.{find, flat_map, range_with_len}
 use Rattle.packing_terms.proofs.Members.{IsIn, append_in, map_in, range_in, flat_map_in}
 
@@ -9,7 +10,8 @@ module _ {X : Type 0} (Earlier : X → X → Type 0) where
   IsOrdered [] = Unit {0}
   IsOrdered (x ∷ xs) = ((y : X) → IsIn y xs → ¬ Earlier y x) × IsOrdered xs
 
-  pub ordered_append : (xs ys : List X) → IsOrdered xs → IsOrdered ys → ((x y : X) → IsIn x xs → IsIn y ys → ¬ Earlier y x) → IsOrdered (xs ++ ys)
+  pub ordered_append : (xs ys : List X) → IsOrdered xs → IsOrdered ys
+      → ((x y : X) → IsIn x xs → IsIn y ys → ¬ Earlier y x) → IsOrdered (xs ++ ys)
   ordered_append [] ys h k apart = k
   ordered_append (x ∷ xs) ys h k apart = (
     λ y i. go y (append_in y xs ys i),
@@ -21,11 +23,14 @@ module _ {X : Type 0} (Earlier : X → X → Type 0) where
       go y (inr j) = apart x y (inl refl) j
 
   -- each element that is earlier than the first that passes fails
-  pub find_first : (p : X → Bool) (xs : List X) (x y : X) → IsOrdered xs → ¬ Earlier x x → find p xs ≡ Some x → IsIn y xs → Earlier y x → p y ≡ false
+  pub find_first : (p : X → Bool) (xs : List X) (x y : X) → IsOrdered xs → ¬ Earlier x x → find p xs ≡ Some x
+      → IsIn y xs → Earlier y x → p y ≡ false
   find_first p [] x y o irreflexive e i earlier = absurd i
-  find_first p (z ∷ zs) x y o irreflexive e i earlier = go (p z) refl e i (λ f j. find_first p zs x y o.1 irreflexive f j earlier)
+  find_first p (z ∷ zs) x y o irreflexive e i earlier =
+      go (p z) refl e i (λ f j. find_first p zs x y o.1 irreflexive f j earlier)
     where
-      go : (b : Bool) → p z ≡ b → cond b (Some z) (find p zs) ≡ Some x → (y ≡ z) ⊎ IsIn y zs → (find p zs ≡ Some x → IsIn y zs → p y ≡ false) → p y ≡ false
+      go : (b : Bool) → p z ≡ b → cond b (Some z) (find p zs) ≡ Some x → (y ≡ z) ⊎ IsIn y zs
+          → (find p zs ≡ Some x → IsIn y zs → p y ≡ false) → p y ≡ false
       go true f k (inl s) later =
           let same : z ≡ x = cc (k) in
           absurd (irreflexive (subst (λ w. Earlier w x) (s ∙ same) earlier))
@@ -57,7 +62,8 @@ row_ordered u a (suc n) = (
     later y j s h (inr k) = let g : y.1 ≡ j = ap (λ p. p.1) s in let l = k.1 in absurd (omega (arith, g, h, l))
 
 -- rows of pairs, by their first number
-pub rows_ordered : (starts sizes : ℕ → ℕ) (a n : ℕ) → IsOrdered IsEarlier (flat_map (λ u. map (λ i. (u, i)) (range_with_len (starts u) (sizes u))) (range_with_len a n))
+pub rows_ordered : (starts sizes : ℕ → ℕ) (a n : ℕ)
+    → IsOrdered IsEarlier (flat_map (λ u. map (λ i. (u, i)) (range_with_len (starts u) (sizes u))) (range_with_len a n))
 rows_ordered starts sizes a zero = tt
 rows_ordered starts sizes a (suc n) =
     ordered_append IsEarlier (map (λ i. (a, i)) (range_with_len (starts a) (sizes a)))
@@ -68,13 +74,16 @@ rows_ordered starts sizes a (suc n) =
     below x y i u j s t h (inl k) =
         let f : x.0 ≡ a = ap (λ p. p.0) s in let g : y.0 ≡ u = ap (λ p. p.0) t in absurd (omega (arith, f, g, h, k))
     below x y i u j s t h (inr k) =
-        let f : x.0 ≡ a = ap (λ p. p.0) s in let g : y.0 ≡ u = ap (λ p. p.0) t in let l = k.0 in absurd (omega (arith, f, g, h, l))
+        let f : x.0 ≡ a = ap (λ p. p.0) s in let g : y.0 ≡ u = ap (λ p. p.0) t in let l = k.0 in
+        absurd (omega (arith, f, g, h, l))
 
     apart : (x y : ℕ × ℕ) → IsIn x (map (λ i. (a, i)) (range_with_len (starts a) (sizes a)))
-        → IsIn y (flat_map (λ u. map (λ i. (u, i)) (range_with_len (starts u) (sizes u))) (range_with_len (a + 1) n)) → ¬ IsEarlier y x
+        → IsIn y (flat_map (λ u. map (λ i. (u, i)) (range_with_len (starts u) (sizes u))) (range_with_len (a + 1) n))
+        → ¬ IsEarlier y x
     apart x y i j e =
         let m = map_in (λ i. (a, i)) x (range_with_len (starts a) (sizes a)) i in
-        let f = flat_map_in (λ u. map (λ i. (u, i)) (range_with_len (starts u) (sizes u))) y (range_with_len (a + 1) n) j in
+        let f = flat_map_in (λ u. map (λ i. (u, i)) (range_with_len (starts u) (sizes u))) y
+        (range_with_len (a + 1) n) j in
         let g = map_in (λ i. (f.0, i)) y (range_with_len (starts f.0) (sizes f.0)) f.2 in
         let r = range_in (a + 1) n f.0 f.1 in
         below x y m.0 f.0 g.0 m.2 g.2 r.0 e

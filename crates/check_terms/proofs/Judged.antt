@@ -1,8 +1,10 @@
 -- A token isn't refused exactly where the node accepts it.
-use Rattle.std.proofs.Common.{◌≡◌, ℕ, pred, ◌+◌, ◌≤◌, ◌*◌, ◌⊎◌, inl, inr, refl, sym, ◌∙◌, arith, Bool, true, false, not, ◌&&◌, ◌||◌, List, length, Option, Some, None}
+use Rattle.std.proofs.Common.{◌≡◌, ℕ, pred, ◌+◌, ◌≤◌, ◌*◌, ◌⊎◌, inl, inr, refl, sym, ◌∙◌, arith, Bool, true, false, not}
+use Rattle.std.proofs.Common.{◌&&◌, ◌||◌, List, length, Option, Some, None}
 use Rattle.std.specs.Prelude.{nat_le, ◌↔◌}
 use Rattle.std.specs.List.{list_all, list_any}
-use Rattle.std.proofs.lemmas.Bool.{true≢false, cases_Bool, and_parts, and_from, or_cases, or_left, or_right, leb-true, le-leb, ltb-true, lt-ltb, eqb-true, eq-eqb, not-true, not_from_false}
+use Rattle.std.proofs.lemmas.Bool.{true≢false, cases_Bool, and_parts, and_from, or_cases, or_left, or_right, leb-true}
+use Rattle.std.proofs.lemmas.Bool.{le-leb, ltb-true, lt-ltb, eqb-true, eq-eqb, not-true, not_from_false}
 use Rattle.packing_terms.specs.declared.Rel.{Rel}
 use Rattle.packing_terms.specs.declared.Rel.TheVariants.{Overlap, Before, After}
 use Rattle.packing_terms.specs.declared.Exclusion.{Exclusion}
@@ -14,7 +16,8 @@ use Rattle.packing_terms.specs.Closure.{IsDerived, HasConflict}
 use Rattle.packing_terms.specs.Scales.{IsLegalScale, function_at, SidesFit, Exceeds}
 use Rattle.packing_terms.specs.Goals.{subset, worth}
 use Rattle.packing_terms.specs.Tokens.{PlainToken}
-use Rattle.packing_terms.specs.Tokens.PlainToken.{Apart, Order, Rules, TooLarge, Scales, Assign, Choose, SetRefuted, ValueShort, GlobalScales}
+use Rattle.packing_terms.specs.Tokens.PlainToken.{Apart, Order, Rules, TooLarge, Scales, Assign, Choose, SetRefuted}
+use Rattle.packing_terms.specs.Tokens.PlainToken.{ValueShort, GlobalScales}
 use Rattle.packing_terms.specs.Refutation.{IsNamed, MaySplitApart, MaySplitOrder}
 use Rattle.packing_terms.specs.Feeding.{Accepts}
 use Rattle.packing_terms.specs.OuterRefutation.{Bins, Choice as BoxChoice, has_box, undecided}
@@ -25,14 +28,17 @@ use Rattle.rule_terms.proofs.RoundsLemmas.{closure_is}
 use Rattle.rule_terms.proofs.Conflicts.{calm, stormy}
 use Rattle.rule_terms.proofs.Drawn.{is_not}
 use Rattle.check_terms.specs.declared.answers.RefuseCode.{RefuseCode}
-use Rattle.check_terms.specs.Judging.{unless, names_pair, closed, is_conflict, may_part, may_order, is_legal, sides_fit, tuple_refusal, refusal}
+use Rattle.check_terms.specs.Judging.{unless, names_pair, closed, is_conflict, may_part, may_order, is_legal, sides_fit}
+use Rattle.check_terms.specs.Judging.{tuple_refusal, refusal}
 use Rattle.check_terms.specs.OuterJudging.{bin_refusal, value_refusal}
 
-pub passed : (b : Bool) (code : RefuseCode) (rest : Option RefuseCode) → unless b code rest ≡ None → (b ≡ true) × (rest ≡ None)
+pub passed : (b : Bool) (code : RefuseCode) (rest : Option RefuseCode) → unless b code rest ≡ None
+    → (b ≡ true) × (rest ≡ None)
 passed true code rest e = (refl, e)
 passed false code rest e = absurd (cc)
 
-pub passes : (b : Bool) (code : RefuseCode) (rest : Option RefuseCode) → b ≡ true → rest ≡ None → unless b code rest ≡ None
+pub passes : (b : Bool) (code : RefuseCode) (rest : Option RefuseCode) → b ≡ true → rest ≡ None
+    → unless b code rest ≡ None
 passes true code rest h e = e
 passes false code rest h e = absurd (true≢false (sym h))
 
@@ -49,24 +55,35 @@ module _ (instance : PlainInstance) where
       let b = and_parts _ _ a.0 in
       let c = and_parts _ _ b.0 in
       let i = within 1 (dims instance) dim c.0 in
-      record { dim_from = i.0; dim_to = i.1; u_from = leb-true 1 u c.1; rising = ltb-true u v b.1; v_to = leb-true v (box_count instance) a.1 }
+      record {
+        dim_from = i.0;
+        dim_to = i.1;
+        u_from = leb-true 1 u c.1;
+        rising = ltb-true u v b.1;
+        v_to = leb-true v (box_count instance) a.1;
+      }
 
   pub is_named : (dim u v : ℕ) → IsNamed instance dim u v → names_pair instance dim u v ≡ true
   is_named dim u v n =
-      and_from _ _ (and_from _ _ (and_from _ _ (is_within 1 (dims instance) dim n.dim_from n.dim_to) (le-leb 1 u n.u_from)) (lt-ltb u v n.rising))
+      and_from _ _ (and_from _ _ (and_from _ _ (is_within 1 (dims instance) dim n.dim_from n.dim_to)
+      (le-leb 1 u n.u_from)) (lt-ltb u v n.rising))
       (le-leb v (box_count instance) n.v_to)
 
   module _ (es : List Exclusion) where
-    open_one : (i u v : ℕ) (r : Rel) → not (closed instance es i u v r) ≡ true → ¬ IsDerived instance (excludes es) i u v r
-    open_one i u v r h d = true≢false (sym ((closure_is instance es i u v r).1 d) ∙ not-true (closed instance es i u v r) h)
+    open_one : (i u v : ℕ) (r : Rel) → not (closed instance es i u v r) ≡ true
+        → ¬ IsDerived instance (excludes es) i u v r
+    open_one i u v r h d = true≢false
+        (sym ((closure_is instance es i u v r).1 d) ∙ not-true (closed instance es i u v r) h)
 
-    is_open : (i u v : ℕ) (r : Rel) → ¬ IsDerived instance (excludes es) i u v r → not (closed instance es i u v r) ≡ true
+    is_open : (i u v : ℕ) (r : Rel) → ¬ IsDerived instance (excludes es) i u v r
+        → not (closed instance es i u v r) ≡ true
     is_open i u v r h = is_not (closed instance es i u v r) (λ e. h ((closure_is instance es i u v r).0 e))
 
     conflict_is : HasConflict instance (excludes es) → is_conflict instance (closed instance es) ≡ true
     conflict_is c = go (cases_Bool (is_conflict instance (closed instance es)))
       where
-        go : (is_conflict instance (closed instance es) ≡ true) ⊎ (is_conflict instance (closed instance es) ≡ false) → is_conflict instance (closed instance es) ≡ true
+        go : (is_conflict instance (closed instance es) ≡ true) ⊎ (is_conflict instance (closed instance es) ≡ false)
+            → is_conflict instance (closed instance es) ≡ true
         go (inl e) = e
         go (inr e) = absurd (calm instance es e c)
 
@@ -76,7 +93,8 @@ module _ (instance : PlainInstance) where
     is_calm : ¬ HasConflict instance (excludes es) → not (is_conflict instance (closed instance es)) ≡ true
     is_calm h = is_not (is_conflict instance (closed instance es)) (λ e. h (stormy instance es e))
 
-    parts : (dim u v : ℕ) → names_pair instance dim u v ≡ true → may_part instance (closed instance es) dim u v ≡ true → MaySplitApart instance es dim u v
+    parts : (dim u v : ℕ) → names_pair instance dim u v ≡ true → may_part instance (closed instance es) dim u v ≡ true
+        → MaySplitApart instance es dim u v
     parts dim u v n h =
         let a = and_parts _ _ h in
         let b = and_parts _ _ a.0 in
@@ -87,20 +105,27 @@ module _ (instance : PlainInstance) where
           other = go (or_cases _ _ a.1);
         }
       where
-        go : (not (closed instance es (pred dim) (pred u) (pred v) Before) ≡ true) ⊎ (not (closed instance es (pred dim) (pred u) (pred v) After) ≡ true)
-            → (¬ IsDerived instance (excludes es) (pred dim) (pred u) (pred v) Before) ⊎ (¬ IsDerived instance (excludes es) (pred dim) (pred u) (pred v) After)
+        go : (not (closed instance es (pred dim) (pred u) (pred v) Before) ≡ true)
+            ⊎ (not (closed instance es (pred dim) (pred u) (pred v) After) ≡ true)
+            → (¬ IsDerived instance (excludes es) (pred dim) (pred u) (pred v) Before)
+            ⊎ (¬ IsDerived instance (excludes es) (pred dim) (pred u) (pred v) After)
         go (inl e) = inl (open_one (pred dim) (pred u) (pred v) Before e)
         go (inr e) = inr (open_one (pred dim) (pred u) (pred v) After e)
 
-    is_parted : (dim u v : ℕ) → MaySplitApart instance es dim u v → may_part instance (closed instance es) dim u v ≡ true
-    is_parted dim u v m = and_from _ _ (and_from _ _ (is_calm m.no_conflict) (is_open (pred dim) (pred u) (pred v) Overlap m.overlap)) (go m.other)
+    is_parted : (dim u v : ℕ) → MaySplitApart instance es dim u v
+        → may_part instance (closed instance es) dim u v ≡ true
+    is_parted dim u v m = and_from _ _
+        (and_from _ _ (is_calm m.no_conflict) (is_open (pred dim) (pred u) (pred v) Overlap m.overlap)) (go m.other)
       where
-        go : (¬ IsDerived instance (excludes es) (pred dim) (pred u) (pred v) Before) ⊎ (¬ IsDerived instance (excludes es) (pred dim) (pred u) (pred v) After)
-            → (not (closed instance es (pred dim) (pred u) (pred v) Before) || not (closed instance es (pred dim) (pred u) (pred v) After)) ≡ true
+        go : (¬ IsDerived instance (excludes es) (pred dim) (pred u) (pred v) Before)
+            ⊎ (¬ IsDerived instance (excludes es) (pred dim) (pred u) (pred v) After)
+            → (not (closed instance es (pred dim) (pred u) (pred v) Before)
+            || not (closed instance es (pred dim) (pred u) (pred v) After)) ≡ true
         go (inl e) = or_left _ _ (is_open (pred dim) (pred u) (pred v) Before e)
         go (inr e) = or_right _ _ (is_open (pred dim) (pred u) (pred v) After e)
 
-    orders : (dim u v : ℕ) → names_pair instance dim u v ≡ true → may_order instance (closed instance es) dim u v ≡ true → MaySplitOrder instance es dim u v
+    orders : (dim u v : ℕ) → names_pair instance dim u v ≡ true → may_order instance (closed instance es) dim u v ≡ true
+        → MaySplitOrder instance es dim u v
     orders dim u v n h =
         let a = and_parts _ _ h in
         let b = and_parts _ _ a.0 in
@@ -113,9 +138,11 @@ module _ (instance : PlainInstance) where
           after = open_one (pred dim) (pred u) (pred v) After a.1;
         }
 
-    is_ordered : (dim u v : ℕ) → MaySplitOrder instance es dim u v → may_order instance (closed instance es) dim u v ≡ true
+    is_ordered : (dim u v : ℕ) → MaySplitOrder instance es dim u v
+        → may_order instance (closed instance es) dim u v ≡ true
     is_ordered dim u v m =
-        and_from _ _ (and_from _ _ (and_from _ _ (is_calm m.no_conflict) ((closure_is instance es (pred dim) (pred u) (pred v) Overlap).1 m.overlap))
+        and_from _ _ (and_from _ _ (and_from _ _ (is_calm m.no_conflict)
+        ((closure_is instance es (pred dim) (pred u) (pred v) Overlap).1 m.overlap))
         (is_open (pred dim) (pred u) (pred v) Before m.before)) (is_open (pred dim) (pred u) (pred v) After m.after)
 
   pub legal : (W : ℕ) (f : ScaleFn) → is_legal W f ≡ true → IsLegalScale f W
@@ -134,17 +161,21 @@ module _ (instance : PlainInstance) where
   sides_are h v i v_there i_there =
       leb-true (side instance v i) (container_side instance i)
       (all_at (λ i. nat_le (side instance v i) (container_side instance i)) i (below (dims instance))
-      (all_at (λ v. list_all (λ i. nat_le (side instance v i) (container_side instance i)) (below (dims instance))) v (below (box_count instance)) h
-      (in_range 0 (box_count instance) v (omega arith) (omega arith))) (in_range 0 (dims instance) i (omega arith) (omega arith)))
+      (all_at (λ v. list_all (λ i. nat_le (side instance v i) (container_side instance i)) (below (dims instance))) v
+      (below (box_count instance)) h
+      (in_range 0 (box_count instance) v (omega arith) (omega arith)))
+      (in_range 0 (dims instance) i (omega arith) (omega arith)))
 
   pub are_sides : SidesFit instance → sides_fit instance ≡ true
   are_sides h =
-      all_from (λ v. list_all (λ i. nat_le (side instance v i) (container_side instance i)) (below (dims instance))) (below (box_count instance)) (λ v a.
+      all_from (λ v. list_all (λ i. nat_le (side instance v i) (container_side instance i)) (below (dims instance)))
+      (below (box_count instance)) (λ v a.
       all_from (λ i. nat_le (side instance v i) (container_side instance i)) (below (dims instance)) (λ i b.
       let p = range_in 0 (box_count instance) v a in let q = range_in 0 (dims instance) i b in
       le-leb (side instance v i) (container_side instance i) (h v i (omega (arith, p.1)) (omega (arith, q.1)))))
 
-  pub tuple_exact : (copies : ℕ) (fs : List ScaleFn) → (tuple_refusal instance copies fs ≡ None) ↔ Exceeds instance fs copies
+  pub tuple_exact : (copies : ℕ) (fs : List ScaleFn)
+      → (tuple_refusal instance copies fs ≡ None) ↔ Exceeds instance fs copies
   tuple_exact copies fs = (there, back)
     where
       there : tuple_refusal instance copies fs ≡ None → Exceeds instance fs copies
@@ -157,7 +188,8 @@ module _ (instance : PlainInstance) where
             tuple = record {
               count = eqb-true (length fs) (dims instance) a.0;
               legal = λ i h. legal (container_side instance i) (function_at fs i)
-                  (all_at (λ i. is_legal (container_side instance i) (function_at fs i)) i (below (dims instance)) b.0 (in_range 0 (dims instance) i (omega arith) (omega arith)));
+                  (all_at (λ i. is_legal (container_side instance i) (function_at fs i)) i (below (dims instance)) b.0
+                  (in_range 0 (dims instance) i (omega arith) (omega arith)));
             };
             fit = sides_are d.0;
             more = ltb-true _ _ d.1;
@@ -166,8 +198,10 @@ module _ (instance : PlainInstance) where
       back : Exceeds instance fs copies → tuple_refusal instance copies fs ≡ None
       back x =
           passes _ _ _ (eq-eqb (length fs) (dims instance) x.tuple.count)
-          (passes _ _ _ (all_from (λ i. is_legal (container_side instance i) (function_at fs i)) (below (dims instance)) (λ i h.
-          let p = range_in 0 (dims instance) i h in legal_is (container_side instance i) (function_at fs i) (x.tuple.legal i (omega (arith, p.1)))))
+          (passes _ _ _ (all_from (λ i. is_legal (container_side instance i) (function_at fs i))
+          (below (dims instance)) (λ i h.
+          let p = range_in 0 (dims instance) i h in
+          legal_is (container_side instance i) (function_at fs i) (x.tuple.legal i (omega (arith, p.1)))))
           (passes _ _ _ (and_from _ _ (are_sides x.fit) (lt-ltb _ _ x.more)) refl))
 
   pub inner_exact : (es : List Exclusion) (t : PlainToken) → (refusal instance es t ≡ None) ↔ Accepts instance es t
@@ -179,7 +213,11 @@ module _ (instance : PlainInstance) where
     λ e. let a = passed _ _ _ e in let b = passed _ _ _ a.1 in orders es dim u v a.0 b.0,
     λ m. passes _ _ _ (is_named dim u v m.named) (passes _ _ _ (is_ordered es dim u v m) refl),
   )
-  inner_exact es Rules = (λ e. let a = passed _ _ _ e in stormy instance es a.0, λ c. passes _ _ _ (conflict_is es c) refl)
+  inner_exact es Rules = (
+    λ e. let a = passed _ _ _ e in
+        stormy instance es a.0,
+    λ c. passes _ _ _ (conflict_is es c) refl,
+  )
   inner_exact es (TooLarge v i) = (
     λ e.
         let a = passed _ _ _ e in
@@ -189,7 +227,8 @@ module _ (instance : PlainInstance) where
         let f = within 1 (dims instance) i c.1 in
         record { box_from = d.0; box_to = d.1; dim_from = f.0; dim_to = f.1; large = ltb-true _ _ b.0 },
     λ l.
-        passes _ _ _ (and_from _ _ (is_within 1 (box_count instance) v l.box_from l.box_to) (is_within 1 (dims instance) i l.dim_from l.dim_to))
+        passes _ _ _ (and_from _ _ (is_within 1 (box_count instance) v l.box_from l.box_to)
+        (is_within 1 (dims instance) i l.dim_from l.dim_to))
         (passes _ _ _ (lt-ltb _ _ l.large) refl),
   )
   inner_exact es (Scales fs) = tuple_exact 1 fs
@@ -199,7 +238,8 @@ module _ (instance : PlainInstance) where
   inner_exact es ValueShort = (λ e. absurd (cc), λ h. absurd h)
   inner_exact es (GlobalScales fs) = (λ e. absurd (cc), λ h. absurd h)
 
-pub bins_exact : (instance : PlainInstance) (k : ℕ) (node : OpenNode Bins) (t : PlainToken) → (bin_refusal instance k node t ≡ None) ↔ AcceptsBins instance k node t
+pub bins_exact : (instance : PlainInstance) (k : ℕ) (node : OpenNode Bins) (t : PlainToken)
+    → (bin_refusal instance k node t ≡ None) ↔ AcceptsBins instance k node t
 bins_exact instance k (Inner keep es) t = inner_exact (subset instance keep) es t
 bins_exact instance k (Outer bins) (GlobalScales fs) = tuple_exact instance k fs
 bins_exact instance k (Outer bins) (SetRefuted (Some b)) = (
@@ -213,7 +253,8 @@ bins_exact instance k (Outer bins) (Assign v) = (
       let b = passed _ _ _ a.1 in
       let p = within 1 (box_count instance) v a.0 in
       record { from = p.0; to = p.1; unplaced = not-true (list_any (has_box (pred v)) bins) b.0 },
-  λ u. passes _ _ _ (is_within 1 (box_count instance) v u.from u.to) (passes _ _ _ (not_from_false (list_any (has_box (pred v)) bins) u.unplaced) refl),
+  λ u. passes _ _ _ (is_within 1 (box_count instance) v u.from u.to)
+      (passes _ _ _ (not_from_false (list_any (has_box (pred v)) bins) u.unplaced) refl),
 )
 bins_exact instance k (Outer bins) (Apart dim u v) = (λ e. absurd (cc), λ h. absurd h)
 bins_exact instance k (Outer bins) (Order dim u v) = (λ e. absurd (cc), λ h. absurd h)
@@ -241,10 +282,16 @@ value_exact instance goal (Outer c) (Choose v) = (
       let b = passed _ _ _ a.1 in
       let p = within 1 (box_count instance) v a.0 in
       let q = and_parts _ _ b.0 in
-      record { from = p.0; to = p.1; not_taken = not-true (has_box (pred v) c.taken) q.0; not_left = not-true (has_box (pred v) c.left) q.1 },
+      record {
+        from = p.0;
+        to = p.1;
+        not_taken = not-true (has_box (pred v) c.taken) q.0;
+        not_left = not-true (has_box (pred v) c.left) q.1;
+      },
   λ u.
       passes _ _ _ (is_within 1 (box_count instance) v u.from u.to)
-      (passes _ _ _ (and_from _ _ (not_from_false (has_box (pred v) c.taken) u.not_taken) (not_from_false (has_box (pred v) c.left) u.not_left)) refl),
+      (passes _ _ _ (and_from _ _ (not_from_false (has_box (pred v) c.taken) u.not_taken)
+      (not_from_false (has_box (pred v) c.left) u.not_left)) refl),
 )
 value_exact instance goal (Outer c) (Apart dim u v) = (λ e. absurd (cc), λ h. absurd h)
 value_exact instance goal (Outer c) (Order dim u v) = (λ e. absurd (cc), λ h. absurd h)

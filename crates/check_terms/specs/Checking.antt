@@ -21,7 +21,8 @@ left_by (Some code) nodes rest = Err code
 left_by None nodes rest = Ok (nodes ++ rest)
 
 -- the open nodes after a token, or why it is refused; a whole tree takes no token
-abbrev pub nodes_after : {Node : Type 0} → (Node → PlainToken → Option RefuseCode) → (Node → PlainToken → List Node) → List Node → PlainToken
+abbrev pub nodes_after : {Node : Type 0} → (Node → PlainToken → Option RefuseCode) → (Node → PlainToken → List Node)
+    → List Node → PlainToken
     → Result (List Node) RefuseCode
 nodes_after refusal children [] t = Err After
 nodes_after refusal children (n ∷ nodes) t = left_by (refusal n t) (children n t) nodes
@@ -34,7 +35,8 @@ inner_after instance nodes t = nodes_after (refusal instance) children nodes t
 abbrev pub bins_after : PlainInstance → ℕ → List (OpenNode Bins) → PlainToken → Result (List (OpenNode Bins)) RefuseCode
 bins_after instance k nodes t = nodes_after (bin_refusal instance k) (bin_children k) nodes t
 
-abbrev pub value_after : PlainInstance → ℕ → List (OpenNode BoxChoice) → PlainToken → Result (List (OpenNode BoxChoice)) RefuseCode
+abbrev pub value_after : PlainInstance → ℕ → List (OpenNode BoxChoice) → PlainToken
+    → Result (List (OpenNode BoxChoice)) RefuseCode
 value_after instance goal nodes t = nodes_after (value_refusal instance goal) choice_children nodes t
 
 -- the open nodes, and why a token was refused
@@ -56,7 +58,8 @@ abbrev pub kept_or : {Node : Type 0} → Option RefuseCode → Checked Node → 
 kept_or (Some code) old new = old
 kept_or None old new = new
 
-abbrev pub checked_after : {Node : Type 0} → (List Node → PlainToken → Result (List Node) RefuseCode) → Checked Node → PlainToken → Checked Node
+abbrev pub checked_after : {Node : Type 0} → (List Node → PlainToken → Result (List Node) RefuseCode) → Checked Node
+    → PlainToken → Checked Node
 checked_after after old t = kept_or old.refused old (checked_by old.nodes (after old.nodes t))
 
 -- whether the tree was accepted whole
@@ -78,12 +81,14 @@ abbrev pub answered : {Node : Type 0} → Checked Node → FeedVerdict
 answered s = answered_by s.refused s.nodes
 
 -- all tokens, one by one
-abbrev pub nodes_after_all : {Node : Type 0} → (List Node → PlainToken → Result (List Node) RefuseCode) → List Node → List PlainToken
+abbrev pub nodes_after_all : {Node : Type 0} → (List Node → PlainToken → Result (List Node) RefuseCode) → List Node
+    → List PlainToken
     → Result (List Node) RefuseCode
 nodes_after_all after nodes [] = Ok nodes
 nodes_after_all after nodes (t ∷ ts) = after nodes t >>= λ left. nodes_after_all after left ts
 
 -- the same as they are fed: what is held after them all
-abbrev pub checked_after_all : {Node : Type 0} → (List Node → PlainToken → Result (List Node) RefuseCode) → Checked Node → List PlainToken → Checked Node
+abbrev pub checked_after_all : {Node : Type 0} → (List Node → PlainToken → Result (List Node) RefuseCode) → Checked Node
+    → List PlainToken → Checked Node
 checked_after_all after s [] = s
 checked_after_all after s (t ∷ ts) = checked_after_all after (checked_after after s t) ts

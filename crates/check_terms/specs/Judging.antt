@@ -1,6 +1,7 @@
 -- Whether a token of an inner refutation is accepted at a node, and else the reason. The tests are
 -- made in the order in which they stand.
-use Rattle.std.specs.Prelude.{ℕ, ◌*◌, pred, Bool, true, false, not, ◌&&◌, ◌||◌, ◌==◌, List, length, Option, Some, None, nat_lt, nat_le}
+use Rattle.std.specs.Prelude.{ℕ, ◌*◌, pred, Bool, true, false, not, ◌&&◌, ◌||◌, ◌==◌, List, length, Option, Some, None}
+use Rattle.std.specs.Prelude.{nat_lt, nat_le}
 use Rattle.std.specs.List.{list_all}
 use Rattle.packing_terms.specs.declared.Rel.TheVariants.{Overlap, Before, After}
 use Rattle.packing_terms.specs.declared.Exclusion.{Exclusion}
@@ -69,7 +70,8 @@ are_legal instance fs = list_all (λ i. is_legal (container_side instance i) (fu
 -- whether no box side exceeds its container side
 abbrev pub sides_fit : PlainInstance → Bool
 sides_fit instance =
-    list_all (λ v. list_all (λ i. nat_le (side instance v i) (container_side instance i)) (below (dims instance))) (below (box_count instance))
+    list_all (λ v. list_all (λ i. nat_le (side instance v i) (container_side instance i)) (below (dims instance)))
+    (below (box_count instance))
 
 -- a tuple, for so many copies of the container
 abbrev pub tuple_refusal : PlainInstance → ℕ → List ScaleFn → Option RefuseCode

@@ -23,8 +23,10 @@ bin_refusal instance k (Outer bins) _ = Some Kind
 -- a token at a node for a value
 abbrev pub value_refusal : PlainInstance → ℕ → OpenNode BoxChoice → PlainToken → Option RefuseCode
 value_refusal instance goal (Inner keep es) t = refusal (subset instance keep) es t
-value_refusal instance goal (Outer c) ValueShort = unless (nat_lt (worth instance c.taken + worth instance (undecided instance c)) goal) Value None
+value_refusal instance goal (Outer c) ValueShort =
+    unless (nat_lt (worth instance c.taken + worth instance (undecided instance c)) goal) Value None
 value_refusal instance goal (Outer c) (SetRefuted None) = unless (nat_le 1 (length c.taken)) «Set» None
 value_refusal instance goal (Outer c) (Choose v) =
-    unless (names_box instance v) Range (unless (not (has_box (pred v) c.taken) && not (has_box (pred v) c.left)) Choice None)
+    unless (names_box instance v) Range
+    (unless (not (has_box (pred v) c.taken) && not (has_box (pred v) c.left)) Choice None)
 value_refusal instance goal (Outer c) _ = Some Kind

@@ -8,22 +8,26 @@ use Rattle.check_terms.specs.declared.answers.PlaceVerdict.TheVariants.{Good, Ou
 
 -- each box with each dimension, the dimensions of box 0 first
 abbrev pub box_dims : PlainInstance → List (ℕ × ℕ)
-box_dims instance = flat_map (λ v. map (λ i. (v, i)) (range_with_len 0 (dims instance))) (range_with_len 0 (box_count instance))
+box_dims instance = flat_map (λ v. map (λ i. (v, i)) (range_with_len 0 (dims instance)))
+    (range_with_len 0 (box_count instance))
 
 -- each two boxes, the lower number first, by the first box and then by the second
 abbrev pub box_pairs : PlainInstance → List (ℕ × ℕ)
 box_pairs instance =
-    flat_map (λ u. map (λ v. (u, v)) (range_with_len (u + 1) (box_count instance - (u + 1)))) (range_with_len 0 (box_count instance))
+    flat_map (λ u. map (λ v. (u, v)) (range_with_len (u + 1) (box_count instance - (u + 1))))
+    (range_with_len 0 (box_count instance))
 
 -- whether the box leaves the container in the dimension
 abbrev pub leaves : PlainInstance → List ℕ → ℕ × ℕ → Bool
-leaves instance places p = nat_lt (written_container instance p.1) (place instance places p.0 p.1 + written_side instance p.0 p.1)
+leaves instance places p = nat_lt (written_container instance p.1)
+    (place instance places p.0 p.1 + written_side instance p.0 p.1)
 
 -- whether in the dimension one of the boxes ends at least the kerf before the start of the other
 abbrev pub is_apart_in : PlainInstance → List ℕ → ℕ × ℕ → ℕ → Bool
 is_apart_in instance places p i =
     nat_le (place instance places p.0 i + written_side instance p.0 i + kerf instance i) (place instance places p.1 i)
-    || nat_le (place instance places p.1 i + written_side instance p.1 i + kerf instance i) (place instance places p.0 i)
+    || nat_le (place instance places p.1 i + written_side instance p.1 i + kerf instance i)
+    (place instance places p.0 i)
 
 -- whether the boxes are apart in no dimension
 abbrev pub overlaps : PlainInstance → List ℕ → ℕ × ℕ → Bool
@@ -39,4 +43,5 @@ verdict_by None None = Good
 -- what the places are found to be
 abbrev pub place_verdict : PlainInstance → List ℕ → PlaceVerdict
 place_verdict instance places =
-    verdict_by (find (leaves instance places) (box_dims instance)) (find (overlaps instance places) (box_pairs instance))
+    verdict_by (find (leaves instance places) (box_dims instance))
+    (find (overlaps instance places) (box_pairs instance))

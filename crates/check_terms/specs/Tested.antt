@@ -1,6 +1,7 @@
 -- What the verdict on places says.
 use Rattle.std.specs.Prelude.{ℕ, ◌+◌, ◌<◌, ◌≤◌, List}
-use Rattle.packing_terms.specs.Packing.{PlainInstance, dims, box_count, written_container, written_side, place, IsPacking, AreApart}
+use Rattle.packing_terms.specs.Packing.{PlainInstance, dims, box_count, written_container, written_side, place}
+use Rattle.packing_terms.specs.Packing.{IsPacking, AreApart}
 use Rattle.check_terms.specs.declared.answers.PlaceVerdict.{PlaceVerdict}
 use Rattle.check_terms.specs.declared.answers.PlaceVerdict.TheVariants.{Good, Outside, Overlap}
 

@@ -1,5 +1,6 @@
 -- Nodes of a choice tree with one box more that is in, or out.
-use Rattle.std.proofs.Common.{◌≡◌, ◌≢◌, ℕ, zero, suc, ◌+◌, ◌*◌, ◌≤◌, refl, ap, subst, ◌∙◌, arith, Bool, true, false, ◌||◌, List, [], ◌∷◌, length, drop}
+use Rattle.std.proofs.Common.{◌≡◌, ◌≢◌, ℕ, zero, suc, ◌+◌, ◌*◌, ◌≤◌, refl, ap, subst, ◌∙◌, arith, Bool, true, false}
+use Rattle.std.proofs.Common.{◌||◌, List, [], ◌∷◌, length, drop}
 use Rattle.std.specs.List.{AllByRecursion}
 use Rattle.std.proofs.lemmas.Bool.{true≢false, ne_eqb}
 use Rattle.packing_terms.specs.Packing.{PlainInstance, dims, box_count}
@@ -55,12 +56,15 @@ module _ (instance : PlainInstance) where
     pub more_set : IsBoxSet instance (insert_box v taken)
     more_set = box_set instance (insert_box v taken) more_boxes more_rising
 
-    pub inside_chosen : (ns : List ℕ) → length ns ≡ length (insert_box v taken) * dims instance → IsChosen instance (decided + 1) (insert_box v taken) ns
+    pub inside_chosen : (ns : List ℕ) → length ns ≡ length (insert_box v taken) * dims instance
+        → IsChosen instance (decided + 1) (insert_box v taken) ns
     inside_chosen ns k = record {
       there = next_there;
       rest = all_left.2;
-      apart = each_from (λ u. has_box u (insert_box v taken) ≡ false) (drop (decided + 1) (ranked instance)) (λ u i. has_inserted u v taken
-          ∙ none _ (has_box u taken) (ne_eqb v u (each_in (λ x. v ≢ x) (drop (decided + 1) (ranked instance)) all_left.1 u i))
+      apart = each_from (λ u. has_box u (insert_box v taken) ≡ false) (drop (decided + 1) (ranked instance))
+          (λ u i. has_inserted u v taken
+          ∙ none _ (has_box u taken) (ne_eqb v u
+          (each_in (λ x. v ≢ x) (drop (decided + 1) (ranked instance)) all_left.1 u i))
           (each_in (λ x. has_box x taken ≡ false) (drop (decided + 1) (ranked instance)) all_apart.1 u i));
       boxes = more_boxes;
       rising = more_rising;
@@ -73,4 +77,11 @@ module _ (instance : PlainInstance) where
         none false true p q = absurd (true≢false q)
 
     pub outside_chosen : IsChosen instance (decided + 1) taken numbers
-    outside_chosen = record { there = next_there; rest = all_left.2; apart = all_apart.1; boxes = h.boxes; rising = h.rising; count = h.count }
+    outside_chosen = record {
+      there = next_there;
+      rest = all_left.2;
+      apart = all_apart.1;
+      boxes = h.boxes;
+      rising = h.rising;
+      count = h.count;
+    }

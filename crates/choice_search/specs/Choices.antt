@@ -64,12 +64,15 @@ pub record IsLeftOut (verdict : Verdict) (left : ℕ) (tokens : List PlainToken)
   pub within : own ≤ left
 
 -- the first child is this node, where the second is the one before
-pub record IsEntered (instance : PlainInstance) (scales : Bool) (c : Chosen) (v left : ℕ) (d : Chosen) (own : ℕ) : Type 0 where
+pub record IsEntered (instance : PlainInstance) (scales : Bool) (c : Chosen) (v left : ℕ) (d : Chosen) (own : ℕ) :
+    Type 0 where
   pub decided : d.decided ≡ c.decided
-  pub fits : DoesFit instance (set_verdict instance scales (insert_box v c.taken.items)) left (insert_box v c.taken.items) d.taken.items d.numbers.items own
+  pub fits : DoesFit instance (set_verdict instance scales (insert_box v c.taken.items)) left
+      (insert_box v c.taken.items) d.taken.items d.numbers.items own
 
 -- what a split by a box leads to, whose second child is this node
 abbrev pub IsOpened : PlainInstance → Bool → Chosen → ℕ → ℕ → Opened → Type 0
 IsOpened instance scales c v left Past = left < rise_of (set_verdict instance scales (insert_box v c.taken.items))
-IsOpened instance scales c v left (Refuted tokens own) = IsLeftOut (set_verdict instance scales (insert_box v c.taken.items)) left (map plain_token tokens.items) own
+IsOpened instance scales c v left (Refuted tokens own) =
+    IsLeftOut (set_verdict instance scales (insert_box v c.taken.items)) left (map plain_token tokens.items) own
 IsOpened instance scales c v left (Entered d own) = IsEntered instance scales c v left d own

@@ -38,7 +38,9 @@ box_at instance decided = slice_index_or (ranked instance) decided 0
 -- the children of such a node: the first has the box that comes next in, the second has it out
 abbrev pub child_tree : PlainChoiceTree → ℕ → List ℕ → ℕ → SearchTree
 child_tree t decided taken zero =
-    taken_child (set_verdict t.instance t.scales (insert_box (box_at t.instance decided) taken)) (λ numbers count. choice_node t.instance t.scales t.goal
+    taken_child (set_verdict t.instance t.scales (insert_box (box_at t.instance decided) taken))
+    (λ numbers count. choice_node t.instance t.scales t.goal
     (drop (decided + 1) (ranked t.instance)) (insert_box (box_at t.instance decided) taken) numbers count)
 child_tree t decided taken (suc k) =
-    choice_node t.instance t.scales t.goal (drop (decided + 1) (ranked t.instance)) taken (class_answer t.instance t.scales taken) 1
+    choice_node t.instance t.scales t.goal (drop (decided + 1) (ranked t.instance)) taken
+    (class_answer t.instance t.scales taken) 1

@@ -10,7 +10,8 @@ use Rattle.choice_search.specs.Choices.{PlainChoiceTree, IsChosen}
 
 -- the outcome of a node, with its own count
 abbrev pub node_verdict : PlainChoiceTree → Chosen → ℕ → Verdict
-node_verdict t c own = outcome (choice_node t.instance t.scales t.goal (drop c.decided (ranked t.instance)) c.taken.items c.numbers.items own)
+node_verdict t c own = outcome
+    (choice_node t.instance t.scales t.goal (drop c.decided (ranked t.instance)) c.taken.items c.numbers.items own)
 
 -- what the second children give that wait, the one to be visited next first: each counts 1
 abbrev pub waiting_verdict : PlainChoiceTree → List Chosen → Verdict
@@ -24,7 +25,8 @@ AreChosen instance (c ∷ cs) = IsChosen instance c.decided c.taken.items c.numb
 
 -- What a walk has still to give: the tokens and the count so far, joined with the node that comes
 -- next, whose own count is among them, and with what waits, are what the whole tree gives.
-pub record IsLeft (t : PlainChoiceTree) (whole : Verdict) (tokens : List PlainToken) (count : ℕ) (c : Chosen) (waiting : List Chosen) : Type 0 where
+pub record IsLeft (t : PlainChoiceTree) (whole : Verdict) (tokens : List PlainToken) (count : ℕ) (c : Chosen)
+    (waiting : List Chosen) : Type 0 where
   pub joined : join (No tokens count) (join (node_verdict t c 0) (waiting_verdict t waiting)) ≡ whole
   pub node : IsChosen t.instance c.decided c.taken.items c.numbers.items
   pub waits : AreChosen t.instance waiting

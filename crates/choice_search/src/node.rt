@@ -58,7 +58,7 @@ fn worth_of(instance: &Instance, keep: &[u32]) -> u64
 }
 
 // Tells what a node is.
-pub fn meet(
+pub(crate) fn meet(
     instance: &Instance,
     order: &[u32],
     value: u64,
@@ -86,7 +86,7 @@ pub fn meet(
 
 // Decides the first child of a split by a box, whose second child is this node, under what is left
 // of a cap.
-pub fn open_first(
+pub(crate) fn open_first(
     alloc: Global,
     search: &mut SetSearch<'_>,
     node: &Chosen,
@@ -119,7 +119,7 @@ pub fn open_first(
 }
 
 // What is told of a node of this kind, whose own count is within the greatest budget.
-pub fn tell(
+pub(crate) fn tell(
     instance: &Instance,
     value: u64,
     decided: usize,

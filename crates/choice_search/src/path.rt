@@ -26,7 +26,7 @@ pub struct Above {
 }
 
 // The node at a path. At each step into a first child a box is taken in.
-pub fn come_to(alloc: Global, order: &[u32], path: &[u32]) -> Result<Above, NoMemory>
+pub(crate) fn come_to(alloc: Global, order: &[u32], path: &[u32]) -> Result<Above, NoMemory>
     requires { length path.now ≤ length order.now }
     ensures decided { IfOk result (λ above. above.decided ≡ length path.now) }
     ensures taken { IfOk result (λ above. above.taken.items ≡ taken_along [] order.now path.now) }
@@ -62,7 +62,7 @@ fn class_answer(
 }
 
 // What the tree below a node's first child gives under a cap.
-pub fn explore_first(
+pub(crate) fn explore_first(
     alloc: Global,
     search: &mut SetSearch<'_>,
     instance: &Instance,
@@ -98,7 +98,7 @@ pub fn explore_first(
 }
 
 // What the tree below a node's second child gives under a cap.
-pub fn explore_second(
+pub(crate) fn explore_second(
     alloc: Global,
     search: &mut SetSearch<'_>,
     instance: &Instance,
@@ -128,7 +128,7 @@ pub fn explore_second(
 }
 
 // What is told of a node's first child.
-pub fn tell_first(
+pub(crate) fn tell_first(
     alloc: Global,
     search: &mut SetSearch<'_>,
     instance: &Instance,
@@ -163,7 +163,7 @@ pub fn tell_first(
 }
 
 // What is told of a node's second child.
-pub fn tell_second(instance: &Instance, order: &[u32], value: u64, above: Above) -> Node
+pub(crate) fn tell_second(instance: &Instance, order: &[u32], value: u64, above: Above) -> Node
     requires order { order.now ≡ ranked instance.now }
     requires there { above.decided < length order.now }
     requires rest { AreBoxes instance.now (drop (above.decided + 1) (ranked instance.now)) }

@@ -17,7 +17,7 @@ use std::alloc::Global;
 use std::mem;
 
 // What the tree below a node gives under a cap, with the node's own count.
-pub fn walk(
+pub(crate) fn walk(
     alloc: Global,
     search: &mut SetSearch<'_>,
     instance: &Instance,

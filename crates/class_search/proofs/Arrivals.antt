@@ -7,13 +7,17 @@ use Rattle.class_search.specs.declared.root.Arrival.{Arrival}
 use Rattle.class_search.specs.declared.root.Arrival.TheVariants.{RefutedRoot, Inner}
 use Rattle.class_search.specs.Rooted.{IsArrival, arrival_tree}
 
-pub arrival_is : (instance : PlainInstance) (tree : Option SearchTree) (es : List Exclusion) (arrival : Arrival) → IsArrival instance tree es arrival
+pub arrival_is : (instance : PlainInstance) (tree : Option SearchTree) (es : List Exclusion) (arrival : Arrival)
+    → IsArrival instance tree es arrival
     → tree ≡ Some (arrival_tree instance es arrival)
 arrival_is instance tree es (RefutedRoot token) h = h
 arrival_is instance tree es (Inner kind) h = h.is
 
 -- what is told of the tree that was found is told of that of the path
-pub arrival_told : (instance : PlainInstance) (tree : Option SearchTree) (es : List Exclusion) (arrival : Arrival) (cap : ℕ) (r : PlainOutcome)
-    → IsArrival instance tree es arrival → r ≡ told cap (outcome (arrival_tree instance es arrival)) → IfSome tree (λ x. r ≡ told cap (outcome x))
+pub arrival_told : (instance : PlainInstance) (tree : Option SearchTree) (es : List Exclusion) (arrival : Arrival)
+    (cap : ℕ) (r : PlainOutcome)
+    → IsArrival instance tree es arrival → r ≡ told cap (outcome (arrival_tree instance es arrival))
+    → IfSome tree (λ x. r ≡ told cap (outcome x))
 arrival_told instance tree es arrival cap r h e =
-    subst (λ (o : Option SearchTree). IfSome o (λ x. r ≡ told cap (outcome x))) (sym (arrival_is instance tree es arrival h)) e
+    subst (λ (o : Option SearchTree). IfSome o (λ x. r ≡ told cap (outcome x)))
+    (sym (arrival_is instance tree es arrival h)) e

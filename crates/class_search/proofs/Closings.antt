@@ -15,14 +15,18 @@ use Rattle.tree_terms.proofs.NodeSteps.{same_sets}
 use Rattle.class_search.specs.Splits.{with_all}
 
 with_set : (es : List Exclusion) (e : Exclusion) → excludes (with_exclusion es e) ≡ excludes (e ∷ es)
-with_set es e = same_sets (with_exclusion es e) (e ∷ es) (λ i u v r h. there i u v r (with_cases es e i u v r h)) (λ i u v r h. back i u v r (or_cases _ _ h))
+with_set es e = same_sets (with_exclusion es e) (e ∷ es) (λ i u v r h. there i u v r (with_cases es e i u v r h))
+    (λ i u v r h. back i u v r (or_cases _ _ h))
   where
-    there : (i u v : ℕ) (r : Rel) → (excludes es i u v r ≡ true) ⊎ (is_of e i u v r ≡ true) → excludes (e ∷ es) i u v r ≡ true
+    there : (i u v : ℕ) (r : Rel) → (excludes es i u v r ≡ true) ⊎ (is_of e i u v r ≡ true)
+        → excludes (e ∷ es) i u v r ≡ true
     there i u v r (inl k) = or_true _ _ (inr k)
     there i u v r (inr k) = or_true _ _ (inl k)
 
-    back : (i u v : ℕ) (r : Rel) → (is_of e i u v r ≡ true) ⊎ (excludes es i u v r ≡ true) → excludes (with_exclusion es e) i u v r ≡ true
-    back i u v r (inl k) = of_own (λ j a b s. excludes (with_exclusion es e) j a b s ≡ true) (excludes_symmetric (with_exclusion es e)) e i u v r k (with_own es e)
+    back : (i u v : ℕ) (r : Rel) → (is_of e i u v r ≡ true) ⊎ (excludes es i u v r ≡ true)
+        → excludes (with_exclusion es e) i u v r ≡ true
+    back i u v r (inl k) = of_own (λ j a b s. excludes (with_exclusion es e) j a b s ≡ true)
+        (excludes_symmetric (with_exclusion es e)) e i u v r k (with_own es e)
     back i u v r (inr k) = with_keeps es e i u v r k
 
 -- exclusions one after another are those of both lists
@@ -32,6 +36,8 @@ with_sets (e ∷ add) es = with_set (with_all add es) e
     ∙ ap {B = Exclusions} (λ (X : Exclusions) (i u v : ℕ) (r : Rel). is_of e i u v r || X i u v r) (with_sets add es)
 
 -- a state that was closed without conflict has the set of the closure
-pub closed_set : (instance : PlainInstance) (es fs : List Exclusion) → IsClosure instance es fs → excludes (closure instance es) ≡ excludes fs
-closed_set instance es fs closed = same_sets (closure instance es) fs (λ i u v r h. (closed.exact i u v r).1 ((closure_is instance es i u v r).0 h))
+pub closed_set : (instance : PlainInstance) (es fs : List Exclusion) → IsClosure instance es fs
+    → excludes (closure instance es) ≡ excludes fs
+closed_set instance es fs closed =
+    same_sets (closure instance es) fs (λ i u v r h. (closed.exact i u v r).1 ((closure_is instance es i u v r).0 h))
     (λ i u v r h. (closure_is instance es i u v r).1 ((closed.exact i u v r).0 h))

@@ -1,5 +1,7 @@
 -- A walk seen from the child of its root in which it stands.
-use Rattle.std.proofs.Common.{◌≡◌, ℕ, zero, suc, ◌+◌, ◌<◌, ◌≤◌, refl, sym, ap, ap₂, subst, ◌∙◌, arith, List, [], ◌∷◌, ◌++◌, length, take, drop, map, reverse, get_or, Option, Some, None, append_assoc, append-nil}
+use Rattle.std.proofs.Common.{◌≡◌, ℕ, zero, suc, ◌+◌, ◌<◌, ◌≤◌, refl, sym, ap, ap₂, subst, ◌∙◌, arith, List, [], ◌∷◌}
+use Rattle.std.proofs.Common.{◌++◌, length, take, drop, map, reverse, get_or, Option, Some, None, append_assoc}
+use Rattle.std.proofs.Common.{append-nil}
 use Rattle.std.specs.List.{remove}
 use Rattle.std.proofs.lemmas.List.{reverse-append, length-append}
 use Rattle.packing_terms.specs.declared.Exclusion.{Exclusion}
@@ -30,7 +32,8 @@ reverse_first x xs = reverse-append (x ∷ []) xs
 
 -- What was met, from the child of the root on. The root is the node of the split f, whose exclusions
 -- are those at its mark among some others.
-pub record IsRerooted (instance : PlainInstance) (whole : SearchTree) (f : Frame) (fs : List Frame) (es : List Exclusion) (here : SearchTree) (ts : List PlainToken) (c : ℕ) : Type 0 where
+pub record IsRerooted (instance : PlainInstance) (whole : SearchTree) (f : Frame) (fs : List Frame)
+    (es : List Exclusion) (here : SearchTree) (ts : List PlainToken) (c : ℕ) : Type 0 where
   pub among : List Exclusion
   pub own : List PlainToken
   pub own_count : ℕ
@@ -44,7 +47,8 @@ pub record IsRerooted (instance : PlainInstance) (whole : SearchTree) (f : Frame
   pub met : AreMet instance fs es here left left_count
 
 module _ (instance : PlainInstance) where
-  rerooted : (f : Frame) (fs : List Frame) (es : List Exclusion) (here : SearchTree) (ts : List PlainToken) (c : ℕ) → AreMet instance (fs ++ f ∷ []) es here ts c
+  rerooted : (f : Frame) (fs : List Frame) (es : List Exclusion) (here : SearchTree) (ts : List PlainToken) (c : ℕ)
+      → AreMet instance (fs ++ f ∷ []) es here ts c
       → IsRerooted instance (root_of instance (fs ++ f ∷ []) es here) f fs es here ts c
   rerooted f [] es here ts c m =
       let s = m.0 in
@@ -58,7 +62,8 @@ module _ (instance : PlainInstance) where
         whole_is = refl;
         child_is = s.leads;
         first = s.first;
-        tokens_are = s.all_tokens ∙ (ap (λ l. (l ++ (plain_split f.split).token ∷ []) ++ s.own) none.0 ∙ sym (append-nil ((plain_split f.split).token ∷ s.own)));
+        tokens_are = s.all_tokens ∙ (ap (λ l. (l ++ (plain_split f.split).token ∷ []) ++ s.own) none.0
+            ∙ sym (append-nil ((plain_split f.split).token ∷ s.own)));
         count_is = (let n = s.all_count in let z = none.1 in omega (arith, n, z));
         met = (refl, refl);
       }
@@ -79,7 +84,8 @@ module _ (instance : PlainInstance) where
         tokens_are =
             s.all_tokens
             ∙ (ap (λ l. (l ++ other ∷ []) ++ s.own) r.tokens_are
-            ∙ (ap (λ l. l ++ s.own) (append_assoc (token ∷ r.own) r.left (other ∷ [])) ∙ append_assoc (token ∷ r.own) (r.left ++ other ∷ []) s.own));
+            ∙ (ap (λ l. l ++ s.own) (append_assoc (token ∷ r.own) r.left (other ∷ []))
+            ∙ append_assoc (token ∷ r.own) (r.left ++ other ∷ []) s.own));
         count_is = (let n = s.all_count in let k = r.count_is in omega (arith, n, k));
         met = (
           record {
@@ -99,11 +105,14 @@ module _ (instance : PlainInstance) where
       }
 
   -- the same, of the frames as they are stored
-  pub rerooted_at : (f : Frame) (frames rest : List Frame) (es : List Exclusion) (here : SearchTree) (ts : List PlainToken) (c : ℕ) → frames ≡ f ∷ rest
-      → AreMet instance (reverse frames) es here ts c → IsRerooted instance (root_of instance (reverse frames) es here) f (reverse rest) es here ts c
+  pub rerooted_at : (f : Frame) (frames rest : List Frame) (es : List Exclusion) (here : SearchTree)
+      (ts : List PlainToken) (c : ℕ) → frames ≡ f ∷ rest
+      → AreMet instance (reverse frames) es here ts c
+      → IsRerooted instance (root_of instance (reverse frames) es here) f (reverse rest) es here ts c
   rerooted_at f frames rest es here ts c e m =
       let back : reverse frames ≡ reverse rest ++ f ∷ [] = ap reverse e ∙ reverse_first f rest in
-      subst (λ (l : List Frame). IsRerooted instance (root_of instance l es here) f (reverse rest) es here ts c) (sym back)
+      subst (λ (l : List Frame). IsRerooted instance (root_of instance l es here) f (reverse rest) es here ts
+      c) (sym back)
       (rerooted f (reverse rest) es here ts c (subst (λ (l : List Frame). AreMet instance l es here ts c) back m))
 
 -- the tokens and the count of the first split, and those of the first child where it is finished
@@ -111,13 +120,16 @@ module _ (s : Standing) (f : Frame) (rest : List Frame) (e : s.walk.frames.items
   abbrev here : SearchTree
   here = kind_tree s.instance.now s.state.trail s.walk.node
 
-  r : IsRerooted s.instance.now (standing_tree s) f (reverse rest) s.state.trail here (map plain_token s.walk.tokens.items) s.walk.count
-  r = rerooted_at s.instance.now f s.walk.frames.items rest s.state.trail here (map plain_token s.walk.tokens.items) s.walk.count e h.walks.met
+  r : IsRerooted s.instance.now (standing_tree s) f (reverse rest) s.state.trail here
+      (map plain_token s.walk.tokens.items) s.walk.count
+  r = rerooted_at s.instance.now f s.walk.frames.items rest s.state.trail here (map plain_token s.walk.tokens.items)
+      s.walk.count e h.walks.met
 
   pub met_some : (0 < length (map plain_token s.walk.tokens.items)) × (1 ≤ s.walk.count)
   met_some = ((let t = ap length r.tokens_are in omega (arith, t)), (let n = r.count_is in omega (arith, n)))
 
-  pub met_size : (size : Size) → f.first ≡ Some size → (1 + size.tokens ≤ length (map plain_token s.walk.tokens.items)) × (1 + size.count ≤ s.walk.count)
+  pub met_size : (size : Size) → f.first ≡ Some size → (1 + size.tokens ≤ length (map plain_token s.walk.tokens.items))
+      × (1 + size.count ≤ s.walk.count)
   met_size size is =
       let done = subst (λ (o : Option Size). IsFirst s.instance.now f r.among o r.own r.own_count) is r.first in
       let a = done.0 in
@@ -127,15 +139,23 @@ module _ (s : Standing) (f : Frame) (rest : List Frame) (e : s.walk.frames.items
       )
 
   -- the walk goes on in the first child
-  pub left_first : (w : Walk) → f.first ≡ None → w.frames.items ≡ rest → ((t : PlainToken) (ts : List PlainToken) → map plain_token s.walk.tokens.items ≡ t ∷ ts → map plain_token w.tokens.items ≡ ts)
-      → w.count + 1 ≡ s.walk.count → w.node ≡ s.walk.node → HasChild (standing_tree s) 0 (λ t. IsWalkOf s.instance.now t (record s { walk = w }))
+  pub left_first : (w : Walk) → f.first ≡ None → w.frames.items ≡ rest
+      → ((t : PlainToken) (ts : List PlainToken) → map plain_token s.walk.tokens.items ≡ t ∷ ts
+      → map plain_token w.tokens.items ≡ ts)
+      → w.count + 1 ≡ s.walk.count → w.node ≡ s.walk.node
+      → HasChild (standing_tree s) 0 (λ t. IsWalkOf s.instance.now t (record s { walk = w }))
   left_first w is frames tokens count node =
       let none = subst (λ (o : Option Size). IsFirst s.instance.now f r.among o r.own r.own_count) is r.first in
-      let ts : map plain_token w.tokens.items ≡ r.left = tokens (plain_split f.split).token r.left (r.tokens_are ∙ ap (λ l. ((plain_split f.split).token ∷ l) ++ r.left) none.0) in
+      let ts : map plain_token w.tokens.items ≡ r.left =
+      tokens (plain_split f.split).token r.left
+      (r.tokens_are ∙ ap (λ l. ((plain_split f.split).token ∷ l) ++ r.left) none.0) in
       let c : w.count ≡ r.left_count = (let n = r.count_is in let z = none.1 in omega (arith, n, z, count)) in
       record {
         child = root_of s.instance.now (reverse rest) s.state.trail here;
-        there = ap (λ (t : SearchTree). child_at t 0) r.whole_is ∙ ap Some (sym (r.child_is ∙ ap (λ (o : Option Size). tree_below s.instance.now (added f.split (child_in o) ++ oldest f.mark r.among)) is));
+        there = ap (λ (t : SearchTree). child_at t 0) r.whole_is
+            ∙ ap Some (sym (r.child_is ∙ ap
+            (λ (o : Option Size). tree_below s.instance.now
+            (added f.split (child_in o) ++ oldest f.mark r.among)) is));
         kept = record {
           here = refl;
           stands = record {
@@ -151,15 +171,22 @@ module _ (s : Standing) (f : Frame) (rest : List Frame) (e : s.walk.frames.items
 
   -- the first child is finished, and the walk goes on in the second
   pub left_second : (w : Walk) (size : Size) → f.first ≡ Some size → w.frames.items ≡ rest
-      → ((t : PlainToken) (ts : List PlainToken) → map plain_token s.walk.tokens.items ≡ t ∷ ts → map plain_token w.tokens.items ≡ drop size.tokens ts)
-      → w.count + (1 + size.count) ≡ s.walk.count → w.node ≡ s.walk.node → HasChild (standing_tree s) 1 (λ t. IsWalkOf s.instance.now t (record s { walk = w }))
+      → ((t : PlainToken) (ts : List PlainToken) → map plain_token s.walk.tokens.items ≡ t ∷ ts
+      → map plain_token w.tokens.items ≡ drop size.tokens ts)
+      → w.count + (1 + size.count) ≡ s.walk.count → w.node ≡ s.walk.node
+      → HasChild (standing_tree s) 1 (λ t. IsWalkOf s.instance.now t (record s { walk = w }))
   left_second w size is frames tokens count node =
       let done = subst (λ (o : Option Size). IsFirst s.instance.now f r.among o r.own r.own_count) is r.first in
-      let ts : map plain_token w.tokens.items ≡ r.left = tokens (plain_split f.split).token (r.own ++ r.left) r.tokens_are ∙ drop_front r.own r.left size.tokens done.0 in
+      let ts : map plain_token w.tokens.items ≡ r.left =
+      tokens (plain_split f.split).token (r.own ++ r.left) r.tokens_are
+      ∙ drop_front r.own r.left size.tokens done.0 in
       let c : w.count ≡ r.left_count = (let n = r.count_is in let z = done.1 in omega (arith, n, z, count)) in
       record {
         child = root_of s.instance.now (reverse rest) s.state.trail here;
-        there = ap (λ (t : SearchTree). child_at t 1) r.whole_is ∙ ap Some (sym (r.child_is ∙ ap (λ (o : Option Size). tree_below s.instance.now (added f.split (child_in o) ++ oldest f.mark r.among)) is));
+        there = ap (λ (t : SearchTree). child_at t 1) r.whole_is
+            ∙ ap Some (sym (r.child_is ∙ ap
+            (λ (o : Option Size). tree_below s.instance.now
+            (added f.split (child_in o) ++ oldest f.mark r.among)) is));
         kept = record {
           here = refl;
           stands = record {
@@ -180,11 +207,14 @@ module _ (s : Standing) (f : Frame) (rest : List Frame) (e : s.walk.frames.items
       drop_front (x ∷ xs) ys (suc n) l = drop_front xs ys n (omega (arith, l))
 
   pub left_behind : (refuted : RefutedNode) (size : Size) → f.first ≡ Some size
-      → ((t : PlainToken) (ts : List PlainToken) → map plain_token s.walk.tokens.items ≡ t ∷ ts → map plain_token refuted.tokens.items ≡ take size.tokens ts)
+      → ((t : PlainToken) (ts : List PlainToken) → map plain_token s.walk.tokens.items ≡ t ∷ ts
+      → map plain_token refuted.tokens.items ≡ take size.tokens ts)
       → refuted.count ≡ size.count → HasChild (standing_tree s) 0 (λ t. IsAllOf t refuted)
   left_behind refuted size is tokens count =
       let done = subst (λ (o : Option Size). IsFirst s.instance.now f r.among o r.own r.own_count) is r.first in
-      let ts : map plain_token refuted.tokens.items ≡ r.own = tokens (plain_split f.split).token (r.own ++ r.left) r.tokens_are ∙ take_front r.own r.left size.tokens done.0 in
+      let ts : map plain_token refuted.tokens.items ≡ r.own =
+      tokens (plain_split f.split).token (r.own ++ r.left) r.tokens_are
+      ∙ take_front r.own r.left size.tokens done.0 in
       record {
         child = tree_below s.instance.now (added f.split First ++ oldest f.mark r.among);
         there = ap (λ (t : SearchTree). child_at t 0) r.whole_is;

@@ -22,7 +22,8 @@ extends_grows instance es fs h = record { more = h.more; grown = h.grown }
 closed_calm : (instance : PlainInstance) (es fs : List Exclusion) → IsClosure instance es fs → IsCalm instance fs
 closed_calm instance es fs closed = record { stable = closed.stable; full = closed.full }
 
-pub next_met : (instance : PlainInstance) → 1 ≤ dims instance → (es fs : List Exclusion) (kind : NodeKind) → Grows es fs → IsClosure instance es fs → IsNextPair instance fs kind
+pub next_met : (instance : PlainInstance) → 1 ≤ dims instance → (es fs : List Exclusion) (kind : NodeKind) → Grows es fs
+    → IsClosure instance es fs → IsNextPair instance fs kind
     → IsMet instance es fs kind
 next_met instance some_dim es fs Conflict g closed h = absurd h
 next_met instance some_dim es fs Settled g closed h = record {
@@ -33,12 +34,14 @@ next_met instance some_dim es fs Settled g closed h = record {
 next_met instance some_dim es fs (Divided s k) g closed h = record {
   grown = g;
   tree =
-      split_node instance some_dim es fs (closed_set instance es fs closed) closed.none (pair_at (ranked_pairs instance) k) (one_found instance fs k h.there h.before h.unsettled)
+      split_node instance some_dim es fs (closed_set instance es fs closed) closed.none
+      (pair_at (ranked_pairs instance) k) (one_found instance fs k h.there h.before h.unsettled)
       ∙ ap (λ (n : SplitNode). split_tree n (λ add. tree_below instance (add ++ fs))) (sym h.is);
   known = record { no_conflict = closed_calm instance es fs closed; split = h };
 }
 
-pub may_split : (instance : PlainInstance) → 1 ≤ dims instance → (es fs : List Exclusion) → IsClosure instance es fs → (p : ℕ × ℕ) → p.0 < p.1 → p.1 < box_count instance
+pub may_split : (instance : PlainInstance) → 1 ≤ dims instance → (es fs : List Exclusion) → IsClosure instance es fs
+    → (p : ℕ × ℕ) → p.0 < p.1 → p.1 < box_count instance
     → is_settled (excludes fs) (dims instance) p ≡ false → MaySplit (excludes fs) (dims instance) p
 may_split instance some_dim es fs closed p huv hv u = record {
   order = λ a f. order_found instance some_dim es fs (closed_set instance es fs closed) closed.none p huv hv u a f;

@@ -51,7 +51,8 @@ pub record HasChild (tree : SearchTree) (k : ℕ) (P : SearchTree → Type 0) : 
 -- what is left to the children of a tree is right
 abbrev pub ArePartsOf : PlainInstance → SearchTree → Parts → Type 0
 ArePartsOf instance tree (First s) = HasChild tree 0 (λ t. IsWalkOf instance t s)
-ArePartsOf instance tree (Second r s) = HasChild tree 0 (λ t. IsAllOf t r) × HasChild tree 1 (λ t. IsWalkOf instance t s)
+ArePartsOf instance tree (Second r s) =
+    HasChild tree 0 (λ t. IsAllOf t r) × HasChild tree 1 (λ t. IsWalkOf instance t s)
 
 -- what is told under a cap, with a walk through the same tree, if one is left
 pub record IsExplored (instance : PlainInstance) (tree : SearchTree) (cap : ℕ) (e : Explored) : Type 0 where

@@ -25,7 +25,8 @@ pub record IsExcessToken (instance : PlainInstance) (scales : Bool) (token : Tok
   pub found : exceeding_where instance 1 scales None ≡ Some tuple
 
 -- the node is an inner tree of this kind, in which no box is longer than the container
-pub record IsInner (instance : PlainInstance) (node : Option SearchTree) (es : List Exclusion) (kind : NodeKind) : Type 0 where
+pub record IsInner (instance : PlainInstance) (node : Option SearchTree) (es : List Exclusion) (kind : NodeKind) :
+    Type 0 where
   pub is : node ≡ Some (kind_tree instance es kind)
   pub known : IsKind instance es kind
   pub fit : SidesFit instance

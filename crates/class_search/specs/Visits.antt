@@ -36,7 +36,8 @@ pub record IsNextSplit (instance : PlainInstance) (es : List Exclusion) (s : Spl
 -- each pair is settled, or the first that isn't is split
 abbrev pub IsNextPair : PlainInstance → List Exclusion → NodeKind → Type 0
 IsNextPair instance es Conflict = ⊥
-IsNextPair instance es Settled = AreSettledBefore (excludes es) (dims instance) (ranked_pairs instance) (length (ranked_pairs instance))
+IsNextPair instance es Settled =
+    AreSettledBefore (excludes es) (dims instance) (ranked_pairs instance) (length (ranked_pairs instance))
 IsNextPair instance es (Divided s k) = IsNextSplit instance es s k
 
 -- the tree of a node of this kind, whose closed state has these exclusions

@@ -30,12 +30,16 @@ use Rattle.class_search.specs.Visits.{kind_tree, IsKind, IsDivided}
 -- the pairs before rank k are settled wherever these exclusions hold and no mask is
 -- empty
 abbrev pub IsPastSettled : PlainInstance → ℕ → List Exclusion → Type 0
-IsPastSettled instance k es = (fs : List Exclusion) → IsSubset (excludes es) (excludes fs) → HasNoEmptyMask instance (excludes fs)
+IsPastSettled instance k es = (fs : List Exclusion) → IsSubset (excludes es) (excludes fs)
+    → HasNoEmptyMask instance (excludes fs)
     → AreSettledBefore (excludes fs) (dims instance) (ranked_pairs instance) k
 
 -- the size of a node, by those of its children
 abbrev pub size_of_both : Size → Size → Size
-size_of_both first second = record { tokens = 1 + (first.tokens + second.tokens); count = 1 + (first.count + second.count) }
+size_of_both first second = record {
+  tokens = 1 + (first.tokens + second.tokens);
+  count = 1 + (first.count + second.count);
+}
 
 -- the child in which the way goes on
 abbrev pub child_in : Option Size → Child
@@ -59,11 +63,13 @@ root_of instance (f ∷ fs) es here = root_of instance fs (oldest f.mark es) (fr
 abbrev pub IsFirst : PlainInstance → Frame → List Exclusion → Option Size → List PlainToken → ℕ → Type 0
 IsFirst instance f es None tokens count = (tokens ≡ []) × (count ≡ 0)
 IsFirst instance f es (Some size) tokens count =
-    (length tokens ≡ size.tokens) × (count ≡ size.count) × (outcome (tree_below instance (added f.split First ++ oldest f.mark es)) ≡ No tokens count)
+    (length tokens ≡ size.tokens) × (count ≡ size.count)
+    × (outcome (tree_below instance (added f.split First ++ oldest f.mark es)) ≡ No tokens count)
 
 -- A split on the way, whose state was closed and is split so. What was met up to its child is what
 -- was met before it, its token, and what its first child gave.
-pub record IsFrame (instance : PlainInstance) (f : Frame) (es : List Exclusion) (here : SearchTree) (tokens : List PlainToken) (count : ℕ) : Type 0 where
+pub record IsFrame (instance : PlainInstance) (f : Frame) (es : List Exclusion) (here : SearchTree)
+    (tokens : List PlainToken) (count : ℕ) : Type 0 where
   pub inside : f.mark ≤ length es
   pub divided : IsDivided instance (oldest f.mark es) f.split f.rank
   pub leads : here ≡ child_tree instance f es
@@ -79,7 +85,8 @@ pub record IsFrame (instance : PlainInstance) (f : Frame) (es : List Exclusion) 
 abbrev pub AreMet : PlainInstance → List Frame → List Exclusion → SearchTree → List PlainToken → ℕ → Type 0
 AreMet instance [] es here tokens count = (tokens ≡ []) × (count ≡ 0)
 AreMet instance (f ∷ fs) es here tokens count =
-    (s : IsFrame instance f es here tokens count) × AreMet instance fs (oldest f.mark es) (frame_tree instance f es) s.before s.count_before
+    (s : IsFrame instance f es here tokens count)
+    × AreMet instance fs (oldest f.mark es) (frame_tree instance f es) s.before s.count_before
 
 -- the tree that is walked, whose node where the walk stands has these exclusions
 abbrev pub walk_tree : PlainInstance → List Exclusion → Walk → SearchTree
@@ -87,23 +94,27 @@ walk_tree instance es w = root_of instance (reverse w.frames.items) es (kind_tre
 
 -- What a walk keeps.
 pub record IsWalk (instance : PlainInstance) (es : List Exclusion) (w : Walk) : Type 0 where
-  pub met : AreMet instance (reverse w.frames.items) es (kind_tree instance es w.node) (map plain_token w.tokens.items) w.count
+  pub met : AreMet instance (reverse w.frames.items) es (kind_tree instance es w.node)
+      (map plain_token w.tokens.items) w.count
   pub known : IsKind instance es w.node
 
 -- what becomes of the walk through a tree under a cap: what is told of it, or a walk through the
 -- same tree, whose count exceeds the cap
 abbrev pub IsEndOf : PlainInstance → List Exclusion → ℕ → SearchTree → End → Type 0
 IsEndOf instance es cap tree (Whole r) = plain_outcome r ≡ told cap (outcome tree)
-IsEndOf instance es cap tree (Stopped w) = IsWalk instance es w × (walk_tree instance es w ≡ tree) × (cap < count_of (outcome tree))
+IsEndOf instance es cap tree (Stopped w) = IsWalk instance es w × (walk_tree instance es w ≡ tree)
+    × (cap < count_of (outcome tree))
 
 -- At a node that was met on the way.
-pub record IsAtNode (instance : PlainInstance) (whole : SearchTree) (fs : List Frame) (es : List Exclusion) (tokens : List PlainToken) (count : ℕ) (kind : NodeKind) : Type 0 where
+pub record IsAtNode (instance : PlainInstance) (whole : SearchTree) (fs : List Frame) (es : List Exclusion)
+    (tokens : List PlainToken) (count : ℕ) (kind : NodeKind) : Type 0 where
   pub met : AreMet instance fs es (kind_tree instance es kind) tokens count
   pub known : IsKind instance es kind
   pub root : root_of instance fs es (kind_tree instance es kind) ≡ whole
 
 -- Behind a node that is finished with no, of this size.
-pub record IsBehind (instance : PlainInstance) (whole : SearchTree) (fs : List Frame) (es : List Exclusion) (tokens : List PlainToken) (count : ℕ) (size : Size) : Type 0 where
+pub record IsBehind (instance : PlainInstance) (whole : SearchTree) (fs : List Frame) (es : List Exclusion)
+    (tokens : List PlainToken) (count : ℕ) (size : Size) : Type 0 where
   pub here : SearchTree
   pub before : List PlainToken
   pub count_before : ℕ

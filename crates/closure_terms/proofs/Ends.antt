@@ -1,5 +1,6 @@
 -- What no rule changes is the closure.
-use Rattle.std.proofs.Common.{◌≡◌, ℕ, ◌<◌, ◌⊎◌, inl, inr, refl, sym, ◌∙◌, Bool, true, false, not, ◌||◌, eqb, List, IsTrue, MatchBool}
+use Rattle.std.proofs.Common.{◌≡◌, ℕ, ◌<◌, ◌⊎◌, inl, inr, refl, sym, ◌∙◌, Bool, true, false, not, ◌||◌, eqb, List}
+use Rattle.std.proofs.Common.{IsTrue, MatchBool}
 use Rattle.std.proofs.lemmas.Bool.{true≢false, or_cases, eqb-true}
 use Rattle.std.specs.List.{list_any}
 use Rattle.packing_terms.specs.declared.Rel.{Rel}
@@ -32,7 +33,10 @@ pub ended_closure : (instance : PlainInstance) (E : Exclusions) (old new : List 
     → Derives instance (excludes old) E → Derives instance E (excludes old)
     → IsStable instance (excludes new) → HasNoEmptyMask instance (excludes new) → IsClosureOf instance E new
 ended_closure instance E old new extends there back settled full = record {
-  exact = λ i u v r. (λ h. there i u v r (only_derived instance old new extends i u v r h), λ d. all_there i u v r (back i u v r d));
+  exact = λ i u v r. (
+    λ h. there i u v r (only_derived instance old new extends i u v r h),
+    λ d. all_there i u v r (back i u v r d),
+  );
   stable = settled;
   full = full;
   none = λ c. clash c (full c.dim c.u c.v c.edge);
@@ -40,7 +44,8 @@ ended_closure instance E old new extends there back settled full = record {
   where
     all_there : (i u v : ℕ) (r : Rel) → IsDerived instance (excludes old) i u v r → IsTrue (excludes new i u v r)
     all_there i u v r d =
-        stable_holds instance (excludes old) (excludes new) (excludes_symmetric new) extends.kept settled d.steps d.derivation i u v r d.stands
+        stable_holds instance (excludes old) (excludes new) (excludes_symmetric new) extends.kept settled d.steps
+        d.derivation i u v r d.stands
 
     clash : (c : HasConflict instance E) → (r : Rel) × (excludes new c.dim c.u c.v r ≡ false) → ⊥
     clash c (r, e) = true≢false (sym (all_there c.dim c.u c.v r (back c.dim c.u c.v r (c.each r))) ∙ e)
@@ -50,7 +55,13 @@ pub ended_conflict : (instance : PlainInstance) (E : Exclusions) (old new : List
 ended_conflict instance E old new extends there empty = record {
   only = only;
   empty = empty;
-  conflict = record { dim = empty.dim; u = empty.u; v = empty.v; edge = empty.edge; each = λ r. only empty.dim empty.u empty.v r (empty.each r) };
+  conflict = record {
+    dim = empty.dim;
+    u = empty.u;
+    v = empty.v;
+    edge = empty.edge;
+    each = λ r. only empty.dim empty.u empty.v r (empty.each r);
+  };
 }
   where
     only : (i u v : ℕ) (r : Rel) → IsTrue (excludes new i u v r) → IsDerived instance E i u v r
@@ -60,7 +71,8 @@ ended_conflict instance E old new extends there empty = record {
 some_rel : (m : ℕ) → m < 8 → (eqb m 0 || list_any (λ r. mask_has m r) rels) ≡ true
 some_rel m l = each (λ x s. eqb x 0 || list_any (λ r. mask_has x r) rels) refl m l Overlap
 
-pub empty_or_left : (instance : PlainInstance) (X : Exclusions) (i u v m : ℕ) → IsEdge instance i u v → m < 8 → ((r : Rel) → mask_has m r ≡ not (X i u v r))
+pub empty_or_left : (instance : PlainInstance) (X : Exclusions) (i u v m : ℕ) → IsEdge instance i u v → m < 8
+    → ((r : Rel) → mask_has m r ≡ not (X i u v r))
     → MatchBool (eqb m 0) (HasEmptyMask instance X) (HasRelationLeft instance X i u v)
 empty_or_left instance X i u v m edge l has = go (eqb m 0) refl
   where
@@ -77,9 +89,11 @@ empty_or_left instance X i u v m edge l has = go (eqb m 0) refl
     opened x false e f = refl
     opened x true e f = absurd (true≢false (sym f ∙ e))
 
-    left : (eqb m 0 ≡ true) ⊎ (list_any (λ r. mask_has m r) rels ≡ true) → eqb m 0 ≡ false → (r : Rel) × (X i u v r ≡ false)
+    left : (eqb m 0 ≡ true) ⊎ (list_any (λ r. mask_has m r) rels ≡ true) → eqb m 0 ≡ false
+        → (r : Rel) × (X i u v r ≡ false)
     left (inl t) f = absurd (true≢false (sym t ∙ f))
-    left (inr t) f = let p = any_from (λ r. mask_has m r) rels t in (p.item, opened (mask_has m p.item) (X i u v p.item) (has p.item) p.passes)
+    left (inr t) f = let p = any_from (λ r. mask_has m r) rels t in
+        (p.item, opened (mask_has m p.item) (X i u v p.item) (has p.item) p.passes)
 
     go : (x : Bool) → eqb m 0 ≡ x → MatchBool x (HasEmptyMask instance X) (HasRelationLeft instance X i u v)
     go true e = record {

@@ -51,7 +51,11 @@ three_turned : (n u v x : ℕ) → AreBoxesAmong n (u ∷ v ∷ x ∷ []) → Ar
 three_turned n u v x h = (h.2.0, ((λ e. h.1.0 (sym e)), (h.2.1.0, tt)), (h.0, (h.1.1.0, tt), (h.2.2.0, tt, tt)))
 
 three_back : (n u v x : ℕ) → AreBoxesAmong n (u ∷ v ∷ x ∷ []) → AreBoxesAmong n (x ∷ v ∷ u ∷ [])
-three_back n u v x h = (h.2.2.0, ((λ e. h.2.1.0 (sym e)), ((λ e. h.1.1.0 (sym e)), tt)), (h.2.0, ((λ e. h.1.0 (sym e)), tt), (h.0, tt, tt)))
+three_back n u v x h = (
+  h.2.2.0,
+  ((λ e. h.2.1.0 (sym e)), ((λ e. h.1.1.0 (sym e)), tt)),
+  (h.2.0, ((λ e. h.1.0 (sym e)), tt), (h.0, tt, tt)),
+)
 
 four_ac : (n a b c d : ℕ) → AreBoxesAmong n (a ∷ b ∷ c ∷ d ∷ []) → AreBoxesAmong n (c ∷ b ∷ a ∷ d ∷ [])
 four_ac n a b c d h = (
@@ -64,14 +68,19 @@ four_bd : (n a b c d : ℕ) → AreBoxesAmong n (a ∷ b ∷ c ∷ d ∷ []) →
 four_bd n a b c d h = (
   h.0,
   (h.1.1.1.0, (h.1.1.0, (h.1.0, tt))),
-  (h.2.2.2.0, ((λ e. h.2.2.1.0 (sym e)), ((λ e. h.2.1.1.0 (sym e)), tt)), (h.2.2.0, ((λ e. h.2.1.0 (sym e)), tt), (h.2.0, tt, tt))),
+  (
+    h.2.2.2.0,
+    ((λ e. h.2.2.1.0 (sym e)), ((λ e. h.2.1.1.0 (sym e)), tt)),
+    (h.2.2.0, ((λ e. h.2.1.0 (sym e)), tt), (h.2.0, tt, tt)),
+  ),
 )
 
 two_turned : (n u v : ℕ) → AreBoxesAmong n (u ∷ v ∷ []) → AreBoxesAmong n (v ∷ u ∷ [])
 two_turned n u v h = (h.2.0, ((λ e. h.1.0 (sym e)), tt), (h.0, tt, tt))
 
 -- PAIR adds the same with its two boxes swapped
-pub pair_turned : (instance : PlainInstance) (X : Exclusions) (i u v j a b : ℕ) (r : Rel) → Adds instance X (Pair i u v) j a b r → Adds instance X (Pair i v u) j a b r
+pub pair_turned : (instance : PlainInstance) (X : Exclusions) (i u v j a b : ℕ) (r : Rel)
+    → Adds instance X (Pair i u v) j a b r → Adds instance X (Pair i v u) j a b r
 pair_turned instance X i u v _ _ _ _ (added r is p c) =
     subst (λ (s : Rel). Adds instance X (Pair i v u) i u v s) (mirror_twice r)
     (mirror_added (mirror r) (is.0, two_turned _ u v is.1) (omega (arith, p)) (not_overlap r c))
@@ -83,40 +92,58 @@ module _ (instance : PlainInstance) (es : List Exclusion) where
   joined_turned i a b h = (excludes_symmetric es i a b After h.1, excludes_symmetric es i a b Before h.0)
 
   -- TRIPLE adds the same with its first two boxes swapped
-  triple_turned : (i u v x j a b : ℕ) (r : Rel) → Adds instance (excludes es) (Triple i u v x) j a b r → Adds instance (excludes es) (Triple i v u x) j a b r
+  triple_turned : (i u v x j a b : ℕ) (r : Rel) → Adds instance (excludes es) (Triple i u v x) j a b r
+      → Adds instance (excludes es) (Triple i v u x) j a b r
   triple_turned i u v x _ _ _ _ (added r is p c) =
       subst (λ (s : Rel). Adds instance (excludes es) (Triple i v u x) i u v s) (mirror_twice r)
       (mirror_added (mirror r) (is.0, three_turned _ u v x is.1) (p.1, p.0, omega (arith, p.2)) (not_overlap r c))
   triple_turned i u v x _ _ _ _ (mirror_added r is p c) =
       added (mirror r) (is.0, three_turned _ u v x is.1) (p.1, p.0, omega (arith, p.2)) (not_overlap r c)
 
-  compose_concludes : (i u v x : ℕ) (r : Rel) → Concludes (excludes es) (Compose i u v x) r → Concludes (excludes es) (Compose i x v u) (mirror r)
+  compose_concludes : (i u v x : ℕ) (r : Rel) → Concludes (excludes es) (Compose i u v x) r
+      → Concludes (excludes es) (Compose i x v u) (mirror r)
   compose_concludes i u v x r c q s f g =
       sym (allows_turned q s r) ∙ c (mirror s) (mirror q) (open_mirrored es i v u s g) (open_mirrored es i x v q f)
 
   -- COMPOSE adds the same read backwards
-  compose_turned : (i u v x j a b : ℕ) (r : Rel) → Adds instance (excludes es) (Compose i u v x) j a b r → Adds instance (excludes es) (Compose i x v u) j a b r
+  compose_turned : (i u v x j a b : ℕ) (r : Rel) → Adds instance (excludes es) (Compose i u v x) j a b r
+      → Adds instance (excludes es) (Compose i x v u) j a b r
   compose_turned i u v x _ _ _ _ (added r is p c) =
       subst (λ (s : Rel). Adds instance (excludes es) (Compose i x v u) i u x s) (mirror_twice r)
       (mirror_added (mirror r) (is.0, three_back _ u v x is.1) tt (compose_concludes i u v x r c))
-  compose_turned i u v x _ _ _ _ (mirror_added r is p c) = added (mirror r) (is.0, three_back _ u v x is.1) tt (compose_concludes i u v x r c)
+  compose_turned i u v x _ _ _ _ (mirror_added r is p c) =
+      added (mirror r) (is.0, three_back _ u v x is.1) tt (compose_concludes i u v x r c)
 
   -- CYCLE adds the same with its first and third boxes swapped
-  cycle_ac : (i a b c d j p q : ℕ) (r : Rel) → Adds instance (excludes es) (Cycle i a b c d) j p q r → Adds instance (excludes es) (Cycle i c b a d) j p q r
-  cycle_ac i a b c d _ _ _ _ (added r is p k) = added r (is.0, four_ac _ a b c d is.1)
-      (joined_turned i b c p.1, joined_turned i a b p.0, joined_turned i d a p.3, joined_turned i c d p.2, excludes_symmetric es i a c Overlap p.4) k
-  cycle_ac i a b c d _ _ _ _ (mirror_added r is p k) = mirror_added r (is.0, four_ac _ a b c d is.1)
-      (joined_turned i b c p.1, joined_turned i a b p.0, joined_turned i d a p.3, joined_turned i c d p.2, excludes_symmetric es i a c Overlap p.4) k
+  cycle_ac : (i a b c d j p q : ℕ) (r : Rel) → Adds instance (excludes es) (Cycle i a b c d) j p q r
+      → Adds instance (excludes es) (Cycle i c b a d) j p q r
+  cycle_ac i a b c d _ _ _ _ (added r is p k) = added r (is.0, four_ac _ a b c d is.1) (
+    joined_turned i b c p.1,
+    joined_turned i a b p.0,
+    joined_turned i d a p.3,
+    joined_turned i c d p.2,
+    excludes_symmetric es i a c Overlap p.4,
+  ) k
+  cycle_ac i a b c d _ _ _ _ (mirror_added r is p k) = mirror_added r (is.0, four_ac _ a b c d is.1) (
+    joined_turned i b c p.1,
+    joined_turned i a b p.0,
+    joined_turned i d a p.3,
+    joined_turned i c d p.2,
+    excludes_symmetric es i a c Overlap p.4,
+  ) k
 
   -- and with its second and fourth
-  cycle_bd : (i a b c d j p q : ℕ) (r : Rel) → Adds instance (excludes es) (Cycle i a b c d) j p q r → Adds instance (excludes es) (Cycle i a d c b) j p q r
+  cycle_bd : (i a b c d j p q : ℕ) (r : Rel) → Adds instance (excludes es) (Cycle i a b c d) j p q r
+      → Adds instance (excludes es) (Cycle i a d c b) j p q r
   cycle_bd i a b c d _ _ _ _ (added r is p k) =
       subst (λ (s : Rel). Adds instance (excludes es) (Cycle i a d c b) i b d s) (mirror_twice r)
       (mirror_added (mirror r) (is.0, four_bd _ a b c d is.1)
-      (joined_turned i d a p.3, joined_turned i c d p.2, joined_turned i b c p.1, joined_turned i a b p.0, p.4) (not_overlap r k))
+      (joined_turned i d a p.3, joined_turned i c d p.2, joined_turned i b c p.1, joined_turned i a b p.0, p.4)
+      (not_overlap r k))
   cycle_bd i a b c d _ _ _ _ (mirror_added r is p k) =
       added (mirror r) (is.0, four_bd _ a b c d is.1)
-      (joined_turned i d a p.3, joined_turned i c d p.2, joined_turned i b c p.1, joined_turned i a b p.0, p.4) (not_overlap r k)
+      (joined_turned i d a p.3, joined_turned i c d p.2, joined_turned i b c p.1, joined_turned i a b p.0, p.4)
+      (not_overlap r k)
 
   -- an instance that is applied for the edge and adds no less
   abbrev pub HasReached : ℕ → ℕ → ℕ → Rule → Type 0
@@ -135,7 +162,8 @@ module _ (instance : PlainInstance) (es : List Exclusion) where
   reached j p q (Cycle i a b c d) (e, inr (inl h)) = (Cycle i c b a d, inr (e, inl (h.1, h.0)), cycle_ac i a b c d)
   reached j p q (Cycle i a b c d) (e, inr (inr (inl h))) =
       (Cycle i c d a b, inl (e, inl h), λ k x y r z. cycle_bd i c b a d k x y r (cycle_ac i a b c d k x y r z))
-  reached j p q (Cycle i a b c d) (e, inr (inr (inr (inl h)))) = (Cycle i a d c b, inr (e, inl (h.1, h.0)), cycle_bd i a b c d)
+  reached j p q (Cycle i a b c d) (e, inr (inr (inr (inl h)))) =
+      (Cycle i a d c b, inr (e, inl (h.1, h.0)), cycle_bd i a b c d)
   reached j p q (Cycle i a b c d) (e, inr (inr (inr (inr h)))) = (Cycle i a b c d, inl (e, inr h), λ k x y r z. z)
   reached j p q (Order i a b c d) h = (Order i a b c d, inl h, λ k x y r z. z)
 
@@ -143,42 +171,57 @@ swap_sum : {A B : Type 0} → A ⊎ B → B ⊎ A
 swap_sum (inl a) = inr a
 swap_sum (inr b) = inl b
 
--- The step of the worklist's invariant: where all instances that are applied for the edge of the oldest exclusion that wasn't looked through yet cover
+-- The step of the worklist's invariant: where all instances that are applied for the edge of the
+-- oldest exclusion that wasn't looked through yet cover
 -- what they add, that exclusion is looked through.
-pub settled_next : (instance : PlainInstance) (e : Exclusion) (seen old new : List Exclusion) → IsSubset (excludes (e ∷ seen)) (excludes old)
+pub settled_next : (instance : PlainInstance) (e : Exclusion) (seen old new : List Exclusion)
+    → IsSubset (excludes (e ∷ seen)) (excludes old)
     → IsUpToDate instance seen new → ((r : Rel) × (excludes old e.dim e.u e.v r ≡ false))
-    → ((rule : Rule) → IsAppliedAt e.dim e.u e.v rule ⊎ IsAppliedAt e.dim e.v e.u rule → IsCovered instance (excludes old) new rule)
+    → ((rule : Rule) → IsAppliedAt e.dim e.u e.v rule ⊎ IsAppliedAt e.dim e.v e.u rule
+    → IsCovered instance (excludes old) new rule)
     → IsUpToDate instance (e ∷ seen) new
 settled_next instance e seen old new within settled left done = record {
-  covered = λ rule local. record { holds = λ i u v r add. go rule local i u v r add (touched_or_old instance e seen rule local) };
+  covered = λ rule local. record {
+    holds = λ i u v r add. go rule local i u v r add
+        (touched_or_old instance e seen rule local);
+  };
   full = λ i u v edge. still i u v edge (decide_at e i u v);
 }
   where
     by_reached : (rule : Rule) (p q : ℕ) → HasReached instance (e ∷ seen) e.dim p q rule
-        → ((other : Rule) → IsAppliedAt e.dim p q other ⊎ IsAppliedAt e.dim q p other → IsCovered instance (excludes old) new other)
+        → ((other : Rule) → IsAppliedAt e.dim p q other ⊎ IsAppliedAt e.dim q p other
+        → IsCovered instance (excludes old) new other)
         → (i u v : ℕ) (r : Rel) → Adds instance (excludes (e ∷ seen)) rule i u v r → excludes new i u v r ≡ true
     by_reached rule p q h covers i u v r add =
-        (covers h.0 h.1).holds i u v r (adds_more instance (excludes (e ∷ seen)) (excludes old) within h.0 i u v r (h.2 i u v r add))
+        (covers h.0 h.1).holds i u v r
+        (adds_more instance (excludes (e ∷ seen)) (excludes old) within h.0 i u v r (h.2 i u v r add))
 
     go : (rule : Rule) → IsLocal rule → (i u v : ℕ) (r : Rel) → Adds instance (excludes (e ∷ seen)) rule i u v r
-        → IsTouched e rule ⊎ ((j a b : ℕ) (s : Rel) → Adds instance (excludes (e ∷ seen)) rule j a b s → Adds instance (excludes seen) rule j a b s)
+        → IsTouched e rule ⊎ ((j a b : ℕ) (s : Rel) → Adds instance (excludes (e ∷ seen)) rule j a b s
+        → Adds instance (excludes seen) rule j a b s)
         → excludes new i u v r ≡ true
     go rule local i u v r add (inr less) = (settled.covered rule local).holds i u v r (less i u v r add)
     go rule local i u v r add (inl (inl t)) =
         by_reached rule e.u e.v (reached instance (e ∷ seen) e.dim e.u e.v rule t) done i u v r add
     go rule local i u v r add (inl (inr t)) =
-        by_reached rule e.v e.u (reached instance (e ∷ seen) e.dim e.v e.u rule t) (λ other s. done other (swap_sum s)) i u v r add
+        by_reached rule e.v e.u (reached instance (e ∷ seen) e.dim e.v e.u rule t)
+        (λ other s. done other (swap_sum s)) i u v r add
 
-    still : (i u v : ℕ) → IsEdge instance i u v → IsAt e i u v ⊎ (IsAt e i u v → ⊥) → (r : Rel) × (excludes (e ∷ seen) i u v r ≡ false)
+    still : (i u v : ℕ) → IsEdge instance i u v → IsAt e i u v ⊎ (IsAt e i u v → ⊥)
+        → (r : Rel) × (excludes (e ∷ seen) i u v r ≡ false)
     still i u v edge (inr off) = let k = settled.full i u v edge in (k.0, still_open e seen i u v k.0 off k.1)
     still i u v edge (inl (d, inl h)) = (
       left.0,
-      open_less (excludes (e ∷ seen)) (excludes old) within i u v left.0 (subst (λ (j : ℕ). excludes old j u v left.0 ≡ false) d
-          (subst (λ (a : ℕ). excludes old e.dim a v left.0 ≡ false) h.0 (subst (λ (b : ℕ). excludes old e.dim e.u b left.0 ≡ false) h.1 left.1))),
+      open_less (excludes (e ∷ seen)) (excludes old) within i u v left.0
+          (subst (λ (j : ℕ). excludes old j u v left.0 ≡ false) d
+          (subst (λ (a : ℕ). excludes old e.dim a v left.0 ≡ false) h.0
+          (subst (λ (b : ℕ). excludes old e.dim e.u b left.0 ≡ false) h.1 left.1))),
     )
     still i u v edge (inl (d, inr h)) = (
       mirror left.0,
-      open_less (excludes (e ∷ seen)) (excludes old) within i u v (mirror left.0) (subst (λ (j : ℕ). excludes old j u v (mirror left.0) ≡ false) d
-          (subst (λ (a : ℕ). excludes old e.dim a v (mirror left.0) ≡ false) h.1 (subst (λ (b : ℕ). excludes old e.dim e.v b (mirror left.0) ≡ false) h.0
+      open_less (excludes (e ∷ seen)) (excludes old) within i u v (mirror left.0)
+          (subst (λ (j : ℕ). excludes old j u v (mirror left.0) ≡ false) d
+          (subst (λ (a : ℕ). excludes old e.dim a v (mirror left.0) ≡ false) h.1
+          (subst (λ (b : ℕ). excludes old e.dim e.v b (mirror left.0) ≡ false) h.0
           (open_mirrored old e.dim e.u e.v left.0 left.1)))),
     )

@@ -1,5 +1,6 @@
 -- The worklist's invariant from one exclusion to the next, from the first to the last.
-use Rattle.std.proofs.Common.{◌≡◌, ℕ, zero, suc, ◌+◌, ◌-◌, ◌*◌, ◌/◌, ◌<◌, ◌≤◌, ◌⊎◌, inl, inr, refl, sym, subst, ◌∙◌, arith, true, false, List, [], ◌∷◌, length, drop}
+use Rattle.std.proofs.Common.{◌≡◌, ℕ, zero, suc, ◌+◌, ◌-◌, ◌*◌, ◌/◌, ◌<◌, ◌≤◌, ◌⊎◌, inl, inr, refl, sym, subst, ◌∙◌}
+use Rattle.std.proofs.Common.{arith, true, false, List, [], ◌∷◌, length, drop}
 use Rattle.std.proofs.lemmas.Bool.{true≢false, cases_lt, or_right}
 use Rattle.std.proofs.lemmas.List.{length-append}
 use Rattle.packing_terms.specs.declared.Rel.{Rel}
@@ -8,7 +9,8 @@ use Rattle.packing_terms.specs.declared.Exclusion.{Exclusion}
 use Rattle.packing_terms.specs.Packing.{PlainInstance, dims, box_count}
 use Rattle.packing_terms.specs.Relations.{allows}
 use Rattle.packing_terms.specs.Exclusions.{Exclusions, excludes, is_of, IsEdge, IsEdgeAmong, IsSurelyBefore}
-use Rattle.packing_terms.specs.Rules.{Rule, Pair, Apart, Triple, Chain, Compose, Cycle, Order, IsRuleInstance, Premises, Concludes, by_rule, mirrored}
+use Rattle.packing_terms.specs.Rules.{Rule, Pair, Apart, Triple, Chain, Compose, Cycle, Order, IsRuleInstance, Premises}
+use Rattle.packing_terms.specs.Rules.{Concludes, by_rule, mirrored}
 use Rattle.packing_terms.specs.Closure.{IsSubset, IsStable}
 use Rattle.rule_terms.specs.Applied.{Adds, added, mirror_added, Extends}
 use Rattle.rule_terms.specs.Places.{HasNoEmptyMask}
@@ -18,7 +20,8 @@ use Rattle.rule_terms.proofs.Steps.{trail_room, few_open}
 use Rattle.edge_state.specs.Edges.{PlainEdges, oldest}
 use Rattle.edge_state.specs.Answers.{IsChangeAfter}
 use Rattle.closure_terms.specs.States.{HasRelationLeft}
-use Rattle.closure_terms.specs.Work.{IsLocal, IsAppliedAt, IsCovered, IsExhausted, IsWorked, IsUpToDate, IsChained, IsUnordered, IsBehind, behind_one, behind_two}
+use Rattle.closure_terms.specs.Work.{IsLocal, IsAppliedAt, IsCovered, IsExhausted, IsWorked, IsUpToDate, IsChained}
+use Rattle.closure_terms.specs.Work.{IsUnordered, IsBehind, behind_one, behind_two}
 use Rattle.closure_terms.proofs.Touched.{adds_more}
 use Rattle.closure_terms.proofs.Worked.{covered_not}
 use Rattle.closure_terms.proofs.Reached.{settled_next, pair_turned}
@@ -37,7 +40,8 @@ trail_drop d n (suc k) [] h = h
 trail_drop d n (suc k) (e ∷ es) h = trail_drop d n k es h.2
 
 -- what comes next is at an edge
-pub change_edge : (d n : ℕ) (es : List Exclusion) (mark next : ℕ) (e : Exclusion) → IsTrail d n es → IsChangeAfter es mark e next → IsEdgeAmong d n e.dim e.u e.v
+pub change_edge : (d n : ℕ) (es : List Exclusion) (mark next : ℕ) (e : Exclusion) → IsTrail d n es
+    → IsChangeAfter es mark e next → IsEdgeAmong d n e.dim e.u e.v
 change_edge d n es mark next e trail change =
     (subst (λ (l : List Exclusion). IsTrail d n l) change.newest (trail_drop d n (length es - next) es trail)).0
 
@@ -46,35 +50,44 @@ pub trail_short : (d n : ℕ) (es : List Exclusion) → IsTrail d n es → lengt
 trail_short d n es trail = let a = trail_room d n es trail in let b = few_open d n [] in omega arith
 
 -- what was settled stays so when exclusions come on top
-pub settled_grown : (instance : PlainInstance) (seen old new : List Exclusion) → IsSubset (excludes old) (excludes new) → IsUpToDate instance seen old
+pub settled_grown : (instance : PlainInstance) (seen old new : List Exclusion) → IsSubset (excludes old) (excludes new)
+    → IsUpToDate instance seen old
     → IsUpToDate instance seen new
 settled_grown instance seen old new more h = record {
   covered = λ rule local. record { holds = λ i u v r add. more i u v r ((h.covered rule local).holds i u v r add) };
   full = h.full;
 }
 
-module _ (instance : PlainInstance) (s t : PlainEdges) (e : Exclusion) (edge : IsEdge instance e.dim e.u e.v) (left : HasRelationLeft instance (excludes s.trail) e.dim e.u e.v)
+module _ (instance : PlainInstance) (s t : PlainEdges) (e : Exclusion) (edge : IsEdge instance e.dim e.u e.v)
+    (left : HasRelationLeft instance (excludes s.trail) e.dim e.u e.v)
     (work : IsWorked instance s t false (λ rule. IsAppliedAt e.dim e.u e.v rule ⊎ IsAppliedAt e.dim e.v e.u rule)) where
   -- what was looked through after one change more
-  seen_next : (mark next : ℕ) (f : Exclusion) → IsChangeAfter s.trail mark f next → oldest next t.trail ≡ f ∷ oldest mark s.trail
+  seen_next : (mark next : ℕ) (f : Exclusion) → IsChangeAfter s.trail mark f next
+      → oldest next t.trail ≡ f ∷ oldest mark s.trail
   seen_next mark next f change =
-      oldest_grown work.extends.more s.trail t.trail next work.extends.grown (let h = change.before_last in omega (arith, change.counted)) ∙ change.newest
+      oldest_grown work.extends.more s.trail t.trail next work.extends.grown
+      (let h = change.before_last in omega (arith, change.counted)) ∙ change.newest
 
-  seen_within : (mark next : ℕ) (f : Exclusion) → IsChangeAfter s.trail mark f next → IsSubset (excludes (f ∷ oldest mark s.trail)) (excludes s.trail)
-  seen_within mark next f change = subst (λ (l : List Exclusion). IsSubset (excludes l) (excludes s.trail)) change.newest (drop_within (length s.trail - next) s.trail)
+  seen_within : (mark next : ℕ) (f : Exclusion) → IsChangeAfter s.trail mark f next
+      → IsSubset (excludes (f ∷ oldest mark s.trail)) (excludes s.trail)
+  seen_within mark next f change =
+      subst (λ (l : List Exclusion). IsSubset (excludes l) (excludes s.trail)) change.newest
+      (drop_within (length s.trail - next) s.trail)
 
   seen_before : (mark : ℕ) → mark ≤ length s.trail → oldest mark t.trail ≡ oldest mark s.trail
   seen_before mark h = oldest_grown work.extends.more s.trail t.trail mark work.extends.grown h
 
   -- one change more at the edge
-  settled_one : (mark next : ℕ) (f : Exclusion) → IsChangeAfter s.trail mark f next → f.dim ≡ e.dim → f.u ≡ e.u → f.v ≡ e.v
+  settled_one : (mark next : ℕ) (f : Exclusion) → IsChangeAfter s.trail mark f next → f.dim ≡ e.dim
+      → f.u ≡ e.u → f.v ≡ e.v
       → IsUpToDate instance (oldest mark s.trail) t.trail → IsUpToDate instance (oldest next t.trail) t.trail
   settled_one mark next f change d u v settled =
       subst (λ (l : List Exclusion). IsUpToDate instance l t.trail) (sym (seen_next mark next f change))
       (settled_next instance f (oldest mark s.trail) s.trail t.trail (seen_within mark next f change) settled
       (rw (d, u, v) (left.some edge)) (rw (d, u, v) (work.done refl)))
 
-  chained_one : (i mark next : ℕ) (f : Exclusion) → IsChangeAfter s.trail mark f next → f.dim ≡ e.dim → f.u ≡ e.u → f.v ≡ e.v
+  chained_one : (i mark next : ℕ) (f : Exclusion) → IsChangeAfter s.trail mark f next → f.dim ≡ e.dim
+      → f.u ≡ e.u → f.v ≡ e.v
       → (e.dim ≡ i → IsUnordered (excludes s.trail) e)
       → IsChained instance i (oldest mark s.trail) t.trail → IsChained instance i (oldest next t.trail) t.trail
   chained_one i mark next f change d u v free chained =
@@ -83,7 +96,8 @@ module _ (instance : PlainInstance) (s t : PlainEdges) (e : Exclusion) (edge : I
       (λ is. let h = free (sym d ∙ is) in record { forth = rw (d, u, v) h.forth; back = rw (d, u, v) h.back }) chained)
 
   -- all changes at the edge that stand together
-  pub settled_step : (mark next : ℕ) → IsUpToDate instance (oldest mark s.trail) s.trail → IsChangeAfter s.trail mark e (mark + 1)
+  pub settled_step : (mark next : ℕ) → IsUpToDate instance (oldest mark s.trail) s.trail
+      → IsChangeAfter s.trail mark e (mark + 1)
       → IsBehind s.trail mark e next → IsUpToDate instance (oldest next t.trail) t.trail
   settled_step mark next settled change behind = go behind
     where
@@ -95,10 +109,13 @@ module _ (instance : PlainInstance) (s t : PlainEdges) (e : Exclusion) (edge : I
       go (behind_one is) = rw is one
       go (behind_two f more d u v) =
           settled_one (mark + 1) next f more d u v
-          (subst (λ (l : List Exclusion). IsUpToDate instance l t.trail) (seen_before (mark + 1) (let h = change.before_last in omega arith)) one)
+          (subst (λ (l : List Exclusion). IsUpToDate instance l t.trail)
+          (seen_before (mark + 1) (let h = change.before_last in omega arith)) one)
 
-  pub chained_step : (i mark next : ℕ) → (e.dim ≡ i → IsUnordered (excludes s.trail) e) → IsChained instance i (oldest mark s.trail) s.trail
-      → IsChangeAfter s.trail mark e (mark + 1) → IsBehind s.trail mark e next → IsChained instance i (oldest next t.trail) t.trail
+  pub chained_step : (i mark next : ℕ) → (e.dim ≡ i → IsUnordered (excludes s.trail) e)
+      → IsChained instance i (oldest mark s.trail) s.trail
+      → IsChangeAfter s.trail mark e (mark + 1) → IsBehind s.trail mark e next
+      → IsChained instance i (oldest next t.trail) t.trail
   chained_step i mark next free chained change behind = go behind
     where
       one : IsChained instance i (oldest (mark + 1) t.trail) t.trail
@@ -109,10 +126,12 @@ module _ (instance : PlainInstance) (s t : PlainEdges) (e : Exclusion) (edge : I
       go (behind_one is) = rw is one
       go (behind_two f more d u v) =
           chained_one i (mark + 1) next f more d u v free
-          (subst (λ (l : List Exclusion). IsChained instance i l t.trail) (seen_before (mark + 1) (let h = change.before_last in omega arith)) one)
+          (subst (λ (l : List Exclusion). IsChained instance i l t.trail)
+          (seen_before (mark + 1) (let h = change.before_last in omega arith)) one)
 
 -- a stable list was settled
-pub settled_stable : (instance : PlainInstance) (seen es : List Exclusion) → IsStable instance (excludes seen) → HasNoEmptyMask instance (excludes seen)
+pub settled_stable : (instance : PlainInstance) (seen es : List Exclusion) → IsStable instance (excludes seen)
+    → HasNoEmptyMask instance (excludes seen)
     → IsSubset (excludes seen) (excludes es) → IsUpToDate instance seen es
 settled_stable instance seen es stable full within = record {
   covered = λ rule local. record { holds = λ i u v r add. go rule i u v r add };
@@ -123,25 +142,31 @@ settled_stable instance seen es stable full within = record {
     go rule _ _ _ _ (added r is p c) = within _ _ _ _ (stable _ _ _ _ (by_rule rule r is p c))
     go rule _ _ _ _ (mirror_added r is p c) = within _ _ _ _ (stable _ _ _ _ (mirrored rule r is p c))
 
-pub chained_stable : (instance : PlainInstance) (i : ℕ) (seen es : List Exclusion) → IsStable instance (excludes seen) → IsSubset (excludes seen) (excludes es)
+pub chained_stable : (instance : PlainInstance) (i : ℕ) (seen es : List Exclusion) → IsStable instance (excludes seen)
+    → IsSubset (excludes seen) (excludes es)
     → IsChained instance i seen es
-chained_stable instance i seen es stable within = record { covered = λ rule is. record { holds = λ j u v r add. go rule j u v r add } }
+chained_stable instance i seen es stable within =
+    record { covered = λ rule is. record { holds = λ j u v r add. go rule j u v r add } }
   where
     go : (rule : Rule) (j u v : ℕ) (r : Rel) → Adds instance (excludes seen) rule j u v r → excludes es j u v r ≡ true
     go rule _ _ _ _ (added r is p c) = within _ _ _ _ (stable _ _ _ _ (by_rule rule r is p c))
     go rule _ _ _ _ (mirror_added r is p c) = within _ _ _ _ (stable _ _ _ _ (mirrored rule r is p c))
 
-pub chained_since : (instance : PlainInstance) (i : ℕ) (es : List Exclusion) (k : ℕ) → IsStable instance (excludes (drop k es)) → IsChained instance i (drop k es) es
+pub chained_since : (instance : PlainInstance) (i : ℕ) (es : List Exclusion) (k : ℕ)
+    → IsStable instance (excludes (drop k es)) → IsChained instance i (drop k es) es
 chained_since instance i es k stable = chained_stable instance i (drop k es) es stable (drop_within k es)
 
-pub settled_since : (instance : PlainInstance) (es : List Exclusion) (k : ℕ) → IsStable instance (excludes (drop k es)) → HasNoEmptyMask instance (excludes (drop k es))
+pub settled_since : (instance : PlainInstance) (es : List Exclusion) (k : ℕ) → IsStable instance (excludes (drop k es))
+    → HasNoEmptyMask instance (excludes (drop k es))
     → IsUpToDate instance (drop k es) es
 settled_since instance es k stable full = settled_stable instance (drop k es) es stable full (drop_within k es)
 
 -- At the start only PAIR can add anything.
 pub settled_first : (instance : PlainInstance) (es : List Exclusion) → 2 ≤ dims instance
-    → ((i u v : ℕ) → IsRuleInstance instance (Pair i u v) → IsCovered instance (excludes []) es (Pair i u v)) → IsUpToDate instance [] es
-settled_first instance es two pairs = record { covered = λ rule local. at rule local; full = λ i u v edge. (Overlap, refl) }
+    → ((i u v : ℕ) → IsRuleInstance instance (Pair i u v) → IsCovered instance (excludes []) es (Pair i u v))
+    → IsUpToDate instance [] es
+settled_first instance es two pairs =
+    record { covered = λ rule local. at rule local; full = λ i u v edge. (Overlap, refl) }
   where
     nothing : {A : Type 0} → false ≡ true → A
     nothing e = absurd (true≢false (sym e))
@@ -153,7 +178,8 @@ settled_first instance es two pairs = record { covered = λ rule local. at rule 
     composed : (i u v x : ℕ) (r : Rel) → Concludes (excludes []) (Compose i u v x) r → ⊥
     composed i u v x r c = true≢false (c Overlap Overlap refl refl)
 
-    none : (i u v x j a b : ℕ) (r : Rel) → Adds instance (excludes []) (Compose i u v x) j a b r → excludes es j a b r ≡ true
+    none : (i u v x j a b : ℕ) (r : Rel) → Adds instance (excludes []) (Compose i u v x) j a b r
+        → excludes es j a b r ≡ true
     none i u v x _ _ _ _ (added r is p c) = absurd (composed i u v x r c)
     none i u v x _ _ _ _ (mirror_added r is p c) = absurd (composed i u v x r c)
 
@@ -171,7 +197,8 @@ settled_first instance es two pairs = record { covered = λ rule local. at rule 
     at (Order i a b c d) l = covered_not instance (excludes []) es (Order i a b c d) (λ p. nothing p.0.0)
 
 -- COMPOSE makes surely before transitive
-pub settled_transitive : (instance : PlainInstance) (es : List Exclusion) (i : ℕ) → i < dims instance → IsUpToDate instance es es
+pub settled_transitive : (instance : PlainInstance) (es : List Exclusion) (i : ℕ) → i < dims instance
+    → IsUpToDate instance es es
     → IsTransitive (box_count instance) (IsSurelyBefore (excludes es) i)
 settled_transitive instance es i hi settled u v x b uv vx = (
   at.holds _ _ _ _ (added Overlap (hi, b) tt (λ q s e f. only q s Overlap e f refl)),
@@ -181,16 +208,19 @@ settled_transitive instance es i hi settled u v x b uv vx = (
     at : IsCovered instance (excludes es) es (Compose i u v x)
     at = settled.covered (Compose i u v x) tt
 
-    only : (q s r : Rel) → excludes es i u v q ≡ false → excludes es i v x s ≡ false → allows Before Before r ≡ false → allows q s r ≡ false
+    only : (q s r : Rel) → excludes es i u v q ≡ false → excludes es i v x s ≡ false → allows Before Before r ≡ false
+        → allows q s r ≡ false
     only Before Before r e f g = g
     only Overlap s r e f g = absurd (true≢false (sym uv.0 ∙ e))
     only After s r e f g = absurd (true≢false (sym uv.1 ∙ e))
     only Before Overlap r e f g = absurd (true≢false (sym vx.0 ∙ f))
     only Before After r e f g = absurd (true≢false (sym vx.1 ∙ f))
 
-all_covered : (instance : PlainInstance) (es : List Exclusion) → IsUpToDate instance es es → ((i : ℕ) → i < dims instance → IsChained instance i es es)
+all_covered : (instance : PlainInstance) (es : List Exclusion) → IsUpToDate instance es es
+    → ((i : ℕ) → i < dims instance → IsChained instance i es es)
     → (rule : Rule) → IsRuleInstance instance rule → IsExhausted instance es rule
-all_covered instance es settled chains (Chain i before u v after) is = (chains i is.0).covered (Chain i before u v after) refl
+all_covered instance es settled chains (Chain i before u v after) is =
+    (chains i is.0).covered (Chain i before u v after) refl
 all_covered instance es settled chains (Pair i u v) is = settled.covered (Pair i u v) tt
 all_covered instance es settled chains (Apart i u v) is = settled.covered (Apart i u v) tt
 all_covered instance es settled chains (Triple i u v x) is = settled.covered (Triple i u v x) tt
@@ -201,18 +231,23 @@ all_covered instance es settled chains (Order i a b c d) is = settled.covered (O
 -- All is looked through and CHAIN adds nothing: no rule adds anything.
 pub stable_settled : (instance : PlainInstance) (es : List Exclusion) → IsUpToDate instance es es
     → ((i : ℕ) → i < dims instance → IsChained instance i es es) → IsStable instance (excludes es)
-stable_settled instance es settled chains _ _ _ _ (by_rule rule r is p c) = (all_covered instance es settled chains rule is).holds _ _ _ _ (added r is p c)
-stable_settled instance es settled chains _ _ _ _ (mirrored rule r is p c) = (all_covered instance es settled chains rule is).holds _ _ _ _ (mirror_added r is p c)
+stable_settled instance es settled chains _ _ _ _ (by_rule rule r is p c) =
+    (all_covered instance es settled chains rule is).holds _ _ _ _ (added r is p c)
+stable_settled instance es settled chains _ _ _ _ (mirrored rule r is p c) =
+    (all_covered instance es settled chains rule is).holds _ _ _ _ (mirror_added r is p c)
 
-pub settled_after : (instance : PlainInstance) (old new : List Exclusion) (k : ℕ) → Extends instance old new → k ≡ length old → IsUpToDate instance old old
+pub settled_after : (instance : PlainInstance) (old new : List Exclusion) (k : ℕ) → Extends instance old new
+    → k ≡ length old → IsUpToDate instance old old
     → IsUpToDate instance (oldest k new) new
 settled_after instance old new k extends e h =
-    subst (λ (l : List Exclusion). IsUpToDate instance l new) (sym same) (settled_grown instance old old new extends.kept h)
+    subst (λ (l : List Exclusion). IsUpToDate instance l new) (sym same)
+    (settled_grown instance old old new extends.kept h)
   where
     same : oldest k new ≡ old
     same = oldest_grown extends.more old new k extends.grown (omega (arith, e)) ∙ oldest_all old k e
 
-pub chained_after : (instance : PlainInstance) (i : ℕ) (old new : List Exclusion) (k : ℕ) → Extends instance old new → k ≡ length old → IsChained instance i old new
+pub chained_after : (instance : PlainInstance) (i : ℕ) (old new : List Exclusion) (k : ℕ) → Extends instance old new
+    → k ≡ length old → IsChained instance i old new
     → IsChained instance i (oldest k new) new
 chained_after instance i old new k extends e h = subst (λ (l : List Exclusion). IsChained instance i l new) (sym same) h
   where
@@ -220,11 +255,13 @@ chained_after instance i old new k extends e h = subst (λ (l : List Exclusion).
     same = oldest_grown extends.more old new k extends.grown (omega (arith, e)) ∙ oldest_all old k e
 
 -- nothing was looked through, and PAIR was applied at all pairs
-pairs_first : (instance : PlainInstance) (old new : List Exclusion) → ((i u v : ℕ) → IsRuleInstance instance (Pair i u v) → IsCovered instance (excludes old) new (Pair i u v))
+pairs_first : (instance : PlainInstance) (old new : List Exclusion)
+    → ((i u v : ℕ) → IsRuleInstance instance (Pair i u v) → IsCovered instance (excludes old) new (Pair i u v))
     → (i u v : ℕ) → IsRuleInstance instance (Pair i u v) → IsCovered instance (excludes []) new (Pair i u v)
 pairs_first instance old new pairs i u v is = record {
   holds = λ j a b r add. (pairs i u v is).holds j a b r
-      (adds_more instance (excludes []) (excludes old) (λ x y z t h. absurd (true≢false (sym h))) (Pair i u v) j a b r add);
+      (adds_more instance (excludes []) (excludes old) (λ x y z t h. absurd (true≢false (sym h))) (Pair i u v)
+      j a b r add);
 }
 
 -- PAIR adds the same with its two boxes swapped, so that one order of them is enough
@@ -246,23 +283,27 @@ pub settled_pairs : (instance : PlainInstance) (old new : List Exclusion) (k : �
     → ((i u v : ℕ) → IsRuleInstance instance (Pair i u v) → IsCovered instance (excludes old) new (Pair i u v))
     → IsUpToDate instance (oldest k new) new
 settled_pairs instance old new k e two pairs =
-    subst (λ (l : List Exclusion). IsUpToDate instance l new) (sym (oldest_none new k e)) (settled_first instance new two (pairs_first instance old new pairs))
+    subst (λ (l : List Exclusion). IsUpToDate instance l new) (sym (oldest_none new k e))
+    (settled_first instance new two (pairs_first instance old new pairs))
 
 pub chained_pairs : (instance : PlainInstance) (i : ℕ) (old new : List Exclusion) (k : ℕ) → k ≡ 0
     → ((j u v : ℕ) → IsRuleInstance instance (Pair j u v) → IsCovered instance (excludes old) new (Pair j u v))
     → IsChained instance i (oldest k new) new
 chained_pairs instance i old new k e pairs =
-    subst (λ (l : List Exclusion). IsChained instance i l new) (sym (oldest_none new k e)) (chained_first instance i new (pairs_first instance old new pairs))
+    subst (λ (l : List Exclusion). IsChained instance i l new) (sym (oldest_none new k e))
+    (chained_first instance i new (pairs_first instance old new pairs))
 
 -- the position behind is in the list, and later
-pub behind_within : (es : List Exclusion) (mark next : ℕ) (e : Exclusion) → mark < length es → IsBehind es mark e next → (mark < next) × (next ≤ length es)
+pub behind_within : (es : List Exclusion) (mark next : ℕ) (e : Exclusion) → mark < length es → IsBehind es mark e next
+    → (mark < next) × (next ≤ length es)
 behind_within es mark next e h (behind_one is) = (omega (arith, is), omega (arith, h, is))
 behind_within es mark next e h (behind_two f change d u v) =
     let before_last : mark + 1 < length es = change.before_last in
     let counted : next ≡ mark + 1 + 1 = change.counted in
     (omega (arith, counted), omega (arith, before_last, counted))
 
-pub grown_past : (instance : PlainInstance) (old new : List Exclusion) (mark next : ℕ) (e : Exclusion) → Extends instance old new → mark < length old
+pub grown_past : (instance : PlainInstance) (old new : List Exclusion) (mark next : ℕ) (e : Exclusion)
+    → Extends instance old new → mark < length old
     → IsBehind old mark e next → next ≤ length new
 grown_past instance old new mark next e extends h behind =
     let grown : length new ≡ length extends.more + length old = rw extends.grown (length-append extends.more old) in
@@ -270,10 +311,12 @@ grown_past instance old new mark next e extends h behind =
     omega (arith, grown, within.1)
 
 -- the last position is reached: all was looked through
-pub settled_all : (instance : PlainInstance) (es : List Exclusion) (k : ℕ) → k ≡ length es → IsUpToDate instance (oldest k es) es
+pub settled_all : (instance : PlainInstance) (es : List Exclusion) (k : ℕ) → k ≡ length es
+    → IsUpToDate instance (oldest k es) es
     → IsUpToDate instance es es
 settled_all instance es k e h = subst (λ (l : List Exclusion). IsUpToDate instance l es) (oldest_all es k e) h
 
-pub chained_all : (instance : PlainInstance) (i : ℕ) (es : List Exclusion) (k : ℕ) → k ≡ length es → IsChained instance i (oldest k es) es
+pub chained_all : (instance : PlainInstance) (i : ℕ) (es : List Exclusion) (k : ℕ) → k ≡ length es
+    → IsChained instance i (oldest k es) es
     → IsChained instance i es es
 chained_all instance i es k e h = subst (λ (l : List Exclusion). IsChained instance i l es) (oldest_all es k e) h

@@ -32,7 +32,8 @@ decide_pair p q a b = go (cases_eq p a) (cases_eq q b)
 pub decide_at : (e : Exclusion) (i a b : ℕ) → IsAt e i a b ⊎ (IsAt e i a b → ⊥)
 decide_at e i a b = go (cases_eq e.dim i) (decide_pair e.u e.v a b) (decide_pair e.u e.v b a)
   where
-    neither : (((e.u ≡ a) × (e.v ≡ b)) → ⊥) → (((e.u ≡ b) × (e.v ≡ a)) → ⊥) → ((e.u ≡ a) × (e.v ≡ b)) ⊎ ((e.u ≡ b) × (e.v ≡ a)) → ⊥
+    neither : (((e.u ≡ a) × (e.v ≡ b)) → ⊥) → (((e.u ≡ b) × (e.v ≡ a)) → ⊥) → ((e.u ≡ a) × (e.v ≡ b))
+        ⊎ ((e.u ≡ b) × (e.v ≡ a)) → ⊥
     neither n m (inl h) = n h
     neither n m (inr h) = m h
 
@@ -44,7 +45,8 @@ decide_at e i a b = go (cases_eq e.dim i) (decide_pair e.u e.v a b) (decide_pair
     go (inl d) (inr n) (inr m) = inr (λ h. neither n m h.1)
 
 -- an instance that reads the edge of the exclusion is touched by it
-touched_at : (e : Exclusion) (rule : Rule) (i a b : ℕ) → ((j p q : ℕ) → i ≡ j → a ≡ p → b ≡ q → ReadsEdge rule j p q) → IsAt e i a b → IsTouched e rule
+touched_at : (e : Exclusion) (rule : Rule) (i a b : ℕ) → ((j p q : ℕ) → i ≡ j → a ≡ p → b ≡ q → ReadsEdge rule j p q)
+    → IsAt e i a b → IsTouched e rule
 touched_at e rule i a b reads at = go at.1
   where
     go : ((e.u ≡ a) × (e.v ≡ b)) ⊎ ((e.u ≡ b) × (e.v ≡ a)) → IsTouched e rule
@@ -52,7 +54,8 @@ touched_at e rule i a b reads at = go at.1
     go (inr h) = inr (reads e.dim e.v e.u (sym at.0) (sym h.1) (sym h.0))
 
 -- at another edge the longer list excludes no more
-pub only_old : (e : Exclusion) (es : List Exclusion) (i a b : ℕ) (r : Rel) → (IsAt e i a b → ⊥) → IsTrue (excludes (e ∷ es) i a b r) → IsTrue (excludes es i a b r)
+pub only_old : (e : Exclusion) (es : List Exclusion) (i a b : ℕ) (r : Rel) → (IsAt e i a b → ⊥)
+    → IsTrue (excludes (e ∷ es) i a b r) → IsTrue (excludes es i a b r)
 only_old e es i a b r off h = go (or_cases _ _ h)
   where
     at : (is_at e i a b r ≡ true) ⊎ (is_at e i b a (mirror r) ≡ true) → IsAt e i a b
@@ -72,36 +75,46 @@ only_old e es i a b r off h = go (or_cases _ _ h)
     go (inr k) = k
 
 -- what the longer list leaves, the shorter leaves
-pub still_open : (e : Exclusion) (es : List Exclusion) (i a b : ℕ) (r : Rel) → (IsAt e i a b → ⊥) → excludes es i a b r ≡ false → excludes (e ∷ es) i a b r ≡ false
+pub still_open : (e : Exclusion) (es : List Exclusion) (i a b : ℕ) (r : Rel) → (IsAt e i a b → ⊥)
+    → excludes es i a b r ≡ false → excludes (e ∷ es) i a b r ≡ false
 still_open e es i a b r off h = go (cases_Bool (excludes (e ∷ es) i a b r))
   where
     go : (excludes (e ∷ es) i a b r ≡ true) ⊎ (excludes (e ∷ es) i a b r ≡ false) → excludes (e ∷ es) i a b r ≡ false
     go (inl k) = absurd (true≢false (sym (only_old e es i a b r off k) ∙ h))
     go (inr k) = k
 
-pub old_adds : (instance : PlainInstance) (X Y : Exclusions) (rule : Rule) → (Premises instance X rule → Premises instance Y rule)
-    → ((r : Rel) → Concludes X rule r → Concludes Y rule r) → (j a b : ℕ) (r : Rel) → Adds instance X rule j a b r → Adds instance Y rule j a b r
+pub old_adds : (instance : PlainInstance) (X Y : Exclusions) (rule : Rule)
+    → (Premises instance X rule → Premises instance Y rule)
+    → ((r : Rel) → Concludes X rule r → Concludes Y rule r) → (j a b : ℕ) (r : Rel) → Adds instance X rule j a b r
+    → Adds instance Y rule j a b r
 old_adds instance X Y rule p k _ _ _ _ (added r is pr c) = added r is (p pr) (k r c)
 old_adds instance X Y rule p k _ _ _ _ (mirror_added r is pr c) = mirror_added r is (p pr) (k r c)
 
 -- The instance is touched by the exclusion, or it adds no more by it.
 pub touched_or_old : (instance : PlainInstance) (e : Exclusion) (es : List Exclusion) (rule : Rule) → IsLocal rule
-    → IsTouched e rule ⊎ ((j a b : ℕ) (r : Rel) → Adds instance (excludes (e ∷ es)) rule j a b r → Adds instance (excludes es) rule j a b r)
+    → IsTouched e rule ⊎ ((j a b : ℕ) (r : Rel) → Adds instance (excludes (e ∷ es)) rule j a b r
+    → Adds instance (excludes es) rule j a b r)
 touched_or_old instance e es (Chain i before u v after) l = absurd l
-touched_or_old instance e es (Pair i u v) l = inr (old_adds instance (excludes (e ∷ es)) (excludes es) (Pair i u v) (λ p. p) (λ r c. c))
+touched_or_old instance e es (Pair i u v) l =
+    inr (old_adds instance (excludes (e ∷ es)) (excludes es) (Pair i u v) (λ p. p) (λ r c. c))
 touched_or_old instance e es (Apart i u v) l = go (cases_eq e.dim i) (decide_pair e.u e.v u v) (decide_pair e.u e.v v u)
   where
     untouched : ((j : ℕ) → j ≢ i → IsAt e j u v → ⊥)
-        → IsTouched e (Apart i u v) ⊎ ((j a b : ℕ) (r : Rel) → Adds instance (excludes (e ∷ es)) (Apart i u v) j a b r → Adds instance (excludes es) (Apart i u v) j a b r)
+        → IsTouched e (Apart i u v) ⊎ ((j a b : ℕ) (r : Rel) → Adds instance (excludes (e ∷ es)) (Apart i u v) j a b r
+        → Adds instance (excludes es) (Apart i u v) j a b r)
     untouched off = inr (old_adds instance (excludes (e ∷ es)) (excludes es) (Apart i u v)
-        (λ p j hj ne. let q = p j hj ne in (only_old e es j u v Before (off j ne) q.0, only_old e es j u v After (off j ne) q.1)) (λ r c. c))
+        (λ p j hj ne. let q = p j hj ne in
+        (only_old e es j u v Before (off j ne) q.0, only_old e es j u v After (off j ne) q.1)) (λ r c. c))
 
-    neither : ((e.u ≡ u) × (e.v ≡ v) → ⊥) → ((e.u ≡ v) × (e.v ≡ u) → ⊥) → ((e.u ≡ u) × (e.v ≡ v)) ⊎ ((e.u ≡ v) × (e.v ≡ u)) → ⊥
+    neither : ((e.u ≡ u) × (e.v ≡ v) → ⊥) → ((e.u ≡ v) × (e.v ≡ u) → ⊥) → ((e.u ≡ u) × (e.v ≡ v))
+        ⊎ ((e.u ≡ v) × (e.v ≡ u)) → ⊥
     neither n m (inl h) = n h
     neither n m (inr h) = m h
 
-    go : (e.dim ≡ i) ⊎ (e.dim ≡ i → ⊥) → ((e.u ≡ u) × (e.v ≡ v)) ⊎ ((e.u ≡ u) × (e.v ≡ v) → ⊥) → ((e.u ≡ v) × (e.v ≡ u)) ⊎ ((e.u ≡ v) × (e.v ≡ u) → ⊥)
-        → IsTouched e (Apart i u v) ⊎ ((j a b : ℕ) (r : Rel) → Adds instance (excludes (e ∷ es)) (Apart i u v) j a b r → Adds instance (excludes es) (Apart i u v) j a b r)
+    go : (e.dim ≡ i) ⊎ (e.dim ≡ i → ⊥) → ((e.u ≡ u) × (e.v ≡ v)) ⊎ ((e.u ≡ u) × (e.v ≡ v) → ⊥) → ((e.u ≡ v) × (e.v ≡ u))
+        ⊎ ((e.u ≡ v) × (e.v ≡ u) → ⊥)
+        → IsTouched e (Apart i u v) ⊎ ((j a b : ℕ) (r : Rel) → Adds instance (excludes (e ∷ es)) (Apart i u v) j a b r
+        → Adds instance (excludes es) (Apart i u v) j a b r)
     go (inl d) _ _ = untouched (λ j ne at. ne (sym at.0 ∙ d))
     go (inr k) (inl h) _ = inl (inl (k, sym h.0, sym h.1))
     go (inr k) (inr n) (inl h) = inl (inr (k, sym h.1, sym h.0))
@@ -109,7 +122,9 @@ touched_or_old instance e es (Apart i u v) l = go (cases_eq e.dim i) (decide_pai
 touched_or_old instance e es (Triple i u v x) l = go (decide_at e i u x) (decide_at e i v x)
   where
     go : IsAt e i u x ⊎ (IsAt e i u x → ⊥) → IsAt e i v x ⊎ (IsAt e i v x → ⊥)
-        → IsTouched e (Triple i u v x) ⊎ ((j a b : ℕ) (r : Rel) → Adds instance (excludes (e ∷ es)) (Triple i u v x) j a b r → Adds instance (excludes es) (Triple i u v x) j a b r)
+        → IsTouched e (Triple i u v x)
+        ⊎ ((j a b : ℕ) (r : Rel) → Adds instance (excludes (e ∷ es)) (Triple i u v x) j a b r
+        → Adds instance (excludes es) (Triple i u v x) j a b r)
     go (inl t) _ = inl (touched_at e (Triple i u v x) i u x (λ j p q d f g. (d, inl (f, g))) t)
     go (inr n) (inl t) = inl (touched_at e (Triple i u v x) i v x (λ j p q d f g. (d, inr (f, g))) t)
     go (inr n) (inr m) = inr (old_adds instance (excludes (e ∷ es)) (excludes es) (Triple i u v x)
@@ -117,22 +132,32 @@ touched_or_old instance e es (Triple i u v x) l = go (decide_at e i u x) (decide
 touched_or_old instance e es (Compose i u v x) l = go (decide_at e i u v) (decide_at e i v x)
   where
     go : IsAt e i u v ⊎ (IsAt e i u v → ⊥) → IsAt e i v x ⊎ (IsAt e i v x → ⊥)
-        → IsTouched e (Compose i u v x) ⊎ ((j a b : ℕ) (r : Rel) → Adds instance (excludes (e ∷ es)) (Compose i u v x) j a b r → Adds instance (excludes es) (Compose i u v x) j a b r)
+        → IsTouched e (Compose i u v x)
+        ⊎ ((j a b : ℕ) (r : Rel) → Adds instance (excludes (e ∷ es)) (Compose i u v x) j a b r
+        → Adds instance (excludes es) (Compose i u v x) j a b r)
     go (inl t) _ = inl (touched_at e (Compose i u v x) i u v (λ j p q d f g. (d, inl (f, g))) t)
     go (inr n) (inl t) = inl (touched_at e (Compose i u v x) i v x (λ j p q d f g. (d, inr (f, g))) t)
     go (inr n) (inr m) = inr (old_adds instance (excludes (e ∷ es)) (excludes es) (Compose i u v x) (λ p. p)
         (λ r c q s f g. c q s (still_open e es i u v q n f) (still_open e es i v x s m g)))
-touched_or_old instance e es (Cycle i a b c d) l = go (decide_at e i a b) (decide_at e i b c) (decide_at e i c d) (decide_at e i d a) (decide_at e i a c)
+touched_or_old instance e es (Cycle i a b c d) l =
+    go (decide_at e i a b) (decide_at e i b c) (decide_at e i c d) (decide_at e i d a) (decide_at e i a c)
   where
-    go : IsAt e i a b ⊎ (IsAt e i a b → ⊥) → IsAt e i b c ⊎ (IsAt e i b c → ⊥) → IsAt e i c d ⊎ (IsAt e i c d → ⊥) → IsAt e i d a ⊎ (IsAt e i d a → ⊥)
+    go : IsAt e i a b ⊎ (IsAt e i a b → ⊥) → IsAt e i b c ⊎ (IsAt e i b c → ⊥) → IsAt e i c d ⊎ (IsAt e i c d → ⊥)
+        → IsAt e i d a ⊎ (IsAt e i d a → ⊥)
         → IsAt e i a c ⊎ (IsAt e i a c → ⊥)
-        → IsTouched e (Cycle i a b c d) ⊎ ((j p q : ℕ) (r : Rel) → Adds instance (excludes (e ∷ es)) (Cycle i a b c d) j p q r → Adds instance (excludes es) (Cycle i a b c d) j p q r)
+        → IsTouched e (Cycle i a b c d)
+        ⊎ ((j p q : ℕ) (r : Rel) → Adds instance (excludes (e ∷ es)) (Cycle i a b c d) j p q r
+        → Adds instance (excludes es) (Cycle i a b c d) j p q r)
     go (inl t) _ _ _ _ = inl (touched_at e (Cycle i a b c d) i a b (λ j p q k f g. (k, inl (f, g))) t)
     go (inr n1) (inl t) _ _ _ = inl (touched_at e (Cycle i a b c d) i b c (λ j p q k f g. (k, inr (inl (f, g)))) t)
-    go (inr n1) (inr n2) (inl t) _ _ = inl (touched_at e (Cycle i a b c d) i c d (λ j p q k f g. (k, inr (inr (inl (f, g))))) t)
-    go (inr n1) (inr n2) (inr n3) (inl t) _ = inl (touched_at e (Cycle i a b c d) i d a (λ j p q k f g. (k, inr (inr (inr (inl (f, g)))))) t)
-    go (inr n1) (inr n2) (inr n3) (inr n4) (inl t) = inl (touched_at e (Cycle i a b c d) i a c (λ j p q k f g. (k, inr (inr (inr (inr (f, g)))))) t)
-    go (inr n1) (inr n2) (inr n3) (inr n4) (inr n5) = inr (old_adds instance (excludes (e ∷ es)) (excludes es) (Cycle i a b c d)
+    go (inr n1) (inr n2) (inl t) _ _ =
+        inl (touched_at e (Cycle i a b c d) i c d (λ j p q k f g. (k, inr (inr (inl (f, g))))) t)
+    go (inr n1) (inr n2) (inr n3) (inl t) _ =
+        inl (touched_at e (Cycle i a b c d) i d a (λ j p q k f g. (k, inr (inr (inr (inl (f, g)))))) t)
+    go (inr n1) (inr n2) (inr n3) (inr n4) (inl t) =
+        inl (touched_at e (Cycle i a b c d) i a c (λ j p q k f g. (k, inr (inr (inr (inr (f, g)))))) t)
+    go (inr n1) (inr n2) (inr n3) (inr n4) (inr n5) =
+        inr (old_adds instance (excludes (e ∷ es)) (excludes es) (Cycle i a b c d)
         (λ p. (
           (only_old e es i a b Before n1 p.0.0, only_old e es i a b After n1 p.0.1),
           (only_old e es i b c Before n2 p.1.0, only_old e es i b c After n2 p.1.1),
@@ -143,7 +168,9 @@ touched_or_old instance e es (Cycle i a b c d) l = go (decide_at e i a b) (decid
 touched_or_old instance e es (Order i a b c d) l = go (decide_at e i a b) (decide_at e i c d) (decide_at e i a d)
   where
     go : IsAt e i a b ⊎ (IsAt e i a b → ⊥) → IsAt e i c d ⊎ (IsAt e i c d → ⊥) → IsAt e i a d ⊎ (IsAt e i a d → ⊥)
-        → IsTouched e (Order i a b c d) ⊎ ((j p q : ℕ) (r : Rel) → Adds instance (excludes (e ∷ es)) (Order i a b c d) j p q r → Adds instance (excludes es) (Order i a b c d) j p q r)
+        → IsTouched e (Order i a b c d)
+        ⊎ ((j p q : ℕ) (r : Rel) → Adds instance (excludes (e ∷ es)) (Order i a b c d) j p q r
+        → Adds instance (excludes es) (Order i a b c d) j p q r)
     go (inl t) _ _ = inl (touched_at e (Order i a b c d) i a b (λ j p q k f g. (k, inl (f, g))) t)
     go (inr n1) (inl t) _ = inl (touched_at e (Order i a b c d) i c d (λ j p q k f g. (k, inr (inl (f, g)))) t)
     go (inr n1) (inr n2) (inl t) = inl (touched_at e (Order i a b c d) i a d (λ j p q k f g. (k, inr (inr (f, g)))) t)
@@ -157,4 +184,5 @@ touched_or_old instance e es (Order i a b c d) l = go (decide_at e i a b) (decid
 -- What adds by fewer exclusions adds by more.
 pub adds_more : (instance : PlainInstance) (X Y : Exclusions) → IsSubset X Y → (rule : Rule) → (j a b : ℕ) (r : Rel)
     → Adds instance X rule j a b r → Adds instance Y rule j a b r
-adds_more instance X Y more rule = old_adds instance X Y rule (premises_more instance X Y more rule) (concludes_more instance X Y more rule)
+adds_more instance X Y more rule =
+    old_adds instance X Y rule (premises_more instance X Y more rule) (concludes_more instance X Y more rule)

@@ -18,5 +18,6 @@ within_one es e k f = let grown = with_more es e in rw grown.1 (longer grown.0 e
     longer [] ys k f = omega (arith, f)
     longer (x ∷ xs) ys k f = let h = longer xs ys k f in omega (arith, h)
 
-pub back_all : (es middle new more : List Exclusion) (k : ℕ) → k ≤ length middle → new ≡ more ++ middle → oldest k middle ≡ es → oldest k new ≡ es
+pub back_all : (es middle new more : List Exclusion) (k : ℕ) → k ≤ length middle → new ≡ more ++ middle
+    → oldest k middle ≡ es → oldest k new ≡ es
 back_all es middle new more k h e f = oldest_grown more middle new k e h ∙ f

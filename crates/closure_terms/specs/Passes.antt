@@ -18,4 +18,5 @@ pub record IsPass (instance : PlainInstance) (old new : PlainEdges) (Done : List
 -- where a chain that ends in u and one that starts in v are together longer than the container's
 -- side, u isn't before v
 pub record IsShut (instance : PlainInstance) (i : ℕ) (head tail : List ℕ) (u v : ℕ) (es : List Exclusion) : Type 0 where
-  pub shut : u ≢ v → container_side instance i < slice_index head u + slice_index tail v → IsTrue (excludes es i u v Before)
+  pub shut : u ≢ v → container_side instance i < slice_index head u + slice_index tail v
+      → IsTrue (excludes es i u v Before)

@@ -12,6 +12,9 @@ in_each_relation o b a After = a
 -- whether some relation of the first mask and some of the second compose to this one, written out
 -- over three rows
 abbrev pub may : Rel → (Rel → Bool) → (Rel → Bool) → Bool
-may Overlap q s = (((s Overlap || s Before) || s After) && q Overlap || (s Overlap || s After) && q Before) || (s Overlap || s Before) && q After
-may Before q s = ((s Overlap || s Before) && q Overlap || ((s Overlap || s Before) || s After) && q Before) || s Before && q After
-may After q s = ((s Overlap || s After) && q Overlap || s After && q Before) || ((s Overlap || s Before) || s After) && q After
+may Overlap q s = (((s Overlap || s Before) || s After) && q Overlap || (s Overlap || s After) && q Before)
+    || (s Overlap || s Before) && q After
+may Before q s = ((s Overlap || s Before) && q Overlap || ((s Overlap || s Before) || s After) && q Before)
+    || s Before && q After
+may After q s = ((s Overlap || s After) && q Overlap || s After && q Before)
+    || ((s Overlap || s Before) || s After) && q After

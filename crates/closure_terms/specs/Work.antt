@@ -37,7 +37,8 @@ ReadsEdge (Triple i u v x) j p q = (i ≡ j) × (((u ≡ p) × (x ≡ q)) ⊎ ((
 ReadsEdge (Chain i before u v after) j p q = ⊥
 ReadsEdge (Compose i u v x) j p q = (i ≡ j) × (((u ≡ p) × (v ≡ q)) ⊎ ((v ≡ p) × (x ≡ q)))
 ReadsEdge (Cycle i a b c d) j p q =
-    (i ≡ j) × (((a ≡ p) × (b ≡ q)) ⊎ (((b ≡ p) × (c ≡ q)) ⊎ (((c ≡ p) × (d ≡ q)) ⊎ (((d ≡ p) × (a ≡ q)) ⊎ ((a ≡ p) × (c ≡ q))))))
+    (i ≡ j) × (((a ≡ p) × (b ≡ q))
+    ⊎ (((b ≡ p) × (c ≡ q)) ⊎ (((c ≡ p) × (d ≡ q)) ⊎ (((d ≡ p) × (a ≡ q)) ⊎ ((a ≡ p) × (c ≡ q))))))
 ReadsEdge (Order i a b c d) j p q = (i ≡ j) × (((a ≡ p) × (b ≡ q)) ⊎ (((c ≡ p) × (d ≡ q)) ⊎ ((a ≡ p) × (d ≡ q))))
 
 -- The instance is one of those that are to be applied for the edge, in this order of the boxes. The
@@ -61,7 +62,8 @@ IsExhausted instance es rule = IsCovered instance (excludes es) es rule
 
 -- The state grew by what follows. Where it is told that a mask is empty, one is; else these
 -- instances cover what they add by the old exclusions.
-pub record IsWorked (instance : PlainInstance) (old new : PlainEdges) (emptied : Bool) (Rules : Rule → Type 0) : Type 0 where
+pub record IsWorked (instance : PlainInstance) (old new : PlainEdges) (emptied : Bool) (Rules : Rule → Type 0) :
+    Type 0 where
   pub same_dims : new.dims ≡ old.dims
   pub same_boxes : new.boxes ≡ old.boxes
   pub same_room : new.room ≡ old.room
@@ -88,7 +90,8 @@ pub record IsUnordered (X : Exclusions) (e : Exclusion) : Type 0 where
 -- one edge.
 pub data IsBehind (es : List Exclusion) (mark : ℕ) (e : Exclusion) (next : ℕ) : Type 0 where
   behind_one : next ≡ mark + 1 → IsBehind es mark e next
-  behind_two : (f : Exclusion) → IsChangeAfter es (mark + 1) f next → f.dim ≡ e.dim → f.u ≡ e.u → f.v ≡ e.v → IsBehind es mark e next
+  behind_two : (f : Exclusion) → IsChangeAfter es (mark + 1) f next → f.dim ≡ e.dim → f.u ≡ e.u → f.v ≡ e.v
+      → IsBehind es mark e next
 
 -- What was looked through of a list: no rule adds anything by it but CHAIN in the dimensions of a
 -- row.

@@ -3,7 +3,7 @@
 //! 20 boxes, and each container side is the same.
 
 /// The greatest number of boxes of a plain state.
-pub const MOST: usize = 20;
+pub(crate) const MOST: usize = 20;
 
 /// A table of what is excluded, and the sides of the boxes.
 #[derive(Drop)]

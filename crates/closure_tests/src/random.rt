@@ -10,7 +10,7 @@ use std::test::Fail;
 pub type AllSides = [[u32; 4]; 128];
 
 /// The next number of a linear congruence, below `limit` unless that is 0.
-pub fn next(random: &mut u32, limit: u32) -> u32
+pub(crate) fn next(random: &mut u32, limit: u32) -> u32
     ensures { result ≤ limit }
 {
     *random = random.wrapping_mul(1_664_525).wrapping_add(1_013_904_223);
@@ -21,7 +21,7 @@ pub fn next(random: &mut u32, limit: u32) -> u32
 }
 
 /// The relation of a number below 3: overlap, before, after.
-pub fn rel_of(r: u8) -> Rel {
+pub(crate) fn rel_of(r: u8) -> Rel {
     match r {
         1 => Rel::Before,
         2 => Rel::After,
@@ -35,7 +35,7 @@ fn side_of(random: &mut u32, most: u32) -> u32 {
 }
 
 /// Sides from 1 to `most` for the first boxes, and of 1 for the others.
-pub fn sides_of(random: &mut u32, boxes: u8, most: u32) -> AllSides {
+pub(crate) fn sides_of(random: &mut u32, boxes: u8, most: u32) -> AllSides {
     let mut all = [[1; 4]; 128];
     for u in 0..usize::from(boxes).min(128) {
         let first = side_of(random, most);
@@ -62,7 +62,11 @@ fn items_of(alloc: Global, dims: usize, sides: &[[u32; 4]]) -> Result<Vec<BoxIte
 }
 
 /// The instance of the first of these sides of each box, as many as the container has.
-pub fn instance_of(alloc: Global, container: &[u32], sides: &[[u32; 4]]) -> Result<Instance, Fail> {
+pub(crate) fn instance_of(
+    alloc: Global,
+    container: &[u32],
+    sides: &[[u32; 4]],
+) -> Result<Instance, Fail> {
     let items = items_of(alloc, container.len(), sides)?;
     let whole = Sides::from_slice(alloc, container)?;
     Ok(Instance::new(whole, items)?)

@@ -16,7 +16,7 @@ pub struct Room {
 }
 
 /// Room for an instance, with nothing excluded.
-pub fn room_for(alloc: Global, instance: &Instance) -> Result<Room, NoMemory>
+pub(crate) fn room_for(alloc: Global, instance: &Instance) -> Result<Room, NoMemory>
     ensures { IfOk result (λ room. room ≡ record {
       state = record {
         dims = dims instance.now;
@@ -34,7 +34,7 @@ pub fn room_for(alloc: Global, instance: &Instance) -> Result<Room, NoMemory>
 }
 
 /// Whether there are two such boxes, and such a dimension.
-pub fn is_edge(state: &EdgeState, dim: u32, u: u32, v: u32) -> bool
+pub(crate) fn is_edge(state: &EdgeState, dim: u32, u: u32, v: u32) -> bool
     ensures { IsTrue result → IsEdgeAmong state.now.dims state.now.boxes dim u v }
 {
     if dim >= state.dims() || u >= state.boxes() || v >= state.boxes() {
@@ -44,7 +44,7 @@ pub fn is_edge(state: &EdgeState, dim: u32, u: u32, v: u32) -> bool
 }
 
 /// Excludes a relation of two boxes, if there are two such.
-pub fn exclude_at(state: &mut EdgeState, dim: u32, u: u32, v: u32, rel: Rel)
+pub(crate) fn exclude_at(state: &mut EdgeState, dim: u32, u: u32, v: u32, rel: Rel)
     ensures { state.new ≡ record state.old { trail = state.new.trail } }
 {
     if is_edge(state, dim, u, v) {

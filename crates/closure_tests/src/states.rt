@@ -111,7 +111,7 @@ fn close_states(
 
 /// Excludes some relations of the boxes of a plain state, which have these numbers in the instance,
 /// and closes what comes of it in both ways.
-pub fn close_both(
+pub(crate) fn close_both(
     alloc: Global,
     random: &mut u32,
     tries: u32,

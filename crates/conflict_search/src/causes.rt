@@ -114,7 +114,12 @@ fn add_premises(
 
 /// Excludes relations of two boxes in a dimension, as far as they are left, with their cause.
 #[inline]
-pub fn exclude(state: &mut State, edge: Edge, bits: u8, cause: Cause<'_>) -> Result<(), NoMemory> {
+pub(crate) fn exclude(
+    state: &mut State,
+    edge: Edge,
+    bits: u8,
+    cause: Cause<'_>,
+) -> Result<(), NoMemory> {
     let mask = state.table().mask(edge.dim, edge.u, edge.v);
     if mask & bits == 0 {
         return Ok(());

@@ -254,7 +254,7 @@ fn exclude_risen(state: &mut State, chains: &Chains, dim: u32) -> Result<(), NoM
 }
 
 /// CHAIN in all dimensions, at the boxes whose chains grew since it was last gone through.
-pub fn exclude_long(state: &mut State, chains: &mut Chains) -> Result<(), NoMemory> {
+pub(crate) fn exclude_long(state: &mut State, chains: &mut Chains) -> Result<(), NoMemory> {
     for dim in 0..state.table().dims() {
         exclude_risen(state, chains, dim)?;
     }

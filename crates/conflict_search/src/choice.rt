@@ -15,7 +15,7 @@ pub struct Rated {
 }
 
 /// No pair.
-pub const NOBODY: Rated = Rated {
+pub(crate) const NOBODY: Rated = Rated {
     score: 0,
     u: 0,
     v: 0,
@@ -48,7 +48,7 @@ fn score(table: &Table, weights: &Weights, u: u32, v: u32) -> u64 {
 
 /// Puts the pairs that aren't settled into a list, those with the greatest scores first, and of
 /// equal ones those that come first by rank.
-pub fn rate_pairs(table: &Table, weights: &Weights, best: &mut [Rated]) {
+pub(crate) fn rate_pairs(table: &Table, weights: &Weights, best: &mut [Rated]) {
     for v in 1..table.boxes() {
         let mut left = below(v) & !settled(table, v);
         for _ in 0..left.count_ones() {
@@ -97,7 +97,13 @@ fn splits_here(mask: u8, choice: Choice) -> bool {
 
 /// The split of a pair: once it is apart, into its orders, in the dimension that weighs most of
 /// those in which it may be split so. `rank` has the boxes by rank.
-pub fn split_of(table: &Table, weights: &Weights, rank: &[u32], u: u32, v: u32) -> Option<Split> {
+pub(crate) fn split_of(
+    table: &Table,
+    weights: &Weights,
+    rank: &[u32],
+    u: u32,
+    v: u32,
+) -> Option<Split> {
     let choice = if is_apart(table, u, v) {
         Choice::Order
     } else {
@@ -126,7 +132,7 @@ pub fn split_of(table: &Table, weights: &Weights, rank: &[u32], u: u32, v: u32) 
 }
 
 /// The split of the pair that weighs most, and none where each pair is settled.
-pub fn heaviest_split(table: &Table, weights: &Weights, rank: &[u32]) -> Option<Split> {
+pub(crate) fn heaviest_split(table: &Table, weights: &Weights, rank: &[u32]) -> Option<Split> {
     let mut best = [NOBODY];
     rate_pairs(table, weights, &mut best);
     if best[0].score == 0 {

@@ -42,7 +42,7 @@ fn raise_chains(state: &mut State, chains: &mut Chains) -> Result<bool, NoMemory
 }
 
 /// Closes a state. It answers whether there is no conflict.
-pub fn close(state: &mut State, chains: &mut Chains) -> Result<bool, NoMemory> {
+pub(crate) fn close(state: &mut State, chains: &mut Chains) -> Result<bool, NoMemory> {
     for _ in 0..MOST_STEPS {
         close_edges(state)?;
         if state.conflict().is_some() {
@@ -71,7 +71,7 @@ fn join_wide(state: &mut State, dim: u32) -> Result<(), NoMemory> {
 }
 
 /// Closes the root. It answers whether there is no conflict.
-pub fn close_root(state: &mut State, chains: &mut Chains) -> Result<bool, NoMemory> {
+pub(crate) fn close_root(state: &mut State, chains: &mut Chains) -> Result<bool, NoMemory> {
     for dim in 0..state.table().dims() {
         join_wide(state, dim)?;
     }
@@ -80,7 +80,7 @@ pub fn close_root(state: &mut State, chains: &mut Chains) -> Result<bool, NoMemo
 
 /// Goes to a child of a closed node, with one split more above, and closes it. It answers whether
 /// there is no conflict.
-pub fn enter(
+pub(crate) fn enter(
     state: &mut State,
     chains: &mut Chains,
     split: Split,
@@ -107,7 +107,7 @@ pub struct Mark {
 }
 
 /// The node at which state and chains are.
-pub fn here(state: &State, chains: &Chains) -> Mark {
+pub(crate) fn here(state: &State, chains: &Chains) -> Mark {
     Mark {
         exclusions: state.mark(),
         rises: chains.mark(),
@@ -116,7 +116,7 @@ pub fn here(state: &State, chains: &Chains) -> Mark {
 }
 
 /// Goes back to a node.
-pub fn leave(state: &mut State, chains: &mut Chains, to: Mark) {
+pub(crate) fn leave(state: &mut State, chains: &mut Chains, to: Mark) {
     state.undo(to.exclusions);
     state.set_level(to.level);
     chains.undo(to.rises);

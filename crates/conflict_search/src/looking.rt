@@ -55,7 +55,7 @@ fn rating(
 
 /// Of the pairs that weigh most the split whose children add most, and none where each pair is
 /// settled. A split with a child in conflict is taken at once, and that child is visited first.
-pub fn best_split(
+pub(crate) fn best_split(
     state: &mut State,
     chains: &mut Chains,
     weights: &Weights,

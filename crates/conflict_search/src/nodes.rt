@@ -7,7 +7,7 @@ use proof_tree::Token;
 use std::alloc::Global;
 
 /// The node of a leaf. All others are counted from 1.
-pub const LEAF: usize = 0;
+pub(crate) const LEAF: usize = 0;
 
 // A split with the nodes of its children.
 #[derive(Clone, Copy)]

@@ -76,13 +76,13 @@ fn orders_to(state: &mut State, dim: u32, c: u32, d: u32) -> Result<(), NoMemory
 }
 
 /// What follows where `u` became surely before `v`.
-pub fn orders_along(state: &mut State, dim: u32, u: u32, v: u32) -> Result<(), NoMemory> {
+pub(crate) fn orders_along(state: &mut State, dim: u32, u: u32, v: u32) -> Result<(), NoMemory> {
     orders_from(state, dim, u, v)?;
     orders_to(state, dim, u, v)
 }
 
 /// What follows where it was excluded that `a` is before `d`.
-pub fn orders_across(state: &mut State, dim: u32, a: u32, d: u32) -> Result<(), NoMemory> {
+pub(crate) fn orders_across(state: &mut State, dim: u32, a: u32, d: u32) -> Result<(), NoMemory> {
     let behind = state.table().behind(dim, a) & !bit(d);
     if behind == 0 {
         return Ok(());

@@ -5,42 +5,42 @@
 pub type Row = u64;
 
 /// The most boxes of a row.
-pub const MOST_BOXES: u32 = 64;
+pub(crate) const MOST_BOXES: u32 = 64;
 
-pub const OVERLAP: u8 = 1;
+pub(crate) const OVERLAP: u8 = 1;
 
-pub const BEFORE: u8 = 2;
+pub(crate) const BEFORE: u8 = 2;
 
-pub const AFTER: u8 = 4;
+pub(crate) const AFTER: u8 = 4;
 /// Before and after.
-pub const ORDERS: u8 = 6;
+pub(crate) const ORDERS: u8 = 6;
 
-pub const ALL: u8 = 7;
+pub(crate) const ALL: u8 = 7;
 
 /// Each relation by itself.
-pub const EACH: [u8; 3] = [OVERLAP, BEFORE, AFTER];
+pub(crate) const EACH: [u8; 3] = [OVERLAP, BEFORE, AFTER];
 
 /// The set of one box.
 #[inline]
-pub fn bit(v: u32) -> Row {
+pub(crate) fn bit(v: u32) -> Row {
     1u64.wrapping_shl(v)
 }
 
 /// Whether a set has a box.
 #[inline]
-pub fn has(row: Row, v: u32) -> bool {
+pub(crate) fn has(row: Row, v: u32) -> bool {
     row & bit(v) != 0
 }
 
 /// The lowest box of a set that has one.
 #[inline]
-pub fn lowest(row: Row) -> u32 {
+pub(crate) fn lowest(row: Row) -> u32 {
     row.trailing_zeros()
 }
 
 /// The set of all boxes below a number.
 #[inline]
-pub fn below(count: u32) -> Row {
+pub(crate) fn below(count: u32) -> Row {
     if count < MOST_BOXES {
         bit(count).wrapping_sub(1)
     } else {
@@ -50,7 +50,7 @@ pub fn below(count: u32) -> Row {
 
 /// The same relations, told from the other box.
 #[inline]
-pub fn turned(bits: u8) -> u8 {
+pub(crate) fn turned(bits: u8) -> u8 {
     match bits & ORDERS {
         BEFORE => (bits & OVERLAP) | AFTER,
         AFTER => (bits & OVERLAP) | BEFORE,
@@ -84,7 +84,7 @@ fn partners(first: u8, relation: u8) -> u8 {
 
 /// Which exclusions at the two edges of a path are enough to exclude a relation from end to end,
 /// where those at the first edge are given: as few at the second as serve, and then at the first.
-pub fn needed(relation: u8, first_gone: u8) -> (u8, u8) {
+pub(crate) fn needed(relation: u8, first_gone: u8) -> (u8, u8) {
     let mut second = 0;
     for first in EACH {
         if first_gone & first == 0 {

@@ -7,7 +7,7 @@ use crate::table::Edge;
 use box_instances::NoMemory;
 
 /// APART where two boxes became joined in a dimension: in the last that is left they are apart.
-pub fn apart_elsewhere(state: &mut State, edge: Edge) -> Result<(), NoMemory> {
+pub(crate) fn apart_elsewhere(state: &mut State, edge: Edge) -> Result<(), NoMemory> {
     let dims = state.table().dims();
     let (mut open, mut last) = (0u32, 0);
     for dim in 0..dims {
@@ -33,7 +33,7 @@ pub fn apart_elsewhere(state: &mut State, edge: Edge) -> Result<(), NoMemory> {
 
 /// TRIPLE where `u` and `v` became apart: what is apart from `v` too, and too wide beside both, is
 /// joined with `u`.
-pub fn triples(state: &mut State, dim: u32, u: u32, v: u32) -> Result<(), NoMemory> {
+pub(crate) fn triples(state: &mut State, dim: u32, u: u32, v: u32) -> Result<(), NoMemory> {
     let table = state.table();
     let both = table.side(dim, u).saturating_add(table.side(dim, v));
     let wide = table.container_side(dim);
@@ -67,7 +67,7 @@ fn join_opposite(
 }
 
 /// CYCLE where `a` and `c` became apart: boxes that are joined with both are joined.
-pub fn rings_across(state: &mut State, dim: u32, a: u32, c: u32) -> Result<(), NoMemory> {
+pub(crate) fn rings_across(state: &mut State, dim: u32, a: u32, c: u32) -> Result<(), NoMemory> {
     let common = state.table().joined(dim, a) & state.table().joined(dim, c);
     let mut left = common;
     for _ in 0..left.count_ones() {
@@ -80,7 +80,7 @@ pub fn rings_across(state: &mut State, dim: u32, a: u32, c: u32) -> Result<(), N
 }
 
 /// CYCLE where `a` and `b` became joined: `b` is joined with what is opposite in a ring.
-pub fn rings_along(state: &mut State, dim: u32, a: u32, b: u32) -> Result<(), NoMemory> {
+pub(crate) fn rings_along(state: &mut State, dim: u32, a: u32, b: u32) -> Result<(), NoMemory> {
     let mut left = state.table().apart(dim, a) & state.table().joined(dim, b);
     for _ in 0..left.count_ones() {
         let c = lowest(left);

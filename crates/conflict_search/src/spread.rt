@@ -95,7 +95,7 @@ fn spread_order(state: &mut State, edge: Edge, mask: u8, gone: u8) -> Result<(),
 }
 
 /// Excludes what follows from an edge at which relations went, as long as there is no conflict.
-pub fn spread(state: &mut State, edge: Edge, gone: u8) -> Result<(), NoMemory> {
+pub(crate) fn spread(state: &mut State, edge: Edge, gone: u8) -> Result<(), NoMemory> {
     let mask = state.table().mask(edge.dim, edge.u, edge.v);
     compose(state, edge.dim, edge.u, edge.v, mask)?;
     compose(state, edge.dim, edge.v, edge.u, turned(mask))?;

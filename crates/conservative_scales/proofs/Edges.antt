@@ -1,5 +1,6 @@
 -- The next of the rising parameters.
-use Rattle.std.proofs.Common.{◌≡◌, ℕ, zero, suc, ◌+◌, ◌-◌, ◌/◌, ◌<◌, ◌≤◌, ◌⊎◌, inl, inr, refl, sym, ap, ◌∙◌, arith, Bool, true, false, eqb, ◌∷◌}
+use Rattle.std.proofs.Common.{◌≡◌, ℕ, zero, suc, ◌+◌, ◌-◌, ◌/◌, ◌<◌, ◌≤◌, ◌⊎◌, inl, inr, refl, sym, ap, ◌∙◌, arith}
+use Rattle.std.proofs.Common.{Bool, true, false, eqb, ◌∷◌}
 use Rattle.std.specs.List.{filter, range_with_len}
 use Rattle.std.proofs.lemmas.Bool.{cases_eq, or_cases, or_left, or_right, true≢false, eqb-true, eq-eqb}
 use Rattle.packing_terms.specs.Packing.{PlainInstance, box_count, container_side, side}
@@ -19,17 +20,21 @@ pub any_from : (n : ℕ) (f : ℕ → Bool) → any_below n f ≡ true → (v : 
 any_from zero f e = absurd (true≢false (sym e))
 any_from (suc n) f e = go (or_cases _ _ e) (any_from n f)
   where
-    go : (any_below n f ≡ true) ⊎ (f n ≡ true) → (any_below n f ≡ true → (v : ℕ) × (v < n) × (f v ≡ true)) → (v : ℕ) × (v < suc n) × (f v ≡ true)
+    go : (any_below n f ≡ true) ⊎ (f n ≡ true) → (any_below n f ≡ true → (v : ℕ) × (v < n) × (f v ≡ true))
+        → (v : ℕ) × (v < suc n) × (f v ≡ true)
     go (inl i) rest = let h = rest i in let k = h.1 in (h.0, omega (arith, k), h.2)
     go (inr i) rest = (n, omega arith, i)
 
 -- the first of a range that passes
-pub filter_first : (p : ℕ → Bool) (a n x m : ℕ) → a ≤ x → x + 1 + m ≡ a + n → p x ≡ true → ((y : ℕ) → a ≤ y → y < x → p y ≡ false)
+pub filter_first : (p : ℕ → Bool) (a n x m : ℕ) → a ≤ x → x + 1 + m ≡ a + n → p x ≡ true
+    → ((y : ℕ) → a ≤ y → y < x → p y ≡ false)
     → filter p (range_with_len a n) ≡ x ∷ filter p (range_with_len (x + 1) m)
 filter_first p a zero x m l e t h = absurd (omega arith)
-filter_first p a (suc n) x m l e t h = go (cases_eq x a) (λ f. filter_first p (a + 1) n x m (omega arith) (omega arith) t (λ y i j. h y (omega arith) j))
+filter_first p a (suc n) x m l e t h =
+    go (cases_eq x a) (λ f. filter_first p (a + 1) n x m (omega arith) (omega arith) t (λ y i j. h y (omega arith) j))
   where
-    go : (x ≡ a) ⊎ (x ≡ a → ⊥) → ((x ≡ a → ⊥) → filter p (range_with_len (a + 1) n) ≡ x ∷ filter p (range_with_len (x + 1) m))
+    go : (x ≡ a) ⊎ (x ≡ a → ⊥) → ((x ≡ a → ⊥)
+        → filter p (range_with_len (a + 1) n) ≡ x ∷ filter p (range_with_len (x + 1) m))
         → filter p (range_with_len a (suc n)) ≡ x ∷ filter p (range_with_len (x + 1) m)
     go (inl f) rest =
         let k : n ≡ m = omega arith in
@@ -49,14 +54,17 @@ pub next_is : (instance : PlainInstance) (i low next : ℕ) → IsNext instance 
 next_is instance i low next h =
     let a = h.above in
     let m = h.most in
-    filter_first (λ e. is_threshold instance i e) (low + 1) (container_side instance i / 2 - low) next (container_side instance i / 2 - next)
-    (omega (arith, a)) (omega (arith, a, m)) h.edge (λ y k l. between y (omega (arith, k)) l (is_threshold instance i y) refl)
+    filter_first (λ e. is_threshold instance i e) (low + 1) (container_side instance i / 2 - low) next
+    (container_side instance i / 2 - next)
+    (omega (arith, a)) (omega (arith, a, m)) h.edge
+    (λ y k l. between y (omega (arith, k)) l (is_threshold instance i y) refl)
   where
     between : (y : ℕ) → low < y → y < next → (b : Bool) → is_threshold instance i y ≡ b → b ≡ false
     between y k l false e = refl
     between y k l true e = absurd (parts (or_cases _ _ e))
       where
-        parts : (eqb y (container_side instance i / 2) ≡ true) ⊎ (any_below (box_count instance) (λ v. eqb (side instance v i) y) ≡ true) → ⊥
+        parts : (eqb y (container_side instance i / 2) ≡ true)
+            ⊎ (any_below (box_count instance) (λ v. eqb (side instance v i) y) ≡ true) → ⊥
         parts (inl f) = let g = eqb-true _ _ f in let m = h.most in omega (arith, g, m)
         parts (inr f) =
             let w = any_from (box_count instance) (λ v. eqb (side instance v i) y) f in
@@ -70,7 +78,8 @@ pub record IsBest (instance : PlainInstance) (i low n next : ℕ) : Type 0 where
   pub edge : is_threshold instance i next ≡ true
   pub least : (v : ℕ) → v < n → low < side instance v i → next ≤ side instance v i
 
-pub half_best : (instance : PlainInstance) (i low half : ℕ) → half ≡ container_side instance i / 2 → low < half → IsBest instance i low 0 half
+pub half_best : (instance : PlainInstance) (i low half : ℕ) → half ≡ container_side instance i / 2 → low < half
+    → IsBest instance i low 0 half
 half_best instance i low half e l = record {
   above = l;
   most = omega arith;
@@ -78,7 +87,8 @@ half_best instance i low half e l = record {
   least = λ v m. absurd (omega arith);
 }
 
-pub best_takes : (instance : PlainInstance) (i low n next s : ℕ) → IsBest instance i low n next → s ≡ side instance n i → n < box_count instance
+pub best_takes : (instance : PlainInstance) (i low n next s : ℕ) → IsBest instance i low n next → s ≡ side instance n i
+    → n < box_count instance
     → low < s → s < next → IsBest instance i low (n + 1) s
 best_takes instance i low n next s h e m a b = record {
   above = a;
@@ -101,12 +111,15 @@ best_keeps instance i low n next s h e k = record {
 }
   where
     go : (v : ℕ) → (v ≡ n) ⊎ (v ≡ n → ⊥) → v < n + 1 → low < side instance v i → next ≤ side instance v i
-    go v (inl f) l m = let g : side instance v i ≡ s = ap (λ u. side instance u i) f ∙ sym e in let j = k (omega (arith, g, m)) in omega (arith, g, j)
+    go v (inl f) l m = let g : side instance v i ≡ s = ap (λ u. side instance u i) f ∙ sym e in let j =
+        k (omega (arith, g, m)) in omega (arith, g, j)
     go v (inr f) l m = h.least v (omega arith) m
 
 pub best_is : (instance : PlainInstance) (i low n next : ℕ) → IsBest instance i low n next → box_count instance ≤ n
     → thresholds_above instance i low ≡ next ∷ thresholds_above instance i next
-best_is instance i low n next h l = next_is instance i low next (record { above = h.above; most = h.most; edge = h.edge; least = λ v m k. h.least v (omega arith) k })
+best_is instance i low n next h l =
+    next_is instance i low next (record
+    { above = h.above; most = h.most; edge = h.edge; least = λ v m k. h.least v (omega arith) k })
 
 pub steps_after : (instance : PlainInstance) (i k : ℕ) → k < 4
     → functions_after instance i (Step k) ≡ Step (k + 1) ∷ functions_after instance i (Step (k + 1))

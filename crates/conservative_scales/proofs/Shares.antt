@@ -1,5 +1,7 @@
 -- The functions of dimension 0, and the most that any of them makes of a box.
-use Rattle.std.proofs.Common.{◌≡◌, ℕ, zero, suc, ◌+◌, ◌-◌, ◌*◌, ◌/◌, ◌^◌, ◌<◌, ◌≤◌, ◌⊎◌, inl, inr, refl, sym, ap, subst, ◌∙◌, arith, Bool, true, false, cond, List, [], ◌∷◌, ◌++◌, map, length, drop, set, length-set, replicate, ltb, Some, None}
+use Rattle.std.proofs.Common.{◌≡◌, ℕ, zero, suc, ◌+◌, ◌-◌, ◌*◌, ◌/◌, ◌^◌, ◌<◌, ◌≤◌, ◌⊎◌, inl, inr, refl, sym, ap, subst}
+use Rattle.std.proofs.Common.{◌∙◌, arith, Bool, true, false, cond, List, [], ◌∷◌, ◌++◌, map, length, drop, set}
+use Rattle.std.proofs.Common.{length-set, replicate, ltb, Some, None}
 use Rattle.std.specs.Prelude.{MatchBool, ⊤}
 use Rattle.std.specs.List.{sum, flat_map, find, range_with_len}
 use Rattle.std.proofs.lemmas.Bool.{le-ltb, ltb-false}
@@ -39,7 +41,8 @@ beside_most f W x legal =
     rw (← sum_copies (W / x) x (scale_image f W)) (dual_feasible f W legal (replicate (W / x) x) within)
 
 -- so a share is at least what the function makes of the width, in parts of the whole
-pub share_most : (f : ScaleFn) (W x s parts : ℕ) → IsLegalScale f W → parts ≤ s * (W / x) → parts * scale_image f W x ≤ s * scale_whole f W
+pub share_most : (f : ScaleFn) (W x s parts : ℕ) → IsLegalScale f W → parts ≤ s * (W / x)
+    → parts * scale_image f W x ≤ s * scale_whole f W
 share_most f W x s parts legal h =
     le_trans (mul-le-mul_right (scale_image f W x) h)
     (le_trans (same s (W / x) (scale_image f W x)) (mul-le-mul_left s (beside_most f W x legal)))
@@ -50,7 +53,8 @@ share_most f W x s parts legal h =
 -- what is known of the first n boxes: their shares are together at least what any function makes
 pub record AreShared (instance : PlainInstance) (images : ℕ → ℕ) (n total : ℕ) : Type 0 where
   pub most : (f : ScaleFn) → IsLegalScale f (container_side instance 0)
-      → 720720 * sum_below n (λ v. images v * scale_image f (container_side instance 0) (side instance v 0)) ≤ total * scale_whole f (container_side instance 0)
+      → 720720 * sum_below n (λ v. images v * scale_image f (container_side instance 0) (side instance v 0)) ≤ total
+      * scale_whole f (container_side instance 0)
   pub limit : total ≤ n * 2 ^ 99
 
 pub shared_none : (instance : PlainInstance) (images : ℕ → ℕ) → AreShared instance images 0 0
@@ -60,7 +64,8 @@ pub shared_next : (instance : PlainInstance) (images : ℕ → ℕ) (n total s x
     → 720720 ≤ s * (container_side instance 0 / side instance n 0) → s ≤ 720720 → x ≡ images n → images n ≤ 2 ^ 79
     → AreShared instance images (n + 1) (total + x * s)
 shared_next instance images n total s x h m l e small = record {
-  most = λ f legal. next f legal (h.most f legal) (share_most f (container_side instance 0) (side instance n 0) s 720720 legal m);
+  most = λ f legal. next f legal (h.most f legal)
+      (share_most f (container_side instance 0) (side instance n 0) s 720720 legal m);
   limit =
       (let p : x * s ≤ 2 ^ 79 * 2 ^ 20 = mul-le x s (2 ^ 79) (2 ^ 20) (rw e small) (omega (arith, l)) in
       let k = h.limit in
@@ -74,19 +79,23 @@ shared_next instance images n total s x h m l e small = record {
     joined t i s w = grind arith
 
     next : (f : ScaleFn) → IsLegalScale f (container_side instance 0)
-        → 720720 * sum_below n (λ v. images v * scale_image f (container_side instance 0) (side instance v 0)) ≤ total * scale_whole f (container_side instance 0)
-        → 720720 * scale_image f (container_side instance 0) (side instance n 0) ≤ s * scale_whole f (container_side instance 0)
+        → 720720 * sum_below n (λ v. images v * scale_image f (container_side instance 0) (side instance v 0)) ≤ total
+        * scale_whole f (container_side instance 0)
+        → 720720 * scale_image f (container_side instance 0) (side instance n 0) ≤ s * scale_whole f
+        (container_side instance 0)
         → 720720 * sum_below (n + 1) (λ v. images v * scale_image f (container_side instance 0) (side instance v 0))
         ≤ (total + x * s) * scale_whole f (container_side instance 0)
     next f legal a b =
         let c = mul-le-mul_left (images n) b in
         let g : n + 1 ≡ suc n = omega arith in
-        let l = spread 720720 (sum_below n (λ v. images v * scale_image f (container_side instance 0) (side instance v 0))) (images n)
+        let l = spread 720720 (sum_below n
+        (λ v. images v * scale_image f (container_side instance 0) (side instance v 0))) (images n)
         (scale_image f (container_side instance 0) (side instance n 0)) in
         let r = joined total (images n) s (scale_whole f (container_side instance 0)) in
         rw (g, e) (omega (arith, a, c, l, r))
 
-pub shared_held : (instance : PlainInstance) (images : ℕ → ℕ) (c n total whole : ℕ) → AreShared instance images n total → n ≡ box_count instance
+pub shared_held : (instance : PlainInstance) (images : ℕ → ℕ) (c n total whole : ℕ) → AreShared instance images n total
+    → n ≡ box_count instance
     → total ≤ c * whole * 720720 → HoldEach instance c images whole
 shared_held instance images c n total whole h e l f legal =
     let a = h.most f legal in
@@ -101,7 +110,8 @@ shared_held instance images c n total whole h e l f legal =
 module _ (instance : PlainInstance) (i : ℕ) (wide : 1 ≤ container_side instance i) where
   threshold_legal : (e : ℕ) → IsIn e (thresholds_above instance i 0) → (1 ≤ e) × (2 * e ≤ container_side instance i)
   threshold_legal e h =
-      let k = filter_in (λ x. is_threshold instance i x) e (range_with_len (0 + 1) (container_side instance i / 2 - 0)) h in
+      let k = filter_in (λ x. is_threshold instance i x) e
+      (range_with_len (0 + 1) (container_side instance i / 2 - 0)) h in
       let r = range_in (0 + 1) (container_side instance i / 2 - 0) e k.0 in
       (omega (arith, r), omega (arith, r))
 
@@ -116,32 +126,42 @@ module _ (instance : PlainInstance) (i : ℕ) (wide : 1 ≤ container_side insta
       cut : (e : ℕ) × IsIn e (thresholds_above instance i 0) × (f ≡ Cut e) → IsLegalScale f (container_side instance i)
       cut (x, m, e) = subst (λ g. IsLegalScale g (container_side instance i)) (sym e) (threshold_legal x m)
 
-      count : (e : ℕ) × IsIn e (thresholds_above instance i 0) × (f ≡ Count e) → IsLegalScale f (container_side instance i)
+      count : (e : ℕ) × IsIn e (thresholds_above instance i 0) × (f ≡ Count e)
+          → IsLegalScale f (container_side instance i)
       count (x, m, e) = subst (λ g. IsLegalScale g (container_side instance i)) (sym e) (threshold_legal x m)
 
-      rest : IsIn f (map (λ e. Cut e) (thresholds_above instance i 0)) ⊎ IsIn f (map (λ e. Count e) (thresholds_above instance i 0)) → IsLegalScale f (container_side instance i)
+      rest : IsIn f (map (λ e. Cut e) (thresholds_above instance i 0))
+          ⊎ IsIn f (map (λ e. Count e) (thresholds_above instance i 0)) → IsLegalScale f (container_side instance i)
       rest (inl m) = cut (map_in (λ e. Cut e) f (thresholds_above instance i 0) m)
       rest (inr m) = count (map_in (λ e. Count e) f (thresholds_above instance i 0) m)
 
-      go : IsIn f (map (λ k. Step k) (range_with_len 1 4)) ⊎ IsIn f (map (λ e. Cut e) (thresholds_above instance i 0) ++ map (λ e. Count e) (thresholds_above instance i 0))
+      go : IsIn f (map (λ k. Step k) (range_with_len 1 4))
+          ⊎ IsIn f (map (λ e. Cut e) (thresholds_above instance i 0)
+          ++ map (λ e. Count e) (thresholds_above instance i 0))
           → IsLegalScale f (container_side instance i)
       go (inl m) = step (map_in (λ k. Step k) f (range_with_len 1 4) m)
-      go (inr m) = rest (append_in f (map (λ e. Cut e) (thresholds_above instance i 0)) (map (λ e. Count e) (thresholds_above instance i 0)) m)
+      go (inr m) = rest (append_in f (map (λ e. Cut e) (thresholds_above instance i 0))
+          (map (λ e. Count e) (thresholds_above instance i 0)) m)
 
 -- a function of dimension 0 before functions whose products are known
 module _ (instance : PlainInstance) (c : ℕ) (rest : List ScaleFn) (images : ℕ → ℕ) (total : ℕ)
-    (limits : IsInternalInstance instance) (fit : SidesFit instance) (there : 0 < dims instance) (p : IsPartial instance 1 rest images total) where
+    (limits : IsInternalInstance instance) (fit : SidesFit instance) (there : 0 < dims instance)
+    (p : IsPartial instance 1 rest images total) where
   image_of : ScaleFn → ℕ → ℕ
   image_of f v = images v * scale_image f (container_side instance 0) (side instance v 0)
 
-  held_false : HoldEach instance c images total → (f : ScaleFn) → IsLegalScale f (container_side instance 0) → has_excess instance c (f ∷ rest) ≡ false
+  held_false : HoldEach instance c images total → (f : ScaleFn) → IsLegalScale f (container_side instance 0)
+      → has_excess instance c (f ∷ rest) ≡ false
   held_false h f legal =
-      let q : IsPartial instance 0 (f ∷ rest) (λ v. images v * scale_image f (container_side instance 0) (side instance v 0)) (total * scale_whole f (container_side instance 0)) =
+      let q : IsPartial instance 0 (f ∷ rest)
+      (λ v. images v * scale_image f (container_side instance 0) (side instance v 0))
+      (total * scale_whole f (container_side instance 0)) =
       partial_more instance 0 f rest images _ total _ limits fit there legal (λ v l. refl) refl p in
       let n : length (f ∷ rest) ≡ dims instance = (let k = q.count in omega (arith, k)) in
       sym (partial_excess instance c (f ∷ rest) _ _ n q) ∙ le-ltb _ _ (h f legal)
 
-  one_none : (t : List ScaleFn) (ts : List (List ScaleFn)) → has_excess instance c t ≡ false → find (has_excess instance c) ts ≡ None
+  one_none : (t : List ScaleFn) (ts : List (List ScaleFn)) → has_excess instance c t ≡ false
+      → find (has_excess instance c) ts ≡ None
       → find (has_excess instance c) (t ∷ ts) ≡ None
   one_none t ts e h = ap (λ b. cond b (Some t) (find (has_excess instance c) ts)) e ∙ h
 
@@ -150,27 +170,34 @@ module _ (instance : PlainInstance) (c : ℕ) (rest : List ScaleFn) (images : �
   flat_none [] h = refl
   flat_none (f ∷ fs) h = one_none (f ∷ rest) _ (h f (inl refl)) (flat_none fs (λ g m. h g (inr m)))
 
-  pub held_none : HoldEach instance c images total → (left : ℕ) → find (has_excess instance c) (within instance 1 left rest) ≡ None
+  pub held_none : HoldEach instance c images total → (left : ℕ)
+      → find (has_excess instance c) (within instance 1 left rest) ≡ None
   held_none h zero = one_none (Id ∷ rest) [] (held_false h Id tt) refl
   held_none h (suc m) =
       one_none (Id ∷ rest) (flat_map (λ f. (f ∷ rest) ∷ []) (functions_after instance 0 Id)) (held_false h Id tt)
-      (flat_none (functions_after instance 0 Id) (λ f i. held_false h f (after_legal instance 0 (whole_least instance 0 limits fit there) f i)))
+      (flat_none (functions_after instance 0 Id)
+      (λ f i. held_false h f (after_legal instance 0 (whole_least instance 0 limits fit there) f i)))
 
 -- the test of a function that was written into the tuple
-pub tested : (instance : PlainInstance) (c left : ℕ) (rest tuple : List ScaleFn) (f : ScaleFn) (images : ℕ → ℕ) (total : ℕ) (b : Bool)
-    → IsInternalInstance instance → SidesFit instance → 0 < dims instance → length tuple ≡ dims instance → drop 1 tuple ≡ rest
+pub tested : (instance : PlainInstance) (c left : ℕ) (rest tuple : List ScaleFn) (f : ScaleFn) (images : ℕ → ℕ)
+    (total : ℕ) (b : Bool)
+    → IsInternalInstance instance → SidesFit instance → 0 < dims instance → length tuple ≡ dims instance
+    → drop 1 tuple ≡ rest
     → IsLegalScale f (container_side instance 0) → IsPartial instance 1 rest images total
     → b ≡ ltb (c * (total * scale_whole f (container_side instance 0)))
     (sum_below (box_count instance) (λ v. images v * scale_image f (container_side instance 0) (side instance v 0)))
-    → MatchBool b (find (has_excess instance c) (within instance 0 left (drop 0 (set tuple 0 f))) ≡ Some (set tuple 0 f))
+    → MatchBool b (find (has_excess instance c) (within instance 0 left (drop 0 (set tuple 0 f)))
+    ≡ Some (set tuple 0 f))
     (find (has_excess instance c) (within instance 0 left (drop 0 (set tuple 0 f))) ≡ None)
 tested instance c left rest tuple f images total b limits fit there count kept legal p e =
     chosen_is instance c 0 left (set tuple 0 f) _ _ b refl (length-set tuple 0 f ∙ count)
     (partial_written instance c 1 0 left rest tuple f refl (omega (arith, count, there)) kept images
-    (λ v. images v * scale_image f (container_side instance 0) (side instance v 0)) total _ limits fit there legal (λ v l. refl) refl p) e
+    (λ v. images v * scale_image f (container_side instance 0) (side instance v 0)) total _ limits fit there legal
+    (λ v l. refl) refl p) e
 
 -- the test of the shares of all boxes
-pub shared_test : (instance : PlainInstance) (images : ℕ → ℕ) (c n total whole : ℕ) → AreShared instance images n total → n ≡ box_count instance
+pub shared_test : (instance : PlainInstance) (images : ℕ → ℕ) (c n total whole : ℕ) → AreShared instance images n total
+    → n ≡ box_count instance
     → MatchBool (ltb (c * whole * 720720) total) ⊤ (HoldEach instance c images whole)
 shared_test instance images c n total whole h e = go (ltb (c * whole * 720720) total) refl
   where
@@ -183,6 +210,7 @@ sum_next f n total x h e = let g : n + 1 ≡ suc n = omega arith in rw g (omega 
 
 -- where nothing but id is left for dimension 0
 pub id_alone : (instance : PlainInstance) (c left : ℕ) (rest : List ScaleFn) → left ≡ 0
-    → find (has_excess instance c) (within instance 0 left (Id ∷ rest)) ≡ None → find (has_excess instance c) (within instance 1 left rest) ≡ None
+    → find (has_excess instance c) (within instance 0 left (Id ∷ rest)) ≡ None
+    → find (has_excess instance c) (within instance 1 left rest) ≡ None
 id_alone instance c zero rest e h = h
 id_alone instance c (suc m) rest e h = absurd (omega arith)

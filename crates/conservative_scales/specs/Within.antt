@@ -13,7 +13,8 @@ abbrev pub within : PlainInstance → ℕ → ℕ → List ScaleFn → List (Lis
 within instance zero left rest = rest ∷ []
 within instance (suc i) zero rest = within instance i zero (Id ∷ rest)
 within instance (suc i) (suc left) rest =
-    within instance i (suc left) (Id ∷ rest) ++ flat_map (λ f. within instance i left (f ∷ rest)) (functions_after instance i Id)
+    within instance i (suc left) (Id ∷ rest) ++ flat_map (λ f. within instance i left (f ∷ rest))
+    (functions_after instance i Id)
 
 -- the functions that are left, from the next one on
 abbrev pub from_next : PlainInstance → ℕ → Option ScaleFn → List ScaleFn
@@ -22,4 +23,5 @@ from_next instance i (Some f) = f ∷ functions_after instance i f
 
 -- legal functions for the dimensions from i on
 abbrev pub AreLegalFrom : PlainInstance → ℕ → List ScaleFn → Type 0
-AreLegalFrom instance i rest = (j : ℕ) → j < length rest → IsLegalScale (function_at rest j) (container_side instance (i + j))
+AreLegalFrom instance i rest = (j : ℕ) → j < length rest
+    → IsLegalScale (function_at rest j) (container_side instance (i + j))

@@ -90,7 +90,7 @@ fn exceeds_with(
 // Whether a tuple exceeds that ends in the functions from dimension 1 on, whose products begin at a
 // place of the table, and whose function of dimension 0 is id where `left` is 0. The first one is
 // left in `tuple`.
-pub fn search_fastest(
+pub(crate) fn search_fastest(
     instance: &Instance,
     copies: u32,
     left: u32,

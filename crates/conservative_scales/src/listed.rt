@@ -30,7 +30,7 @@ fn next_edge(instance: &Instance, dim: u32, above: u32) -> Option<u32>
 }
 
 /// The function that stands after the given one in the list of a dimension.
-pub fn next_function(instance: &Instance, dim: u32, f: ScaleFn) -> Option<ScaleFn>
+pub(crate) fn next_function(instance: &Instance, dim: u32, f: ScaleFn) -> Option<ScaleFn>
     requires there { dim < dims instance.now }
     requires whole { 1 ≤ container_side instance.now dim }
     ensures next { functions_after instance.now dim f ≡ from_next instance.now dim result }

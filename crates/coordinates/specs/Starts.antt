@@ -6,4 +6,5 @@ use Rattle.rule_terms.specs.Runs.{IsHeaviestHead}
 
 -- in dimension i each of the first k boxes ends where the heaviest chain that ends in it does
 abbrev pub EndsInHeads : PlainInstance → Exclusions → List ℕ → ℕ → ℕ → Type 0
-EndsInHeads instance X places i k = (v : ℕ) → v < k → IsHeaviestHead instance X i v (place instance places v i + side instance v i)
+EndsInHeads instance X places i k =
+    (v : ℕ) → v < k → IsHeaviestHead instance X i v (place instance places v i + side instance v i)

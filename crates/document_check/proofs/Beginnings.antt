@@ -28,31 +28,39 @@ use Rattle.document_lines.specs.Checkers.{shown_inner_tree}
 whole_set : (instance : PlainInstance) → subset instance (all_boxes instance) ≡ instance
 whole_set instance =
     ap (λ bs. record instance { boxes = bs })
-    (sym (fill_by_all (λ v. get_or instance.boxes v no_box) instance.boxes (box_count instance) no_box refl (λ k l. refl)))
+    (sym (fill_by_all (λ v. get_or instance.boxes v no_box) instance.boxes (box_count instance) no_box refl
+    (λ k l. refl)))
 
-pub inner_begun : (r : PlainRefuter) (instance : PlainInstance) (es : List Exclusion) → r ≡ record { instance = instance; keep = all_boxes instance; checked = starting es }
+pub inner_begun : (r : PlainRefuter) (instance : PlainInstance) (es : List Exclusion)
+    → r ≡ record { instance = instance; keep = all_boxes instance; checked = starting es }
     → shown_inner_tree r ≡ InnerTree instance (es ∷ [])
 inner_begun r instance es e = ap shown_inner_tree e ∙ ap (λ i. InnerTree i (es ∷ [])) (whole_set instance)
 
 -- what the tree of a no begins with is at edges that are there
-pub start_edges : (heading : Heading) (instance : PlainInstance) → IsInternalInstance instance → AreAtEdges instance (start_exclusions heading instance)
+pub start_edges : (heading : Heading) (instance : PlainInstance) → IsInternalInstance instance
+    → AreAtEdges instance (start_exclusions heading instance)
 start_edges Answer instance limits = tt
 start_edges Reduced instance limits = facts_at_edges instance (some_dimension instance limits)
 
 -- and so it is at every height
-pub level_edges : (heading : Heading) (instance : PlainInstance) (h : ℕ) → IsInternalInstance instance → AreAtEdges (with_last_side instance h) (start_exclusions heading instance)
+pub level_edges : (heading : Heading) (instance : PlainInstance) (h : ℕ) → IsInternalInstance instance
+    → AreAtEdges (with_last_side instance h) (start_exclusions heading instance)
 level_edges Answer instance h limits = tt
 level_edges Reduced instance h limits =
     subst (λ (es : List Exclusion). AreAtEdges (with_last_side instance h) es) (level_facts instance h)
-    (facts_at_edges (with_last_side instance h) (let same = length-set instance.container (dims instance - 1) h in let some = some_dimension instance limits in omega (arith, same, some)))
+    (facts_at_edges (with_last_side instance h)
+    (let same = length-set instance.container (dims instance - 1) h in let some = some_dimension instance limits in
+    omega (arith, same, some)))
 
 -- what a stage is where the claim is known
 pub fitting_placed : (claim : Claim) (refuted : Refuted) → claim ≡ Fitting → placed claim refuted ≡ Ending Fitting None
 fitting_placed claim refuted is = ap (λ c. placed c refuted) is
 
-pub fitting_claimed : (heading : Heading) (instance : PlainInstance) (claim : Claim) → claim ≡ Fitting → Placing instance claim (to_refute heading instance claim) [] ≡ claimed heading instance claim
+pub fitting_claimed : (heading : Heading) (instance : PlainInstance) (claim : Claim) → claim ≡ Fitting
+    → Placing instance claim (to_refute heading instance claim) [] ≡ claimed heading instance claim
 fitting_claimed heading instance claim is =
-    subst (λ (c : Claim). Placing instance c (to_refute heading instance c) [] ≡ claimed heading instance c) (sym is) refl
+    subst (λ (c : Claim). Placing instance c (to_refute heading instance c) [] ≡ claimed heading instance c)
+    (sym is) refl
 
 -- where the document stands behind the lines of a judge
 pub at_behind : (behind : Option Stage) (stage next : Stage) → IsAt behind stage → behind ≡ Some next → stage ≡ next

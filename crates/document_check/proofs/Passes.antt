@@ -1,17 +1,21 @@
 -- A pass over a document, phase by phase.
-use Rattle.std.proofs.Common.{◌≡◌, ◌∙◌, ℕ, ◌+◌, ◌≤◌, inr, true, refl, sym, ap, subst, arith, List, [], Option, Some, None, Result, Ok, Err}
+use Rattle.std.proofs.Common.{◌≡◌, ◌∙◌, ℕ, ◌+◌, ◌≤◌, inr, true, refl, sym, ap, subst, arith, List, [], Option, Some}
+use Rattle.std.proofs.Common.{None, Result, Ok, Err}
 use Rattle.text_terms.specs.Feeding.{Lexer, new_lexer}
 use Rattle.document_terms.specs.declared.claim.Claim.{Claim}
 use Rattle.verdict_terms.specs.declared.reason.Reason.{Reason}
 use Rattle.verdict_terms.specs.declared.reason.Reason.TheVariants.{TooShort}
 use Rattle.verdict_terms.specs.declared.heading.Heading.{Heading}
 use Rattle.verdict_terms.specs.Stages.{Stage}
-use Rattle.verdict_terms.specs.Stages.Stage.{Beginning, Reading, Placing, Sharing, Taking, Proving, Refuting, Exceeding, Ending, Ended}
+use Rattle.verdict_terms.specs.Stages.Stage.{Beginning, Reading, Placing, Sharing, Taking, Proving, Refuting, Exceeding}
+use Rattle.verdict_terms.specs.Stages.Stage.{Ending, Ended}
 use Rattle.verdict_terms.specs.Documents.{Refusal, document_at_end}
 use Rattle.document_check.specs.declared.check.CheckEnd.{CheckEnd}
 use Rattle.document_check.specs.declared.check.CheckEnd.TheVariants.{Refused, TooLong, ReadFault, NoMemory}
 use Rattle.document_lines.specs.declared.judge.ReadEnd.{ReadEnd}
-use Rattle.document_lines.specs.declared.judge.ReadEnd.TheVariants.{End, Paused, Refused as ReadRefused, TooLong as ReadTooLong, ReadFault as ReadFailed, NoMemory as ReadNoMemory}
+use Rattle.document_lines.specs.declared.judge.ReadEnd.TheVariants.{End, Paused, Refused as ReadRefused}
+use Rattle.document_lines.specs.declared.judge.ReadEnd.TheVariants.{TooLong as ReadTooLong, ReadFault as ReadFailed}
+use Rattle.document_lines.specs.declared.judge.ReadEnd.TheVariants.{NoMemory as ReadNoMemory}
 use Rattle.document_check.specs.declared.position.Position.{Position}
 use Rattle.document_check.specs.Checked.{most_document_bytes, IsCheckedUnder}
 use Rattle.document_lines.specs.Reading.{PlainJudge, IsAt, IsRead, IsReadBehind, ended_claim}
@@ -36,11 +40,13 @@ at_end_is (Exceeding instance claim m) n = refl
 at_end_is (Ending claim behind) n = refl
 at_end_is (Ended claim) n = refl
 
-module _ (old left : Option (List ℕ)) (before now : ℕ) (at : Position) (stage : Stage) (next : Lexer) (behind : Stage) (count : ℕ) where
+module _ (old left : Option (List ℕ)) (before now : ℕ) (at : Position) (stage : Stage) (next : Lexer) (behind : Stage)
+    (count : ℕ) where
   abbrev pub Behind : ReadEnd → Type 0
   Behind end = IsReadBehind most_document_bytes old left before now at.lexer stage at.count next behind count end
 
-  ended : (heading : Heading) (first : Option (List ℕ)) (claim : Option Claim) → IsRead heading most_document_bytes first left before now next behind count End → ended_claim behind ≡ claim
+  ended : (heading : Heading) (first : Option (List ℕ)) (claim : Option Claim)
+      → IsRead heading most_document_bytes first left before now next behind count End → ended_claim behind ≡ claim
       → IsCheckedUnder heading first left before now (end_of claim next.number)
   ended heading first (Some claim) r e = record {
     taken = r.taken;
@@ -52,13 +58,19 @@ module _ (old left : Option (List ℕ)) (before now : ℕ) (at : Position) (stag
     taken = r.taken;
     gives = r.gives;
     faults = r.faults;
-    comes = (r.ends.2 ∙ (at_end_is behind next.number ∙ ap (λ c. verdict_of c next.number) e), r.ends.1, inr (r.ends.0, r.ends.3));
+    comes = (
+      r.ends.2 ∙ (at_end_is behind next.number ∙ ap (λ c. verdict_of c next.number) e),
+      r.ends.1,
+      inr (r.ends.0, r.ends.3),
+    );
   }
 
-  pub end_from : Behind End → (claim : Option Claim) → ended_claim behind ≡ claim → IsCheckedFrom old left before now at stage (end_of claim next.number)
+  pub end_from : Behind End → (claim : Option Claim) → ended_claim behind ≡ claim
+      → IsCheckedFrom old left before now at stage (end_of claim next.number)
   end_from read claim e heading first taking = ended heading first claim (read heading first taking) e
 
-  pub refused_from : (reason : Reason) → Behind (ReadRefused reason) → IsCheckedFrom old left before now at stage (Refused next.number reason)
+  pub refused_from : (reason : Reason) → Behind (ReadRefused reason)
+      → IsCheckedFrom old left before now at stage (Refused next.number reason)
   refused_from reason read heading first taking =
       let r = read heading first taking in
       record { taken = r.taken; gives = r.gives; faults = r.faults; comes = r.ends }
@@ -78,23 +90,30 @@ module _ (old left : Option (List ℕ)) (before now : ℕ) (at : Position) (stag
       let r = read heading first taking in
       record { taken = r.taken; gives = r.gives; faults = r.faults; comes = r.ends }
 
-  pub paused_from : Behind Paused → IsReadOn old left before now at stage (record { lexer = next; count = count }) behind
+  pub paused_from : Behind Paused
+      → IsReadOn old left before now at stage (record { lexer = next; count = count }) behind
   paused_from read heading first taking =
       let r = read heading first taking in
       (r.faults, record { taken = r.taken; gives = r.gives; counted = r.ends.0; so_far = r.ends.1 })
 
 -- memory was refused between two lines
-pub memory_here : (old : Option (List ℕ)) (faults : ℕ) (at : Position) (stage : Stage) → at.count ≤ most_document_bytes → IsCheckedFrom old old faults faults at stage NoMemory
+pub memory_here : (old : Option (List ℕ)) (faults : ℕ) (at : Position) (stage : Stage) → at.count ≤ most_document_bytes
+    → IsCheckedFrom old old faults faults at stage NoMemory
 memory_here old faults at stage few heading first taking = record {
   taken = taking.taken;
   gives = taking.gives;
   faults = refl;
-  comes = ((let c = taking.counted in omega (arith, c, few)), none_before heading at.lexer stage taking.taken taking.so_far);
+  comes = (
+    (let c = taking.counted in omega (arith, c, few)),
+    none_before heading at.lexer stage taking.taken taking.so_far,
+  );
 }
 
 -- one phase, and then what is left
-module _ (old mid left : Option (List ℕ)) (before between now : ℕ) (at next : Position) (stage behind : Stage) (result : CheckEnd) where
-  pub then_from : IsReadOn old mid before between at stage next behind → (rest : Stage) → behind ≡ rest → IsCheckedFrom mid left between now next rest result
+module _ (old mid left : Option (List ℕ)) (before between now : ℕ) (at next : Position) (stage behind : Stage)
+    (result : CheckEnd) where
+  pub then_from : IsReadOn old mid before between at stage next behind → (rest : Stage) → behind ≡ rest
+      → IsCheckedFrom mid left between now next rest result
       → IsCheckedFrom old left before now at stage result
   then_from on rest same more heading first taking =
       let go = on heading first taking in
@@ -102,24 +121,30 @@ module _ (old mid left : Option (List ℕ)) (before between now : ℕ) (at next 
       (subst (λ s. IsCheckedFrom mid left between now next s result) (sym same) more heading first go.1)
 
 -- from the first byte on
-pub from_start : (heading : Heading) (old left : Option (List ℕ)) (before now : ℕ) (result : CheckEnd) → IsCheckedFrom old left before now (record { lexer = new_lexer; count = 0 }) (Beginning heading) result
+pub from_start : (heading : Heading) (old left : Option (List ℕ)) (before now : ℕ) (result : CheckEnd)
+    → IsCheckedFrom old left before now (record { lexer = new_lexer; count = 0 }) (Beginning heading) result
     → IsCheckedUnder heading old left before now result
 from_start heading old left before now result from =
     from heading old (record { taken = []; gives = gives_none old; counted = refl; so_far = so_far_start heading })
 
 -- lines of a judge that tells where the document stands behind them
-pub goes_known : (old left : Option (List ℕ)) (before now : ℕ) (at next : Position) (judge : PlainJudge) (stage behind known : Stage) (result : Option CheckEnd)
-    → judge ≡ record { stage = stage; takes = true; behind = Some known } → Goes old left before now at judge.stage next behind result
+pub goes_known : (old left : Option (List ℕ)) (before now : ℕ) (at next : Position) (judge : PlainJudge)
+    (stage behind known : Stage) (result : Option CheckEnd)
+    → judge ≡ record { stage = stage; takes = true; behind = Some known }
+    → Goes old left before now at judge.stage next behind result
     → (result ≡ None → IsAt judge.behind behind) → Goes old left before now at stage next known result
 goes_known old left before now at next judge stage behind known (Some end) is goes e =
     subst (λ s. IsCheckedFrom old left before now at s end) (ap (λ (j : PlainJudge). j.stage) is) goes
 goes_known old left before now at next judge stage behind known None is goes e =
-    subst (λ s. IsReadOn old left before now at stage next s) (at_behind judge.behind behind known (e refl) (ap (λ (j : PlainJudge). j.behind) is))
+    subst (λ s. IsReadOn old left before now at stage next s)
+    (at_behind judge.behind behind known (e refl) (ap (λ (j : PlainJudge). j.behind) is))
     (subst (λ s. IsReadOn old left before now at s next behind) (ap (λ (j : PlainJudge). j.stage) is) goes)
 
 -- the same, where it is known behind them
-pub goes_on : (old left : Option (List ℕ)) (before now : ℕ) (at next : Position) (judge : PlainJudge) (stage behind known : Stage) (result : Option CheckEnd)
-    → judge.stage ≡ stage → Goes old left before now at judge.stage next behind result → result ≡ None → behind ≡ known → IsReadOn old left before now at stage next known
+pub goes_on : (old left : Option (List ℕ)) (before now : ℕ) (at next : Position) (judge : PlainJudge)
+    (stage behind known : Stage) (result : Option CheckEnd)
+    → judge.stage ≡ stage → Goes old left before now at judge.stage next behind result → result ≡ None → behind ≡ known
+    → IsReadOn old left before now at stage next known
 goes_on old left before now at next judge stage behind known result is goes none e =
     subst (λ s. IsReadOn old left before now at stage next s) e
     (subst (λ s. IsReadOn old left before now at s next behind) is

@@ -11,7 +11,8 @@ use Rattle.document_check.specs.declared.audit.Audit.TheVariants.{Verified, Refu
 -- the verdict on the bytes under this heading, unless memory was refused
 abbrev pub IsAudited : Heading → List ℕ → Audit → Type 0
 IsAudited heading bytes (Verified claim) = headed_verdict heading bytes ≡ Ok claim
-IsAudited heading bytes (Refused line reason) = headed_verdict heading bytes ≡ Err (record { line = line; reason = reason })
+IsAudited heading bytes (Refused line reason) =
+    headed_verdict heading bytes ≡ Err (record { line = line; reason = reason })
 IsAudited heading bytes NoMemory = Unit {0}
 
 -- the bytes are a document of the claim, which is true of the instance in it

@@ -19,11 +19,14 @@ most_document_bytes = 1099511627776
 -- stands behind the refused line. Too long, by one byte, or a read fault: no line that was whole
 -- before is refused. Want of memory is the one free answer, and no line is refused before it.
 abbrev pub Comes : Heading → Option (List ℕ) → List ℕ → CheckEnd → Type 0
-Comes heading left taken (Verified claim) = (headed_verdict heading taken ≡ Ok claim) × (length taken ≤ most_document_bytes) × IsAtEnd left
+Comes heading left taken (Verified claim) =
+    (headed_verdict heading taken ≡ Ok claim) × (length taken ≤ most_document_bytes) × IsAtEnd left
 Comes heading left taken (Refused line reason) =
-    (headed_verdict heading taken ≡ Err (record { line = line; reason = reason })) × (length taken ≤ most_document_bytes)
+    (headed_verdict heading taken ≡ Err (record { line = line; reason = reason }))
+    × (length taken ≤ most_document_bytes)
     × AreEnoughUnder heading left taken (record { line = line; reason = reason })
-Comes heading left taken TooLong = (length taken ≡ most_document_bytes + 1) × NoneRefusedUnder heading (take most_document_bytes taken)
+Comes heading left taken TooLong =
+    (length taken ≡ most_document_bytes + 1) × NoneRefusedUnder heading (take most_document_bytes taken)
 Comes heading left taken ReadFault = (length taken ≤ most_document_bytes) × NoneRefusedUnder heading taken
 Comes heading left taken NoMemory = (length taken ≤ most_document_bytes) × NoneBeforeUnder heading taken
 
@@ -36,7 +39,8 @@ CountsCheck before now TooLong = now ≡ before
 CountsCheck before now NoMemory = now ≡ before
 
 -- what the check of a document with this heading takes from a source, and what it comes to
-pub record IsCheckedUnder (heading : Heading) (old left : Option (List ℕ)) (before now : ℕ) (result : CheckEnd) : Type 0 where
+pub record IsCheckedUnder (heading : Heading) (old left : Option (List ℕ)) (before now : ℕ) (result : CheckEnd) :
+    Type 0 where
   pub taken : List ℕ
   pub gives : Gives old left taken
   pub faults : CountsCheck before now result

@@ -221,7 +221,7 @@ fn check_high_value<S: Source>(
 }
 
 /// The places of all boxes, and `end`.
-pub fn check_fitting<S: Source>(
+pub(crate) fn check_fitting<S: Source>(
     alloc: Global,
     input: &mut S,
     at: &mut Position,
@@ -241,7 +241,7 @@ pub fn check_fitting<S: Source>(
 
 /// A tree that refutes that the instance fits, and `end`. In a reduced document it refutes that
 /// under the symmetry facts.
-pub fn check_not_fitting<S: Source>(
+pub(crate) fn check_not_fitting<S: Source>(
     alloc: Global,
     input: &mut S,
     at: &mut Position,
@@ -289,7 +289,7 @@ fn check_placed<S: Source>(
 }
 
 /// The places of all boxes at one height, `proof`, a tree that refutes another height, and `end`.
-pub fn check_heights<S: Source>(
+pub(crate) fn check_heights<S: Source>(
     alloc: Global,
     input: &mut S,
     at: &mut Position,
@@ -321,7 +321,7 @@ pub fn check_heights<S: Source>(
 }
 
 /// One token that a box exceeds the container in one of the first so many dimensions, and `end`.
-pub fn check_exceeding<S: Source>(
+pub(crate) fn check_exceeding<S: Source>(
     alloc: Global,
     input: &mut S,
     at: &mut Position,
@@ -343,7 +343,7 @@ pub fn check_exceeding<S: Source>(
 
 /// The places of all boxes in so many bins, `proof`, a tree that refutes another number of bins,
 /// and `end`.
-pub fn check_bins<S: Source>(
+pub(crate) fn check_bins<S: Source>(
     alloc: Global,
     input: &mut S,
     at: &mut Position,
@@ -367,7 +367,7 @@ pub fn check_bins<S: Source>(
 }
 
 /// The taken boxes of one value, `proof`, a tree that refutes another value, and `end`.
-pub fn check_values<S: Source>(
+pub(crate) fn check_values<S: Source>(
     alloc: Global,
     input: &mut S,
     at: &mut Position,

@@ -19,7 +19,7 @@ use std::alloc::Global;
 use verdict_terms::Heading;
 
 /// The lines up to the result line of a document that has to begin with this heading.
-pub fn read_head<S: Source>(
+pub(crate) fn read_head<S: Source>(
     alloc: Global,
     input: &mut S,
     at: &mut Position,
@@ -43,7 +43,7 @@ pub fn read_head<S: Source>(
 
 /// The places of all boxes in a container that may have another last side. `None` tells that they
 /// are a packing.
-pub fn read_places<S: Source>(
+pub(crate) fn read_places<S: Source>(
     alloc: Global,
     input: &mut S,
     at: &mut Position,
@@ -64,7 +64,7 @@ pub fn read_places<S: Source>(
 }
 
 /// The bins and places of all boxes. `None` tells that they are a packing of so many bins.
-pub fn read_shares<S: Source>(
+pub(crate) fn read_shares<S: Source>(
     alloc: Global,
     input: &mut S,
     at: &mut Position,
@@ -88,7 +88,7 @@ pub fn read_shares<S: Source>(
 }
 
 /// The taken boxes, up to `proof`. `None` tells that they are a packing of at least the value.
-pub fn read_taken<S: Source>(
+pub(crate) fn read_taken<S: Source>(
     alloc: Global,
     input: &mut S,
     at: &mut Position,
@@ -109,7 +109,7 @@ pub fn read_taken<S: Source>(
 
 /// The token that a box exceeds the container in one of the first so many dimensions. `None` tells
 /// that it does.
-pub fn read_exceeding<S: Source>(
+pub(crate) fn read_exceeding<S: Source>(
     alloc: Global,
     input: &mut S,
     at: &mut Position,

@@ -3,7 +3,8 @@ use Rattle.std.proofs.Common.{◌≡◌, ℕ, ◌≤◌, refl, arith, List, [], 
 use Rattle.packing_terms.specs.Packing.{PlainInstance, box_count}
 use Rattle.packing_terms.specs.Limits.{most_height}
 use Rattle.document_terms.specs.Claims.{most_worth}
-use Rattle.document_terms.specs.declared.claim.Claim.TheVariants.{NoHeight, LeastHeight, HeightBetween, NoBins, LeastBins, BinsBetween, GreatestValue, ValueBetween}
+use Rattle.document_terms.specs.declared.claim.Claim.TheVariants.{NoHeight, LeastHeight, HeightBetween, NoBins}
+use Rattle.document_terms.specs.declared.claim.Claim.TheVariants.{LeastBins, BinsBetween, GreatestValue, ValueBetween}
 use Rattle.document_terms.specs.declared.claim.SolvingJob.{SolvingJob}
 use Rattle.document_terms.specs.declared.claim.SolvingJob.TheVariants.{Fit, Strip, Bins, Knapsack}
 use Rattle.verdict_terms.specs.Reasons.{form}
@@ -12,14 +13,17 @@ use Rattle.verdict_terms.specs.Stages.{rest_of}
 use Rattle.document_lines.specs.Words.{claimed_fit}
 
 module _ (instance : PlainInstance) where
-  pub strip_none : (ws : List (List ℕ)) → length ws ≡ 2 → none_claim NoHeight (get_or ws 1 []) ≡ claim_of Strip instance (rest_of ws)
+  pub strip_none : (ws : List (List ℕ)) → length ws ≡ 2
+      → none_claim NoHeight (get_or ws 1 []) ≡ claim_of Strip instance (rest_of ws)
   unfolding claim_of
   strip_none [] e = absurd (omega (arith, e))
   strip_none (a ∷ []) e = absurd (omega (arith, e))
   strip_none (a ∷ b ∷ []) e = refl
   strip_none (a ∷ b ∷ c ∷ ws) e = absurd (omega (arith, e))
 
-  pub strip_least : (ws : List (List ℕ)) → length ws ≡ 3 → one_claim (codes "least") 1 most_height LeastHeight (get_or ws 1 []) (get_or ws 2 []) ≡ claim_of Strip instance (rest_of ws)
+  pub strip_least : (ws : List (List ℕ)) → length ws ≡ 3
+      → one_claim (codes "least") 1 most_height LeastHeight (get_or ws 1 []) (get_or ws 2 [])
+      ≡ claim_of Strip instance (rest_of ws)
   unfolding claim_of
   strip_least [] e = absurd (omega (arith, e))
   strip_least (a ∷ []) e = absurd (omega (arith, e))
@@ -28,7 +32,8 @@ module _ (instance : PlainInstance) where
   strip_least (a ∷ b ∷ c ∷ d ∷ ws) e = absurd (omega (arith, e))
 
   pub strip_between : (ws : List (List ℕ)) → length ws ≡ 4
-      → two_claim most_height HeightBetween (get_or ws 1 []) (get_or ws 2 []) (get_or ws 3 []) ≡ claim_of Strip instance (rest_of ws)
+      → two_claim most_height HeightBetween (get_or ws 1 []) (get_or ws 2 []) (get_or ws 3 [])
+      ≡ claim_of Strip instance (rest_of ws)
   unfolding claim_of
   strip_between [] e = absurd (omega (arith, e))
   strip_between (a ∷ []) e = absurd (omega (arith, e))
@@ -37,14 +42,17 @@ module _ (instance : PlainInstance) where
   strip_between (a ∷ b ∷ c ∷ d ∷ []) e = refl
   strip_between (a ∷ b ∷ c ∷ d ∷ x ∷ ws) e = absurd (omega (arith, e))
 
-  pub bins_none : (ws : List (List ℕ)) → length ws ≡ 2 → none_claim NoBins (get_or ws 1 []) ≡ claim_of Bins instance (rest_of ws)
+  pub bins_none : (ws : List (List ℕ)) → length ws ≡ 2
+      → none_claim NoBins (get_or ws 1 []) ≡ claim_of Bins instance (rest_of ws)
   unfolding claim_of
   bins_none [] e = absurd (omega (arith, e))
   bins_none (a ∷ []) e = absurd (omega (arith, e))
   bins_none (a ∷ b ∷ []) e = refl
   bins_none (a ∷ b ∷ c ∷ ws) e = absurd (omega (arith, e))
 
-  pub bins_least : (ws : List (List ℕ)) → length ws ≡ 3 → one_claim (codes "least") 1 (box_count instance) LeastBins (get_or ws 1 []) (get_or ws 2 []) ≡ claim_of Bins instance (rest_of ws)
+  pub bins_least : (ws : List (List ℕ)) → length ws ≡ 3
+      → one_claim (codes "least") 1 (box_count instance) LeastBins (get_or ws 1 []) (get_or ws 2 [])
+      ≡ claim_of Bins instance (rest_of ws)
   unfolding claim_of
   bins_least [] e = absurd (omega (arith, e))
   bins_least (a ∷ []) e = absurd (omega (arith, e))
@@ -53,7 +61,8 @@ module _ (instance : PlainInstance) where
   bins_least (a ∷ b ∷ c ∷ d ∷ ws) e = absurd (omega (arith, e))
 
   pub bins_between : (ws : List (List ℕ)) → length ws ≡ 4
-      → two_claim (box_count instance) BinsBetween (get_or ws 1 []) (get_or ws 2 []) (get_or ws 3 []) ≡ claim_of Bins instance (rest_of ws)
+      → two_claim (box_count instance) BinsBetween (get_or ws 1 []) (get_or ws 2 []) (get_or ws 3 [])
+      ≡ claim_of Bins instance (rest_of ws)
   unfolding claim_of
   bins_between [] e = absurd (omega (arith, e))
   bins_between (a ∷ []) e = absurd (omega (arith, e))
@@ -62,7 +71,9 @@ module _ (instance : PlainInstance) where
   bins_between (a ∷ b ∷ c ∷ d ∷ []) e = refl
   bins_between (a ∷ b ∷ c ∷ d ∷ x ∷ ws) e = absurd (omega (arith, e))
 
-  pub value_greatest : (ws : List (List ℕ)) → length ws ≡ 3 → one_claim (codes "greatest") 0 most_worth GreatestValue (get_or ws 1 []) (get_or ws 2 []) ≡ claim_of Knapsack instance (rest_of ws)
+  pub value_greatest : (ws : List (List ℕ)) → length ws ≡ 3
+      → one_claim (codes "greatest") 0 most_worth GreatestValue (get_or ws 1 []) (get_or ws 2 [])
+      ≡ claim_of Knapsack instance (rest_of ws)
   unfolding claim_of
   value_greatest [] e = absurd (omega (arith, e))
   value_greatest (a ∷ []) e = absurd (omega (arith, e))
@@ -71,7 +82,8 @@ module _ (instance : PlainInstance) where
   value_greatest (a ∷ b ∷ c ∷ d ∷ ws) e = absurd (omega (arith, e))
 
   pub value_between : (ws : List (List ℕ)) → length ws ≡ 4
-      → two_claim most_worth ValueBetween (get_or ws 1 []) (get_or ws 2 []) (get_or ws 3 []) ≡ claim_of Knapsack instance (rest_of ws)
+      → two_claim most_worth ValueBetween (get_or ws 1 []) (get_or ws 2 []) (get_or ws 3 [])
+      ≡ claim_of Knapsack instance (rest_of ws)
   unfolding claim_of
   value_between [] e = absurd (omega (arith, e))
   value_between (a ∷ []) e = absurd (omega (arith, e))
@@ -81,7 +93,8 @@ module _ (instance : PlainInstance) where
   value_between (a ∷ b ∷ c ∷ d ∷ x ∷ ws) e = absurd (omega (arith, e))
 
   -- another number of words
-  pub no_claim : (job : SolvingJob) (ws : List (List ℕ)) → 1 ≤ length ws → (length ws ≡ 2 → ⊥) → (length ws ≡ 3 → ⊥) → (length ws ≡ 4 → ⊥) → Err form ≡ claim_of job instance (rest_of ws)
+  pub no_claim : (job : SolvingJob) (ws : List (List ℕ)) → 1 ≤ length ws → (length ws ≡ 2 → ⊥) → (length ws ≡ 3 → ⊥)
+      → (length ws ≡ 4 → ⊥) → Err form ≡ claim_of job instance (rest_of ws)
   unfolding claim_of
   no_claim job [] some two three four = absurd (omega (arith, some))
   no_claim job (a ∷ b ∷ []) some two three four = absurd (two refl)
@@ -97,7 +110,8 @@ module _ (instance : PlainInstance) where
   no_claim Knapsack (a ∷ b ∷ c ∷ d ∷ x ∷ ws) some two three four = refl
 
   -- two words never claim a value
-  pub no_value : (ws : List (List ℕ)) → 1 ≤ length ws → (length ws ≡ 3 → ⊥) → (length ws ≡ 4 → ⊥) → Err form ≡ claim_of Knapsack instance (rest_of ws)
+  pub no_value : (ws : List (List ℕ)) → 1 ≤ length ws → (length ws ≡ 3 → ⊥) → (length ws ≡ 4 → ⊥)
+      → Err form ≡ claim_of Knapsack instance (rest_of ws)
   unfolding claim_of
   no_value [] some three four = absurd (omega (arith, some))
   no_value (a ∷ []) some three four = refl
@@ -113,7 +127,8 @@ module _ (instance : PlainInstance) where
   fit_one (a ∷ b ∷ []) e = refl
   fit_one (a ∷ b ∷ c ∷ ws) e = absurd (omega (arith, e))
 
-  pub fit_none : (ws : List (List ℕ)) → 1 ≤ length ws → (length ws ≡ 2 → ⊥) → Err form ≡ claim_of Fit instance (rest_of ws)
+  pub fit_none : (ws : List (List ℕ)) → 1 ≤ length ws → (length ws ≡ 2 → ⊥)
+      → Err form ≡ claim_of Fit instance (rest_of ws)
   unfolding claim_of
   fit_none [] some two = absurd (omega (arith, some))
   fit_none (a ∷ []) some two = refl

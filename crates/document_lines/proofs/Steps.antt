@@ -1,5 +1,7 @@
 -- The steps of reading, over plain values.
-use Rattle.std.proofs.Common.{◌≡◌, ℕ, suc, pred, ◌+◌, ◌<◌, ◌≤◌, inl, inr, refl, sym, ap, subst, ◌∙◌, arith, Bool, true, false, cond, List, [], ◌∷◌, ◌++◌, length, take, drop, append_assoc, append-nil, get_or, Option, Some, None, Result, Ok, Err, not}
+use Rattle.std.proofs.Common.{◌≡◌, ℕ, suc, pred, ◌+◌, ◌<◌, ◌≤◌, inl, inr, refl, sym, ap, subst, ◌∙◌, arith, Bool, true}
+use Rattle.std.proofs.Common.{false, cond, List, [], ◌∷◌, ◌++◌, length, take, drop, append_assoc, append-nil, get_or}
+use Rattle.std.proofs.Common.{Option, Some, None, Result, Ok, Err, not}
 use Rattle.std.specs.List.{slice_split, onto_first}
 use Rattle.std.specs.Io.KnownBytes.{IsAtEnd}
 use Rattle.std.proofs.lemmas.Bool.{eqb-true}
@@ -8,7 +10,8 @@ use Rattle.std.proofs.lemmas.List.Splits.{length-slice_split}
 use Rattle.pack_streams.specs.Moves.{Gives}
 use Rattle.text_terms.specs.Lines.{is_line_feed, text_lines, drop_empty_end}
 use Rattle.packing_terms.specs.Results.{◌>>=◌}
-use Rattle.text_terms.specs.Feeding.{Lexer, new_lexer, end_line as end_line_step, add_byte, held_of, feed, finish, ended_line}
+use Rattle.text_terms.specs.Feeding.{Lexer, new_lexer, end_line as end_line_step, add_byte, held_of, feed, finish}
+use Rattle.text_terms.specs.Feeding.{ended_line}
 use Rattle.document_terms.specs.declared.claim.Claim.{Claim}
 use Rattle.verdict_terms.specs.declared.reason.Reason.{Reason}
 use Rattle.verdict_terms.specs.declared.heading.Heading.{Heading}
@@ -36,15 +39,18 @@ gives_none (Some xs) = refl
 
 -- ---- how many lines have ended
 
-split_push : (xs : List ℕ) (b : ℕ) → is_line_feed b ≡ false → length (slice_split is_line_feed (xs ++ b ∷ [])) ≡ length (slice_split is_line_feed xs)
+split_push : (xs : List ℕ) (b : ℕ) → is_line_feed b ≡ false → length (slice_split is_line_feed (xs ++ b ∷ []))
+    ≡ length (slice_split is_line_feed xs)
 split_push [] b f = ap (λ t. length (cond t ([] ∷ ([] ∷ [])) (onto_first b ([] ∷ [])))) f
-split_push (x ∷ xs) b f = go (is_line_feed x) (split_push xs b f) (slice_split is_line_feed (xs ++ b ∷ [])) (slice_split is_line_feed xs) refl refl
+split_push (x ∷ xs) b f = go (is_line_feed x) (split_push xs b f) (slice_split is_line_feed (xs ++ b ∷ []))
+    (slice_split is_line_feed xs) refl refl
   where
     onto_length : (ls : List (List ℕ)) → 1 ≤ length ls → length (onto_first x ls) ≡ length ls
     onto_length [] h = absurd (omega arith)
     onto_length (l ∷ ls) h = refl
 
-    go : (t : Bool) → length (slice_split is_line_feed (xs ++ b ∷ [])) ≡ length (slice_split is_line_feed xs) → (us vs : List (List ℕ)) → slice_split is_line_feed (xs ++ b ∷ []) ≡ us → slice_split is_line_feed xs ≡ vs
+    go : (t : Bool) → length (slice_split is_line_feed (xs ++ b ∷ [])) ≡ length (slice_split is_line_feed xs)
+        → (us vs : List (List ℕ)) → slice_split is_line_feed (xs ++ b ∷ []) ≡ us → slice_split is_line_feed xs ≡ vs
         → length (cond t ([] ∷ us) (onto_first x us)) ≡ length (cond t ([] ∷ vs) (onto_first x vs))
     go true e us vs p q = ap suc (sym (ap length p) ∙ e ∙ ap length q)
     go false e us vs p q =
@@ -58,13 +64,16 @@ split_push (x ∷ xs) b f = go (is_line_feed x) (split_push xs b f) (slice_split
 ended_lines : (front : List ℕ) → length (text_lines (front ++ 10 ∷ [])) ≡ length (slice_split is_line_feed front)
 ended_lines front =
     ap (λ ls. length (drop_empty_end ls)) (split_feed front [])
-    ∙ ap length (end_append (slice_split is_line_feed front) ([] ∷ []) (omega arith) ∙ append-nil (slice_split is_line_feed front))
+    ∙ ap length (end_append (slice_split is_line_feed front) ([] ∷ []) (omega arith)
+    ∙ append-nil (slice_split is_line_feed front))
 
 feed_number : (s : Lexer) (b : ℕ) → is_line_feed b ≡ true → (feed b s).number ≡ s.number + 1
-feed_number s b f = ap (λ t. (cond t (end_line_step s) (record { number = s.number; begun = true; held = add_byte b (held_of s) })).number) f
+feed_number s b f = ap (λ t. (cond t (end_line_step s)
+    (record { number = s.number; begun = true; held = add_byte b (held_of s) })).number) f
 
 same_number : (s : Lexer) (b : ℕ) → is_line_feed b ≡ false → (feed b s).number ≡ s.number
-same_number s b f = ap (λ t. (cond t (end_line_step s) (record { number = s.number; begun = true; held = add_byte b (held_of s) })).number) f
+same_number s b f = ap (λ t. (cond t (end_line_step s)
+    (record { number = s.number; begun = true; held = add_byte b (held_of s) })).number) f
 
 -- ---- steps
 
@@ -72,17 +81,21 @@ pub so_far_start : (heading : Heading) → IsSoFar heading new_lexer (Beginning 
 so_far_start heading = record { goes = λ rest. documents_are_fed heading rest; number = refl }
 
 -- a byte more
-pub so_far_more : (heading : Heading) (s : Lexer) (stage next : Stage) (taken : List ℕ) (b : ℕ) → IsSoFar heading s stage taken → ((rest : List ℕ) → fed_verdict s stage (b ∷ rest) ≡ fed_verdict (feed b s) next rest)
+pub so_far_more : (heading : Heading) (s : Lexer) (stage next : Stage) (taken : List ℕ) (b : ℕ)
+    → IsSoFar heading s stage taken
+    → ((rest : List ℕ) → fed_verdict s stage (b ∷ rest) ≡ fed_verdict (feed b s) next rest)
     → IsSoFar heading (feed b s) next (taken ++ b ∷ [])
 so_far_more heading s stage next taken b h step = record {
-  goes = λ rest. sym (step rest) ∙ h.goes (b ∷ rest) ∙ ap (headed_verdict heading) (sym (append_assoc taken (b ∷ []) rest));
+  goes = λ rest. sym (step rest) ∙ h.goes (b ∷ rest)
+      ∙ ap (headed_verdict heading) (sym (append_assoc taken (b ∷ []) rest));
   number = go (is_line_feed b) refl;
 }
   where
     go : (t : Bool) → is_line_feed b ≡ t → (feed b s).number + 1 ≡ length (slice_split is_line_feed (taken ++ b ∷ []))
     go true f =
         let ten : b ≡ 10 = eqb-true b 10 f in
-        let e : length (slice_split is_line_feed (taken ++ b ∷ [])) ≡ length (slice_split is_line_feed taken ++ ([] ∷ [])) =
+        let e : length (slice_split is_line_feed (taken ++ b ∷ []))
+        ≡ length (slice_split is_line_feed taken ++ ([] ∷ [])) =
         ap (λ x. length (slice_split is_line_feed (taken ++ x ∷ []))) ten ∙ ap length (split_feed taken []) in
         let l = length-append (slice_split is_line_feed taken) ([] ∷ []) in
         let n = h.number in
@@ -91,7 +104,8 @@ so_far_more heading s stage next taken b h step = record {
     go false f = let e = split_push taken b f in let n = h.number in let m = same_number s b f in omega (arith, e, n, m)
 
 -- a refused line
-pub refused_here : (heading : Heading) (s : Lexer) (stage : Stage) (taken : List ℕ) (b : ℕ) (reason : Reason) → IsSoFar heading s stage taken → is_line_feed b ≡ true
+pub refused_here : (heading : Heading) (s : Lexer) (stage : Stage) (taken : List ℕ) (b : ℕ) (reason : Reason)
+    → IsSoFar heading s stage taken → is_line_feed b ≡ true
     → ((rest : List ℕ) → fed_verdict s stage (b ∷ rest) ≡ Err (record { line = (feed b s).number; reason = reason }))
     → (headed_verdict heading (taken ++ b ∷ []) ≡ Err (record { line = (feed b s).number; reason = reason }))
     × EndsRefused (taken ++ b ∷ []) (record { line = (feed b s).number; reason = reason })
@@ -100,7 +114,8 @@ refused_here heading s stage taken b reason h f step = (
   record {
     front = taken;
     are = ap (λ x. taken ++ x ∷ []) (eqb-true b 10 f);
-    is_last = feed_number s b f ∙ h.number ∙ sym (ended_lines taken) ∙ ap (λ x. length (text_lines (taken ++ x ∷ []))) (sym (eqb-true b 10 f));
+    is_last = feed_number s b f ∙ h.number ∙ sym (ended_lines taken) ∙ ap (λ x. length (text_lines (taken ++ x ∷ [])))
+        (sym (eqb-true b 10 f));
   },
 )
 
@@ -111,37 +126,56 @@ late s stage [] r e = go s.begun refl e
     ended : s.begun ≡ true → (finish s).number ≡ s.number + 1
     ended f = ap (λ t. (cond t (end_line_step s) s).number) f
 
-    later : (x : Result Stage Reason) → ◌≡◌ {A = Result Claim Refusal} (document_at_line (finish s).number x >>= λ next. document_at_end next (finish s).number) (Err r) → (finish s).number ≤ r.line
+    later : (x : Result Stage Reason)
+        → ◌≡◌ {A = Result Claim Refusal}
+        (document_at_line (finish s).number x >>= λ next. document_at_end next (finish s).number) (Err r)
+        → (finish s).number ≤ r.line
     later (Ok next) f = let n = end_line next (finish s).number r f in omega (arith, n)
     later (Err reason) f =
-        let same : record { line = (finish s).number; reason = reason } ≡ r = cc (f) in let n : (finish s).number ≡ r.line = ap (λ x. x.line) same in omega (arith, n)
+        let same : record { line = (finish s).number; reason = reason } ≡ r = cc (f) in
+        let n : (finish s).number ≡ r.line = ap (λ x. x.line) same in omega (arith, n)
 
-    go : (t : Bool) → s.begun ≡ t → ◌≡◌ {A = Result Claim Refusal} (cond t (taken_line stage (finish s) >>= λ next. document_at_end next (finish s).number) (document_at_end stage s.number)) (Err r) → s.number < r.line
-    go true f g = let l = later (stage_after stage (ended_line (finish s).held)) g in let n = ended f in omega (arith, l, n)
+    go : (t : Bool) → s.begun ≡ t → ◌≡◌ {A = Result Claim Refusal}
+        (cond t (taken_line stage (finish s) >>= λ next. document_at_end next (finish s).number)
+        (document_at_end stage s.number)) (Err r) → s.number < r.line
+    go true f g = let l = later (stage_after stage (ended_line (finish s).held)) g in let n = ended f in
+        omega (arith, l, n)
     go false f g = let n = end_line stage s.number r g in omega (arith, n)
 late s stage (b ∷ rest) r e = go (is_line_feed b) refl e (λ next f. late (feed b s) next rest r f)
   where
-    accepted : (x : Result Stage Reason) → ◌≡◌ {A = Result Claim Refusal} (document_at_line (feed b s).number x >>= λ next. fed_verdict (feed b s) next rest) (Err r)
-        → ((next : Stage) → fed_verdict (feed b s) next rest ≡ Err r → (feed b s).number < r.line) → (feed b s).number ≤ r.line
+    accepted : (x : Result Stage Reason)
+        → ◌≡◌ {A = Result Claim Refusal}
+        (document_at_line (feed b s).number x >>= λ next. fed_verdict (feed b s) next rest) (Err r)
+        → ((next : Stage) → fed_verdict (feed b s) next rest ≡ Err r → (feed b s).number < r.line)
+        → (feed b s).number ≤ r.line
     accepted (Ok next) f later = let l = later next f in omega (arith, l)
     accepted (Err reason) f later =
-        let same : record { line = (feed b s).number; reason = reason } ≡ r = cc (f) in let n : (feed b s).number ≡ r.line = ap (λ x. x.line) same in omega (arith, n)
+        let same : record { line = (feed b s).number; reason = reason } ≡ r = cc (f) in
+        let n : (feed b s).number ≡ r.line = ap (λ x. x.line) same in omega (arith, n)
 
     go : (t : Bool) → is_line_feed b ≡ t
-        → ◌≡◌ {A = Result Claim Refusal} (cond t (taken_line stage (feed b s) >>= λ next. fed_verdict (feed b s) next rest) (fed_verdict (feed b s) stage rest)) (Err r)
+        → ◌≡◌ {A = Result Claim Refusal}
+        (cond t (taken_line stage (feed b s) >>= λ next. fed_verdict (feed b s) next rest)
+        (fed_verdict (feed b s) stage rest)) (Err r)
         → ((next : Stage) → fed_verdict (feed b s) next rest ≡ Err r → (feed b s).number < r.line) → s.number < r.line
-    go true f g later = let l = accepted (stage_after stage (ended_line (feed b s).held)) g later in let n = feed_number s b f in omega (arith, l, n)
+    go true f g later = let l = accepted (stage_after stage (ended_line (feed b s).held)) g later in let n =
+        feed_number s b f in omega (arith, l, n)
     go false f g later = let l = later stage g in let n = same_number s b f in omega (arith, l, n)
 
 -- no line that was whole is refused
-pub none_refused : (heading : Heading) (s : Lexer) (stage : Stage) (taken : List ℕ) → IsSoFar heading s stage taken → NoneRefusedUnder heading taken
+pub none_refused : (heading : Heading) (s : Lexer) (stage : Stage) (taken : List ℕ) → IsSoFar heading s stage taken
+    → NoneRefusedUnder heading taken
 none_refused heading s stage taken h front rest refusal e ends v =
     let whole : taken ++ [] ≡ front ++ rest = append-nil taken ∙ e in
-    let last : fed_verdict s stage [] ≡ Err refusal = h.goes [] ∙ ap (headed_verdict heading) whole ∙ refusals_stay heading front rest refusal v ends in
+    let last : fed_verdict s stage [] ≡ Err refusal =
+    h.goes [] ∙ ap (headed_verdict heading) whole ∙ refusals_stay heading front rest refusal v ends in
     let l = late s stage [] refusal last in
-    let here : refusal.line ≡ length (slice_split is_line_feed ends.front) = ends.is_last ∙ ap (λ x. length (text_lines x)) ends.are ∙ ended_lines ends.front in
-    let parts : taken ≡ ends.front ++ 10 ∷ rest = e ∙ ap (λ x. x ++ rest) ends.are ∙ append_assoc ends.front (10 ∷ []) rest in
-    let count : length (slice_split is_line_feed taken) ≡ length (slice_split is_line_feed ends.front ++ slice_split is_line_feed rest) =
+    let here : refusal.line ≡ length (slice_split is_line_feed ends.front) =
+    ends.is_last ∙ ap (λ x. length (text_lines x)) ends.are ∙ ended_lines ends.front in
+    let parts : taken ≡ ends.front ++ 10 ∷ rest =
+    e ∙ ap (λ x. x ++ rest) ends.are ∙ append_assoc ends.front (10 ∷ []) rest in
+    let count : length (slice_split is_line_feed taken)
+    ≡ length (slice_split is_line_feed ends.front ++ slice_split is_line_feed rest) =
     ap (λ x. length (slice_split is_line_feed x)) parts ∙ ap length (split_feed ends.front rest) in
     let a = length-append (slice_split is_line_feed ends.front) (slice_split is_line_feed rest) in
     let b = length-slice_split is_line_feed rest in
@@ -149,26 +183,33 @@ none_refused heading s stage taken h front rest refusal e ends v =
     absurd (omega (arith, l, here, count, a, b, n))
 
 -- fewer bytes have no refused line either
-fewer_refused : (heading : Heading) (n : ℕ) (bytes : List ℕ) → NoneRefusedUnder heading bytes → NoneRefusedUnder heading (take n bytes)
+fewer_refused : (heading : Heading) (n : ℕ) (bytes : List ℕ) → NoneRefusedUnder heading bytes
+    → NoneRefusedUnder heading (take n bytes)
 fewer_refused heading n bytes none front rest refusal e =
-    none front (rest ++ drop n bytes) refusal (sym (take-append-drop n bytes) ∙ ap (λ xs. xs ++ drop n bytes) e ∙ append_assoc front rest (drop n bytes))
+    none front (rest ++ drop n bytes) refusal
+    (sym (take-append-drop n bytes) ∙ ap (λ xs. xs ++ drop n bytes) e ∙ append_assoc front rest (drop n bytes))
 
 -- bytes that leave a stage have no refused line, also before the last of them
-pub none_before : (heading : Heading) (s : Lexer) (stage : Stage) (taken : List ℕ) → IsSoFar heading s stage taken → NoneBeforeUnder heading taken
-none_before heading s stage taken h = fewer_refused heading (pred (length taken)) taken (none_refused heading s stage taken h)
+pub none_before : (heading : Heading) (s : Lexer) (stage : Stage) (taken : List ℕ) → IsSoFar heading s stage taken
+    → NoneBeforeUnder heading taken
+none_before heading s stage taken h =
+    fewer_refused heading (pred (length taken)) taken (none_refused heading s stage taken h)
 
 -- nor have they before one byte more
-none_before_one : (heading : Heading) (s : Lexer) (stage : Stage) (taken : List ℕ) (b : ℕ) → IsSoFar heading s stage taken → NoneBeforeUnder heading (taken ++ b ∷ [])
+none_before_one : (heading : Heading) (s : Lexer) (stage : Stage) (taken : List ℕ) (b : ℕ)
+    → IsSoFar heading s stage taken → NoneBeforeUnder heading (taken ++ b ∷ [])
 none_before_one heading s stage taken b h =
     let l = length-append taken (b ∷ []) in
     let last : length taken ≡ pred (length (taken ++ b ∷ [])) = omega (arith, l) in
-    subst (NoneRefusedUnder heading) (sym (take_at taken (b ∷ []) (pred (length (taken ++ b ∷ []))) last)) (none_refused heading s stage taken h)
+    subst (NoneRefusedUnder heading) (sym (take_at taken (b ∷ []) (pred (length (taken ++ b ∷ []))) last))
+    (none_refused heading s stage taken h)
 
 -- ---- how the reading ends
 
 -- one byte was read
 one_byte : (mid now : Option (List ℕ)) (k b : ℕ) → ReadsPiece mid now (Got k) (b ∷ []) → Gives mid now (b ∷ [])
-one_byte mid now k b reads = let one : k ≡ 1 = let l = reads.0 in let m = reads.1 in omega (arith, l, m) in subst (λ j. Gives mid now (take j (b ∷ []))) one reads.2
+one_byte mid now k b reads = let one : k ≡ 1 = let l = reads.0 in let m = reads.1 in omega (arith, l, m) in
+    subst (λ j. Gives mid now (take j (b ∷ []))) one reads.2
 
 -- a piece of one byte
 pub single : (xs : List ℕ) → length xs ≡ 1 → xs ≡ get_or xs 0 0 ∷ []
@@ -177,10 +218,12 @@ single (x ∷ []) e = refl
 single (x ∷ y ∷ xs) e = absurd (omega (arith, e))
 
 -- so many bytes were taken, and then a read that didn't fail
-module _ (heading : Heading) (limit m : ℕ) (old mid now : Option (List ℕ)) (before after : ℕ) (s : Lexer) (stage : Stage) (n : ℕ) (so_far : IsTaking heading old mid s stage n)
+module _ (heading : Heading) (limit m : ℕ) (old mid now : Option (List ℕ)) (before after : ℕ) (s : Lexer)
+    (stage : Stage) (n : ℕ) (so_far : IsTaking heading old mid s stage n)
     (same : after ≡ before) where
   -- the end of the source
-  pub ends_here : (piece : List ℕ) (new : Lexer) (next : Stage) (result : ReadEnd) → n ≤ limit → ReadsPiece mid now SourceEnd piece → TakesEnd s stage new next result
+  pub ends_here : (piece : List ℕ) (new : Lexer) (next : Stage) (result : ReadEnd) → n ≤ limit
+      → ReadsPiece mid now SourceEnd piece → TakesEnd s stage new next result
       → IsRead heading limit old now before after new next m result
   ends_here piece new next End few reads ends = record {
     taken = so_far.taken;
@@ -214,46 +257,59 @@ module _ (heading : Heading) (limit m : ℕ) (old mid now : Option (List ℕ)) (
   }
 
   -- a byte, in a piece of one byte
-  one_read : (k : ℕ) (piece : List ℕ) → length piece ≡ 1 → ReadsPiece mid now (Got k) piece → Gives mid now (get_or piece 0 0 ∷ [])
-  one_read k piece e reads = one_byte mid now k (get_or piece 0 0) (subst (λ p. ReadsPiece mid now (Got k) p) (single piece e) reads)
+  one_read : (k : ℕ) (piece : List ℕ) → length piece ≡ 1 → ReadsPiece mid now (Got k) piece
+      → Gives mid now (get_or piece 0 0 ∷ [])
+  one_read k piece e reads = one_byte mid now k (get_or piece 0 0)
+      (subst (λ p. ReadsPiece mid now (Got k) p) (single piece e) reads)
 
-  gives_one : (k : ℕ) (piece : List ℕ) → length piece ≡ 1 → ReadsPiece mid now (Got k) piece → Gives old now (so_far.taken ++ get_or piece 0 0 ∷ [])
-  gives_one k piece e reads = gives_more old mid now so_far.taken (get_or piece 0 0 ∷ []) so_far.gives (one_read k piece e reads)
+  gives_one : (k : ℕ) (piece : List ℕ) → length piece ≡ 1 → ReadsPiece mid now (Got k) piece
+      → Gives old now (so_far.taken ++ get_or piece 0 0 ∷ [])
+  gives_one k piece e reads = gives_more old mid now so_far.taken (get_or piece 0 0 ∷ []) so_far.gives
+      (one_read k piece e reads)
 
   one_more_byte : (b : ℕ) → length (so_far.taken ++ b ∷ []) ≡ n + 1
   one_more_byte b = length-append so_far.taken (b ∷ []) ∙ ap (λ k. k + 1) so_far.counted
 
   -- what is held behind it
-  pub taking_more : (k : ℕ) (piece : List ℕ) (next : Stage) (new : Lexer) → length piece ≡ 1 → ReadsPiece mid now (Got k) piece
+  pub taking_more : (k : ℕ) (piece : List ℕ) (next : Stage) (new : Lexer) → length piece ≡ 1
+      → ReadsPiece mid now (Got k) piece
       → TakesByte s stage (get_or piece 0 0) new next (Ok tt) → IsTaking heading old now new next (n + 1)
   taking_more k piece next new e reads step =
       subst (λ x. IsTaking heading old now x next (n + 1)) (sym step.0) (record {
         taken = so_far.taken ++ get_or piece 0 0 ∷ [];
         gives = gives_one k piece e reads;
         counted = one_more_byte (get_or piece 0 0);
-        so_far = so_far_more heading s stage next so_far.taken (get_or piece 0 0) so_far.so_far (λ rest. step.1 rest ∙ ap (λ x. fed_verdict x next rest) step.0);
+        so_far = so_far_more heading s stage next so_far.taken (get_or piece 0 0) so_far.so_far
+            (λ rest. step.1 rest ∙ ap (λ x. fed_verdict x next rest) step.0);
       })
 
   -- it ends the refused line
-  pub refused_at : (k : ℕ) (piece : List ℕ) (next : Stage) (new : Lexer) → n < limit → length piece ≡ 1 → ReadsPiece mid now (Got k) piece
-      → (code : LineStop) (reason : Reason) → code ≡ LineRefused reason → TakesByte s stage (get_or piece 0 0) new next (Err code) → IsRead heading limit old now before after new next m (Refused reason)
+  pub refused_at : (k : ℕ) (piece : List ℕ) (next : Stage) (new : Lexer) → n < limit → length piece ≡ 1
+      → ReadsPiece mid now (Got k) piece
+      → (code : LineStop) (reason : Reason) → code ≡ LineRefused reason
+      → TakesByte s stage (get_or piece 0 0) new next (Err code)
+      → IsRead heading limit old now before after new next m (Refused reason)
   refused_at k piece next new room e reads code reason is step =
       let b : ℕ = get_or piece 0 0 in
-      let refused : TakesByte s stage b new next (Err (LineRefused reason)) = subst (λ x. TakesByte s stage b new next (Err x)) is step in
-      let h = refused_here heading s stage so_far.taken b reason so_far.so_far refused.1 (λ rest. refused.2 rest ∙ ap (λ (x : Lexer). Err (record { line = x.number; reason = reason })) refused.0) in
+      let refused : TakesByte s stage b new next (Err (LineRefused reason)) =
+      subst (λ x. TakesByte s stage b new next (Err x)) is step in
+      let h = refused_here heading s stage so_far.taken b reason so_far.so_far refused.1
+      (λ rest. refused.2 rest ∙ ap (λ (x : Lexer). Err (record { line = x.number; reason = reason })) refused.0) in
       let line : (feed b s).number ≡ new.number = ap (λ (x : Lexer). x.number) (sym refused.0) in record {
         taken = so_far.taken ++ b ∷ [];
         gives = gives_one k piece e reads;
         faults = same;
         ends = (
-          subst (λ l. headed_verdict heading (so_far.taken ++ b ∷ []) ≡ Err (record { line = l; reason = reason })) line h.0,
+          subst (λ l. headed_verdict heading (so_far.taken ++ b ∷ [])
+              ≡ Err (record { line = l; reason = reason })) line h.0,
           (let l = one_more_byte b in omega (arith, l, room)),
           inl (subst (λ l. EndsRefused (so_far.taken ++ b ∷ []) (record { line = l; reason = reason })) line h.1),
         );
       }
 
   -- memory was refused for the line that it ends
-  pub no_memory_at : (k : ℕ) (piece : List ℕ) (next : Stage) (new : Lexer) → n < limit → length piece ≡ 1 → ReadsPiece mid now (Got k) piece
+  pub no_memory_at : (k : ℕ) (piece : List ℕ) (next : Stage) (new : Lexer) → n < limit → length piece ≡ 1
+      → ReadsPiece mid now (Got k) piece
       → IsRead heading limit old now before after new next m NoMemory
   no_memory_at k piece next new room e reads = record {
     taken = so_far.taken ++ get_or piece 0 0 ∷ [];
@@ -266,7 +322,8 @@ module _ (heading : Heading) (limit m : ℕ) (old mid now : Option (List ℕ)) (
   }
 
   -- it is one byte too many
-  pub long_here : (k : ℕ) (piece : List ℕ) → n ≡ limit → length piece ≡ 1 → ReadsPiece mid now (Got k) piece → IsRead heading limit old now before after s stage m TooLong
+  pub long_here : (k : ℕ) (piece : List ℕ) → n ≡ limit → length piece ≡ 1 → ReadsPiece mid now (Got k) piece
+      → IsRead heading limit old now before after s stage m TooLong
   long_here k piece full e reads =
       let b : ℕ = get_or piece 0 0 in record {
         taken = so_far.taken ++ b ∷ [];
@@ -274,13 +331,16 @@ module _ (heading : Heading) (limit m : ℕ) (old mid now : Option (List ℕ)) (
         faults = same;
         ends = (
           one_more_byte b ∙ ap (λ x. x + 1) full,
-          subst (NoneRefusedUnder heading) (sym (take_at so_far.taken (b ∷ []) limit (so_far.counted ∙ full))) (none_refused heading s stage so_far.taken so_far.so_far),
+          subst (NoneRefusedUnder heading) (sym (take_at so_far.taken (b ∷ []) limit (so_far.counted ∙ full)))
+              (none_refused heading s stage so_far.taken so_far.so_far),
         );
       }
 
   -- the judge has taken its last line
-  pub paused_at : (k : ℕ) (piece : List ℕ) (next : Stage) (new : Lexer) → length piece ≡ 1 → ReadsPiece mid now (Got k) piece
-      → TakesByte s stage (get_or piece 0 0) new next (Ok tt) → m ≡ n + 1 → IsRead heading limit old now before after new next m Paused
+  pub paused_at : (k : ℕ) (piece : List ℕ) (next : Stage) (new : Lexer) → length piece ≡ 1
+      → ReadsPiece mid now (Got k) piece
+      → TakesByte s stage (get_or piece 0 0) new next (Ok tt) → m ≡ n + 1
+      → IsRead heading limit old now before after new next m Paused
   paused_at k piece next new e reads step counted =
       let l = taking_more k piece next new e reads step in record {
         taken = l.taken;
@@ -290,7 +350,8 @@ module _ (heading : Heading) (limit m : ℕ) (old mid now : Option (List ℕ)) (
       }
 
 -- so many bytes were taken, and then a read failed
-pub fails_here : (heading : Heading) (limit m : ℕ) (old mid now : Option (List ℕ)) (before after : ℕ) (s : Lexer) (stage : Stage) (n : ℕ) → IsTaking heading old mid s stage n → FailedOnce before after
+pub fails_here : (heading : Heading) (limit m : ℕ) (old mid now : Option (List ℕ)) (before after : ℕ) (s : Lexer)
+    (stage : Stage) (n : ℕ) → IsTaking heading old mid s stage n → FailedOnce before after
     → n ≤ limit → now ≡ mid → IsRead heading limit old now before after s stage m ReadFault
 fails_here heading limit m old mid now before after s stage n so_far once few same = record {
   taken = so_far.taken;
@@ -302,8 +363,10 @@ fails_here heading limit m old mid now before after s stage n so_far once few sa
 -- ---- the loop
 
 -- what holds in the loop, behind any bytes that were taken before
-pub record IsReading (old now : Option (List ℕ)) (before after : ℕ) (s0 : Lexer) (stage0 : Stage) (n0 : ℕ) (s : Lexer) (stage : Stage) (n : ℕ) (takes : Bool) (piece : List ℕ) : Type 0 where
-  pub taking : (heading : Heading) (first : Option (List ℕ)) → IsTaking heading first old s0 stage0 n0 → IsTaking heading first now s stage n
+pub record IsReading (old now : Option (List ℕ)) (before after : ℕ) (s0 : Lexer) (stage0 : Stage) (n0 : ℕ) (s : Lexer)
+    (stage : Stage) (n : ℕ) (takes : Bool) (piece : List ℕ) : Type 0 where
+  pub taking : (heading : Heading) (first : Option (List ℕ)) → IsTaking heading first old s0 stage0 n0
+      → IsTaking heading first now s stage n
   pub one : length piece ≡ 1
   pub number : s.number ≤ n
   pub few : n ≤ 1099511627776

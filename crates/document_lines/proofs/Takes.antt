@@ -1,5 +1,6 @@
 -- A taken box with its coordinates.
-use Rattle.std.proofs.Common.{◌≡◌, ℕ, zero, suc, ◌+◌, ◌-◌, ◌*◌, ◌<◌, refl, sym, ap, subst, ◌∙◌, arith, true, false, List, [], ◌∷◌, ◌++◌, length, take, drop, get_or, nat_lt, Ok, Err}
+use Rattle.std.proofs.Common.{◌≡◌, ℕ, zero, suc, ◌+◌, ◌-◌, ◌*◌, ◌<◌, refl, sym, ap, subst, ◌∙◌, arith, true, false}
+use Rattle.std.proofs.Common.{List, [], ◌∷◌, ◌++◌, length, take, drop, get_or, nat_lt, Ok, Err}
 use Rattle.std.specs.List.{list_all}
 use Rattle.std.proofs.lemmas.Bool.{and_parts, leb-true}
 use Rattle.std.proofs.lemmas.List.{length-append, length-drop, take_all}
@@ -31,42 +32,54 @@ there_by instance n named =
     omega (arith, low, high)
 
 module _ (instance : PlainInstance) (taken places : List ℕ) where
-  pub taken_late : (numbers : List ℕ) → length numbers ≡ dims instance + 1 → names_box instance (get_or numbers 0 0) ≡ true → list_all (λ u. nat_lt u (get_or numbers 0 0 - 1)) taken ≡ false
+  pub taken_late : (numbers : List ℕ) → length numbers ≡ dims instance + 1
+      → names_box instance (get_or numbers 0 0) ≡ true → list_all (λ u. nat_lt u (get_or numbers 0 0 - 1)) taken ≡ false
       → (claim : Claim) (value : ℕ) → take_box_line instance claim value taken places numbers ≡ Err range
   taken_late [] count named late claim value = absurd (omega (arith, count))
   taken_late (zero ∷ ns) count named late claim value = absurd (cc (named))
   taken_late (suc v ∷ ns) count named late claim value =
-      let l : list_all (λ u. nat_lt u v) taken ≡ false = subst (λ x. list_all (λ u. nat_lt u x) taken ≡ false) (minus_one v) late in
+      let l : list_all (λ u. nat_lt u v) taken ≡ false =
+      subst (λ x. list_all (λ u. nat_lt u x) taken ≡ false) (minus_one v) late in
       rw (named, l) refl
 
-  pub taken_next : (numbers : List ℕ) → length numbers ≡ dims instance + 1 → names_box instance (get_or numbers 0 0) ≡ true → list_all (λ u. nat_lt u (get_or numbers 0 0 - 1)) taken ≡ true
+  pub taken_next : (numbers : List ℕ) → length numbers ≡ dims instance + 1
+      → names_box instance (get_or numbers 0 0) ≡ true → list_all (λ u. nat_lt u (get_or numbers 0 0 - 1)) taken ≡ true
       → coordinates (drop 1 numbers) ≡ Ok (drop 1 numbers)
-      → (claim : Claim) (value : ℕ) → take_box_line instance claim value taken places numbers ≡ Ok (Taking instance claim value (taken ++ (get_or numbers 0 0 - 1) ∷ []) (places ++ drop 1 numbers))
+      → (claim : Claim) (value : ℕ) → take_box_line instance claim value taken places numbers
+      ≡ Ok (Taking instance claim value (taken ++ (get_or numbers 0 0 - 1) ∷ []) (places ++ drop 1 numbers))
   taken_next [] count named before good claim value = absurd (omega (arith, count))
   taken_next (zero ∷ ns) count named before good claim value = absurd (cc (named))
   taken_next (suc v ∷ ns) count named before good claim value =
-      let l : list_all (λ u. nat_lt u v) taken ≡ true = subst (λ x. list_all (λ u. nat_lt u x) taken ≡ true) (minus_one v) before in
+      let l : list_all (λ u. nat_lt u v) taken ≡ true =
+      subst (λ x. list_all (λ u. nat_lt u x) taken ≡ true) (minus_one v) before in
       let m : v ≡ suc v - 1 = sym (minus_one v) in
       rw (named, l, good) (ap (λ x. Ok (Taking instance claim value (taken ++ x ∷ []) (places ++ ns))) m)
 
   -- the lists with the box
-  module _ (numbers more more_places : List ℕ) (count : length numbers ≡ dims instance + 1) (named : names_box instance (get_or numbers 0 0) ≡ true)
-      (before : list_all (λ u. nat_lt u (get_or numbers 0 0 - 1)) taken ≡ true) (are : more ≡ taken ++ (get_or numbers 0 0 - 1) ∷ []) (are_places : more_places ≡ places ++ drop 1 numbers) where
+  module _ (numbers more more_places : List ℕ) (count : length numbers ≡ dims instance + 1)
+      (named : names_box instance (get_or numbers 0 0) ≡ true)
+      (before : list_all (λ u. nat_lt u (get_or numbers 0 0 - 1)) taken ≡ true)
+      (are : more ≡ taken ++ (get_or numbers 0 0 - 1) ∷ [])
+      (are_places : more_places ≡ places ++ drop 1 numbers) where
     pub taken_line : coordinates (drop 1 numbers) ≡ Ok (drop 1 numbers) → (claim : Claim) (value : ℕ)
         → take_box_line instance claim value taken places numbers ≡ Ok (Taking instance claim value more more_places)
     taken_line good claim value =
         taken_next numbers count named before good claim value
-        ∙ (ap (λ x. Ok (Taking instance claim value x (places ++ drop 1 numbers))) (sym are) ∙ ap (λ x. Ok (Taking instance claim value more x)) (sym are_places))
+        ∙ (ap (λ x. Ok (Taking instance claim value x (places ++ drop 1 numbers))) (sym are)
+        ∙ ap (λ x. Ok (Taking instance claim value more x)) (sym are_places))
 
     longer : length more ≡ suc (length taken)
     longer = ap length are ∙ (length-append taken ((get_or numbers 0 0 - 1) ∷ []) ∙ omega arith)
 
     pub taken_kept : AreBoxesTaken instance taken places → AreBoxesTaken instance more more_places
     taken_kept held = record {
-      set = subst (IsBoxSet instance) (sym are) (set_push instance taken (get_or numbers 0 0 - 1) held.set (there_by instance (get_or numbers 0 0) named) before);
+      set = subst (IsBoxSet instance) (sym are)
+          (set_push instance taken (get_or numbers 0 0 - 1) held.set
+          (there_by instance (get_or numbers 0 0) named) before);
       enough =
           ap length are_places
           ∙ (length-append places (drop 1 numbers)
-          ∙ (let d = length-drop 1 numbers in let e = held.enough in let s = suc-mul (length taken) (dims instance) in omega (arith, d, e, s, count)
+          ∙ (let d = length-drop 1 numbers in let e = held.enough in let s = suc-mul (length taken) (dims instance) in
+          omega (arith, d, e, s, count)
           ∙ ap (λ k. k * dims instance) (sym longer)));
     }

@@ -13,5 +13,7 @@ exceeding_stage instance claim dim_count false = Exceeding instance claim dim_co
 
 -- a line where the token is wanted: it was taken, or why it is refused
 abbrev pub TakesExceeding : PlainInstance → ℕ → List (List ℕ) → Result (Unit {0}) Reason → Type 0
-TakesExceeding instance dim_count words (Ok u) = (claim : Claim) → exceeding_line instance claim dim_count words ≡ Ok (Ending claim (Some (dims instance)))
-TakesExceeding instance dim_count words (Err reason) = (claim : Claim) → exceeding_line instance claim dim_count words ≡ Err reason
+TakesExceeding instance dim_count words (Ok u) =
+    (claim : Claim) → exceeding_line instance claim dim_count words ≡ Ok (Ending claim (Some (dims instance)))
+TakesExceeding instance dim_count words (Err reason) =
+    (claim : Claim) → exceeding_line instance claim dim_count words ≡ Err reason

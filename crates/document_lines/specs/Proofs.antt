@@ -6,7 +6,8 @@ use Rattle.check_terms.specs.declared.answers.FeedVerdict.{FeedVerdict}
 use Rattle.check_terms.specs.declared.answers.FeedVerdict.TheVariants.{More, Done, Refused}
 use Rattle.verdict_terms.specs.Stages.{Stage, tree_line, grown_tree}
 use Rattle.verdict_terms.specs.Stages.Stage.{Proving, Refuting, Ending}
-use Rattle.verdict_terms.specs.Trees.{Refuted, ToFit, ToFitIn, ToReach, Tree, InnerTree, BinTree, ValueTree, begun, tree_dims, tree_after, is_whole}
+use Rattle.verdict_terms.specs.Trees.{Refuted, ToFit, ToFitIn, ToReach, Tree, InnerTree, BinTree, ValueTree, begun}
+use Rattle.verdict_terms.specs.Trees.{tree_dims, tree_after, is_whole}
 use Rattle.document_lines.specs.declared.judge.LineStop.{LineStop}
 use Rattle.document_lines.specs.declared.judge.LineStop.TheVariants.{Refused as LineRefused, NoMemory}
 use Rattle.document_lines.specs.declared.tree.TreeStep.{TreeStep}
@@ -62,6 +63,7 @@ pub record IsTreeHeld (step : TreeStep) (tree : Tree) (opens : Bool) (dims : ℕ
 -- it is refused
 abbrev pub TakesToken : Tree → List (List ℕ) → Tree → Bool → Result Bool LineStop → Type 0
 TakesToken old words new opens (Ok whole) =
-    ((claim : Claim) → tree_line claim old words ≡ Ok (grown_tree claim new)) × (is_whole new ≡ whole) × (tree_dims new ≡ tree_dims old) × (whole ≡ false → opens ≡ true)
+    ((claim : Claim) → tree_line claim old words ≡ Ok (grown_tree claim new)) × (is_whole new ≡ whole)
+    × (tree_dims new ≡ tree_dims old) × (whole ≡ false → opens ≡ true)
 TakesToken old words new opens (Err (LineRefused reason)) = (claim : Claim) → tree_line claim old words ≡ Err reason
 TakesToken old words new opens (Err NoMemory) = Unit {0}

@@ -1,5 +1,6 @@
 -- Reading a document from a source, a byte at a time.
-use Rattle.std.specs.Prelude.{ℕ, pred, ◌+◌, ◌≤◌, ◌≡◌, ◌⊎◌, List, [], ◌∷◌, ◌++◌, length, take, Bool, true, Option, Some, None, Result, Ok, Err}
+use Rattle.std.specs.Prelude.{ℕ, pred, ◌+◌, ◌≤◌, ◌≡◌, ◌⊎◌, List, [], ◌∷◌, ◌++◌, length, take, Bool, true, Option, Some}
+use Rattle.std.specs.Prelude.{None, Result, Ok, Err}
 use Rattle.std.specs.List.{slice_split}
 use Rattle.std.specs.Io.KnownBytes.{IsAtEnd}
 use Rattle.pack_streams.specs.Faults.{FailedOnce}
@@ -42,7 +43,8 @@ pub record IsSoFar (heading : Heading) (s : Lexer) (stage : Stage) (taken : List
   pub number : s.number + 1 ≡ length (slice_split is_line_feed taken)
 
 -- so many bytes were taken
-pub record IsTaking (heading : Heading) (old now : Option (List ℕ)) (s : Lexer) (stage : Stage) (count : ℕ) : Type 0 where
+pub record IsTaking (heading : Heading) (old now : Option (List ℕ)) (s : Lexer) (stage : Stage) (count : ℕ) :
+    Type 0 where
   pub taken : List ℕ
   pub gives : Gives old now taken
   pub counted : length taken ≡ count
@@ -68,12 +70,14 @@ NoneRefusedBefore bytes = NoneBeforeUnder Answer bytes
 -- what the reading came to, by the bytes taken
 abbrev pub EndsAs : Heading → ℕ → Option (List ℕ) → List ℕ → Lexer → Stage → ℕ → ReadEnd → Type 0
 EndsAs heading limit left taken s stage count End =
-    IsAtEnd left × (length taken ≤ limit) × (headed_verdict heading taken ≡ document_at_end stage s.number) × NoneRefusedUnder heading taken
+    IsAtEnd left × (length taken ≤ limit) × (headed_verdict heading taken ≡ document_at_end stage s.number)
+    × NoneRefusedUnder heading taken
 EndsAs heading limit left taken s stage count Paused = (length taken ≡ count) × IsSoFar heading s stage taken
 EndsAs heading limit left taken s stage count (Refused reason) =
     (headed_verdict heading taken ≡ Err (record { line = s.number; reason = reason })) × (length taken ≤ limit)
     × AreEnoughUnder heading left taken (record { line = s.number; reason = reason })
-EndsAs heading limit left taken s stage count TooLong = (length taken ≡ limit + 1) × NoneRefusedUnder heading (take limit taken)
+EndsAs heading limit left taken s stage count TooLong =
+    (length taken ≡ limit + 1) × NoneRefusedUnder heading (take limit taken)
 EndsAs heading limit left taken s stage count ReadFault = (length taken ≤ limit) × NoneRefusedUnder heading taken
 EndsAs heading limit left taken s stage count NoMemory = (length taken ≤ limit) × NoneBeforeUnder heading taken
 
@@ -86,7 +90,8 @@ CountsLines before now (Refused reason) = now ≡ before
 CountsLines before now TooLong = now ≡ before
 CountsLines before now NoMemory = now ≡ before
 
-pub record IsRead (heading : Heading) (limit : ℕ) (old left : Option (List ℕ)) (before now : ℕ) (s : Lexer) (stage : Stage) (count : ℕ) (result : ReadEnd) : Type 0 where
+pub record IsRead (heading : Heading) (limit : ℕ) (old left : Option (List ℕ)) (before now : ℕ) (s : Lexer)
+    (stage : Stage) (count : ℕ) (result : ReadEnd) : Type 0 where
   pub taken : List ℕ
   pub gives : Gives old left taken
   pub faults : CountsLines before now result
@@ -94,22 +99,27 @@ pub record IsRead (heading : Heading) (limit : ℕ) (old left : Option (List ℕ
 
 -- What a reading does under any heading, behind any bytes that were taken before: `first` is what
 -- the source told before the first of them.
-abbrev pub IsReadBehind : ℕ → Option (List ℕ) → Option (List ℕ) → ℕ → ℕ → Lexer → Stage → ℕ → Lexer → Stage → ℕ → ReadEnd → Type 0
+abbrev pub IsReadBehind : ℕ → Option (List ℕ) → Option (List ℕ) → ℕ → ℕ → Lexer → Stage → ℕ → Lexer → Stage → ℕ
+    → ReadEnd → Type 0
 IsReadBehind limit old left before now s stage n new next count result =
-    (heading : Heading) (first : Option (List ℕ)) → IsTaking heading first old s stage n → IsRead heading limit first left before now new next count result
+    (heading : Heading) (first : Option (List ℕ)) → IsTaking heading first old s stage n
+    → IsRead heading limit first left before now new next count result
 
 -- a byte that was taken: whatever follows, the verdict goes on from what is held now; or the byte
 -- ends a line that is refused
 abbrev pub TakesByte : Lexer → Stage → ℕ → Lexer → Stage → Result (Unit {0}) LineStop → Type 0
-TakesByte s stage b new next (Ok u) = (new ≡ feed b s) × ((rest : List ℕ) → fed_verdict s stage (b ∷ rest) ≡ fed_verdict new next rest)
+TakesByte s stage b new next (Ok u) =
+    (new ≡ feed b s) × ((rest : List ℕ) → fed_verdict s stage (b ∷ rest) ≡ fed_verdict new next rest)
 TakesByte s stage b new next (Err (LineRefused reason)) =
-    (new ≡ feed b s) × (is_line_feed b ≡ true) × ((rest : List ℕ) → fed_verdict s stage (b ∷ rest) ≡ Err (record { line = new.number; reason = reason }))
+    (new ≡ feed b s) × (is_line_feed b ≡ true)
+    × ((rest : List ℕ) → fed_verdict s stage (b ∷ rest) ≡ Err (record { line = new.number; reason = reason }))
 TakesByte s stage b new next (Err LineNoMemory) = Unit {0}
 
 -- the end of the bytes: the verdict is that of the stage at the end, or the line begun is refused
 abbrev pub TakesEnd : Lexer → Stage → Lexer → Stage → ReadEnd → Type 0
 TakesEnd s stage new next End = fed_verdict s stage [] ≡ document_at_end next new.number
-TakesEnd s stage new next (Refused reason) = fed_verdict s stage [] ≡ Err (record { line = new.number; reason = reason })
+TakesEnd s stage new next (Refused reason) =
+    fed_verdict s stage [] ≡ Err (record { line = new.number; reason = reason })
 TakesEnd s stage new next Paused = ⊥
 TakesEnd s stage new next TooLong = ⊥
 TakesEnd s stage new next ReadFault = ⊥

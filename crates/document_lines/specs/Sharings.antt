@@ -1,5 +1,6 @@
 -- The bins of a document.
-use Rattle.std.specs.Prelude.{ℕ, ◌*◌, ◌<◌, ◌≡◌, ◌==◌, Bool, true, false, List, length, map, Option, Some, Result, Ok, Err}
+use Rattle.std.specs.Prelude.{ℕ, ◌*◌, ◌<◌, ◌≡◌, ◌==◌, Bool, true, false, List, length, map, Option, Some, Result, Ok}
+use Rattle.std.specs.Prelude.{Err}
 use Rattle.std.specs.List.{range_with_len, All}
 use Rattle.packing_terms.specs.Packing.{PlainInstance, dims, box_count}
 use Rattle.packing_terms.specs.Goals.{subset, in_bin, places_of}
@@ -18,7 +19,8 @@ use Rattle.document_lines.specs.declared.judge.LineStop.TheVariants.{Refused, No
 
 -- the boxes of a bin, and the verdict on their places
 abbrev pub bin_group : PlainInstance → List ℕ → List ℕ → ℕ → List ℕ × PlaceVerdict
-bin_group instance bins places b = (in_bin bins b, place_verdict (subset instance (in_bin bins b)) (places_of instance places (in_bin bins b)))
+bin_group instance bins places b =
+    (in_bin bins b, place_verdict (subset instance (in_bin bins b)) (places_of instance places (in_bin bins b)))
 
 -- those of the first k bins
 abbrev pub bin_groups : PlainInstance → List ℕ → List ℕ → ℕ → List (List ℕ × PlaceVerdict)
@@ -54,7 +56,8 @@ shared_by instance claim k bins places =
     ]
 
 -- the bin and the coordinates of a box that were taken, or why they are refused
-abbrev pub TakesShare : PlainInstance → ℕ → List ℕ → List ℕ → List ℕ → List ℕ → List ℕ → Result (Unit {0}) LineStop → Type 0
+abbrev pub TakesShare : PlainInstance → ℕ → List ℕ → List ℕ → List ℕ → List ℕ → List ℕ
+    → Result (Unit {0}) LineStop → Type 0
 TakesShare instance k bins places numbers more_bins more_places (Ok u) =
     (claim : Claim) → share_line instance claim k bins places numbers ≡ shared_by instance claim k more_bins more_places
 TakesShare instance k bins places numbers more_bins more_places (Err (Refused reason)) =
@@ -64,9 +67,12 @@ TakesShare instance k bins places numbers more_bins more_places (Err NoMemory) =
 -- whether these are the bins of all boxes, tested; or why they are refused
 abbrev pub TestsShares : PlainInstance → ℕ → List ℕ → List ℕ → Result Bool LineStop → Type 0
 TestsShares instance k bins places (Ok true) =
-    ((claim : Claim) → shared_by instance claim k bins places ≡ Ok (placed claim (to_refute Answer instance claim))) × SidesFit instance
-TestsShares instance k bins places (Ok false) = (claim : Claim) → shared_by instance claim k bins places ≡ Ok (Sharing instance claim k bins places)
-TestsShares instance k bins places (Err (Refused reason)) = (claim : Claim) → shared_by instance claim k bins places ≡ Err reason
+    ((claim : Claim) → shared_by instance claim k bins places ≡ Ok (placed claim (to_refute Answer instance claim)))
+    × SidesFit instance
+TestsShares instance k bins places (Ok false) =
+    (claim : Claim) → shared_by instance claim k bins places ≡ Ok (Sharing instance claim k bins places)
+TestsShares instance k bins places (Err (Refused reason)) =
+    (claim : Claim) → shared_by instance claim k bins places ≡ Err reason
 TestsShares instance k bins places (Err NoMemory) = Unit {0}
 
 -- where a refutation for bins is wanted, no side of a box exceeds the container's

@@ -24,7 +24,8 @@ pub record AreBoxesTaken (instance : PlainInstance) (taken places : List ℕ) : 
 -- a box that was taken, or why it is refused
 abbrev pub TakesBox : PlainInstance → List ℕ → List ℕ → List ℕ → List ℕ → List ℕ → Result (Unit {0}) LineStop → Type 0
 TakesBox instance taken places numbers more_taken more_places (Ok u) =
-    (claim : Claim) (value : ℕ) → take_box_line instance claim value taken places numbers ≡ Ok (Taking instance claim value more_taken more_places)
+    (claim : Claim) (value : ℕ) → take_box_line instance claim value taken places numbers
+    ≡ Ok (Taking instance claim value more_taken more_places)
 TakesBox instance taken places numbers more_taken more_places (Err (Refused reason)) =
     (claim : Claim) (value : ℕ) → take_box_line instance claim value taken places numbers ≡ Err reason
 TakesBox instance taken places numbers more_taken more_places (Err NoMemory) = Unit {0}

@@ -1,5 +1,6 @@
 -- The number of the result line, by the lines as they are told.
-use Rattle.std.proofs.Common.{◌≡◌, ◌∙◌, ℕ, zero, suc, ◌+◌, ◌<◌, ◌≤◌, refl, sym, ap, subst, arith, Bool, true, false, cond, codes, List, [], ◌∷◌, drop, length, get_or}
+use Rattle.std.proofs.Common.{◌≡◌, ◌∙◌, ℕ, zero, suc, ◌+◌, ◌<◌, ◌≤◌, refl, sym, ap, subst, arith, Bool, true, false}
+use Rattle.std.proofs.Common.{cond, codes, List, [], ◌∷◌, drop, length, get_or}
 use Rattle.std.proofs.lemmas.List.{drop_more, drop_all}
 use Rattle.instance_text.specs.declared.lexer.LexStep.TheVariants.{More, Line}
 use Rattle.instance_text.specs.Steps.{step_of}
@@ -32,10 +33,12 @@ numbers_are : (n : ℕ) (lines : List (List ℕ)) → number_told (numbered_line
 numbers_are n [] = refl
 numbers_are n (line ∷ lines) =
     ap (λ b. cond b (n + 1) (number_told (numbered_lines (n + 1) lines))) (cut_says (words_of (content line)))
-    ∙ ap (λ k. cond (says_result (words_of (content line))) (n + 1) k) (numbers_are (n + 1) lines ∙ behind_one n (result_number lines))
+    ∙ ap (λ k. cond (says_result (words_of (content line))) (n + 1) k)
+    (numbers_are (n + 1) lines ∙ behind_one n (result_number lines))
     ∙ go (says_result (words_of (content line)))
   where
-    go : (b : Bool) → cond b (n + 1) (behind n (one_further (result_number lines))) ≡ behind n (cond b 1 (one_further (result_number lines)))
+    go : (b : Bool) → cond b (n + 1) (behind n (one_further (result_number lines)))
+        ≡ behind n (cond b 1 (one_further (result_number lines)))
     go true = refl
     go false = refl
 
@@ -44,7 +47,8 @@ from_start zero = refl
 from_start (suc k) = omega arith
 
 pub number_is : (text : List ℕ) → number_told (lines_fed new_lexer text) ≡ result_number (text_lines text)
-number_is text = ap number_told (texts_are_lines text) ∙ numbers_are 0 (text_lines text) ∙ from_start (result_number (text_lines text))
+number_is text = ap number_told (texts_are_lines text) ∙ numbers_are 0 (text_lines text)
+    ∙ from_start (result_number (text_lines text))
 
 -- ---- the steps of the reading
 
@@ -56,20 +60,26 @@ is_more : (t : Bool) → More ≡ step_of t → t ≡ false
 is_more true e = absurd (cc (e))
 is_more false e = refl
 
-first_found : (b : ℕ) (s : Lexer) (rest : List ℕ) → is_line_feed b ≡ true → says_result (feed b s).held.words ≡ true → number_told (lines_fed s (b ∷ rest)) ≡ (feed b s).number
+first_found : (b : ℕ) (s : Lexer) (rest : List ℕ) → is_line_feed b ≡ true → says_result (feed b s).held.words ≡ true
+    → number_told (lines_fed s (b ∷ rest)) ≡ (feed b s).number
 first_found b s rest feeds says =
     ap (λ t. number_told (cond t (told_now (feed b s) ∷ lines_fed (feed b s) rest) (lines_fed (feed b s) rest))) feeds
     ∙ ap (λ t. cond t (feed b s).number (number_told (lines_fed (feed b s) rest))) says
 
 -- the line that ended now says so
-pub found_at : (text : List ℕ) (i : ℕ) (s u : Lexer) (n : ℕ) → i < length text → u ≡ feed (get_or text i 0) s → Line ≡ step_of (is_line_feed (get_or text i 0)) → says_result u.held.words ≡ true
+pub found_at : (text : List ℕ) (i : ℕ) (s u : Lexer) (n : ℕ) → i < length text → u ≡ feed (get_or text i 0) s
+    → Line ≡ step_of (is_line_feed (get_or text i 0)) → says_result u.held.words ≡ true
     → number_told (lines_fed s (drop i text)) ≡ n → u.number ≡ n
 found_at text i s u n lt step line says h =
-    let first : number_told (lines_fed s (get_or text i 0 ∷ drop (i + 1) text)) ≡ n = subst (λ rest. number_told (lines_fed s rest) ≡ n) (drop_more text i 0 lt) h in
-    let said : says_result (feed (get_or text i 0) s).held.words ≡ true = subst (λ (v : Lexer). says_result v.held.words ≡ true) step says in
-    ap (λ (v : Lexer). v.number) step ∙ (sym (first_found (get_or text i 0) s (drop (i + 1) text) (is_line _ line) said) ∙ first)
+    let first : number_told (lines_fed s (get_or text i 0 ∷ drop (i + 1) text)) ≡ n =
+    subst (λ rest. number_told (lines_fed s rest) ≡ n) (drop_more text i 0 lt) h in
+    let said : says_result (feed (get_or text i 0) s).held.words ≡ true =
+    subst (λ (v : Lexer). says_result v.held.words ≡ true) step says in
+    ap (λ (v : Lexer). v.number) step
+    ∙ (sym (first_found (get_or text i 0) s (drop (i + 1) text) (is_line _ line) said) ∙ first)
 
-last_by : (s : Lexer) (t : Bool) → s.begun ≡ t → number_told (lines_fed s []) ≡ number_told (cond t (told_now (finish s) ∷ []) [])
+last_by : (s : Lexer) (t : Bool) → s.begun ≡ t
+    → number_told (lines_fed s []) ≡ number_told (cond t (told_now (finish s) ∷ []) [])
 last_by s t e = ap (λ b. number_told (cond b (told_now (finish s) ∷ []) [])) e
 
 -- the last line is the only one left
@@ -77,8 +87,11 @@ pub found_last : (text : List ℕ) (i : ℕ) (s u : Lexer) (n : ℕ) → length 
     → number_told (lines_fed s (drop i text)) ≡ n → number_if (says_result u.held.words) u.number ≡ n
 found_last text i s u n le step line h =
     ap (λ (v : Lexer). number_if (says_result v.held.words) v.number) step
-    ∙ (sym (last_by s true (is_line _ line)) ∙ subst (λ rest. number_told (lines_fed s rest) ≡ n) (drop_all i text le) h)
+    ∙ (sym (last_by s true (is_line _ line)) ∙ subst (λ rest. number_told (lines_fed s rest) ≡ n)
+    (drop_all i text le) h)
 
 -- no line is left
-pub found_none : (text : List ℕ) (i : ℕ) (s : Lexer) (n : ℕ) → length text ≤ i → More ≡ step_of s.begun → number_told (lines_fed s (drop i text)) ≡ n → 0 ≡ n
-found_none text i s n le more h = sym (last_by s false (is_more _ more)) ∙ subst (λ rest. number_told (lines_fed s rest) ≡ n) (drop_all i text le) h
+pub found_none : (text : List ℕ) (i : ℕ) (s : Lexer) (n : ℕ) → length text ≤ i → More ≡ step_of s.begun
+    → number_told (lines_fed s (drop i text)) ≡ n → 0 ≡ n
+found_none text i s n le more h =
+    sym (last_by s false (is_more _ more)) ∙ subst (λ rest. number_told (lines_fed s rest) ≡ n) (drop_all i text le) h

@@ -11,7 +11,9 @@ use Rattle.instance_text.specs.declared.reader.ReadTextError.{ReadTextError}
 use Rattle.instance_text.specs.Reading.{finished_instance}
 use Rattle.proof_tree.specs.Plain.{plain_tokens}
 use Rattle.document_refutations.specs.declared.reading.Reading.{Reading}
-use Rattle.document_refutations.specs.declared.reading.Reading.TheVariants.{Heading, Describing as ReadDescribing, Proving as ReadProving, Broken as ReadBroken}
+use Rattle.document_refutations.specs.declared.reading.Reading.TheVariants.{Heading, Describing as ReadDescribing}
+use Rattle.document_refutations.specs.declared.reading.Reading.TheVariants.{Proving as ReadProving}
+use Rattle.document_refutations.specs.declared.reading.Reading.TheVariants.{Broken as ReadBroken}
 
 -- whether the first word is `result`
 abbrev pub says_result : List (List ℕ) → Bool

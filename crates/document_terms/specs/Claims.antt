@@ -3,11 +3,14 @@ use Rattle.std.specs.Prelude.{ℕ, ◌+◌, ◌*◌, ◌<◌, List, [], ◌∷�
 use Rattle.std.specs.Fmt.{decimal}
 use Rattle.packing_terms.specs.Packing.{PlainInstance, Fits}
 use Rattle.packing_terms.specs.Limits.{most_boxes}
-use Rattle.packing_terms.specs.Goals.{with_last_side, FitsInBins, ReachesValue, IsLeastHeight, IsLeastBins, IsGreatestValue}
+use Rattle.packing_terms.specs.Goals.{with_last_side, FitsInBins, ReachesValue, IsLeastHeight, IsLeastBins}
+use Rattle.packing_terms.specs.Goals.{IsGreatestValue}
 use Rattle.document_terms.specs.declared.claim.SolvingJob.{SolvingJob}
 use Rattle.document_terms.specs.declared.claim.SolvingJob.TheVariants.{Fit, Strip, Bins, Knapsack}
 use Rattle.document_terms.specs.declared.claim.Claim.{Claim}
-use Rattle.document_terms.specs.declared.claim.Claim.TheVariants.{Fitting, NotFitting, LeastHeight, HeightBetween, NoHeight, LeastBins, BinsBetween, NoBins, GreatestValue, ValueBetween}
+use Rattle.document_terms.specs.declared.claim.Claim.TheVariants.{Fitting, NotFitting, LeastHeight, HeightBetween}
+use Rattle.document_terms.specs.declared.claim.Claim.TheVariants.{NoHeight, LeastBins, BinsBetween, NoBins}
+use Rattle.document_terms.specs.declared.claim.Claim.TheVariants.{GreatestValue, ValueBetween}
 
 -- the most that a value of a result line is: one more than all boxes may be worth
 abbrev pub most_worth : ℕ

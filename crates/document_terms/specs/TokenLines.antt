@@ -1,12 +1,14 @@
 -- Token lines: the token that the words of a line are, in an instance with so many dimensions, and
 -- the words of a token.
-use Rattle.std.specs.Prelude.{ℕ, ◌≡◌, ◌≤◌, ◌==◌, cond, true, false, List, [], ◌∷◌, length, Option, Some, None, nat_le, codes}
+use Rattle.std.specs.Prelude.{ℕ, ◌≡◌, ◌≤◌, ◌==◌, cond, true, false, List, [], ◌∷◌, length, Option, Some, None, nat_le}
+use Rattle.std.specs.Prelude.{codes}
 use Rattle.std.specs.List.{flat_map}
 use Rattle.std.specs.Fmt.{decimal}
 use Rattle.packing_terms.specs.declared.ScaleFn.{ScaleFn}
 use Rattle.packing_terms.specs.declared.ScaleFn.TheVariants.{Id, Step, Cut, Count}
 use Rattle.packing_terms.specs.Tokens.{PlainToken}
-use Rattle.packing_terms.specs.Tokens.PlainToken.{Apart, Order, Rules, TooLarge, Scales, Assign, Choose, SetRefuted, ValueShort, GlobalScales}
+use Rattle.packing_terms.specs.Tokens.PlainToken.{Apart, Order, Rules, TooLarge, Scales, Assign, Choose, SetRefuted}
+use Rattle.packing_terms.specs.Tokens.PlainToken.{ValueShort, GlobalScales}
 use Rattle.text_terms.specs.Lines.{Line, cut_line, number_of, same_bytes}
 
 -- the most that a number of a token line is
@@ -47,7 +49,11 @@ abbrev pub functions : List (List ℕ) → Option (List ScaleFn)
 functions [] = Some []
 functions (name ∷ []) = cond (same_bytes name (codes "id")) (Some (Id ∷ [])) None
 functions (name ∷ word ∷ words) =
-    elim (same_bytes name (codes "id")) [ true ↦ in_front (Some Id) (functions (word ∷ words)) | false ↦ in_front (named_function name word) (functions words) ]
+    elim (same_bytes name (codes "id")) [
+      | true ↦ in_front (Some Id) (functions (word ∷ words))
+      | false ↦
+          in_front (named_function name word) (functions words)
+    ]
 
 -- a tuple has a function for each dimension
 abbrev pub tuple_of : ℕ → (List ScaleFn → PlainToken) → Option (List ScaleFn) → Option PlainToken

@@ -10,7 +10,8 @@ oldest_more m (e ∷ more) es h =
     let k : length (e ∷ (more ++ es)) - m ≡ suc (length (more ++ es) - m) = omega (arith, h, length-append more es) in
     rw k (oldest_more m more es h)
 
-pub oldest_grown : (more old new : List Exclusion) (m : ℕ) → new ≡ more ++ old → m ≤ length old → oldest m new ≡ oldest m old
+pub oldest_grown : (more old new : List Exclusion) (m : ℕ) → new ≡ more ++ old → m ≤ length old
+    → oldest m new ≡ oldest m old
 oldest_grown more old new m e h = rw e (oldest_more m more old h)
 
 pub oldest_all : (es : List Exclusion) (m : ℕ) → m ≡ length es → oldest m es ≡ es

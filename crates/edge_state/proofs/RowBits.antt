@@ -1,10 +1,14 @@
 -- Rows of bits as sets: what the words' bits say of the numbers.
-use Rattle.std.proofs.Common.{◌≡◌, ℕ, zero, suc, ◌+◌, ◌*◌, ◌/◌, ◌%◌, ◌^◌, ◌<◌, ◌≤◌, ◌⊎◌, inl, inr, refl, sym, ap, ◌∙◌, arith, Bool, true, false, not, cond, eqb, ◌&&◌, ◌||◌, List, length, slice_index, bit_and, bit_or, bit_xor, min, max, zero-add}
+use Rattle.std.proofs.Common.{◌≡◌, ℕ, zero, suc, ◌+◌, ◌*◌, ◌/◌, ◌%◌, ◌^◌, ◌<◌, ◌≤◌, ◌⊎◌, inl, inr, refl, sym, ap, ◌∙◌}
+use Rattle.std.proofs.Common.{arith, Bool, true, false, not, cond, eqb, ◌&&◌, ◌||◌, List, length, slice_index, bit_and}
+use Rattle.std.proofs.Common.{bit_or, bit_xor, min, max, zero-add}
 use Rattle.std.proofs.Math.ListN.{set, length-set}
 use Rattle.std.proofs.lemmas.List.{get_or-set_same, get_or-set_other, get_or_past}
 use Rattle.std.proofs.lemmas.Nat.{div-add-mod', mod_below, div_below, pow_pos, ones_cat, ones_le_self, zero_from_ones}
 use Rattle.std.proofs.Math.Nat.{pow-suc}
-use Rattle.std.proofs.lemmas.Nat.Bits.{bit_at_and, bit_at_or, bit_at_xor, bit_at_set_same, bit_at_set_other, bit_at_clear_same, bit_at_clear_other, bit_at-lt, bit_at-zero, bit_at_cat_low, bit_at-trailing_zeros}
+use Rattle.std.proofs.lemmas.Nat.Bits.{bit_at_and, bit_at_or, bit_at_xor, bit_at_set_same, bit_at_set_other}
+use Rattle.std.proofs.lemmas.Nat.Bits.{bit_at_clear_same, bit_at_clear_other, bit_at-lt, bit_at-zero, bit_at_cat_low}
+use Rattle.std.proofs.lemmas.Nat.Bits.{bit_at-trailing_zeros}
 use Rattle.std.proofs.lemmas.Bool.{cases_Bool, cases_eq, cases_lt, eqb-true, eq-eqb}
 use Rattle.std.specs.Int.{bit_at, bit_not, w64, trailing_zeros}
 use Rattle.std.specs.Int.Count.{ones}
@@ -71,34 +75,55 @@ module _ (ws : List ℕ) (n : ℕ) (there : n / 64 < length ws) where
   small : n % 64 < 64
   small = mod_below n 64 (omega arith)
 
-  pub with_has : (x : ℕ) → row_has (set ws (n / 64) (bit_or (slice_index ws (n / 64)) (1 * 2 ^ (n % 64) % 2 ^ 64))) x ≡ row_has ws x || eqb x n
+  pub with_has : (x : ℕ) → row_has (set ws (n / 64) (bit_or (slice_index ws (n / 64)) (1 * 2 ^ (n % 64) % 2 ^ 64))) x
+      ≡ row_has ws x || eqb x n
   with_has x = go (cases_eq (x / 64) (n / 64)) (cases_eq (x % 64) (n % 64))
     where
       w : ℕ
       w = bit_or (slice_index ws (n / 64)) (1 * 2 ^ (n % 64) % 2 ^ 64)
 
       go : (x / 64 ≡ n / 64) ⊎ (x / 64 ≡ n / 64 → ⊥) → (x % 64 ≡ n % 64) ⊎ (x % 64 ≡ n % 64 → ⊥)
-          → row_has (set ws (n / 64) (bit_or (slice_index ws (n / 64)) (1 * 2 ^ (n % 64) % 2 ^ 64))) x ≡ row_has ws x || eqb x n
+          → row_has (set ws (n / 64) (bit_or (slice_index ws (n / 64)) (1 * 2 ^ (n % 64) % 2 ^ 64))) x
+          ≡ row_has ws x || eqb x n
       go (inl e) (inl f) =
-          rw (eq-eqb x n (same_number x n e f), e, f, get_or-set_same ws (n / 64) w 0 there, bit_at_set_same w64 (slice_index ws (n / 64)) (n % 64) small)
+          rw (
+            eq-eqb x n (same_number x n e f),
+            e,
+            f,
+            get_or-set_same ws (n / 64) w 0 there,
+            bit_at_set_same w64 (slice_index ws (n / 64)) (n % 64) small,
+          )
           (or_true (eqb (bit_at (slice_index ws (n / 64)) (n % 64)) 1))
       go (inl e) (inr f) =
-          rw (eqb_false x n (λ q. f (ap (λ y. y % 64) q)), e, get_or-set_same ws (n / 64) w 0 there, bit_at_set_other w64 (slice_index ws (n / 64)) (n % 64) small (x % 64) f)
+          rw (
+            eqb_false x n (λ q. f (ap (λ y. y % 64) q)),
+            e,
+            get_or-set_same ws (n / 64) w 0 there,
+            bit_at_set_other w64 (slice_index ws (n / 64)) (n % 64) small (x % 64) f,
+          )
           (or_none _)
       go (inr e) _ =
           rw (eqb_false x n (λ q. e (ap (λ y. y / 64) q)), get_or-set_other ws (n / 64) (x / 64) w 0 e) (or_none _)
 
   pub without_has : (x : ℕ)
-      → row_has (set ws (n / 64) (bit_and (slice_index ws (n / 64)) (bit_not w64 (1 * 2 ^ (n % 64) % 2 ^ 64)))) x ≡ row_has ws x && not (eqb x n)
+      → row_has (set ws (n / 64) (bit_and (slice_index ws (n / 64)) (bit_not w64 (1 * 2 ^ (n % 64) % 2 ^ 64)))) x
+      ≡ row_has ws x && not (eqb x n)
   without_has x = go (cases_eq (x / 64) (n / 64)) (cases_eq (x % 64) (n % 64))
     where
       w : ℕ
       w = bit_and (slice_index ws (n / 64)) (bit_not w64 (1 * 2 ^ (n % 64) % 2 ^ 64))
 
       go : (x / 64 ≡ n / 64) ⊎ (x / 64 ≡ n / 64 → ⊥) → (x % 64 ≡ n % 64) ⊎ (x % 64 ≡ n % 64 → ⊥)
-          → row_has (set ws (n / 64) (bit_and (slice_index ws (n / 64)) (bit_not w64 (1 * 2 ^ (n % 64) % 2 ^ 64)))) x ≡ row_has ws x && not (eqb x n)
+          → row_has (set ws (n / 64) (bit_and (slice_index ws (n / 64)) (bit_not w64 (1 * 2 ^ (n % 64) % 2 ^ 64)))) x
+          ≡ row_has ws x && not (eqb x n)
       go (inl e) (inl f) =
-          rw (eq-eqb x n (same_number x n e f), e, f, get_or-set_same ws (n / 64) w 0 there, bit_at_clear_same w64 (slice_index ws (n / 64)) (n % 64) small)
+          rw (
+            eq-eqb x n (same_number x n e f),
+            e,
+            f,
+            get_or-set_same ws (n / 64) w 0 there,
+            bit_at_clear_same w64 (slice_index ws (n / 64)) (n % 64) small,
+          )
           (and_none (eqb (bit_at (slice_index ws (n / 64)) (n % 64)) 1))
       go (inl e) (inr f) =
           rw (
@@ -109,21 +134,25 @@ module _ (ws : List ℕ) (n : ℕ) (there : n / 64 < length ws) where
           )
           (sym (and-true _))
       go (inr e) _ =
-          rw (eqb_false x n (λ q. e (ap (λ y. y / 64) q)), get_or-set_other ws (n / 64) (x / 64) w 0 e) (sym (and-true _))
+          rw (eqb_false x n (λ q. e (ap (λ y. y / 64) q)), get_or-set_other ws (n / 64) (x / 64) w 0 e)
+          (sym (and-true _))
 
 -- what holds of each word holds of each number
 module _ (r a b : List ℕ) where
-  pub and_has : ((j : ℕ) → slice_index r j ≡ bit_and (slice_index a j) (slice_index b j)) → (x : ℕ) → row_has r x ≡ row_has a x && row_has b x
+  pub and_has : ((j : ℕ) → slice_index r j ≡ bit_and (slice_index a j) (slice_index b j)) → (x : ℕ)
+      → row_has r x ≡ row_has a x && row_has b x
   and_has h x =
       rw (h (x / 64), bit_at_and (slice_index a (x / 64)) (slice_index b (x / 64)) (x % 64))
       (and_test _ _ (bit_at-lt (slice_index a (x / 64)) (x % 64)) (bit_at-lt (slice_index b (x / 64)) (x % 64)))
 
-  pub or_has : ((j : ℕ) → slice_index r j ≡ bit_or (slice_index a j) (slice_index b j)) → (x : ℕ) → row_has r x ≡ row_has a x || row_has b x
+  pub or_has : ((j : ℕ) → slice_index r j ≡ bit_or (slice_index a j) (slice_index b j)) → (x : ℕ)
+      → row_has r x ≡ row_has a x || row_has b x
   or_has h x =
       rw (h (x / 64), bit_at_or (slice_index a (x / 64)) (slice_index b (x / 64)) (x % 64))
       (or_test _ _ (bit_at-lt (slice_index a (x / 64)) (x % 64)) (bit_at-lt (slice_index b (x / 64)) (x % 64)))
 
-  pub minus_has : ((j : ℕ) → slice_index r j ≡ bit_xor (slice_index a j) (bit_and (slice_index a j) (slice_index b j))) → (x : ℕ)
+  pub minus_has : ((j : ℕ) → slice_index r j
+      ≡ bit_xor (slice_index a j) (bit_and (slice_index a j) (slice_index b j))) → (x : ℕ)
       → row_has r x ≡ row_has a x && not (row_has b x)
   minus_has h x =
       rw (
@@ -142,7 +171,8 @@ module _ (f : ℕ → ℕ → ℕ) (first second : List ℕ) where
       → AreZipped f (set made i (f (slice_index made i) (slice_index second i))) first second (i + 1)
   zipped_next made i z h = record {
     done = λ j k. go j k (cases_eq j i);
-    rest = λ j k. get_or-set_other made i j (f (slice_index made i) (slice_index second i)) 0 (λ e. absurd (omega (arith, e))) ∙ z.rest j (omega arith);
+    rest = λ j k. get_or-set_other made i j (f (slice_index made i) (slice_index second i)) 0
+        (λ e. absurd (omega (arith, e))) ∙ z.rest j (omega arith);
     count = length-set _ _ _ ∙ z.count;
   }
     where
@@ -150,11 +180,18 @@ module _ (f : ℕ → ℕ → ℕ) (first second : List ℕ) where
       there = rw z.count h
 
       go : (j : ℕ) → j < i + 1 → (j ≡ i) ⊎ (j ≡ i → ⊥)
-          → slice_index (set made i (f (slice_index made i) (slice_index second i))) j ≡ f (slice_index first j) (slice_index second j)
-      go j k (inl e) = rw (e, get_or-set_same made i (f (slice_index made i) (slice_index second i)) 0 there, z.rest i (omega arith)) refl
-      go j k (inr ne) = get_or-set_other made i j (f (slice_index made i) (slice_index second i)) 0 ne ∙ z.done j (omega arith)
+          → slice_index (set made i (f (slice_index made i) (slice_index second i))) j
+          ≡ f (slice_index first j) (slice_index second j)
+      go j k (inl e) = rw (
+        e,
+        get_or-set_same made i (f (slice_index made i) (slice_index second i)) 0 there,
+        z.rest i (omega arith),
+      ) refl
+      go j k (inr ne) = get_or-set_other made i j (f (slice_index made i) (slice_index second i)) 0 ne
+          ∙ z.done j (omega arith)
 
-  pub zipped_all : (made : List ℕ) (k : ℕ) → AreZipped f made first second k → length first ≡ k → length second ≡ k → f 0 0 ≡ 0 → (j : ℕ)
+  pub zipped_all : (made : List ℕ) (k : ℕ) → AreZipped f made first second k → length first ≡ k → length second ≡ k
+      → f 0 0 ≡ 0 → (j : ℕ)
       → slice_index made j ≡ f (slice_index first j) (slice_index second j)
   zipped_all made k z e e' n j = go (cases_lt j k)
     where
@@ -189,7 +226,8 @@ ones_one = go (cases_eq (ones 1) 0)
     go (inr ne) = omega (arith, ones_le_self 1, ne)
 
 -- one bit more of a number
-ones_more : (k n : ℕ) → n < 2 ^ suc k → (n % 2 ^ k < 2 ^ k → ones (n % 2 ^ k) ≡ members_below (λ x. eqb (bit_at (n % 2 ^ k) x) 1) k)
+ones_more : (k n : ℕ) → n < 2 ^ suc k
+    → (n % 2 ^ k < 2 ^ k → ones (n % 2 ^ k) ≡ members_below (λ x. eqb (bit_at (n % 2 ^ k) x) 1) k)
     → ones n ≡ cond (eqb (bit_at n k) 1) 1 0 + members_below (λ x. eqb (bit_at n x) 1) k
 ones_more k n h less = go (bit_cases (n / 2 ^ k) top)
   where
@@ -211,7 +249,8 @@ ones_more k n h less = go (bit_cases (n / 2 ^ k) top)
     rest : ones (n % 2 ^ k) ≡ members_below (λ x. eqb (bit_at n x) 1) k
     rest = less low ∙ members_same _ _ k (λ x l. ap (λ b. eqb b 1) (lower x l))
 
-    go : (n / 2 ^ k ≡ 0) ⊎ (n / 2 ^ k ≡ 1) → ones n ≡ cond (eqb (bit_at n k) 1) 1 0 + members_below (λ x. eqb (bit_at n x) 1) k
+    go : (n / 2 ^ k ≡ 0) ⊎ (n / 2 ^ k ≡ 1)
+        → ones n ≡ cond (eqb (bit_at n k) 1) 1 0 + members_below (λ x. eqb (bit_at n x) 1) k
     go (inl e) = split ∙ rw (e, rest, ones_zero) refl
     go (inr e) = split ∙ rw (e, rest, ones_one) refl
 
@@ -225,8 +264,10 @@ regroup a b c = omega arith
 
 -- the members of one word more
 pub word_members : (ws : List ℕ) (i k : ℕ) → k ≤ 64
-    → members_below (row_has ws) (64 * i + k) ≡ members_below (λ x. eqb (bit_at (slice_index ws i) x) 1) k + members_below (row_has ws) (64 * i)
-word_members ws i zero h = let e : 64 * i + 0 ≡ 64 * i = omega arith in rw e (sym (zero-add (members_below (row_has ws) (64 * i))))
+    → members_below (row_has ws) (64 * i + k) ≡ members_below (λ x. eqb (bit_at (slice_index ws i) x) 1)
+    k + members_below (row_has ws) (64 * i)
+word_members ws i zero h = let e : 64 * i + 0 ≡ 64 * i = omega arith in
+    rw e (sym (zero-add (members_below (row_has ws) (64 * i))))
 word_members ws i (suc k) h =
     let e : 64 * i + suc k ≡ suc (64 * i + k) = omega arith in
     let q : (64 * i + k) / 64 ≡ i = omega arith in
@@ -253,7 +294,9 @@ one_less p q x n e h l rest = go (cases_eq n x)
     go (inl f) =
         let a : q n ≡ false = e n ∙ (rw (eq-eqb n x f) (sym (and_none (p n)))) in
         let b : p n ≡ true = rw f h in
-        let same : members_below q n ≡ members_below p n = members_same q p n (λ y k. e y ∙ (rw (eqb_false y x (λ g. absurd (omega (arith, f, g, k)))) (and-true (p y)))) in
+        let same : members_below q n ≡ members_below p n =
+        members_same q p n (λ y k. e y
+        ∙ (rw (eqb_false y x (λ g. absurd (omega (arith, f, g, k)))) (and-true (p y)))) in
         rw (a, b, same) (omega arith)
     go (inr f) =
         let a : q n ≡ p n = e n ∙ (rw (eqb_false n x f) (and-true (p n))) in
@@ -266,21 +309,28 @@ members_without p q x zero e h l = absurd (omega arith)
 members_without p q x (suc n) e h l = one_less p q x n e h l (members_without p q x n e h)
 
 -- fewer members are left
-pub members_fewer : (p q : ℕ → Bool) (x n : ℕ) → ((y : ℕ) → q y ≡ p y && not (eqb y x)) → p x ≡ true → x < n → members_below q n < members_below p n
+pub members_fewer : (p q : ℕ → Bool) (x n : ℕ) → ((y : ℕ) → q y ≡ p y && not (eqb y x)) → p x ≡ true → x < n
+    → members_below q n < members_below p n
 members_fewer p q x n e h l = less (members_below q n) (members_below p n) (members_without p q x n e h l)
   where
     less : (a b : ℕ) → a + 1 ≡ b → a < b
     less a b f = omega (arith, f)
 
 -- the first word that isn't 0 has the least member
-pub first_has : (ws : List ℕ) (i : ℕ) → ((j : ℕ) → j < i → slice_index ws j ≡ 0) → 0 < slice_index ws i → slice_index ws i < 2 ^ 64
+pub first_has : (ws : List ℕ) (i : ℕ) → ((j : ℕ) → j < i → slice_index ws j ≡ 0) → 0 < slice_index ws i
+    → slice_index ws i < 2 ^ 64
     → IsLeastMember ws (64 * i + trailing_zeros w64 (slice_index ws i))
 first_has ws i none some fits = record {
-  there = rw (word_of (trailing_zeros w64 (slice_index ws i)) low.0, bit_of (trailing_zeros w64 (slice_index ws i)) low.0, low.1) refl;
+  there = rw (
+    word_of (trailing_zeros w64 (slice_index ws i)) low.0,
+    bit_of (trailing_zeros w64 (slice_index ws i)) low.0,
+    low.1,
+  ) refl;
   least = λ y h. go y h (cases_lt (y / 64) i);
 }
   where
-    low : (trailing_zeros w64 (slice_index ws i) < 64) × (bit_at (slice_index ws i) (trailing_zeros w64 (slice_index ws i)) ≡ 1)
+    low : (trailing_zeros w64 (slice_index ws i) < 64)
+        × (bit_at (slice_index ws i) (trailing_zeros w64 (slice_index ws i)) ≡ 1)
         × ((j : ℕ) → j < trailing_zeros w64 (slice_index ws i) → bit_at (slice_index ws i) j ≡ 0)
     low = bit_at-trailing_zeros w64 (slice_index ws i) some fits
 
@@ -290,7 +340,8 @@ first_has ws i none some fits = record {
     bit_of : (k : ℕ) → k < 64 → (64 * i + k) % 64 ≡ k
     bit_of k h = omega arith
 
-    go : (y : ℕ) → y < 64 * i + trailing_zeros w64 (slice_index ws i) → (y / 64 < i) ⊎ (i ≤ y / 64) → row_has ws y ≡ false
+    go : (y : ℕ) → y < 64 * i + trailing_zeros w64 (slice_index ws i) → (y / 64 < i) ⊎ (i ≤ y / 64)
+        → row_has ws y ≡ false
     go y h (inl l) = rw (none (y / 64) l, bit_at-zero (y % 64)) refl
     go y h (inr l) =
         let t = low.0 in
@@ -299,9 +350,11 @@ first_has ws i none some fits = record {
         rw (e, low.2 (y % 64) r) refl
 
 -- a row of which each word is 0 has no member
-pub none_has : (ws : List ℕ) (k : ℕ) → length ws ≡ k → ((j : ℕ) → j < k → slice_index ws j ≡ 0) → (x : ℕ) → row_has ws x ≡ false
+pub none_has : (ws : List ℕ) (k : ℕ) → length ws ≡ k → ((j : ℕ) → j < k → slice_index ws j ≡ 0) → (x : ℕ)
+    → row_has ws x ≡ false
 none_has ws k e none x = go (cases_lt (x / 64) k)
   where
     go : (x / 64 < k) ⊎ (k ≤ x / 64) → row_has ws x ≡ false
     go (inl h) = rw (none (x / 64) h, bit_at-zero (x % 64)) refl
-    go (inr h) = let z : slice_index ws (x / 64) ≡ 0 = get_or_past ws (x / 64) 0 (omega (arith, e)) in rw (z, bit_at-zero (x % 64)) refl
+    go (inr h) = let z : slice_index ws (x / 64) ≡ 0 = get_or_past ws (x / 64) 0 (omega (arith, e)) in
+        rw (z, bit_at-zero (x % 64)) refl

@@ -1,9 +1,11 @@
 -- Rows of bits show what a list of exclusions leaves.
-use Rattle.std.proofs.Common.{◌≡◌, ◌≢◌, ℕ, zero, suc, ◌+◌, ◌*◌, ◌/◌, ◌%◌, ◌<◌, ◌⊎◌, inl, inr, refl, sym, ap, subst, ◌∙◌, arith, Bool, true, false, not, ◌&&◌, ◌||◌, eqb, ltb, List, [], ◌∷◌, length, get_or}
+use Rattle.std.proofs.Common.{◌≡◌, ◌≢◌, ℕ, zero, suc, ◌+◌, ◌*◌, ◌/◌, ◌%◌, ◌<◌, ◌⊎◌, inl, inr, refl, sym, ap, subst, ◌∙◌}
+use Rattle.std.proofs.Common.{arith, Bool, true, false, not, ◌&&◌, ◌||◌, eqb, ltb, List, [], ◌∷◌, length, get_or}
 use Rattle.std.proofs.Math.ListN.{set, length-set}
 use Rattle.std.proofs.lemmas.List.{get_or-set_same, get_or-set_other}
 use Rattle.std.proofs.lemmas.Nat.{same_from_place, mul-add-lt, div-mul-add, mod-mul-add}
-use Rattle.std.proofs.lemmas.Bool.{cases_Bool, cases_eq, and_parts, or_cases, eqb-true, eq-eqb, or_left, and_from, lt-ltb, ltb-true, or_right}
+use Rattle.std.proofs.lemmas.Bool.{cases_Bool, cases_eq, and_parts, or_cases, eqb-true, eq-eqb, or_left, and_from}
+use Rattle.std.proofs.lemmas.Bool.{lt-ltb, ltb-true, or_right}
 use Rattle.std.proofs.Math.Bool.{and-true}
 use Rattle.packing_terms.specs.declared.Rel.{Rel}
 use Rattle.packing_terms.specs.declared.Rel.TheVariants.{Overlap, Before, After}
@@ -40,16 +42,19 @@ one_number Before After e = absurd (omega (arith, e))
 one_number After Overlap e = absurd (omega (arith, e))
 one_number After Before e = absurd (omega (arith, e))
 
-pub one_row : (n i u j a : ℕ) (r s : Rel) → u < n → a < n → row_index n i u r ≡ row_index n j a s → (i ≡ j) × (u ≡ a) × (r ≡ s)
+pub one_row : (n i u j a : ℕ) (r s : Rel) → u < n → a < n → row_index n i u r ≡ row_index n j a s
+    → (i ≡ j) × (u ≡ a) × (r ≡ s)
 one_row n i u j a r s hu ha e =
-    let p = same_from_place (i * n + u) (rel_number r) (j * n + a) (rel_number s) 3 (number_small r) (number_small s) e in
+    let p = same_from_place (i * n + u) (rel_number r) (j * n + a) (rel_number s) 3 (number_small r)
+    (number_small s) e in
     let q = same_from_place i u j a n hu ha p.0 in
     (q.0, q.1, one_number r s p.1)
 
 pub row_within : (d n i u : ℕ) (r : Rel) → i < d → u < n → row_index n i u r < d * n * 3
 row_within d n i u r hi hu =
     let h : i * n + u < n * d = mul-add-lt i n u d hi hu in
-    let k : (i * n + u) * 3 + rel_number r < 3 * (n * d) = mul-add-lt (i * n + u) 3 (rel_number r) (n * d) h (number_small r) in
+    let k : (i * n + u) * 3 + rel_number r < 3 * (n * d) =
+    mul-add-lt (i * n + u) 3 (rel_number r) (n * d) h (number_small r) in
     let e : 3 * (n * d) ≡ d * n * 3 = grind arith in
     rw e at k
 
@@ -61,7 +66,8 @@ row_of_index n i u r h = rw (div-mul-add (i * n + u) 3 (rel_number r) (number_sm
 pub is_of_first : (i u v x : ℕ) (rel : Rel) → u ≢ v → is_of (exclusion_at i u v rel) i u x rel ≡ eqb x v
 is_of_first i u v x rel ne = same_bool _ _ (λ h. go (or_cases _ _ h)) back
   where
-    go : (is_at (exclusion_at i u v rel) i u x rel ≡ true) ⊎ (is_at (exclusion_at i u v rel) i x u (mirror rel) ≡ true) → eqb x v ≡ true
+    go : (is_at (exclusion_at i u v rel) i u x rel ≡ true) ⊎ (is_at (exclusion_at i u v rel) i x u (mirror rel) ≡ true)
+        → eqb x v ≡ true
     go (inl k) = eq-eqb x v (sym (eqb-true v x (and_parts _ _ (and_parts _ _ k).0).1))
     go (inr k) = absurd (ne (sym (eqb-true v u (and_parts _ _ (and_parts _ _ k).0).1)))
 
@@ -80,7 +86,8 @@ is_of_first i u v x rel ne = same_bool _ _ (λ h. go (or_cases _ _ h)) back
 pub is_of_second : (i u v x : ℕ) (rel : Rel) → u ≢ v → is_of (exclusion_at i u v rel) i v x (mirror rel) ≡ eqb x u
 is_of_second i u v x rel ne = same_bool _ _ (λ h. go (or_cases _ _ h)) back
   where
-    go : (is_at (exclusion_at i u v rel) i v x (mirror rel) ≡ true) ⊎ (is_at (exclusion_at i u v rel) i x v (mirror (mirror rel)) ≡ true) → eqb x u ≡ true
+    go : (is_at (exclusion_at i u v rel) i v x (mirror rel) ≡ true)
+        ⊎ (is_at (exclusion_at i u v rel) i x v (mirror (mirror rel)) ≡ true) → eqb x u ≡ true
     go (inl k) = absurd (ne (eqb-true u v (and_parts _ _ (and_parts _ _ (and_parts _ _ k).0).0).1))
     go (inr k) = eq-eqb x u (sym (eqb-true u x (and_parts _ _ (and_parts _ _ (and_parts _ _ k).0).0).1))
 
@@ -92,12 +99,14 @@ is_of_second i u v x rel ne = same_bool _ _ (λ h. go (or_cases _ _ h)) back
     back : eqb x u ≡ true → is_of (exclusion_at i u v rel) i v x (mirror rel) ≡ true
     back h =
         let e : u ≡ x = sym (eqb-true x u h) in
-        or_right (is_at (exclusion_at i u v rel) i v x (mirror rel)) (is_at (exclusion_at i u v rel) i x v (mirror (mirror rel)))
+        or_right (is_at (exclusion_at i u v rel) i v x (mirror rel))
+        (is_at (exclusion_at i u v rel) i x v (mirror (mirror rel)))
         (and_from _ _ (and_from _ _ (and_from _ _ (eq-eqb i i refl) (eq-eqb u x e)) (eq-eqb v v refl)) (own rel))
 
 -- in other rows it is nothing
 pub is_of_elsewhere : (n i u v j a b : ℕ) (rel r : Rel) → u < n → v < n → a < n
-    → row_index n j a r ≢ row_index n i u rel → row_index n j a r ≢ row_index n i v (mirror rel) → is_of (exclusion_at i u v rel) j a b r ≡ false
+    → row_index n j a r ≢ row_index n i u rel → row_index n j a r ≢ row_index n i v (mirror rel)
+    → is_of (exclusion_at i u v rel) j a b r ≡ false
 is_of_elsewhere n i u v j a b rel r hu hv ha p q = go (cases_Bool (is_of (exclusion_at i u v rel) j a b r))
   where
     hit : (is_at (exclusion_at i u v rel) j a b r ≡ true) ⊎ (is_at (exclusion_at i u v rel) j b a (mirror r) ≡ true) → ⊥
@@ -119,40 +128,52 @@ is_of_elsewhere n i u v j a b rel r hu hv ha p q = go (cases_Bool (is_of (exclus
         let e4 : mirror rel ≡ r = ap mirror e3 ∙ mirror_twice r in
         q (rw (e1, e2, e4) refl)
 
-    go : (is_of (exclusion_at i u v rel) j a b r ≡ true) ⊎ (is_of (exclusion_at i u v rel) j a b r ≡ false) → is_of (exclusion_at i u v rel) j a b r ≡ false
+    go : (is_of (exclusion_at i u v rel) j a b r ≡ true) ⊎ (is_of (exclusion_at i u v rel) j a b r ≡ false)
+        → is_of (exclusion_at i u v rel) j a b r ≡ false
     go (inl h) = absurd (hit (or_cases _ _ h))
     go (inr h) = h
 
 -- two rows are written where the exclusions differ
-pub shows_set : (d n : ℕ) (rows : List (List ℕ)) (X Y : Exclusions) (i u v : ℕ) (rel : Rel) (w y : List ℕ) → ShowsRows d n rows X → IsEdgeAmong d n i u v
+pub shows_set : (d n : ℕ) (rows : List (List ℕ)) (X Y : Exclusions) (i u v : ℕ) (rel : Rel) (w y : List ℕ)
+    → ShowsRows d n rows X → IsEdgeAmong d n i u v
     → ((x : ℕ) → row_has w x ≡ is_other_box n u x && not (Y i u x rel))
     → ((x : ℕ) → row_has y x ≡ is_other_box n v x && not (Y i v x (mirror rel)))
-    → ((j a b : ℕ) (r : Rel) → a < n → row_index n j a r ≢ row_index n i u rel → row_index n j a r ≢ row_index n i v (mirror rel) → Y j a b r ≡ X j a b r)
+    → ((j a b : ℕ) (r : Rel) → a < n → row_index n j a r ≢ row_index n i u rel
+    → row_index n j a r ≢ row_index n i v (mirror rel) → Y j a b r ≡ X j a b r)
     → ShowsRows d n (set (set rows (row_index n i u rel) w) (row_index n i v (mirror rel)) y) Y
 shows_set d n rows X Y i u v rel w y shows edge here there others = record {
-  count = rw (length-set (set rows (row_index n i u rel) w) (row_index n i v (mirror rel)) y, length-set rows (row_index n i u rel) w) shows.count;
-  has = λ j a b r hj ha. go j a b r hj ha (cases_eq (row_index n j a r) (row_index n i v (mirror rel))) (cases_eq (row_index n j a r) (row_index n i u rel));
+  count = rw (
+    length-set (set rows (row_index n i u rel) w) (row_index n i v (mirror rel)) y,
+    length-set rows (row_index n i u rel) w,
+  ) shows.count;
+  has = λ j a b r hj ha. go j a b r hj ha (cases_eq (row_index n j a r) (row_index n i v (mirror rel)))
+      (cases_eq (row_index n j a r) (row_index n i u rel));
 }
   where
     first : row_index n i u rel < length rows
     first = omega (arith, shows.count, row_within d n i u rel edge.dim edge.first)
 
     second : row_index n i v (mirror rel) < length (set rows (row_index n i u rel) w)
-    second = rw (length-set rows (row_index n i u rel) w) (omega (arith, shows.count, row_within d n i v (mirror rel) edge.dim edge.second))
+    second = rw (length-set rows (row_index n i u rel) w)
+        (omega (arith, shows.count, row_within d n i v (mirror rel) edge.dim edge.second))
 
     go : (j a b : ℕ) (r : Rel) → j < d → a < n
         → (row_index n j a r ≡ row_index n i v (mirror rel)) ⊎ (row_index n j a r ≡ row_index n i v (mirror rel) → ⊥)
         → (row_index n j a r ≡ row_index n i u rel) ⊎ (row_index n j a r ≡ row_index n i u rel → ⊥)
-        → row_has (row_at n (set (set rows (row_index n i u rel) w) (row_index n i v (mirror rel)) y) j a r) b ≡ is_other_box n a b && not (Y j a b r)
+        → row_has (row_at n (set (set rows (row_index n i u rel) w) (row_index n i v (mirror rel)) y) j a r) b
+        ≡ is_other_box n a b && not (Y j a b r)
     go j a b r hj ha (inl e) _ =
         let s = one_row n j a i v r (mirror rel) ha edge.second e in
-        rw (s.0, s.1, s.2) (rw (get_or-set_same (set rows (row_index n i u rel) w) (row_index n i v (mirror rel)) y [] second) (there b))
+        rw (s.0, s.1, s.2) (rw (get_or-set_same (set rows (row_index n i u rel) w) (row_index n i v (mirror rel)) y []
+        second) (there b))
     go j a b r hj ha (inr ne) (inl e) =
         let s = one_row n j a i u r rel ha edge.first e in
-        rw (get_or-set_other (set rows (row_index n i u rel) w) (row_index n i v (mirror rel)) (row_index n j a r) y [] ne)
+        rw (get_or-set_other (set rows (row_index n i u rel) w) (row_index n i v (mirror rel))
+        (row_index n j a r) y [] ne)
         (rw (s.0, s.1, s.2) (rw (get_or-set_same rows (row_index n i u rel) w [] first) (here b)))
     go j a b r hj ha (inr ne) (inr ne') =
-        rw (get_or-set_other (set rows (row_index n i u rel) w) (row_index n i v (mirror rel)) (row_index n j a r) y [] ne)
+        rw (get_or-set_other (set rows (row_index n i u rel) w) (row_index n i v (mirror rel))
+        (row_index n j a r) y [] ne)
         (rw (get_or-set_other rows (row_index n i u rel) (row_index n j a r) w [] ne')
         (shows.has j a b r hj ha ∙ ap (λ z. is_other_box n a b && not z) (sym (others j a b r ha ne' ne))))
 
@@ -185,7 +206,8 @@ below_one_more x v = same_bool _ _ (λ h. forth (or_cases _ _ h)) (λ h. back (l
     back h (inr ne) = or_left (ltb x v) (eqb x v) (lt-ltb x v (omega (arith, ne)))
 
 -- a mask from which each relation was taken that isn't kept
-pub mask_kept : (m1 m2 m3 : ℕ) (o b a : Bool) → ((r : Rel) → mask_has m1 r ≡ mask_has 7 r && (not (is_same_rel Overlap r) || o))
+pub mask_kept : (m1 m2 m3 : ℕ) (o b a : Bool)
+    → ((r : Rel) → mask_has m1 r ≡ mask_has 7 r && (not (is_same_rel Overlap r) || o))
     → ((r : Rel) → mask_has m2 r ≡ mask_has m1 r && (not (is_same_rel Before r) || b))
     → ((r : Rel) → mask_has m3 r ≡ mask_has m2 r && (not (is_same_rel After r) || a))
     → (mask_has m3 Overlap ≡ o) × (mask_has m3 Before ≡ b) × (mask_has m3 After ≡ a)

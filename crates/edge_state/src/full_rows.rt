@@ -51,7 +51,7 @@ fn write_box(rows: &mut RowTable, place: usize, row: BitRow<2>)
 
 // Writes so many rows of boxes, three each, so that nothing is excluded: a row has all other boxes.
 // The boxes come one after another, in each dimension from the first on.
-pub fn fill_others(places: usize, boxes: u32, rows: &mut RowTable)
+pub(crate) fn fill_others(places: usize, boxes: u32, rows: &mut RowTable)
     requires count { IsBoxCount boxes }
     requires room { places * 3 ≤ length rows.old.rows }
     requires kept { 64 < boxes → rows.old.seconds ≡ length rows.old.rows }

@@ -6,7 +6,8 @@ use Rattle.text_terms.specs.Feeding.{ended_line}
 use Rattle.explained_documents.specs.declared.kind.DocumentKind.TheVariants.{Reduced}
 use Rattle.explained_documents.specs.Kinds.{kind_of_line, kind_told}
 use Rattle.explained_documents.specs.Stages.{ExplainedStage, filled_line}
-use Rattle.explained_documents.specs.Documents.{ExplainedRefusal, at_line, at_end, explained_verdict, told_verdict, IsShown}
+use Rattle.explained_documents.specs.Documents.{ExplainedRefusal, at_line, at_end, explained_verdict, told_verdict}
+use Rattle.explained_documents.specs.Documents.{IsShown}
 use Rattle.explained_check.specs.declared.audit.ExplainedAudit.{ExplainedAudit}
 use Rattle.explained_check.specs.declared.audit.ExplainedAudit.TheVariants.{Verified, Refused, NoMemory}
 use Rattle.line_cursor.specs.declared.cursor.Cursor.{Cursor}

@@ -15,7 +15,8 @@ pub record IsGoing (r : PlainAuditor) (d : ℕ) : Type 0 where
 
 -- the line that isn't blank ends the tree, or it goes on, or the line is refused
 abbrev pub IsGrown : PlainAuditor → PlainAuditor → ℕ → Line → Result Bool ExplainedReason → Type 0
-IsGrown old new d line (Ok true) = filled_line (Explaining old.instance old.audited.nodes) line ≡ Ok (Ending old.instance)
+IsGrown old new d line (Ok true) =
+    filled_line (Explaining old.instance old.audited.nodes) line ≡ Ok (Ending old.instance)
 IsGrown old new d line (Ok false) =
     (filled_line (Explaining old.instance old.audited.nodes) line ≡ Ok (Explaining new.instance new.audited.nodes))
     × (new.instance ≡ old.instance) × IsGoing new d

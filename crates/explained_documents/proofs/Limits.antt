@@ -11,7 +11,9 @@ use Rattle.explained_terms.specs.StepLines.{step_of}
 use Rattle.explained_terms.specs.Judging.{AuditNode}
 use Rattle.explained_terms.specs.Auditing.{audited_after}
 use Rattle.explained_documents.specs.declared.reason.ExplainedReason.{ExplainedReason}
-use Rattle.explained_documents.specs.Stages.{ExplainedStage, Heading, Reading, Explaining, Ending, Ended, form, require, are_two, text_fault, end_of_parts, begun, reading_line, tree_step, coded, grown, late_by, words_line, filled_line, stage_after}
+use Rattle.explained_documents.specs.Stages.{ExplainedStage, Heading, Reading, Explaining, Ending, Ended, form, require}
+use Rattle.explained_documents.specs.Stages.{are_two, text_fault, end_of_parts, begun, reading_line, tree_step, coded}
+use Rattle.explained_documents.specs.Stages.{grown, late_by, words_line, filled_line, stage_after}
 use Rattle.explained_documents.proofs.Passed.{ok_is, require_ok, fault_ok, end_ok}
 
 abbrev pub IsWell : ExplainedStage → Type 0
@@ -33,19 +35,23 @@ grown_well instance (n ∷ nodes) well = well
 
 words_well : (stage : ExplainedStage) (words : List (List ℕ)) → IsWell stage → GivesWell (words_line stage words)
 words_well Heading words well next e =
-    gives_well (Reading no_parts) good_start next (require_ok (are_two (codes "explained") (codes "fit") words) form (Ok (Reading no_parts)) next e).1
+    gives_well (Reading no_parts) good_start next
+    (require_ok (are_two (codes "explained") (codes "fit") words) form (Ok (Reading no_parts)) next e).1
 words_well (Reading parts) words well next e = absurd (cc (e))
 words_well (Explaining i nodes) words well next e =
-    let s = bind_ok (tree_step (is_word (codes "end") words) (step_of (dims i) words)) (λ s. coded (audited_after i nodes s) >>= λ left. Ok (grown i left)) next e in
+    let s = bind_ok (tree_step (is_word (codes "end") words) (step_of (dims i) words))
+    (λ s. coded (audited_after i nodes s) >>= λ left. Ok (grown i left)) next e in
     let m = bind_ok (coded (audited_after i nodes s.0)) (λ left. Ok (grown i left)) next s.2 in
     gives_well (grown i m.0) (grown_well i m.0 well) next m.2
 words_well (Ending i) words well next e =
-    gives_well (Ended i) well next (require_ok (is_word (codes "end") words) (late_by (step_of (dims i) words)) (Ok (Ended i)) next e).1
+    gives_well (Ended i) well next
+    (require_ok (is_word (codes "end") words) (late_by (step_of (dims i) words)) (Ok (Ended i)) next e).1
 words_well (Ended i) words well next e = absurd (cc (e))
 
 reading_well : (b : Bool) (parts : Parts) (line : Line) → IsWithinLimits parts → GivesWell (reading_line b parts line)
 reading_well true parts line well next e =
-    let i = bind_ok (end_of_parts (at_end parts 0)) (λ instance. require (are_two (codes "result") (codes "no") line.words) form (Ok (begun instance))) next e in
+    let i = bind_ok (end_of_parts (at_end parts 0))
+    (λ instance. require (are_two (codes "result") (codes "no") line.words) form (Ok (begun instance))) next e in
     let r = require_ok (are_two (codes "result") (codes "no") line.words) form (Ok (begun i.0)) next i.2 in
     gives_well (begun i.0) (parts_limits parts i.0 0 well (end_ok (at_end parts 0) i.0 i.1)) next r.1
 reading_well false parts line well next e =
@@ -53,16 +59,21 @@ reading_well false parts line well next e =
     gives_well (Reading m.0) (line_good parts m.0 line well (fault_ok (add_line parts line) m.0 m.1)) next m.2
 
 filled_well : (stage : ExplainedStage) (line : Line) → IsWell stage → GivesWell (filled_line stage line)
-filled_well Heading line well next e = words_well Heading line.words well next (require_ok (not line.bad) form (words_line Heading line.words) next e).1
+filled_well Heading line well next e =
+    words_well Heading line.words well next (require_ok (not line.bad) form (words_line Heading line.words) next e).1
 filled_well (Reading parts) line well next e = reading_well (is_result line) parts line well next e
 filled_well (Explaining i ns) line well next e =
-    words_well (Explaining i ns) line.words well next (require_ok (not line.bad) form (words_line (Explaining i ns) line.words) next e).1
-filled_well (Ending i) line well next e = words_well (Ending i) line.words well next (require_ok (not line.bad) form (words_line (Ending i) line.words) next e).1
+    words_well (Explaining i ns) line.words well next
+    (require_ok (not line.bad) form (words_line (Explaining i ns) line.words) next e).1
+filled_well (Ending i) line well next e =
+    words_well (Ending i) line.words well next
+    (require_ok (not line.bad) form (words_line (Ending i) line.words) next e).1
 filled_well (Ended i) line well next e = absurd (cc (e))
 
 pub stage_well : (stage : ExplainedStage) (line : Line) → IsWell stage → GivesWell (stage_after stage line)
 stage_well stage line well next e = go (is_blank line) e
   where
-    go : (b : Bool) → ◌≡◌ {A = Result ExplainedStage ExplainedReason} (elim b [ true ↦ Ok stage | false ↦ filled_line stage line ]) (Ok next) → IsWell next
+    go : (b : Bool) → ◌≡◌ {A = Result ExplainedStage ExplainedReason}
+        (elim b [ true ↦ Ok stage | false ↦ filled_line stage line ]) (Ok next) → IsWell next
     go true f = gives_well stage well next f
     go false f = filled_well stage line well next f

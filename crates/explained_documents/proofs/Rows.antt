@@ -25,7 +25,8 @@ both_pairs : explained_verdict (head ++ codes "pair 1 1 2\npair 2 1 2\napart 1 1
 unfolding explained_verdict number_of same_bytes step_of token_of
 both_pairs = refl
 
-one_pair : explained_verdict (head ++ codes "pair 1 1 2\napart 1 1 2\nx 1 1 2\nend\n") ≡ Err (record { line = 8; reason = Line Step })
+one_pair : explained_verdict (head ++ codes "pair 1 1 2\napart 1 1 2\nx 1 1 2\nend\n")
+    ≡ Err (record { line = 8; reason = Line Step })
 unfolding explained_verdict number_of same_bytes step_of token_of
 one_pair = refl
 
@@ -33,7 +34,8 @@ no_step : explained_verdict (head ++ codes "x 1 1 2\nend\n") ≡ Err (record { l
 unfolding explained_verdict number_of same_bytes step_of token_of
 no_step = refl
 
-split_too_late : explained_verdict (head ++ codes "pair 1 1 2\na 1 1 2\nend\n") ≡ Err (record { line = 8; reason = Line Choice })
+split_too_late : explained_verdict (head ++ codes "pair 1 1 2\na 1 1 2\nend\n")
+    ≡ Err (record { line = 8; reason = Line Choice })
 unfolding explained_verdict number_of same_bytes step_of token_of
 split_too_late = refl
 
@@ -53,19 +55,23 @@ ends_before : explained_verdict (head ++ codes "pair 1 1 2\n") ≡ Err (record {
 unfolding explained_verdict number_of same_bytes step_of token_of
 ends_before = refl
 
-box_that_fits : explained_verdict (head ++ codes "t 1 1\npair 1 1 2\nend\n") ≡ Err (record { line = 7; reason = Line Side })
+box_that_fits : explained_verdict (head ++ codes "t 1 1\npair 1 1 2\nend\n")
+    ≡ Err (record { line = 7; reason = Line Side })
 unfolding explained_verdict number_of same_bytes step_of token_of
 box_that_fits = refl
 
-tree_behind : explained_verdict (head ++ codes "pair 1 1 2\npair 2 1 2\napart 1 1 2\nx 1 1 2\nx 1 1 2\nend\n") ≡ Err (record { line = 11; reason = after })
+tree_behind : explained_verdict (head ++ codes "pair 1 1 2\npair 2 1 2\napart 1 1 2\nx 1 1 2\nx 1 1 2\nend\n")
+    ≡ Err (record { line = 11; reason = after })
 unfolding explained_verdict number_of same_bytes step_of token_of
 tree_behind = refl
 
-outer_behind : explained_verdict (head ++ codes "pair 1 1 2\npair 2 1 2\napart 1 1 2\nx 1 1 2\nw\nend\n") ≡ Err (record { line = 11; reason = form })
+outer_behind : explained_verdict (head ++ codes "pair 1 1 2\npair 2 1 2\napart 1 1 2\nx 1 1 2\nw\nend\n")
+    ≡ Err (record { line = 11; reason = form })
 unfolding explained_verdict number_of same_bytes step_of token_of
 outer_behind = refl
 
-behind_end : explained_verdict (head ++ codes "pair 1 1 2\npair 2 1 2\napart 1 1 2\nx 1 1 2\nend\n\nend\n") ≡ Err (record { line = 13; reason = after })
+behind_end : explained_verdict (head ++ codes "pair 1 1 2\npair 2 1 2\napart 1 1 2\nx 1 1 2\nend\n\nend\n")
+    ≡ Err (record { line = 13; reason = after })
 unfolding explained_verdict number_of same_bytes step_of token_of
 behind_end = refl
 
@@ -73,11 +79,13 @@ wide_tuple : explained_verdict (head ++ codes "v id\nend\n") ≡ Err (record { l
 unfolding explained_verdict number_of same_bytes step_of token_of
 wide_tuple = refl
 
-chain_of_form : explained_verdict (head ++ codes "chain 1 1 1\nx 1 1 2\nend\n") ≡ Err (record { line = 8; reason = form })
+chain_of_form : explained_verdict (head ++ codes "chain 1 1 1\nx 1 1 2\nend\n")
+    ≡ Err (record { line = 8; reason = form })
 unfolding explained_verdict number_of same_bytes step_of token_of
 chain_of_form = refl
 
-chain_of_one_box : explained_verdict (head ++ codes "chain 1 1 1\non 1\non 1\nend\n") ≡ Err (record { line = 9; reason = Line Step })
+chain_of_one_box : explained_verdict (head ++ codes "chain 1 1 1\non 1\non 1\nend\n")
+    ≡ Err (record { line = 9; reason = Line Step })
 unfolding explained_verdict number_of same_bytes step_of token_of
 chain_of_one_box = refl
 
@@ -89,19 +97,23 @@ another_kind : explained_verdict (codes "answer fit\nformat 1\n") ≡ Err (recor
 unfolding explained_verdict number_of same_bytes step_of token_of
 another_kind = refl
 
-yes : explained_verdict (codes "explained fit\nformat 1\ncontainer 10 10\nbox 6 6\nbox 6 6\nresult yes\nend\n") ≡ Err (record { line = 6; reason = form })
+yes : explained_verdict (codes "explained fit\nformat 1\ncontainer 10 10\nbox 6 6\nbox 6 6\nresult yes\nend\n")
+    ≡ Err (record { line = 6; reason = form })
 unfolding explained_verdict number_of same_bytes step_of token_of
 yes = refl
 
-no_box : explained_verdict (codes "explained fit\nformat 1\ncontainer 10 10\nresult no\nend\n") ≡ Err (record { line = 4; reason = Text 10 })
+no_box : explained_verdict (codes "explained fit\nformat 1\ncontainer 10 10\nresult no\nend\n")
+    ≡ Err (record { line = 4; reason = Text 10 })
 unfolding explained_verdict number_of same_bytes step_of token_of
 no_box = refl
 
-no_box_first : explained_verdict (codes "explained fit\nformat 1\ncontainer 10 10\nresult yes\nend\n") ≡ Err (record { line = 4; reason = Text 10 })
+no_box_first : explained_verdict (codes "explained fit\nformat 1\ncontainer 10 10\nresult yes\nend\n")
+    ≡ Err (record { line = 4; reason = Text 10 })
 unfolding explained_verdict number_of same_bytes step_of token_of
 no_box_first = refl
 
-short_box : explained_verdict (codes "explained fit\nformat 1\ncontainer 10 10\nbox 6\nresult no\n") ≡ Err (record { line = 4; reason = Text 2 })
+short_box : explained_verdict (codes "explained fit\nformat 1\ncontainer 10 10\nbox 6\nresult no\n")
+    ≡ Err (record { line = 4; reason = Text 2 })
 unfolding explained_verdict number_of same_bytes step_of token_of
 short_box = refl
 

@@ -9,7 +9,8 @@ use Rattle.text_terms.specs.Lines.{text_lines, line_of}
 use Rattle.text_terms.specs.Spelling.{spaced}
 use Rattle.text_terms.specs.Feeding.{NumberedLine, lines_fed, new_lexer}
 use Rattle.explained_terms.specs.declared.answers.AuditCode.{AuditCode}
-use Rattle.explained_terms.specs.declared.answers.AuditCode.TheVariants.{Kind, Range, Step, Choice, Conflict, Excess, Side, After}
+use Rattle.explained_terms.specs.declared.answers.AuditCode.TheVariants.{Kind, Range, Step, Choice, Conflict, Excess}
+use Rattle.explained_terms.specs.declared.answers.AuditCode.TheVariants.{Side, After}
 use Rattle.explained_documents.specs.declared.reason.ExplainedReason.{ExplainedReason}
 use Rattle.explained_documents.specs.declared.reason.ExplainedReason.TheVariants.{Text, Line, TooShort}
 use Rattle.explained_documents.specs.Stages.{ExplainedStage, Heading, Ended, stage_after}
@@ -31,7 +32,8 @@ at_end stage n = Err (record { line = n + 1; reason = TooShort })
 -- the lines after the first n
 abbrev pub read_lines : ExplainedStage → ℕ → List (List ℕ) → Result PlainInstance ExplainedRefusal
 read_lines stage n [] = at_end stage n
-read_lines stage n (line ∷ lines) = at_line (n + 1) (stage_after stage (line_of line)) >>= λ next. read_lines next (n + 1) lines
+read_lines stage n (line ∷ lines) =
+    at_line (n + 1) (stage_after stage (line_of line)) >>= λ next. read_lines next (n + 1) lines
 
 -- the instance without a packing of a text that is verified, or the first refusal
 unfoldable pub explained_verdict : List ℕ → Result PlainInstance ExplainedRefusal

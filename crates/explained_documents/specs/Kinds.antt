@@ -9,7 +9,8 @@ use Rattle.explained_documents.specs.Stages.{are_two}
 
 -- of a document whose first line has these words
 abbrev pub kind_of_words : List (List ℕ) → DocumentKind
-kind_of_words words = cond (are_two (codes "explained") (codes "fit") words) Explained (cond (is_word (codes "front") words) Front Reduced)
+kind_of_words words = cond (are_two (codes "explained") (codes "fit") words) Explained
+    (cond (is_word (codes "front") words) Front Reduced)
 
 -- of a document with this first line
 abbrev pub kind_of_line : Line → DocumentKind
@@ -17,7 +18,8 @@ kind_of_line line = cond line.bad Reduced (kind_of_words line.words)
 
 abbrev pub kind_of_lines : List (List ℕ) → DocumentKind
 kind_of_lines [] = Reduced
-kind_of_lines (line ∷ lines) = elim (is_blank (line_of line)) [ true ↦ kind_of_lines lines | false ↦ kind_of_line (line_of line) ]
+kind_of_lines (line ∷ lines) =
+    elim (is_blank (line_of line)) [ true ↦ kind_of_lines lines | false ↦ kind_of_line (line_of line) ]
 
 -- of a text
 abbrev pub document_kind : List ℕ → DocumentKind

@@ -7,7 +7,8 @@
 --     pair 1 1 2        Explaining: the open nodes of the tree
 --     end               Ending: `end` is wanted
 --                       Ended
-use Rattle.std.specs.Prelude.{ℕ, not, ◌&&◌, Bool, true, false, List, [], ◌∷◌, Option, Some, None, Result, Ok, Err, codes}
+use Rattle.std.specs.Prelude.{ℕ, not, ◌&&◌, Bool, true, false, List, [], ◌∷◌, Option, Some, None, Result, Ok, Err}
+use Rattle.std.specs.Prelude.{codes}
 use Rattle.packing_terms.specs.Packing.{PlainInstance, dims}
 use Rattle.packing_terms.specs.Results.{◌>>=◌}
 use Rattle.text_terms.specs.declared.fault.TextFault.{TextFault}
@@ -68,7 +69,8 @@ begun instance = Explaining instance (at_rest [] ∷ [])
 -- the result line: the end of the instance text is tested first
 abbrev pub result_line : Parts → List (List ℕ) → Result ExplainedStage ExplainedReason
 result_line parts words =
-    end_of_parts (at_end parts 0) >>= λ instance. require (are_two (codes "result") (codes "no") words) form (Ok (begun instance))
+    end_of_parts (at_end parts 0) >>= λ instance. require (are_two (codes "result") (codes "no") words) form
+    (Ok (begun instance))
 
 -- a line behind the first, up to the result line
 abbrev pub reading_line : Bool → Parts → Line → Result ExplainedStage ExplainedReason
@@ -92,7 +94,8 @@ grown instance (n ∷ nodes) = Explaining instance (n ∷ nodes)
 
 abbrev pub tree_line : PlainInstance → List AuditNode → List (List ℕ) → Result ExplainedStage ExplainedReason
 tree_line instance nodes words =
-    tree_step (is_word (codes "end") words) (step_of (dims instance) words) >>= λ s. coded (audited_after instance nodes s) >>= λ left. Ok (grown instance left)
+    tree_step (is_word (codes "end") words) (step_of (dims instance) words)
+    >>= λ s. coded (audited_after instance nodes s) >>= λ left. Ok (grown instance left)
 
 -- a line of the kinds of a tree where `end` is wanted comes too late
 abbrev pub late_by : Option PlainStep → ExplainedReason
@@ -100,7 +103,8 @@ late_by (Some s) = after
 late_by None = form
 
 abbrev pub end_line : PlainInstance → List (List ℕ) → Result ExplainedStage ExplainedReason
-end_line instance words = require (is_word (codes "end") words) (late_by (step_of (dims instance) words)) (Ok (Ended instance))
+end_line instance words = require (is_word (codes "end") words) (late_by (step_of (dims instance) words))
+    (Ok (Ended instance))
 
 -- a line without a bad byte that isn't blank, by its words; the instance lines aren't among these
 abbrev pub words_line : ExplainedStage → List (List ℕ) → Result ExplainedStage ExplainedReason

@@ -1,34 +1,44 @@
 -- The words of a step are read back as the step, and a line that is told in part is the same step.
-use Rattle.std.proofs.Common.{◌≡◌, ℕ, ◌≤◌, ◌||◌, refl, ap, ap₂, ◌∙◌, arith, cond, List, [], ◌∷◌, length, take, map, Option, Some, None, codes}
+use Rattle.std.proofs.Common.{◌≡◌, ℕ, ◌≤◌, ◌||◌, refl, ap, ap₂, ◌∙◌, arith, cond, List, [], ◌∷◌, length, take, map}
+use Rattle.std.proofs.Common.{Option, Some, None, codes}
 use Rattle.std.specs.Fmt.{decimal}
 use Rattle.std.proofs.lemmas.Bool.{le-leb}
 use Rattle.packing_terms.specs.Tokens.{PlainToken}
-use Rattle.packing_terms.specs.Tokens.PlainToken.{Apart as ApartToken, Order as OrderToken, Rules, TooLarge, Scales, Assign, Choose, SetRefuted, ValueShort, GlobalScales}
+use Rattle.packing_terms.specs.Tokens.PlainToken.{Apart as ApartToken, Order as OrderToken, Rules, TooLarge, Scales}
+use Rattle.packing_terms.specs.Tokens.PlainToken.{Assign, Choose, SetRefuted, ValueShort, GlobalScales}
 use Rattle.text_terms.specs.Lines.{cut_words, same_bytes}
 use Rattle.text_terms.proofs.Spelled.{number_decimal}
 use Rattle.text_terms.proofs.Cut.{same_front, number_front}
-use Rattle.document_terms.specs.TokenLines.{most_parameter, at_most, parameter, parameters, in_front, token_of, IsParameter}
+use Rattle.document_terms.specs.TokenLines.{most_parameter, at_most, parameter, parameters, in_front, token_of}
+use Rattle.document_terms.specs.TokenLines.{IsParameter}
 use Rattle.document_terms.proofs.Cuts.{cut_rest, cut_by, parameters_many, token_cut}
 use Rattle.document_terms.proofs.TokensBack.{tokens_are_read_back}
 use Rattle.explained_terms.specs.Steps.{PlainStep}
 use Rattle.explained_terms.specs.Steps.PlainStep.{Pair, Apart, Triple, Compose, Cycle, Order, Chain, On, Clash, Plain}
-use Rattle.explained_terms.specs.StepLines.{of_one, of_three, of_four, of_five, as_plain, step_of, step_words, HasStepLine, StepsAreReadBack, StepLinesAreTold}
+use Rattle.explained_terms.specs.StepLines.{of_one, of_three, of_four, of_five, as_plain, step_of, step_words}
+use Rattle.explained_terms.specs.StepLines.{HasStepLine, StepsAreReadBack, StepLinesAreTold}
 
 parameter_back : (n : ℕ) → IsParameter n → parameter (decimal n) ≡ Some n
-parameter_back n h = ap (at_most most_parameter) (number_decimal n (omega (arith, h))) ∙ ap (λ b. cond b (Some n) None) (le-leb n most_parameter h)
+parameter_back n h = ap (at_most most_parameter) (number_decimal n (omega (arith, h)))
+    ∙ ap (λ b. cond b (Some n) None) (le-leb n most_parameter h)
 
-in_front_back : (n : ℕ) (words : List (List ℕ)) (ns : List ℕ) → IsParameter n → parameters words ≡ Some ns → parameters (decimal n ∷ words) ≡ Some (n ∷ ns)
+in_front_back : (n : ℕ) (words : List (List ℕ)) (ns : List ℕ) → IsParameter n → parameters words ≡ Some ns
+    → parameters (decimal n ∷ words) ≡ Some (n ∷ ns)
 in_front_back n words ns h e = ap₂ (λ x xs. in_front x xs) (parameter_back n h) e
 
-three : (x y z : ℕ) → IsParameter x → IsParameter y → IsParameter z → parameters (decimal x ∷ decimal y ∷ decimal z ∷ []) ≡ Some (x ∷ y ∷ z ∷ [])
-three x y z a b c = in_front_back x (decimal y ∷ decimal z ∷ []) (y ∷ z ∷ []) a (in_front_back y (decimal z ∷ []) (z ∷ []) b (in_front_back z [] [] c refl))
+three : (x y z : ℕ) → IsParameter x → IsParameter y → IsParameter z
+    → parameters (decimal x ∷ decimal y ∷ decimal z ∷ []) ≡ Some (x ∷ y ∷ z ∷ [])
+three x y z a b c = in_front_back x (decimal y ∷ decimal z ∷ []) (y ∷ z ∷ []) a
+    (in_front_back y (decimal z ∷ []) (z ∷ []) b (in_front_back z [] [] c refl))
 
-four : (x y z u : ℕ) → IsParameter x → IsParameter y → IsParameter z → IsParameter u → parameters (decimal x ∷ decimal y ∷ decimal z ∷ decimal u ∷ []) ≡ Some (x ∷ y ∷ z ∷ u ∷ [])
+four : (x y z u : ℕ) → IsParameter x → IsParameter y → IsParameter z → IsParameter u
+    → parameters (decimal x ∷ decimal y ∷ decimal z ∷ decimal u ∷ []) ≡ Some (x ∷ y ∷ z ∷ u ∷ [])
 four x y z u a b c d = in_front_back x (decimal y ∷ decimal z ∷ decimal u ∷ []) (y ∷ z ∷ u ∷ []) a (three y z u b c d)
 
 five : (x y z u v : ℕ) → IsParameter x → IsParameter y → IsParameter z → IsParameter u → IsParameter v
     → parameters (decimal x ∷ decimal y ∷ decimal z ∷ decimal u ∷ decimal v ∷ []) ≡ Some (x ∷ y ∷ z ∷ u ∷ v ∷ [])
-five x y z u v a b c d e = in_front_back x (decimal y ∷ decimal z ∷ decimal u ∷ decimal v ∷ []) (y ∷ z ∷ u ∷ v ∷ []) a (four y z u v b c d e)
+five x y z u v a b c d e = in_front_back x (decimal y ∷ decimal z ∷ decimal u ∷ decimal v ∷ []) (y ∷ z ∷ u ∷ v ∷ []) a
+    (four y z u v b c d e)
 
 pub steps_are_read_back : StepsAreReadBack
 unfolding step_of same_bytes
@@ -56,19 +66,24 @@ steps_are_read_back d (Plain (GlobalScales fs)) h = absurd h
 
 parameters_front : (words : List (List ℕ)) → parameters (map (take 21) words) ≡ parameters words
 parameters_front [] = refl
-parameters_front (word ∷ words) = ap₂ (λ x xs. in_front x xs) (ap (at_most most_parameter) (number_front word)) (parameters_front words)
+parameters_front (word ∷ words) =
+    ap₂ (λ x xs. in_front x xs) (ap (at_most most_parameter) (number_front word)) (parameters_front words)
 
 -- what takes at most five parameters takes no eleven
-few_parameters : (f : Option (List ℕ) → Option PlainStep) → f None ≡ None → ((xs : List ℕ) → 6 ≤ length xs → f (Some xs) ≡ None) → (words : List (List ℕ)) → 11 ≤ length words → f (parameters words) ≡ None
+few_parameters : (f : Option (List ℕ) → Option PlainStep) → f None ≡ None
+    → ((xs : List ℕ) → 6 ≤ length xs → f (Some xs) ≡ None) → (words : List (List ℕ)) → 11 ≤ length words
+    → f (parameters words) ≡ None
 few_parameters f none many words long = go (parameters words) refl
   where
     go : (o : Option (List ℕ)) → parameters words ≡ o → f o ≡ None
     go None e = none
     go (Some xs) e = many xs (let n = parameters_many words xs e in omega (arith, n, long))
 
-parameters_cut : (f : Option (List ℕ) → Option PlainStep) → f None ≡ None → ((xs : List ℕ) → 6 ≤ length xs → f (Some xs) ≡ None) → (words : List (List ℕ))
+parameters_cut : (f : Option (List ℕ) → Option PlainStep) → f None ≡ None
+    → ((xs : List ℕ) → 6 ≤ length xs → f (Some xs) ≡ None) → (words : List (List ℕ))
     → f (parameters (cut_rest words)) ≡ f (parameters words)
-parameters_cut f none many words = cut_by (λ us. f (parameters us)) None words (ap f (parameters_front words)) (few_parameters f none many)
+parameters_cut f none many words =
+    cut_by (λ us. f (parameters us)) None words (ap f (parameters_front words)) (few_parameters f none many)
 
 many_one : (make : ℕ → PlainStep) (xs : List ℕ) → 6 ≤ length xs → of_one make (Some xs) ≡ None
 many_one make [] l = refl
@@ -99,7 +114,8 @@ many_five make (x ∷ y ∷ z ∷ u ∷ []) l = refl
 many_five make (x ∷ y ∷ z ∷ u ∷ v ∷ []) l = absurd (omega (arith, l))
 many_five make (x ∷ y ∷ z ∷ u ∷ v ∷ w ∷ xs) l = refl
 
-step_cut : (d : ℕ) (word : List ℕ) (words : List (List ℕ)) → d ≤ 4 → step_of d (take 21 word ∷ cut_rest words) ≡ step_of d (word ∷ words)
+step_cut : (d : ℕ) (word : List ℕ) (words : List (List ℕ)) → d ≤ 4
+    → step_of d (take 21 word ∷ cut_rest words) ≡ step_of d (word ∷ words)
 unfolding step_of
 step_cut d word words few =
     rw (

@@ -6,7 +6,7 @@ use std::alloc::Global;
 use std::test::Fail;
 
 /// The step that a line is, in two dimensions.
-pub fn read(alloc: Global, line: &[u8]) -> Option<Step> {
+pub(crate) fn read(alloc: Global, line: &[u8]) -> Option<Step> {
     let mut lexer = LineLexer::new();
     for byte in line {
         let _ = lexer.feed(*byte);

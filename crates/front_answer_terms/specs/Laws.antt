@@ -15,7 +15,10 @@ OwnFrontsAreVerified = (instance : PlainInstance) (budget : ℕ) (scales : Bool)
     → front_document_verdict (front_text instance (front_walk instance budget scales))
     ≡ Ok (record {
       instance = instance;
-      claim = record { complete = (front_walk instance budget scales).complete; points = length (front_walk instance budget scales).points };
+      claim = record {
+        complete = (front_walk instance budget scales).complete;
+        points = length (front_walk instance budget scales).points;
+      };
     })
 
 -- by its first line it is one of a front

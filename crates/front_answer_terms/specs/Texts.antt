@@ -28,7 +28,8 @@ front_result complete points = front_word complete ∷ decimal points ∷ []
 abbrev pub front_document : PlainInstance → PlainFront → List (List (List ℕ))
 front_document instance front =
     (codes "front" ∷ []) ∷ (instance_words instance
-    ++ (codes "result" ∷ front_result front.complete (length front.points)) ∷ (map line_words (front_lines front) ++ (codes "end" ∷ []) ∷ []))
+    ++ (codes "result" ∷ front_result front.complete (length front.points))
+    ∷ (map line_words (front_lines front) ++ (codes "end" ∷ []) ∷ []))
 
 abbrev pub front_text : PlainInstance → PlainFront → List ℕ
 front_text instance front = lines_text (front_document instance front)
@@ -45,7 +46,8 @@ pub record FrontAnswer : Type 0 where
   pub text : List ℕ
 
 abbrev pub front_answer_of : PlainInstance → PlainFront → FrontAnswer
-front_answer_of instance front = record { status = front_status front.complete (length front.points); text = front_text instance front }
+front_answer_of instance front =
+    record { status = front_status front.complete (length front.points); text = front_text instance front }
 
 abbrev pub front_answer : ℕ → Bool → PlainInstance → FrontAnswer
 front_answer budget scales instance = front_answer_of instance (front_walk instance budget scales)

@@ -2,7 +2,8 @@
 use Rattle.proof_tree.specs.Plain.{plain_token}
 use Rattle.front_terms.specs.Lines.{PlainLine, CornerAt, PointAt, PlaceAt, TreeToken}
 use Rattle.front_check.specs.declared.line.FrontLine.{FrontLine}
-use Rattle.front_check.specs.declared.line.FrontLine.TheVariants.{Corner as CornerLine, Point as PointLine, Place as PlaceLine, Tree as TreeLine}
+use Rattle.front_check.specs.declared.line.FrontLine.TheVariants.{Corner as CornerLine, Point as PointLine}
+use Rattle.front_check.specs.declared.line.FrontLine.TheVariants.{Place as PlaceLine, Tree as TreeLine}
 
 abbrev pub plain_line : FrontLine → PlainLine
 plain_line (CornerLine width height) = CornerAt width height

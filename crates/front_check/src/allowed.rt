@@ -11,7 +11,7 @@ use box_instances::Instance;
 use check_terms::RefuseCode;
 
 /// A line of another form than is wanted.
-pub fn form() -> FrontReason
+pub(crate) fn form() -> FrontReason
     ensures { result ≡ form }
 {
     FrontReason::Tree(RefuseCode::Kind)

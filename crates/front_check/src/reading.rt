@@ -15,7 +15,7 @@ use sized_instances::with_container;
 use std::alloc::Global;
 
 // The tree of a corner, from the line of this index on.
-pub fn read_tree(
+pub(crate) fn read_tree(
     alloc: Global,
     instance: &Instance,
     width: u32,
@@ -55,7 +55,7 @@ pub fn read_tree(
 }
 
 // The places of a point, from the line of this index on.
-pub fn read_places(
+pub(crate) fn read_places(
     alloc: Global,
     instance: &Instance,
     width: u32,

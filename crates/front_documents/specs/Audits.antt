@@ -5,7 +5,8 @@ use Rattle.packing_terms.specs.Limits.{IsInstance}
 use Rattle.packing_terms.specs.Results.{◌>>=◌}
 use Rattle.text_terms.specs.Feeding.{ended_line}
 use Rattle.verdict_terms.specs.Documents.{Refusal, document_at_line}
-use Rattle.front_verdict_terms.specs.Verdicts.{FrontClaim, FrontRead, DocumentStage, front_filled_line, front_at_end, front_document_verdict}
+use Rattle.front_verdict_terms.specs.Verdicts.{FrontClaim, FrontRead, DocumentStage, front_filled_line, front_at_end}
+use Rattle.front_verdict_terms.specs.Verdicts.{front_document_verdict}
 use Rattle.front_verdict_terms.specs.Fed.{told_front_verdict}
 use Rattle.front_verdict_terms.specs.Laws.{IsTrueFrontOf}
 use Rattle.line_cursor.specs.declared.cursor.Cursor.{Cursor}
@@ -23,7 +24,8 @@ verified_of instance complete points = Ok (record { instance = instance; claim =
 
 -- the verdict, unless memory was refused
 abbrev pub IsVerdict : Result FrontRead Refusal → FrontAudit → Type 0
-IsVerdict verdict (Verified complete points) = (instance : PlainInstance) × (verdict ≡ verified_of instance complete points)
+IsVerdict verdict (Verified complete points) =
+    (instance : PlainInstance) × (verdict ≡ verified_of instance complete points)
 IsVerdict verdict (Refused line reason) = verdict ≡ Err (record { line = line; reason = reason })
 IsVerdict verdict NoMemory = Unit {0}
 
@@ -39,8 +41,10 @@ verdict_left bytes at stage = told_front_verdict stage at.line.number (lines_lef
 -- the next line that isn't blank decides, or the end of the lines
 abbrev pub IsNextTaken : List ℕ → Cursor → Cursor → Bool → Type 0
 IsNextTaken bytes old new true = (stage : DocumentStage) → verdict_left bytes old stage
-    ≡ (document_at_line new.line.number (front_filled_line stage (ended_line new.line.held)) >>= λ next. verdict_left bytes new next)
-IsNextTaken bytes old new false = (stage : DocumentStage) → verdict_left bytes old stage ≡ front_at_end stage new.line.number
+    ≡ (document_at_line new.line.number (front_filled_line stage (ended_line new.line.held))
+    >>= λ next. verdict_left bytes new next)
+IsNextTaken bytes old new false =
+    (stage : DocumentStage) → verdict_left bytes old stage ≡ front_at_end stage new.line.number
 
 -- what a verified claim says of the instance in the document
 pub record IsTrueClaim (bytes : List ℕ) (complete : Bool) (points : ℕ) : Type 0 where

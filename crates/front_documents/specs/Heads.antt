@@ -22,7 +22,8 @@ TakesText parts line new (Err NoMemory) = Unit {0}
 
 -- whether a word says that all points are there
 abbrev pub completeness : List ℕ → Result Bool Reason
-completeness word = cond (same_bytes word (codes "front")) (Ok true) (cond (same_bytes word (codes "partial")) (Ok false) (Err form))
+completeness word = cond (same_bytes word (codes "front")) (Ok true)
+    (cond (same_bytes word (codes "partial")) (Ok false) (Err form))
 
 -- how many points a word says
 abbrev pub counted_points : List ℕ → Result ℕ Reason

@@ -1,5 +1,6 @@
 -- What lines behind the result line make of a front, part by part.
-use Rattle.std.specs.Prelude.{ℕ, suc, ◌-◌, ◌≤◌, ◌≡◌, ◌++◌, ◌==◌, length, not, cond, nat_le, Bool, true, false, List, [], ◌∷◌, Option, Some, None, Result, Ok, Err, codes}
+use Rattle.std.specs.Prelude.{ℕ, suc, ◌-◌, ◌≤◌, ◌≡◌, ◌++◌, ◌==◌, length, not, cond, nat_le, Bool, true, false, List, []}
+use Rattle.std.specs.Prelude.{◌∷◌, Option, Some, None, Result, Ok, Err, codes}
 use Rattle.packing_terms.specs.declared.Exclusion.{Exclusion}
 use Rattle.packing_terms.specs.Packing.{PlainInstance}
 use Rattle.packing_terms.specs.Results.{◌>>=◌}
@@ -18,7 +19,8 @@ use Rattle.verdict_terms.specs.Stages.{is_word, coded}
 use Rattle.front_terms.specs.declared.answers.FrontReason.{FrontReason}
 use Rattle.front_terms.specs.declared.answers.FrontReason.TheVariants.{Tree, Places}
 use Rattle.front_terms.specs.Lines.{PlainLine, PlaceAt, TreeToken, FrontStage}
-use Rattle.front_verdict_terms.specs.Verdicts.{DocumentStage, Fronting, Ended, line_named, named_line, front_filled_line}
+use Rattle.front_verdict_terms.specs.Verdicts.{DocumentStage, Fronting, Ended, line_named, named_line}
+use Rattle.front_verdict_terms.specs.Verdicts.{front_filled_line}
 use Rattle.front_check.specs.declared.parts.Stage.{Stage}
 use Rattle.front_check.specs.Audits.{plain_stage, growing, placing, pointed, IsInside, IsPartInside}
 use Rattle.line_cursor.specs.declared.cursor.Cursor.{Cursor}
@@ -27,7 +29,8 @@ use Rattle.front_documents.specs.declared.audit.FrontAudit.{FrontAudit}
 use Rattle.front_documents.specs.declared.opening.OpenPart.{OpenPart}
 use Rattle.front_documents.specs.declared.opening.OpenPart.TheVariants.{Corner as OpenCorner, Point as OpenPoint}
 use Rattle.front_documents.specs.declared.reading.PlaceStop.{PlaceStop}
-use Rattle.front_documents.specs.declared.reading.PlaceStop.TheVariants.{Refused as RefusedPlace, NoMemory as NoPlaceMemory}
+use Rattle.front_documents.specs.declared.reading.PlaceStop.TheVariants.{Refused as RefusedPlace}
+use Rattle.front_documents.specs.declared.reading.PlaceStop.TheVariants.{NoMemory as NoPlaceMemory}
 use Rattle.front_documents.specs.Audits.{claim_of, verdict_left, IsVerdict, IsStopped}
 
 -- behind the result line of a claim
@@ -47,10 +50,13 @@ opened_stage s (OpenCorner width height) = growing s.left width height ([] ∷ [
 opened_stage s (OpenPoint width height) = placing (s.left - 1) width height []
 
 -- what a line opens, by what it makes of a document that announces so many points
-abbrev pub IsOpened : PlainInstance → Bool → Stage → (ℕ → Result DocumentStage Reason) → Result (Option OpenPart) Reason → Type 0
+abbrev pub IsOpened : PlainInstance → Bool → Stage → (ℕ → Result DocumentStage Reason)
+    → Result (Option OpenPart) Reason → Type 0
 IsOpened instance complete s made (Ok (Some part)) =
-    IsOpenable instance s part × ((points : ℕ) → made points ≡ Ok (at_front instance complete points (opened_stage s part)))
-IsOpened instance complete s made (Ok None) = (points : ℕ) → made points ≡ Ok (Ended instance (claim_of complete points))
+    IsOpenable instance s part × ((points : ℕ)
+    → made points ≡ Ok (at_front instance complete points (opened_stage s part)))
+IsOpened instance complete s made (Ok None) =
+    (points : ℕ) → made points ≡ Ok (Ended instance (claim_of complete points))
 IsOpened instance complete s made (Err reason) = (points : ℕ) → made points ≡ Err reason
 
 -- what a line makes of it, as it is told and by its words
@@ -86,13 +92,15 @@ nodes_by sized nodes _ = Err form
 
 abbrev pub nodes_behind : PlainInstance → List (List Exclusion) → Line → Result (List (List Exclusion)) Reason
 nodes_behind sized nodes line =
-    require (not line.bad) form (cond (is_word (codes "end") line.words) (Err TooShort) (nodes_by sized nodes (line_named line.words)))
+    require (not line.bad) form (cond (is_word (codes "end") line.words) (Err TooShort)
+    (nodes_by sized nodes (line_named line.words)))
 
 -- the line ends the tree, or it goes on, or the line is refused
 abbrev pub IsGrown : PlainRefuter → PlainRefuter → Line → Result Bool Reason → Type 0
 IsGrown old new line (Ok true) = nodes_behind old.instance old.checked.nodes line ≡ Ok []
 IsGrown old new line (Ok false) =
-    (nodes_behind old.instance old.checked.nodes line ≡ Ok new.checked.nodes) × (new.instance ≡ old.instance) × IsOpenTree new
+    (nodes_behind old.instance old.checked.nodes line ≡ Ok new.checked.nodes) × (new.instance ≡ old.instance)
+    × IsOpenTree new
 IsGrown old new line (Err reason) = nodes_behind old.instance old.checked.nodes line ≡ Err reason
 
 -- ---- a place where one is wanted
@@ -102,7 +110,8 @@ place_by (Some (PlaceAt xs)) = require (are_coordinates xs) range (cond (length 
 place_by _ = Err form
 
 abbrev pub place_of : Line → Result (List ℕ) Reason
-place_of line = require (not line.bad) form (cond (is_word (codes "end") line.words) (Err form) (place_by (line_named line.words)))
+place_of line = require (not line.bad) form
+    (cond (is_word (codes "end") line.words) (Err form) (place_by (line_named line.words)))
 
 -- the place is put behind the others, or the reason of the refusal
 abbrev pub TakesPlace : List ℕ → Line → List ℕ → Result (Unit {0}) PlaceStop → Type 0
@@ -135,19 +144,24 @@ abbrev pub point_stage : ℕ → ℕ → ℕ → FrontStage
 point_stage width height left = pointed left width height
 
 -- the lines up to the end of a part are read, or the verdict is known
-abbrev pub IsPartRead : List ℕ → Cursor → Cursor → PlainInstance → (ℕ → FrontStage) → (ℕ → FrontStage) → Option FrontAudit → Type 0
+abbrev pub IsPartRead : List ℕ → Cursor → Cursor → PlainInstance → (ℕ → FrontStage) → (ℕ → FrontStage)
+    → Option FrontAudit → Type 0
 IsPartRead bytes old new instance s t None = (complete : Bool) (points left : ℕ)
-    → verdict_left bytes old (at_front instance complete points (s left)) ≡ verdict_left bytes new (at_front instance complete points (t left))
+    → verdict_left bytes old (at_front instance complete points (s left))
+    ≡ verdict_left bytes new (at_front instance complete points (t left))
 IsPartRead bytes old new instance s t (Some end) = (complete : Bool) (points left : ℕ)
     → IsVerdict (verdict_left bytes old (at_front instance complete points (s left))) end
 
 -- the same of what is opened
-pub record IsReadOn (bytes : List ℕ) (old new : Cursor) (instance : PlainInstance) (s : Stage) (part : OpenPart) (t : Stage) : Type 0 where
+pub record IsReadOn (bytes : List ℕ) (old new : Cursor) (instance : PlainInstance) (s : Stage) (part : OpenPart)
+    (t : Stage) : Type 0 where
   pub inside : IsPartInside instance t.part
   pub later : length (lines_left bytes new) ≤ length (lines_left bytes old)
   pub same : (complete : Bool) (points : ℕ)
-      → verdict_left bytes old (at_front instance complete points (opened_stage s part)) ≡ verdict_left bytes new (at_front instance complete points (plain_stage t))
+      → verdict_left bytes old (at_front instance complete points (opened_stage s part))
+      ≡ verdict_left bytes new (at_front instance complete points (plain_stage t))
 
 abbrev pub IsReadUpTo : List ℕ → Cursor → PlainInstance → Stage → OpenPart → FrontAudit → Type 0
 IsReadUpTo bytes old instance s part end =
-    (complete : Bool) (points : ℕ) → IsVerdict (verdict_left bytes old (at_front instance complete points (opened_stage s part))) end
+    (complete : Bool) (points : ℕ)
+    → IsVerdict (verdict_left bytes old (at_front instance complete points (opened_stage s part))) end

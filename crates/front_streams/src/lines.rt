@@ -31,7 +31,7 @@ fn write_pair<K: Sink>(
 }
 
 /// Writes a corner, and its tree.
-pub fn write_corner<K: Sink>(sink: &mut K, so_far: Written, corner: &Corner) -> Written
+pub(crate) fn write_corner<K: Sink>(sink: &mut K, so_far: Written, corner: &Corner) -> Written
     ensures { Continues (K.written sink.old) (K.written sink.new) (K.faults sink.old)
         (K.faults sink.new)
         (text_of (corner_lines (plain_corner corner.now))) so_far result }
@@ -55,7 +55,12 @@ fn write_places<K: Sink>(sink: &mut K, so_far: Written, boxes: u32, places: &[u3
 }
 
 /// Writes a point, and the places of so many boxes.
-pub fn write_point<K: Sink>(sink: &mut K, so_far: Written, boxes: u32, point: &Point) -> Written
+pub(crate) fn write_point<K: Sink>(
+    sink: &mut K,
+    so_far: Written,
+    boxes: u32,
+    point: &Point,
+) -> Written
     requires { length point.now.places.items ≡ 2 * boxes }
     ensures { Continues (K.written sink.old) (K.written sink.new) (K.faults sink.old)
         (K.faults sink.new)

@@ -67,7 +67,7 @@ fn write_steps<K: Sink>(
 }
 
 /// Writes the lines of a front: a first point of width 1 has no corner before it.
-pub fn write_front_lines<K: Sink>(
+pub(crate) fn write_front_lines<K: Sink>(
     sink: &mut K,
     so_far: Written,
     boxes: u32,

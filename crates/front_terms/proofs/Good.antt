@@ -1,5 +1,6 @@
 -- Lines are good where each is allowed and none is missing.
-use Rattle.std.proofs.Common.{◌≡◌, ℕ, suc, ◌*◌, ◌<◌, ◌≤◌, ◌⊎◌, inl, inr, refl, sym, ap, ◌∙◌, subst, arith, Bool, true, false, List, [], ◌∷◌, ◌++◌, map, length, Result, Ok, Err, append_assoc, length-append}
+use Rattle.std.proofs.Common.{◌≡◌, ℕ, suc, ◌*◌, ◌<◌, ◌≤◌, ◌⊎◌, inl, inr, refl, sym, ap, ◌∙◌, subst, arith, Bool, true}
+use Rattle.std.proofs.Common.{false, List, [], ◌∷◌, ◌++◌, map, length, Result, Ok, Err, append_assoc, length-append}
 use Rattle.std.specs.Prelude.{◌==◌}
 use Rattle.std.proofs.lemmas.Bool.{cases_Bool, eqb-true, eqb-false}
 use Rattle.packing_terms.specs.declared.Exclusion.{Exclusion}
@@ -16,7 +17,9 @@ use Rattle.check_terms.proofs.Places.{places_tested}
 use Rattle.front_terms.specs.declared.answers.FrontReason.{FrontReason}
 use Rattle.front_terms.specs.declared.answers.FrontVerdict.TheVariants.{Good}
 use Rattle.front_terms.specs.Fronts.{with_container}
-use Rattle.front_terms.specs.Lines.{PlainLine, CornerAt, PointAt, PlaceAt, TreeToken, Cornered, Placing, Pointed, FrontStage, wanted, cornered, grown, at_line, front_line, front_lines_after, is_whole_front, announced}
+use Rattle.front_terms.specs.Lines.{PlainLine, CornerAt, PointAt, PlaceAt, TreeToken, Cornered, Placing, Pointed}
+use Rattle.front_terms.specs.Lines.{FrontStage, wanted, cornered, grown, at_line, front_line, front_lines_after}
+use Rattle.front_terms.specs.Lines.{is_whole_front, announced}
 use Rattle.front_terms.specs.Verdicts.{front_verdict, verdict_by}
 
 module _ (instance : PlainInstance) (complete : Bool) where
@@ -25,16 +28,19 @@ module _ (instance : PlainInstance) (complete : Bool) where
   AreGood s [] = is_whole_front complete s ≡ true
   AreGood s (line ∷ lines) = (next : FrontStage) × (front_line instance complete s line ≡ Ok next) × AreGood next lines
 
-  good_end : (lines : List PlainLine) (index : ℕ) (s : FrontStage) → AreGood s lines → (t : FrontStage) × (front_lines_after instance complete index s lines ≡ Ok t) × (is_whole_front complete t ≡ true)
+  good_end : (lines : List PlainLine) (index : ℕ) (s : FrontStage) → AreGood s lines
+      → (t : FrontStage) × (front_lines_after instance complete index s lines ≡ Ok t) × (is_whole_front complete t ≡ true)
   good_end [] index s h = (s, refl, h)
   good_end (line ∷ lines) index s (next, e, h) =
       let r = good_end lines (suc index) next h in (
         r.0,
-        ap (λ (x : Result FrontStage FrontReason). (at_line index x >>= λ more. front_lines_after instance complete (suc index) more lines)) e ∙ r.1,
+        ap (λ (x : Result FrontStage FrontReason).
+            (at_line index x >>= λ more. front_lines_after instance complete (suc index) more lines)) e ∙ r.1,
         r.2,
       )
 
-  pub good_verdict : (points : ℕ) (lines : List PlainLine) → AreGood (announced points) lines → front_verdict instance complete points lines ≡ Good
+  pub good_verdict : (points : ℕ) (lines : List PlainLine) → AreGood (announced points) lines
+      → front_verdict instance complete points lines ≡ Good
   good_verdict points lines h =
       let r = good_end lines 0 (announced points) h in
       ap (verdict_by complete) r.1 ∙ (rw r.2 refl)

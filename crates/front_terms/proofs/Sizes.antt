@@ -10,12 +10,14 @@ use Rattle.scale_terms.proofs.Excess.{excess_law}
 use Rattle.front_terms.specs.Fronts.{with_container}
 
 module _ (instance : PlainInstance) (a b x y : ℕ) where
-  container_less : a ≤ x → b ≤ y → (i : ℕ) → i < 2 → written_container (with_container instance a b) i ≤ written_container (with_container instance x y) i
+  container_less : a ≤ x → b ≤ y → (i : ℕ) → i < 2
+      → written_container (with_container instance a b) i ≤ written_container (with_container instance x y) i
   container_less l m zero h = l
   container_less l m (suc zero) h = m
   container_less l m (suc (suc i)) h = absurd (omega (arith, h))
 
-  packed_wider : a ≤ x → b ≤ y → (places : List ℕ) → IsPacking (with_container instance a b) places → IsPacking (with_container instance x y) places
+  packed_wider : a ≤ x → b ≤ y → (places : List ℕ) → IsPacking (with_container instance a b) places
+      → IsPacking (with_container instance x y) places
   packed_wider l m places p = record {
     count = p.count;
     within = (λ v i h k. let w = p.within v i h k in let c = container_less l m i k in omega (arith, w, c));
@@ -29,11 +31,13 @@ module _ (instance : PlainInstance) (limits : IsInternalInstance instance) (plan
   pub sides_at : (a b : ℕ) → HasPositiveSides (with_container instance a b)
   sides_at a b v i h k = internal_sides instance limits v i h (omega (arith, k, plane))
 
-  pub refuted_size : (a b : ℕ) (tokens : List PlainToken) → Refutes (with_container instance a b) [] tokens → ¬ Fits (with_container instance a b)
+  pub refuted_size : (a b : ℕ) (tokens : List PlainToken) → Refutes (with_container instance a b) [] tokens
+      → ¬ Fits (with_container instance a b)
   refuted_size a b tokens h = none_fits excess_law (with_container instance a b) (sides_at a b) tokens h
 
   -- the instance with another container in range is an internal one
-  pub internal_size : (a b : ℕ) → 1 ≤ a → a ≤ written_container instance 0 → b ≤ most_height → IsInternalInstance (with_container instance a b)
+  pub internal_size : (a b : ℕ) → 1 ≤ a → a ≤ written_container instance 0 → b ≤ most_height
+      → IsInternalInstance (with_container instance a b)
   internal_size a b l m n = record {
     container = record {
       dimensions = (omega arith, omega arith);

@@ -4,7 +4,8 @@
 --         |  #  o-----+
 --         |  #  #  #  o---+
 --         +---------------+
-use Rattle.std.proofs.Common.{◌≡◌, ℕ, suc, ◌-◌, ◌<◌, ◌≤◌, ◌⊎◌, inl, inr, refl, arith, Bool, true, false, List, [], ◌∷◌, map}
+use Rattle.std.proofs.Common.{◌≡◌, ℕ, suc, ◌-◌, ◌<◌, ◌≤◌, ◌⊎◌, inl, inr, refl, arith, Bool, true, false, List, [], ◌∷◌}
+use Rattle.std.proofs.Common.{map}
 use Rattle.std.specs.List.{AllByRecursion, Contains}
 use Rattle.std.proofs.lemmas.Bool.{cases_lt}
 use Rattle.packing_terms.specs.Packing.{PlainInstance, Fits, written_container}
@@ -55,21 +56,26 @@ module _ (instance : PlainInstance) (complete : Bool) where
   SomeBelow [] x y = ⊥
   SomeBelow (s ∷ steps) x y = IsBelow s x y ⊎ SomeBelow steps x y
 
-  closed_none : (c : Bool) (a h x y : ℕ) → IsClosed instance c a h → IsReached instance x y → y ≤ h → x ≤ reach instance c a [] → ⊥
+  closed_none : (c : Bool) (a h x y : ℕ) → IsClosed instance c a h → IsReached instance x y → y ≤ h
+      → x ≤ reach instance c a [] → ⊥
   closed_none true a h x y (inl e) r l m = let f = r.height_from in omega (arith, e, l, f)
-  closed_none true a h x y (inr none) r l m = none (fits_wider instance x y (written_container instance 0) h r.width_to l r.fits)
+  closed_none true a h x y (inr none) r l m =
+      none (fits_wider instance x y (written_container instance 0) h r.width_to l r.fits)
   closed_none false a h x y (inl e) r l m = let f = r.height_from in omega (arith, e, l, f)
   closed_none false a h x y (inr (inl e)) r l m = let f = r.width_from in omega (arith, e, m, f)
   closed_none false a h x y (inr (inr none)) r l m = none (fits_wider instance x y a h m l r.fits)
 
-  reach_more : (c : Bool) (a x : ℕ) (s : ℕ × ℕ) (steps : List (ℕ × ℕ)) → x ≤ reach instance c a (s ∷ steps) → x ≤ reach instance c s.0 steps
+  reach_more : (c : Bool) (a x : ℕ) (s : ℕ × ℕ) (steps : List (ℕ × ℕ)) → x ≤ reach instance c a (s ∷ steps)
+      → x ≤ reach instance c s.0 steps
   reach_more true a x s steps l = l
   reach_more false a x s steps l = l
 
   -- what is reached is at least as wide and as high as some point
-  some_below : (a h : ℕ) (steps : List (ℕ × ℕ)) → AreSteps a h steps → (x y : ℕ) → IsReached instance x y → y ≤ h → x ≤ reach instance complete a steps → SomeBelow steps x y
+  some_below : (a h : ℕ) (steps : List (ℕ × ℕ)) → AreSteps a h steps → (x y : ℕ) → IsReached instance x y → y ≤ h
+      → x ≤ reach instance complete a steps → SomeBelow steps x y
   some_below a h [] closed x y r l m = closed_none complete a h x y closed r l m
-  some_below a h (s ∷ steps) (one, more) x y r l m = by_width (cases_lt x s.0) (λ k. some_below s.0 (s.1 - 1) steps more x y r k (reach_more complete a x s steps m))
+  some_below a h (s ∷ steps) (one, more) x y r l m =
+      by_width (cases_lt x s.0) (λ k. some_below s.0 (s.1 - 1) steps more x y r k (reach_more complete a x s steps m))
     where
       by_height : s.0 ≤ x → (y < s.1) ⊎ (s.1 ≤ y) → (y ≤ s.1 - 1 → SomeBelow steps x y) → SomeBelow (s ∷ steps) x y
       by_height w (inl k) later = inr (later (omega (arith, k)))
@@ -84,7 +90,8 @@ module _ (instance : PlainInstance) (complete : Bool) where
       by_width (inr k) later = by_height k (cases_lt y s.1) later
 
   -- each point is reached, and from the height on
-  step_reached : (a h : ℕ) (s : ℕ × ℕ) → h ≤ written_container instance 1 → IsStep a h s.0 s.1 → IsReached instance s.0 s.1
+  step_reached : (a h : ℕ) (s : ℕ × ℕ) → h ≤ written_container instance 1 → IsStep a h s.0 s.1
+      → IsReached instance s.0 s.1
   step_reached a h s l one = record {
     width_from = (let r = one.rising in omega (arith, r));
     width_to = one.widest;
@@ -112,16 +119,19 @@ module _ (instance : PlainInstance) (complete : Bool) where
         height_to = (let t = least.reached.height_to in omega (arith, t));
         fits = fits_wider instance s.0 s.1 x (y - 1) l (omega (arith, n)) r.fits;
       }))
-      by_width (inr k) (inr n) = let e : s.0 ≡ x = omega (arith, k, l) in let f : s.1 ≡ y = omega (arith, n, m) in rw (e, f) refl
+      by_width (inr k) (inr n) = let e : s.0 ≡ x = omega (arith, k, l) in let f : s.1 ≡ y = omega (arith, n, m) in
+          rw (e, f) refl
 
-  among_by : (a h : ℕ) (steps : List (ℕ × ℕ)) → h ≤ written_container instance 1 → AreSteps a h steps → (x y : ℕ) → IsLeastSize instance x y → SomeBelow steps x y → IsAmong (x, y) steps
+  among_by : (a h : ℕ) (steps : List (ℕ × ℕ)) → h ≤ written_container instance 1 → AreSteps a h steps → (x y : ℕ)
+      → IsLeastSize instance x y → SomeBelow steps x y → IsAmong (x, y) steps
   among_by a h [] l steps x y least b = absurd b
   among_by a h (s ∷ steps) l (one, more) x y least (inl b) = inl (same_pair s x y (step_reached a h s l one) least b)
   among_by a h (s ∷ steps) l (one, more) x y least (inr b) =
       inr (among_by s.0 (s.1 - 1) steps (let t = one.to in omega (arith, t, l)) more x y least b)
 
   -- below a point nothing is reached at its width
-  none_lower : (a h : ℕ) (steps : List (ℕ × ℕ)) → AreSteps a h steps → 1 ≤ a → a ≤ written_container instance 0 → ¬ IsReached instance a h
+  none_lower : (a h : ℕ) (steps : List (ℕ × ℕ)) → AreSteps a h steps → 1 ≤ a → a ≤ written_container instance 0
+      → ¬ IsReached instance a h
   none_lower a h [] closed l m r = closed_none complete a h a h closed r (omega arith) (within complete)
     where
       within : (c : Bool) → a ≤ reach instance c a []
@@ -131,9 +141,11 @@ module _ (instance : PlainInstance) (complete : Bool) where
     where
       go : (s.0 ≡ 1) ⊎ (¬ Fits (with_container instance (s.0 - 1) h)) → ⊥
       go (inl e) = let k = one.rising in omega (arith, e, k, l)
-      go (inr none) = none (fits_wider instance a h (s.0 - 1) h (let k = one.rising in omega (arith, k)) (omega arith) r.fits)
+      go (inr none) = none (fits_wider instance a h (s.0 - 1) h (let k = one.rising in omega (arith, k))
+          (omega arith) r.fits)
 
-  all_least : (a h : ℕ) (steps : List (ℕ × ℕ)) → h ≤ written_container instance 1 → AreSteps a h steps → AllByRecursion (λ s. IsLeastSize instance s.0 s.1) steps
+  all_least : (a h : ℕ) (steps : List (ℕ × ℕ)) → h ≤ written_container instance 1 → AreSteps a h steps
+      → AllByRecursion (λ s. IsLeastSize instance s.0 s.1) steps
   all_least a h [] l closed = tt
   all_least a h (s ∷ steps) l (one, more) = (
     record {
@@ -148,7 +160,8 @@ module _ (instance : PlainInstance) (complete : Bool) where
       narrow r (inl e) = let f = r.width_from in omega (arith, e, f)
       narrow r (inr none) = none (fits_wider instance (s.0 - 1) s.1 (s.0 - 1) h (omega arith) one.to r.fits)
 
-  all_above : (a b h : ℕ) (steps : List (ℕ × ℕ)) → a ≤ b → AreSteps b h steps → AllByRecursion (λ u. a < u) (map (λ s. s.0) steps)
+  all_above : (a b h : ℕ) (steps : List (ℕ × ℕ)) → a ≤ b → AreSteps b h steps
+      → AllByRecursion (λ u. a < u) (map (λ s. s.0) steps)
   all_above a b h [] l closed = tt
   all_above a b h (s ∷ steps) l (one, more) = (
     (let k = one.rising in omega (arith, k, l)),
@@ -157,14 +170,17 @@ module _ (instance : PlainInstance) (complete : Bool) where
 
   all_rising : (a h : ℕ) (steps : List (ℕ × ℕ)) → AreSteps a h steps → AreRising (map (λ s. s.0) steps)
   all_rising a h [] closed = tt
-  all_rising a h (s ∷ steps) (one, more) = (all_above s.0 s.0 (s.1 - 1) steps (omega arith) more, all_rising s.0 (s.1 - 1) steps more)
+  all_rising a h (s ∷ steps) (one, more) =
+      (all_above s.0 s.0 (s.1 - 1) steps (omega arith) more, all_rising s.0 (s.1 - 1) steps more)
 
-  all_there : (steps : List (ℕ × ℕ)) → AreSteps 0 (written_container instance 1) steps → (x y : ℕ) → IsLeastSize instance x y → x ≤ reach instance complete 0 steps → Contains steps (x, y)
+  all_there : (steps : List (ℕ × ℕ)) → AreSteps 0 (written_container instance 1) steps → (x y : ℕ)
+      → IsLeastSize instance x y → x ≤ reach instance complete 0 steps → Contains steps (x, y)
   all_there steps are x y least l =
       among_contains (x, y) steps (among_by 0 (written_container instance 1) steps (omega arith) are x y least
       (some_below 0 (written_container instance 1) steps are x y least.reached least.reached.height_to l))
 
-pub steps_claim : (instance : PlainInstance) (complete : Bool) (steps : List (ℕ × ℕ)) → AreSteps instance complete 0 (written_container instance 1) steps → IsClaimed instance complete steps
+pub steps_claim : (instance : PlainInstance) (complete : Bool) (steps : List (ℕ × ℕ))
+    → AreSteps instance complete 0 (written_container instance 1) steps → IsClaimed instance complete steps
 steps_claim instance true steps are = record {
   least = all_least instance true 0 (written_container instance 1) steps (omega arith) are;
   complete = (λ x y least. all_there instance true steps are x y least least.reached.width_to);

@@ -9,7 +9,8 @@ use Rattle.front_terms.specs.Verdicts.{front_verdict, points_named}
 
 -- what fits a container fits each that is at least as wide and as high
 abbrev pub SizesAreMonotone : Type 0
-SizesAreMonotone = (instance : PlainInstance) (a b x y : ℕ) → a ≤ x → b ≤ y → Fits (with_container instance a b) → Fits (with_container instance x y)
+SizesAreMonotone = (instance : PlainInstance) (a b x y : ℕ) → a ≤ x → b ≤ y → Fits (with_container instance a b)
+    → Fits (with_container instance x y)
 
 -- The points of lines that are good are as many as are announced, and they are what they claim to
 -- be: the front, or its part up to the last of them.
@@ -18,5 +19,6 @@ pub record IsTrueFront (instance : PlainInstance) (complete : Bool) (points : �
   pub claim : IsClaimed instance complete (points_named lines)
 
 abbrev pub GoodLinesAreTrue : Type 0
-GoodLinesAreTrue = (instance : PlainInstance) (complete : Bool) (points : ℕ) (lines : List PlainLine) → IsInternalInstance instance → dims instance ≡ 2
+GoodLinesAreTrue = (instance : PlainInstance) (complete : Bool) (points : ℕ) (lines : List PlainLine)
+    → IsInternalInstance instance → dims instance ≡ 2
     → front_verdict instance complete points lines ≡ Good → IsTrueFront instance complete points lines

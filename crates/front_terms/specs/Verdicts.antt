@@ -4,7 +4,8 @@ use Rattle.packing_terms.specs.Packing.{PlainInstance}
 use Rattle.front_terms.specs.declared.answers.FrontReason.{FrontReason}
 use Rattle.front_terms.specs.declared.answers.FrontVerdict.{FrontVerdict}
 use Rattle.front_terms.specs.declared.answers.FrontVerdict.TheVariants.{Good, Short, Refused}
-use Rattle.front_terms.specs.Lines.{PlainLine, CornerAt, PointAt, PlaceAt, TreeToken, FrontStage, front_lines_after, is_whole_front, announced}
+use Rattle.front_terms.specs.Lines.{PlainLine, CornerAt, PointAt, PlaceAt, TreeToken, FrontStage, front_lines_after}
+use Rattle.front_terms.specs.Lines.{is_whole_front, announced}
 
 -- what is answered, by what the lines leave
 abbrev pub verdict_by : Bool → Result FrontStage (ℕ × FrontReason) → FrontVerdict
@@ -13,7 +14,8 @@ verdict_by complete (Err refusal) = Refused refusal.0 refusal.1
 
 -- the verdict on lines where so many points are announced
 abbrev pub front_verdict : PlainInstance → Bool → ℕ → List PlainLine → FrontVerdict
-front_verdict instance complete points lines = verdict_by complete (front_lines_after instance complete 0 (announced points) lines)
+front_verdict instance complete points lines =
+    verdict_by complete (front_lines_after instance complete 0 (announced points) lines)
 
 -- the points that lines name
 abbrev pub points_named : List PlainLine → List (ℕ × ℕ)

@@ -4,7 +4,7 @@ use std::alloc::Global;
 use std::test::Fail;
 
 // Two boxes of 2 by 1, in a container of 4 by 4.
-pub fn pair(alloc: Global) -> Result<Instance, Fail> {
+pub(crate) fn pair(alloc: Global) -> Result<Instance, Fail> {
     let mut boxes = Vec::new(alloc);
     for _ in 0..2 {
         boxes.push(BoxItem {

@@ -7,18 +7,27 @@ use Rattle.verdict_terms.specs.Reasons.{form, range}
 use Rattle.front_verdict_terms.specs.Verdicts.{front_document_verdict}
 
 abbrev pair : PlainInstance
-pair = record { container = 4 ∷ 4 ∷ []; kerfs = 0 ∷ 0 ∷ []; boxes = record { sides = 2 ∷ 1 ∷ []; value = 1 } ∷ record { sides = 2 ∷ 1 ∷ []; value = 1 } ∷ [] }
+pair = record {
+  container = 4 ∷ 4 ∷ [];
+  kerfs = 0 ∷ 0 ∷ [];
+  boxes = record { sides = 2 ∷ 1 ∷ []; value = 1 }
+      ∷ record { sides = 2 ∷ 1 ∷ []; value = 1 } ∷ [];
+}
 
-row_4 : front_document_verdict (codes "front\nformat 1\ncontainer 4 4\nbox 2 1\nbox 2 1\nresult front 2\ncorner 1 4\nt 1 1\npoint 2 2\nplace 0 0\nplace 0 1\ncorner 3 1\nx\npoint 4 1\nplace 0 0\nplace 2 0\nend\n")
+row_4 : front_document_verdict
+    (codes "front\nformat 1\ncontainer 4 4\nbox 2 1\nbox 2 1\nresult front 2\ncorner 1 4\nt 1 1\npoint 2 2\nplace 0 0\nplace 0 1\ncorner 3 1\nx\npoint 4 1\nplace 0 0\nplace 2 0\nend\n")
     ≡ Ok (record { instance = pair; claim = record { complete = true; points = 2 } })
 unfolding front_document_verdict number_of same_bytes token_of
 row_4 = refl
 
-row_5 : front_document_verdict (codes "front\nformat 1\ncontainer 4 4\nbox 2 1\nbox 2 1\nresult front 2\ncorner 1 4\nt 1 1\npoint 2 2\nplace 0 0\nplace 0 1\ncorner 2 1\nx\npoint 4 1\nplace 0 0\nplace 2 0\nend\n")
+row_5 : front_document_verdict
+    (codes "front\nformat 1\ncontainer 4 4\nbox 2 1\nbox 2 1\nresult front 2\ncorner 1 4\nt 1 1\npoint 2 2\nplace 0 0\nplace 0 1\ncorner 2 1\nx\npoint 4 1\nplace 0 0\nplace 2 0\nend\n")
     ≡ Err (record { line = 14; reason = range })
 unfolding front_document_verdict number_of same_bytes token_of
 row_5 = refl
 
-solid_has_no_front : front_document_verdict (codes "front\nformat 1\ncontainer 2 2 2\nbox 1 1 1\nresult front 1\npoint 1 1\nend\n") ≡ Err (record { line = 5; reason = form })
+solid_has_no_front : front_document_verdict
+    (codes "front\nformat 1\ncontainer 2 2 2\nbox 1 1 1\nresult front 1\npoint 1 1\nend\n")
+    ≡ Err (record { line = 5; reason = form })
 unfolding front_document_verdict number_of same_bytes token_of
 solid_has_no_front = refl

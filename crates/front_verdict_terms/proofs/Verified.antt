@@ -1,5 +1,6 @@
 -- What is verified of a document of a front is true of its instance.
-use Rattle.std.proofs.Common.{◌≡◌, ℕ, suc, ◌+◌, refl, sym, ap, ◌∙◌, subst, Bool, true, false, cond, not, ◌&&◌, List, [], ◌∷◌, length, Option, Some, None, Result, Ok, Err}
+use Rattle.std.proofs.Common.{◌≡◌, ℕ, suc, ◌+◌, refl, sym, ap, ◌∙◌, subst, Bool, true, false, cond, not, ◌&&◌, List, []}
+use Rattle.std.proofs.Common.{◌∷◌, length, Option, Some, None, Result, Ok, Err}
 use Rattle.std.specs.Prelude.{◌==◌, nat_le, codes}
 use Rattle.std.proofs.lemmas.Bool.{eqb-true}
 use Rattle.packing_terms.specs.Packing.{PlainInstance, dims}
@@ -20,48 +21,62 @@ use Rattle.front_terms.specs.Lines.{PlainLine, FrontStage, front_line, is_whole_
 use Rattle.front_terms.specs.Verdicts.{points_named}
 use Rattle.front_terms.proofs.Good.{AreGood, good_verdict}
 use Rattle.front_terms.proofs.Judged.{good_lines_are_true}
-use Rattle.front_verdict_terms.specs.Verdicts.{FrontClaim, FrontRead, DocumentStage, Opening, Reading, Fronting, Ended, front_claim, front_result_line, line_named, placed_in_range, told, named_line, early_reason, fronting_line, front_reading_line, front_filled_line, front_stage_after, front_at_end, read_front_lines, front_document_verdict}
+use Rattle.front_verdict_terms.specs.Verdicts.{FrontClaim, FrontRead, DocumentStage, Opening, Reading, Fronting, Ended}
+use Rattle.front_verdict_terms.specs.Verdicts.{front_claim, front_result_line, line_named, placed_in_range, told}
+use Rattle.front_verdict_terms.specs.Verdicts.{named_line, early_reason, fronting_line, front_reading_line}
+use Rattle.front_verdict_terms.specs.Verdicts.{front_filled_line, front_stage_after, front_at_end, read_front_lines}
+use Rattle.front_verdict_terms.specs.Verdicts.{front_document_verdict}
 use Rattle.front_verdict_terms.specs.Laws.{IsTrueFrontOf, VerifiedFrontsAreTrue}
 
 -- a test that is required held
-pub required : {A : Type 0} (b : Bool) (reason : Reason) (r : Result A Reason) (x : A) → require b reason r ≡ Ok x → (b ≡ true) × (r ≡ Ok x)
+pub required : {A : Type 0} (b : Bool) (reason : Reason) (r : Result A Reason) (x : A) → require b reason r ≡ Ok x
+    → (b ≡ true) × (r ≡ Ok x)
 required true reason r x e = (refl, e)
 required false reason r x e = absurd (cc (e))
 
-pub bound : {A B E : Type 0} (r : Result A E) (f : A → Result B E) (y : B) → (r >>= f) ≡ Ok y → (x : A) × (r ≡ Ok x) × (f x ≡ Ok y)
+pub bound : {A B E : Type 0} (r : Result A E) (f : A → Result B E) (y : B) → (r >>= f) ≡ Ok y
+    → (x : A) × (r ≡ Ok x) × (f x ≡ Ok y)
 bound (Ok x) f y e = (x, refl, e)
 bound (Err z) f y e = absurd (cc (e))
 
 -- a line is taken, and the rest is read from there
-pub record IsTaken (stage : DocumentStage) (n : ℕ) (line : List ℕ) (lines : List (List ℕ)) (r : FrontRead) : Type 0 where
+pub record IsTaken (stage : DocumentStage) (n : ℕ) (line : List ℕ) (lines : List (List ℕ)) (r : FrontRead) :
+    Type 0 where
   pub next : DocumentStage
   pub step : front_stage_after stage (line_of line) ≡ Ok next
   pub rest : read_front_lines next (n + 1) lines ≡ Ok r
 
-taken : (stage : DocumentStage) (n : ℕ) (line : List ℕ) (lines : List (List ℕ)) (r : FrontRead) → read_front_lines stage n (line ∷ lines) ≡ Ok r → IsTaken stage n line lines r
+taken : (stage : DocumentStage) (n : ℕ) (line : List ℕ) (lines : List (List ℕ)) (r : FrontRead)
+    → read_front_lines stage n (line ∷ lines) ≡ Ok r → IsTaken stage n line lines r
 taken stage n line lines r e = go (front_stage_after stage (line_of line)) refl e
   where
-    go : (o : Result DocumentStage Reason) → front_stage_after stage (line_of line) ≡ o → (document_at_line (n + 1) o >>= λ next. read_front_lines next (n + 1) lines) ≡ Ok r
+    go : (o : Result DocumentStage Reason) → front_stage_after stage (line_of line) ≡ o
+        → (document_at_line (n + 1) o >>= λ next. read_front_lines next (n + 1) lines) ≡ Ok r
         → IsTaken stage n line lines r
     go (Ok next) is k = record { next = next; step = is; rest = k }
     go (Err reason) is k = absurd (cc (k))
 
 -- a line is blank and skipped, or filled
-filled : (stage next : DocumentStage) (line : Line) → front_stage_after stage line ≡ Ok next → (P : Type 0) → (stage ≡ next → P) → (front_filled_line stage line ≡ Ok next → P) → P
+filled : (stage next : DocumentStage) (line : Line) → front_stage_after stage line ≡ Ok next → (P : Type 0)
+    → (stage ≡ next → P) → (front_filled_line stage line ≡ Ok next → P) → P
 filled stage next line e P skip take = go (is_blank line) e
   where
-    go : (b : Bool) → ◌≡◌ {A = Result DocumentStage Reason} (elim b [ true ↦ Ok stage | false ↦ front_filled_line stage line ]) (Ok next) → P
+    go : (b : Bool) → ◌≡◌ {A = Result DocumentStage Reason}
+        (elim b [ true ↦ Ok stage | false ↦ front_filled_line stage line ]) (Ok next) → P
     go true k = skip (cc (k))
     go false k = take k
 
 module _ (instance : PlainInstance) (claim : FrontClaim) where
   -- behind `end` nothing changes
-  ended_read : (lines : List (List ℕ)) (n : ℕ) (r : FrontRead) → read_front_lines (Ended instance claim) n lines ≡ Ok r → record { instance = instance; claim = claim } ≡ r
+  ended_read : (lines : List (List ℕ)) (n : ℕ) (r : FrontRead) → read_front_lines (Ended instance claim) n lines ≡ Ok r
+      → record { instance = instance; claim = claim } ≡ r
   ended_read [] n r e = cc (e)
   ended_read (line ∷ lines) n r e =
       let t = taken (Ended instance claim) n line lines r e in
       filled (Ended instance claim) t.next (line_of line) t.step (record { instance = instance; claim = claim } ≡ r)
-      (λ same. ended_read lines (n + 1) r (subst (λ (s : DocumentStage). read_front_lines s (n + 1) lines ≡ Ok r) (sym same) t.rest)) (λ k. absurd (cc (k)))
+      (λ same. ended_read lines (n + 1) r
+      (subst (λ (s : DocumentStage). read_front_lines s (n + 1) lines ≡ Ok r) (sym same) t.rest))
+      (λ k. absurd (cc (k)))
 
   -- the lines of the front that are read, and what is read
   pub record IsFrontRead (s : FrontStage) (r : FrontRead) : Type 0 where
@@ -69,7 +84,8 @@ module _ (instance : PlainInstance) (claim : FrontClaim) where
     pub good : AreGood instance claim.complete s lines
     pub are : record { instance = instance; claim = claim } ≡ r
 
-  named_read : (s : FrontStage) (line : Option PlainLine) (next : DocumentStage) (r : FrontRead) → named_line instance claim s line ≡ Ok next
+  named_read : (s : FrontStage) (line : Option PlainLine) (next : DocumentStage) (r : FrontRead)
+      → named_line instance claim s line ≡ Ok next
       → ((more : FrontStage) → Fronting instance claim more ≡ next → IsFrontRead more r) → IsFrontRead s r
   named_read s None next r e later = absurd (cc (e))
   named_read s (Some line) next r e later = go (front_line instance claim.complete s line) refl ((required _ _ _ _ e).1)
@@ -81,76 +97,107 @@ module _ (instance : PlainInstance) (claim : FrontClaim) where
           record { lines = line ∷ read.lines; good = (more, is, read.good); are = read.are }
       go (Err reason) is k = absurd (cc (k))
 
-  fronting_read : (lines : List (List ℕ)) (n : ℕ) (s : FrontStage) (r : FrontRead) → read_front_lines (Fronting instance claim s) n lines ≡ Ok r → IsFrontRead s r
+  fronting_read : (lines : List (List ℕ)) (n : ℕ) (s : FrontStage) (r : FrontRead)
+      → read_front_lines (Fronting instance claim s) n lines ≡ Ok r → IsFrontRead s r
   fronting_read [] n s r e = absurd (cc (e))
   fronting_read (line ∷ lines) n s r e =
       let t = taken (Fronting instance claim s) n line lines r e in
       filled (Fronting instance claim s) t.next (line_of line) t.step (IsFrontRead s r)
-      (λ same. fronting_read lines (n + 1) s r (subst (λ (x : DocumentStage). read_front_lines x (n + 1) lines ≡ Ok r) (sym same) t.rest))
-      (λ k. by_words t.next t.rest (is_word (codes "end") (line_of line).words) ((required _ _ _ _ k).1) (λ more h. fronting_read lines (n + 1) more r h))
+      (λ same. fronting_read lines (n + 1) s r
+      (subst (λ (x : DocumentStage). read_front_lines x (n + 1) lines ≡ Ok r) (sym same) t.rest))
+      (λ k. by_words t.next t.rest (is_word (codes "end") (line_of line).words) ((required _ _ _ _ k).1)
+      (λ more h. fronting_read lines (n + 1) more r h))
     where
       by_words : (next : DocumentStage) → read_front_lines next (n + 1) lines ≡ Ok r → (b : Bool)
-          → cond b (require (is_whole_front claim.complete s) (early_reason s.part) (Ok (Ended instance claim))) (named_line instance claim s (line_named (line_of line).words)) ≡ Ok next
-          → ((more : FrontStage) → read_front_lines (Fronting instance claim more) (n + 1) lines ≡ Ok r → IsFrontRead more r) → IsFrontRead s r
+          → cond b (require (is_whole_front claim.complete s) (early_reason s.part) (Ok (Ended instance claim)))
+          (named_line instance claim s (line_named (line_of line).words)) ≡ Ok next
+          → ((more : FrontStage) → read_front_lines (Fronting instance claim more) (n + 1) lines ≡ Ok r
+          → IsFrontRead more r) → IsFrontRead s r
       by_words next rest true k later =
           let q = required _ _ _ _ k in
           let same : Ended instance claim ≡ next = cc (q.1) in
-          record { lines = []; good = q.0; are = ended_read lines (n + 1) r (subst (λ (x : DocumentStage). read_front_lines x (n + 1) lines ≡ Ok r) (sym same) rest) }
+          record {
+            lines = [];
+            good = q.0;
+            are = ended_read lines (n + 1) r
+                (subst (λ (x : DocumentStage). read_front_lines x (n + 1) lines ≡ Ok r) (sym same) rest);
+          }
       by_words next rest false k later =
           named_read s (line_named (line_of line).words) next r k
-          (λ more same. later more (subst (λ (x : DocumentStage). read_front_lines x (n + 1) lines ≡ Ok r) (sym same) rest))
+          (λ more same. later more (subst (λ (x : DocumentStage). read_front_lines x (n + 1) lines ≡ Ok r)
+          (sym same) rest))
 
 -- what is read is true
 abbrev IsTrueRead : FrontRead → Type 0
 IsTrueRead r = IsInstance r.instance × (dims r.instance ≡ 2) × IsTrueFrontOf r.instance r.claim
 
-front_true : (instance : PlainInstance) (claim : FrontClaim) (r : FrontRead) → IsInstance instance → dims instance ≡ 2 → IsFrontRead instance claim (announced claim.points) r → IsTrueRead r
+front_true : (instance : PlainInstance) (claim : FrontClaim) (r : FrontRead) → IsInstance instance → dims instance ≡ 2
+    → IsFrontRead instance claim (announced claim.points) r → IsTrueRead r
 front_true instance claim r limits plane read =
-    let good = good_lines_are_true instance claim.complete claim.points read.lines (written_internal instance limits) plane (good_verdict instance claim.complete claim.points read.lines read.good) in
-    subst IsTrueRead read.are (limits, plane, record { sizes = points_named read.lines; count = good.count; claimed = good.claim })
+    let good = good_lines_are_true instance claim.complete claim.points read.lines (written_internal instance limits)
+    plane (good_verdict instance claim.complete claim.points read.lines read.good) in
+    subst IsTrueRead read.are (
+      limits,
+      plane,
+      record { sizes = points_named read.lines; count = good.count; claimed = good.claim },
+    )
 
 end_instance : (e : Result PlainInstance TextFault) (i : PlainInstance) → end_of_parts e ≡ Ok i → e ≡ Ok i
 end_instance (Ok j) i k = cc (k)
 end_instance (Err fault) i k = absurd (cc (k))
 
-result_read : (parts : Parts) (words : List (List ℕ)) (next : DocumentStage) (lines : List (List ℕ)) (n : ℕ) (r : FrontRead) → IsWithinLimits parts → front_result_line parts words ≡ Ok next
+result_read : (parts : Parts) (words : List (List ℕ)) (next : DocumentStage) (lines : List (List ℕ)) (n : ℕ)
+    (r : FrontRead) → IsWithinLimits parts → front_result_line parts words ≡ Ok next
     → read_front_lines next n lines ≡ Ok r → IsTrueRead r
 result_read parts words next lines n r good e rest =
-    let i = bound (end_of_parts (at_end parts 0)) (λ instance. require (dims instance == 2) form (front_claim words >>= λ claim. Ok (Fronting instance claim (announced claim.points)))) next e in
-    let q = required (dims i.0 == 2) form (front_claim words >>= λ claim. Ok (Fronting i.0 claim (announced claim.points))) next i.2 in
+    let i = bound (end_of_parts (at_end parts 0))
+    (λ instance. require (dims instance == 2) form
+    (front_claim words >>= λ claim. Ok (Fronting instance claim (announced claim.points)))) next e in
+    let q = required (dims i.0 == 2) form
+    (front_claim words >>= λ claim. Ok (Fronting i.0 claim (announced claim.points))) next i.2 in
     let k = bound (front_claim words) (λ claim. Ok (Fronting i.0 claim (announced claim.points))) next q.1 in
     let same : Fronting i.0 k.0 (announced k.0.points) ≡ next = cc (k.2) in
     front_true i.0 k.0 r (parts_limits parts i.0 0 good (end_instance (at_end parts 0) i.0 i.1)) (eqb-true _ _ q.0)
-    (fronting_read i.0 k.0 lines n (announced k.0.points) r (subst (λ (s : DocumentStage). read_front_lines s n lines ≡ Ok r) (sym same) rest))
+    (fronting_read i.0 k.0 lines n (announced k.0.points) r
+    (subst (λ (s : DocumentStage). read_front_lines s n lines ≡ Ok r) (sym same) rest))
 
-line_taken : (parts : Parts) (line : Line) (next : DocumentStage) (r : Result Parts ℕ) → add_line parts line ≡ r → (text_fault r >>= λ more. Ok (Reading more)) ≡ Ok next
+line_taken : (parts : Parts) (line : Line) (next : DocumentStage) (r : Result Parts ℕ) → add_line parts line ≡ r
+    → (text_fault r >>= λ more. Ok (Reading more)) ≡ Ok next
     → (more : Parts) × (add_line parts line ≡ Ok more) × (Reading more ≡ next)
 line_taken parts line next (Ok more) is k = (more, is, cc (k))
 line_taken parts line next (Err code) is k = absurd (cc (k))
 
-reading_read : (lines : List (List ℕ)) (n : ℕ) (parts : Parts) (r : FrontRead) → IsWithinLimits parts → read_front_lines (Reading parts) n lines ≡ Ok r → IsTrueRead r
+reading_read : (lines : List (List ℕ)) (n : ℕ) (parts : Parts) (r : FrontRead) → IsWithinLimits parts
+    → read_front_lines (Reading parts) n lines ≡ Ok r → IsTrueRead r
 reading_read [] n parts r good e = absurd (cc (e))
 reading_read (line ∷ lines) n parts r good e =
     let t = taken (Reading parts) n line lines r e in
     filled (Reading parts) t.next (line_of line) t.step (IsTrueRead r)
-    (λ same. reading_read lines (n + 1) parts r good (subst (λ (x : DocumentStage). read_front_lines x (n + 1) lines ≡ Ok r) (sym same) t.rest))
+    (λ same. reading_read lines (n + 1) parts r good
+    (subst (λ (x : DocumentStage). read_front_lines x (n + 1) lines ≡ Ok r) (sym same) t.rest))
     (λ k. by_kind t.next t.rest (is_result (line_of line)) k (λ more h m. reading_read lines (n + 1) more r h m))
   where
-    by_kind : (next : DocumentStage) → read_front_lines next (n + 1) lines ≡ Ok r → (b : Bool) → front_reading_line b parts (line_of line) ≡ Ok next
-        → ((more : Parts) → IsWithinLimits more → read_front_lines (Reading more) (n + 1) lines ≡ Ok r → IsTrueRead r) → IsTrueRead r
+    by_kind : (next : DocumentStage) → read_front_lines next (n + 1) lines ≡ Ok r → (b : Bool)
+        → front_reading_line b parts (line_of line) ≡ Ok next
+        → ((more : Parts) → IsWithinLimits more → read_front_lines (Reading more) (n + 1) lines ≡ Ok r → IsTrueRead r)
+        → IsTrueRead r
     by_kind next rest true k later = result_read parts (rest_of (line_of line).words) next lines (n + 1) r good k rest
     by_kind next rest false k later =
         let m = line_taken parts (line_of line) next (add_line parts (line_of line)) refl k in
-        later m.0 (line_good parts m.0 (line_of line) good m.1) (subst (λ (x : DocumentStage). read_front_lines x (n + 1) lines ≡ Ok r) (sym m.2) rest)
+        later m.0 (line_good parts m.0 (line_of line) good m.1)
+        (subst (λ (x : DocumentStage). read_front_lines x (n + 1) lines ≡ Ok r) (sym m.2) rest)
 
 opening_read : (lines : List (List ℕ)) (n : ℕ) (r : FrontRead) → read_front_lines Opening n lines ≡ Ok r → IsTrueRead r
 opening_read [] n r e = absurd (cc (e))
 opening_read (line ∷ lines) n r e =
     let t = taken Opening n line lines r e in
     filled Opening t.next (line_of line) t.step (IsTrueRead r)
-    (λ same. opening_read lines (n + 1) r (subst (λ (x : DocumentStage). read_front_lines x (n + 1) lines ≡ Ok r) (sym same) t.rest))
-    (λ k. (let q = required (not (line_of line).bad && is_word (codes "front") (line_of line).words) form (Ok (Reading no_parts)) t.next k in let same : Reading no_parts ≡ t.next = cc (q.1) in
-    reading_read lines (n + 1) no_parts r good_start (subst (λ (x : DocumentStage). read_front_lines x (n + 1) lines ≡ Ok r) (sym same) t.rest)))
+    (λ same. opening_read lines (n + 1) r
+    (subst (λ (x : DocumentStage). read_front_lines x (n + 1) lines ≡ Ok r) (sym same) t.rest))
+    (λ k. (let q = required (not (line_of line).bad && is_word (codes "front") (line_of line).words) form
+    (Ok (Reading no_parts)) t.next k in let same : Reading no_parts ≡ t.next = cc (q.1) in
+    reading_read lines (n + 1) no_parts r good_start
+    (subst (λ (x : DocumentStage). read_front_lines x (n + 1) lines ≡ Ok r) (sym same) t.rest)))
 
 pub verified_fronts_are_true : VerifiedFrontsAreTrue
 unfolding front_document_verdict

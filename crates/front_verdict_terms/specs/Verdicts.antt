@@ -1,6 +1,7 @@
 -- The verdict on the document of a front: its claim where it is verified, else the first refused
 -- line, counted from 1, with the reason.
-use Rattle.std.specs.Prelude.{ℕ, suc, ◌+◌, ◌==◌, ◌&&◌, not, cond, Bool, true, false, List, [], ◌∷◌, ◌++◌, length, Option, Some, None, Result, Ok, Err, nat_le, codes}
+use Rattle.std.specs.Prelude.{ℕ, suc, ◌+◌, ◌==◌, ◌&&◌, not, cond, Bool, true, false, List, [], ◌∷◌, ◌++◌, length}
+use Rattle.std.specs.Prelude.{Option, Some, None, Result, Ok, Err, nat_le, codes}
 use Rattle.std.specs.Fmt.{decimal}
 use Rattle.packing_terms.specs.Packing.{PlainInstance, dims}
 use Rattle.packing_terms.specs.Results.{◌>>=◌}
@@ -19,7 +20,8 @@ use Rattle.verdict_terms.specs.Stages.{is_word, text_fault, end_of_parts, is_res
 use Rattle.packing_terms.specs.Tokens.{PlainToken}
 use Rattle.front_terms.specs.declared.answers.FrontReason.{FrontReason}
 use Rattle.front_terms.specs.declared.answers.FrontReason.TheVariants.{Tree, Places}
-use Rattle.front_terms.specs.Lines.{PlainLine, CornerAt, PointAt, PlaceAt, TreeToken, FrontPart, Begun, Cornered, Placing, Pointed, FrontStage, front_line, is_whole_front, announced}
+use Rattle.front_terms.specs.Lines.{PlainLine, CornerAt, PointAt, PlaceAt, TreeToken, FrontPart, Begun, Cornered}
+use Rattle.front_terms.specs.Lines.{Placing, Pointed, FrontStage, front_line, is_whole_front, announced}
 
 -- the greatest number of points that a result line announces
 abbrev pub most_points : ℕ
@@ -48,11 +50,13 @@ pub record FrontRead : Type 0 where
 
 -- the result line: the instance first, which has two dimensions, then the form, then the range
 abbrev pub claim_by : Bool → List ℕ → Result FrontClaim Reason
-claim_by complete word = wanted word >>= λ n. require (nat_le n most_points) range (Ok (record { complete = complete; points = n }))
+claim_by complete word = wanted word
+    >>= λ n. require (nat_le n most_points) range (Ok (record { complete = complete; points = n }))
 
 abbrev pub front_claim : List (List ℕ) → Result FrontClaim Reason
 front_claim (key ∷ word ∷ []) =
-    cond (same_bytes key (codes "front")) (claim_by true word) (cond (same_bytes key (codes "partial")) (claim_by false word) (Err form))
+    cond (same_bytes key (codes "front")) (claim_by true word)
+    (cond (same_bytes key (codes "partial")) (claim_by false word) (Err form))
 front_claim _ = Err form
 
 abbrev pub front_result_line : Parts → List (List ℕ) → Result DocumentStage Reason
@@ -73,7 +77,8 @@ abbrev pub line_named : List (List ℕ) → Option PlainLine
 line_named words =
     cond (same_bytes (first_word words) (codes "corner")) (two_by (numbers_line (codes "corner") 2 words) CornerAt) (
     cond (same_bytes (first_word words) (codes "point")) (two_by (numbers_line (codes "point") 2 words) PointAt) (
-    cond (same_bytes (first_word words) (codes "place")) (two_by (numbers_line (codes "place") 2 words) (λ x y. PlaceAt (x ∷ y ∷ []))) (
+    cond (same_bytes (first_word words) (codes "place"))
+    (two_by (numbers_line (codes "place") 2 words) (λ x y. PlaceAt (x ∷ y ∷ []))) (
     token_by (token_of 2 words))))
 
 -- coordinates are in range, where places are wanted
@@ -95,7 +100,8 @@ told (Err reason) = Err (told_reason reason)
 abbrev pub named_line : PlainInstance → FrontClaim → FrontStage → Option PlainLine → Result DocumentStage Reason
 named_line instance claim s None = Err form
 named_line instance claim s (Some line) =
-    require (placed_in_range s.part line) range (told (front_line instance claim.complete s line) >>= λ next. Ok (Fronting instance claim next))
+    require (placed_in_range s.part line) range
+    (told (front_line instance claim.complete s line) >>= λ next. Ok (Fronting instance claim next))
 
 -- `end` is too early where a line of a tree is wanted, and has no place where another line is
 abbrev pub early_reason : FrontPart → Reason
@@ -104,7 +110,8 @@ early_reason part = form
 
 abbrev pub fronting_line : PlainInstance → FrontClaim → FrontStage → List (List ℕ) → Result DocumentStage Reason
 fronting_line instance claim s words =
-    cond (is_word (codes "end") words) (require (is_whole_front claim.complete s) (early_reason s.part) (Ok (Ended instance claim)))
+    cond (is_word (codes "end") words)
+    (require (is_whole_front claim.complete s) (early_reason s.part) (Ok (Ended instance claim)))
     (named_line instance claim s (line_named words))
 
 -- a line behind `front`, up to the result line
@@ -114,9 +121,11 @@ front_reading_line false parts line = text_fault (add_line parts line) >>= λ mo
 
 -- a line that isn't blank
 abbrev pub front_filled_line : DocumentStage → Line → Result DocumentStage Reason
-front_filled_line Opening line = require (not line.bad && is_word (codes "front") line.words) form (Ok (Reading no_parts))
+front_filled_line Opening line =
+    require (not line.bad && is_word (codes "front") line.words) form (Ok (Reading no_parts))
 front_filled_line (Reading parts) line = front_reading_line (is_result line) parts line
-front_filled_line (Fronting instance claim s) line = require (not line.bad) form (fronting_line instance claim s line.words)
+front_filled_line (Fronting instance claim s) line =
+    require (not line.bad) form (fronting_line instance claim s line.words)
 front_filled_line (Ended instance claim) line = Err after
 
 abbrev pub front_stage_after : DocumentStage → Line → Result DocumentStage Reason
@@ -129,7 +138,8 @@ front_at_end stage n = Err (record { line = n + 1; reason = TooShort })
 -- the lines after the first n
 abbrev pub read_front_lines : DocumentStage → ℕ → List (List ℕ) → Result FrontRead Refusal
 read_front_lines stage n [] = front_at_end stage n
-read_front_lines stage n (line ∷ lines) = document_at_line (n + 1) (front_stage_after stage (line_of line)) >>= λ next. read_front_lines next (n + 1) lines
+read_front_lines stage n (line ∷ lines) =
+    document_at_line (n + 1) (front_stage_after stage (line_of line)) >>= λ next. read_front_lines next (n + 1) lines
 
 -- the instance and the claim that is verified, or the first refusal
 unfoldable pub front_document_verdict : List ℕ → Result FrontRead Refusal

@@ -1,4 +1,5 @@
--- The walk of an instance: what is decided for a container is right, so its lines are good, and its points are the front.
+-- The walk of an instance: what is decided for a container is right, so its lines are good, and its
+-- points are the front.
 use Rattle.std.proofs.Common.{◌≡◌, ℕ, ◌-◌, ◌≤◌, subst, arith, Bool, true, false, if◌then◌else◌, ltb, List, [], length}
 use Rattle.std.specs.Prelude.{slice_index}
 use Rattle.packing_terms.specs.Packing.{PlainInstance, dims, written_container}
@@ -23,10 +24,12 @@ module _ (instance : PlainInstance) (limits : IsInternalInstance instance) (plan
   pub highest_small : written_container instance 1 ≤ most_height
   highest_small = subst (λ (d : ℕ). slice_index instance.container (d - 1) ≤ most_height) plane limits.container.last
 
-  right_told : (budget a b : ℕ) (v : Verdict) → IsRightUnder (with_container instance a b) [] v → IsRightSize instance a b (level_by (told budget v))
+  right_told : (budget a b : ℕ) (v : Verdict) → IsRightUnder (with_container instance a b) [] v
+      → IsRightSize instance a b (level_by (told budget v))
   right_told budget a b v h = go (ltb budget (count_of v)) v h
     where
-      go : (past : Bool) (w : Verdict) → IsRightUnder (with_container instance a b) [] w → IsRightSize instance a b (level_by (if past then Past else Decided w))
+      go : (past : Bool) (w : Verdict) → IsRightUnder (with_container instance a b) [] w
+          → IsRightSize instance a b (level_by (if past then Past else Decided w))
       go true w k = tt
       go false (Yes ns c) k = k
       go false (No ts c) k = k
@@ -34,15 +37,24 @@ module _ (instance : PlainInstance) (limits : IsInternalInstance instance) (plan
   pub right_sizes : (budget : ℕ) (scales : Bool) → AreRightSizes instance (size_answer instance budget scales)
   right_sizes budget scales a b l m n =
       right_told budget a b (outcome (class_tree (with_container instance a b) [] scales))
-      (class_tree_right (with_container instance a b) (internal_size instance limits plane a b l m (let s = highest_small in omega (arith, n, s))) [] tt scales)
+      (class_tree_right (with_container instance a b)
+      (internal_size instance limits plane a b l m (let s = highest_small in omega (arith, n, s))) [] tt scales)
 
-pub walks_are_good : (instance : PlainInstance) (budget : ℕ) (scales : Bool) → IsInternalInstance instance → dims instance ≡ 2
-    → front_verdict instance (front_walk instance budget scales).complete (length (front_walk instance budget scales).points) (front_lines (front_walk instance budget scales)) ≡ Good
-walks_are_good instance budget scales limits plane = walk_verdict instance limits plane (size_answer instance budget scales) (right_sizes instance limits plane budget scales)
+pub walks_are_good : (instance : PlainInstance) (budget : ℕ) (scales : Bool) → IsInternalInstance instance
+    → dims instance ≡ 2
+    → front_verdict instance (front_walk instance budget scales).complete
+    (length (front_walk instance budget scales).points) (front_lines (front_walk instance budget scales)) ≡ Good
+walks_are_good instance budget scales limits plane =
+    walk_verdict instance limits plane (size_answer instance budget scales)
+    (right_sizes instance limits plane budget scales)
 
-pub walks_are_fronts : (instance : PlainInstance) (budget : ℕ) (scales : Bool) → IsInternalInstance instance → dims instance ≡ 2
+pub walks_are_fronts : (instance : PlainInstance) (budget : ℕ) (scales : Bool) → IsInternalInstance instance
+    → dims instance ≡ 2
     → IsClaimed instance (front_walk instance budget scales).complete (sizes (front_walk instance budget scales).points)
 walks_are_fronts instance budget scales limits plane =
-    subst (λ (l : List (ℕ × ℕ)). IsClaimed instance (front_walk instance budget scales).complete l) (front_names (front_walk instance budget scales))
-    (good_lines_are_true instance (front_walk instance budget scales).complete (length (front_walk instance budget scales).points) (front_lines (front_walk instance budget scales)) limits plane
+    subst (λ (l : List (ℕ × ℕ)). IsClaimed instance (front_walk instance budget scales).complete l)
+    (front_names (front_walk instance budget scales))
+    (good_lines_are_true instance (front_walk instance budget scales).complete
+    (length (front_walk instance budget scales).points) (front_lines (front_walk instance budget scales))
+    limits plane
     (walks_are_good instance budget scales limits plane)).claim

@@ -20,14 +20,20 @@ abbrev pair : PlainInstance
 pair = record { container = 4 ∷ 4 ∷ []; kerfs = 0 ∷ 0 ∷ []; boxes = box 2 1 ∷ box 2 1 ∷ [] }
 
 plate_front : front_walk plate 1000000 true
-    ≡ record { complete = true; corners = record { width = 1; height = 10; tokens = TooLarge 1 1 ∷ [] } ∷ []; points = record { width = 2; height = 1; places = 0 ∷ 0 ∷ [] } ∷ [] }
+    ≡ record {
+      complete = true;
+      corners = record { width = 1; height = 10; tokens = TooLarge 1 1 ∷ [] } ∷ [];
+      points = record { width = 2; height = 1; places = 0 ∷ 0 ∷ [] } ∷ [];
+    }
 plate_front = refl
 
 pair_front : front_walk pair 1000000 true
     ≡ record {
       complete = true;
-      corners = record { width = 1; height = 4; tokens = TooLarge 1 1 ∷ [] } ∷ record { width = 3; height = 1; tokens = Rules ∷ [] } ∷ [];
-      points = record { width = 2; height = 2; places = 0 ∷ 0 ∷ 0 ∷ 1 ∷ [] } ∷ record { width = 4; height = 1; places = 0 ∷ 0 ∷ 2 ∷ 0 ∷ [] } ∷ [];
+      corners = record { width = 1; height = 4; tokens = TooLarge 1 1 ∷ [] }
+          ∷ record { width = 3; height = 1; tokens = Rules ∷ [] } ∷ [];
+      points = record { width = 2; height = 2; places = 0 ∷ 0 ∷ 0 ∷ 1 ∷ [] }
+          ∷ record { width = 4; height = 1; places = 0 ∷ 0 ∷ 2 ∷ 0 ∷ [] } ∷ [];
     }
 pair_front = refl
 
@@ -40,12 +46,15 @@ pair_good = refl
 
 -- a point behind a corner of another width
 abbrev first_point : List PlainLine → List PlainLine
-first_point rest = CornerAt 1 4 ∷ TreeToken (TooLarge 1 1) ∷ PointAt 2 2 ∷ PlaceAt (0 ∷ 0 ∷ []) ∷ PlaceAt (0 ∷ 1 ∷ []) ∷ rest
+first_point rest = CornerAt 1 4 ∷ TreeToken (TooLarge 1 1) ∷ PointAt 2 2 ∷ PlaceAt (0 ∷ 0 ∷ [])
+    ∷ PlaceAt (0 ∷ 1 ∷ []) ∷ rest
 
-wrong_corner : front_verdict pair true 2 (first_point (CornerAt 2 1 ∷ TreeToken Rules ∷ PointAt 4 1 ∷ [])) ≡ Refused 7 (Tree Range)
+wrong_corner : front_verdict pair true 2 (first_point (CornerAt 2 1 ∷ TreeToken Rules ∷ PointAt 4 1 ∷ []))
+    ≡ Refused 7 (Tree Range)
 wrong_corner = refl
 
-late_token : front_verdict pair true 2 (first_point (CornerAt 3 1 ∷ TreeToken Rules ∷ TreeToken Rules ∷ [])) ≡ Refused 7 (Tree After)
+late_token : front_verdict pair true 2 (first_point (CornerAt 3 1 ∷ TreeToken Rules ∷ TreeToken Rules ∷ []))
+    ≡ Refused 7 (Tree After)
 late_token = refl
 
 no_corner : front_verdict pair true 2 (first_point (PointAt 4 1 ∷ [])) ≡ Refused 5 (Tree Kind)

@@ -14,16 +14,25 @@ use Rattle.front_walks.specs.Walks.{levels_from, width_run, height_run, size_ans
 -- heights, or one of a later round.
 pub data IsSizeAsked (answer : ℕ → ℕ → PlainLevel) (most : ℕ) : ℕ → ℕ → List PlainToken → ℕ → ℕ → Type 0 where
   widest : {h r : ℕ} {ts : List PlainToken} → IsSizeAsked answer most h r ts most h
-  by_width : {h r w : ℕ} {ts : List PlainToken} {ps : List ℕ} → answer most h ≡ PlacedBy ps → IsLevelAsked (λ x. answer x h) (levels_from r ts most ps) w
+  by_width : {h r w : ℕ} {ts : List PlainToken} {ps : List ℕ} → answer most h ≡ PlacedBy ps
+      → IsLevelAsked (λ x. answer x h) (levels_from r ts most ps) w
       → IsSizeAsked answer most h r ts w h
-  by_height : {h r b : ℕ} {ts : List PlainToken} {ps : List ℕ} → answer most h ≡ PlacedBy ps → (width_run answer most h r ts ps).spent ≡ false
-      → IsLevelAsked (λ y. answer (width_run answer most h r ts ps).placed y) (levels_from 0 [] h (width_run answer most h r ts ps).numbers) b
+  by_height : {h r b : ℕ} {ts : List PlainToken} {ps : List ℕ} → answer most h ≡ PlacedBy ps
+      → (width_run answer most h r ts ps).spent ≡ false
+      → IsLevelAsked (λ y. answer (width_run answer most h r ts ps).placed y)
+      (levels_from 0 [] h (width_run answer most h r ts ps).numbers) b
       → IsSizeAsked answer most h r ts (width_run answer most h r ts ps).placed b
-  later : {h r w b : ℕ} {ts : List PlainToken} {ps : List ℕ} → answer most h ≡ PlacedBy ps → (width_run answer most h r ts ps).spent ≡ false
-      → (height_run answer most (width_run answer most h r ts ps).placed h (width_run answer most h r ts ps).numbers).spent ≡ false
-      → 1 ≤ (height_run answer most (width_run answer most h r ts ps).placed h (width_run answer most h r ts ps).numbers).refuted
-      → IsSizeAsked answer most (height_run answer most (width_run answer most h r ts ps).placed h (width_run answer most h r ts ps).numbers).refuted
-      (width_run answer most h r ts ps).placed (height_run answer most (width_run answer most h r ts ps).placed h (width_run answer most h r ts ps).numbers).tokens w b
+  later : {h r w b : ℕ} {ts : List PlainToken} {ps : List ℕ} → answer most h ≡ PlacedBy ps
+      → (width_run answer most h r ts ps).spent ≡ false
+      → (height_run answer most (width_run answer most h r ts ps).placed h
+      (width_run answer most h r ts ps).numbers).spent ≡ false
+      → 1 ≤ (height_run answer most (width_run answer most h r ts ps).placed h
+      (width_run answer most h r ts ps).numbers).refuted
+      → IsSizeAsked answer most (height_run answer most (width_run answer most h r ts ps).placed h
+      (width_run answer most h r ts ps).numbers).refuted
+      (width_run answer most h r ts ps).placed
+      (height_run answer most (width_run answer most h r ts ps).placed h
+      (width_run answer most h r ts ps).numbers).tokens w b
       → IsSizeAsked answer most h r ts w b
 
 -- a decision on the rest of the walk was spent
@@ -33,5 +42,6 @@ HasSpentSize answer most h r ts = (w : ℕ) × (b : ℕ) × IsSizeAsked answer m
 -- some container that the walk of an instance decides has more branchings than the budget
 abbrev pub HasLargeSize : PlainInstance → ℕ → Bool → Type 0
 HasLargeSize instance budget scales =
-    (w : ℕ) × (b : ℕ) × IsSizeAsked (size_answer instance budget scales) (written_container instance 0) (written_container instance 1) 0 [] w b
+    (w : ℕ) × (b : ℕ) × IsSizeAsked (size_answer instance budget scales) (written_container instance 0)
+    (written_container instance 1) 0 [] w b
     × (budget < count_of (outcome (class_tree (with_container instance w b) [] scales)))

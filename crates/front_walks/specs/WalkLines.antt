@@ -27,7 +27,8 @@ step_lines (c ∷ corners) (p ∷ points) = corner_lines c ++ (point_lines p ++ 
 -- the lines of a front: a first point of width 1 has no corner before it
 abbrev pub lines_of : List PlainCorner → List PlainPoint → List PlainLine
 lines_of corners [] = step_lines corners []
-lines_of corners (p ∷ points) = cond (p.width == 1) (point_lines p ++ step_lines corners points) (step_lines corners (p ∷ points))
+lines_of corners (p ∷ points) =
+    cond (p.width == 1) (point_lines p ++ step_lines corners points) (step_lines corners (p ∷ points))
 
 abbrev pub front_lines : PlainFront → List PlainLine
 front_lines front = lines_of front.corners front.points

@@ -2,7 +2,8 @@
 --
 --     (r, h) refuted     decided: is there a point at all?            one round
 --      |
---      |  ..  ?  ?  ?  (C, h)      the least width a at height h, then the least height b at width a; the next round is at height b - 1
+-- |  ..  ?  ?  ?  (C, h)      the least width a at height h, then the least height b at width a;
+-- the next round is at height b - 1
 use Rattle.std.specs.Prelude.{ℕ, zero, suc, Bool, true, false, List, [], ◌∷◌, ◌++◌, map}
 use Rattle.packing_terms.specs.Packing.{PlainInstance, written_container}
 use Rattle.packing_terms.specs.Tokens.{PlainToken}
@@ -67,7 +68,8 @@ levels_from refuted tokens placed numbers =
 module _ (answer : ℕ → ℕ → PlainLevel) (most : ℕ) where
   -- the widths at a height, from one that is refuted and the greatest one
   abbrev pub width_run : ℕ → ℕ → List PlainToken → List ℕ → PlainReached
-  width_run height refuted tokens places = run_levels (λ width. answer width height) (levels_from refuted tokens most places)
+  width_run height refuted tokens places =
+      run_levels (λ width. answer width height) (levels_from refuted tokens most places)
 
   -- the heights at a width, from 0 and one that is placed
   abbrev pub height_run : ℕ → ℕ → List ℕ → PlainReached
@@ -85,11 +87,13 @@ module _ (answer : ℕ → ℕ → PlainLevel) (most : ℕ) where
       (record { width = widths.placed; height = heights.placed; places = heights.numbers } ∷ [])
       (rest_by walk heights.refuted widths.placed heights.tokens)
 
-  abbrev pub round_by_heights : (ℕ → ℕ → List PlainToken → PlainFront) → ℕ → PlainReached → PlainReached → PlainFront → Bool → PlainFront
+  abbrev pub round_by_heights : (ℕ → ℕ → List PlainToken → PlainFront) → ℕ → PlainReached → PlainReached → PlainFront
+      → Bool → PlainFront
   round_by_heights walk height widths heights spent true = spent
   round_by_heights walk height widths heights spent false = round_found walk height widths heights
 
-  abbrev pub round_by_widths : (ℕ → ℕ → List PlainToken → PlainFront) → ℕ → PlainReached → PlainFront → Bool → PlainFront
+  abbrev pub round_by_widths : (ℕ → ℕ → List PlainToken → PlainFront) → ℕ → PlainReached → PlainFront → Bool
+      → PlainFront
   round_by_widths walk height widths spent true = spent
   round_by_widths walk height widths spent false =
       let heights = height_run widths.placed height widths.numbers in

@@ -1,5 +1,6 @@
 -- What the calls that read a line give.
-use Rattle.std.specs.Prelude.{ℕ, ◌+◌, ◌≡◌, Bool, true, replicate, List, ◌++◌, map, Option, Some, None, Result, Ok, Err, Vec}
+use Rattle.std.specs.Prelude.{ℕ, ◌+◌, ◌≡◌, Bool, true, replicate, List, ◌++◌, map, Option, Some, None, Result, Ok, Err}
+use Rattle.std.specs.Prelude.{Vec}
 use Rattle.std.specs.declared.alloc.Global.{Global}
 use Rattle.std.specs.Prelude.{◌⊎◌}
 use Rattle.smallvec.specs.SmallVec.{SmallVec}
@@ -41,8 +42,10 @@ parts_of format container has_kerf kerf boxes =
     record { format = format; container = container; has_kerf = has_kerf; kerfs = kerf; boxes = map plain_box boxes }
 
 -- a reader is its parts, or its error
-abbrev pub reader_view : ℕ → SmallVec ℕ → Bool → SmallVec ℕ → Vec BoxItem Global → Option ReadTextError → Result Parts ReadTextError
-reader_view format container has_kerf kerf boxes None = Ok (parts_of format container.items has_kerf kerf.items boxes.items)
+abbrev pub reader_view : ℕ → SmallVec ℕ → Bool → SmallVec ℕ → Vec BoxItem Global → Option ReadTextError
+    → Result Parts ReadTextError
+reader_view format container has_kerf kerf boxes None =
+    Ok (parts_of format container.items has_kerf kerf.items boxes.items)
 reader_view format container has_kerf kerf boxes (Some error) = Err error
 
 abbrev pub IsReaderWithinLimits : Result Parts ReadTextError → Type 0

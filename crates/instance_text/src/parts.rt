@@ -324,7 +324,7 @@ fn box_added(
 }
 
 /// What a line adds to these parts, or the code of its fault.
-pub fn read_line(
+pub(crate) fn read_line(
     alloc: Global,
     format: u32,
     container: &[u32],

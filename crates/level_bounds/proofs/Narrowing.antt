@@ -1,9 +1,11 @@
 -- Bounds stay bounds while they are narrowed, and each answer leaves less to be asked.
-use Rattle.std.proofs.Common.{◌≡◌, ℕ, suc, ◌+◌, ◌-◌, ◌<◌, ◌≤◌, inl, inr, arith, refl, sym, ap, subst, ◌∙◌, Bool, if◌then◌else◌, nat_lt, List}
+use Rattle.std.proofs.Common.{◌≡◌, ℕ, suc, ◌+◌, ◌-◌, ◌<◌, ◌≤◌, inl, inr, arith, refl, sym, ap, subst, ◌∙◌, Bool}
+use Rattle.std.proofs.Common.{if◌then◌else◌, nat_lt, List}
 use Rattle.std.proofs.lemmas.Bool.{lt-ltb, le-ltb}
 use Rattle.packing_terms.specs.Tokens.{PlainToken}
 use Rattle.tree_terms.specs.Levels.{PlainLevel, PlacedBy, RefutedBy, SpentAt}
-use Rattle.level_bounds.specs.Bounds.{PlainBounds, first_bounds, IsAsked, IsNarrow, narrowed, asked_left, IsRightAnswer, AreSpent, AreBounds, IsClosed}
+use Rattle.level_bounds.specs.Bounds.{PlainBounds, first_bounds, IsAsked, IsNarrow, narrowed, asked_left, IsRightAnswer}
+use Rattle.level_bounds.specs.Bounds.{AreSpent, AreBounds, IsClosed}
 
 -- a choice by two numbers
 by_less : (a b x y : ℕ) → a < b → (if nat_lt a b then x else y) ≡ x
@@ -23,10 +25,19 @@ module _ (Shows : ℕ → List ℕ → Type 0) (Denies : ℕ → List PlainToken
   abbrev Are : PlainBounds → Type 0
   Are b = AreBounds Shows Denies Past top b
 
-  pub are_first : (refuted placed : ℕ) (tokens : List PlainToken) (numbers : List ℕ) → refuted < placed → placed ≤ top → Denies refuted tokens → Shows placed numbers
+  pub are_first : (refuted placed : ℕ) (tokens : List PlainToken) (numbers : List ℕ) → refuted < placed → placed ≤ top
+      → Denies refuted tokens → Shows placed numbers
       → Are (first_bounds refuted tokens placed numbers)
   are_first refuted placed tokens numbers order within denied shown =
-      record { order = order; within = within; denied = denied; shown = shown; low = order; high = order; spent = inl (refl, refl) }
+      record {
+        order = order;
+        within = within;
+        denied = denied;
+        shown = shown;
+        low = order;
+        high = order;
+        spent = inl (refl, refl);
+      }
 
   -- an answer leaves bounds, and less to be asked
   pub record IsStep (before after : PlainBounds) : Type 0 where
@@ -34,7 +45,8 @@ module _ (Shows : ℕ → List ℕ → Type 0) (Denies : ℕ → List PlainToken
     pub less : asked_left after < asked_left before
 
   -- bounds between which nothing was spent
-  unspent : (b c : PlainBounds) (level : ℕ) → c.refuted < c.placed → c.placed ≤ top → Denies c.refuted c.tokens → Shows c.placed c.numbers
+  unspent : (b c : PlainBounds) (level : ℕ) → c.refuted < c.placed → c.placed ≤ top → Denies c.refuted c.tokens
+      → Shows c.placed c.numbers
       → c.lowest ≡ c.placed → c.highest ≡ c.refuted → suc (c.placed - c.refuted) < asked_left b → IsStep b c
   unspent b c level order within denied shown l h less = record {
     are = record {
@@ -50,7 +62,8 @@ module _ (Shows : ℕ → List ℕ → Type 0) (Denies : ℕ → List PlainToken
   }
 
   -- bounds with the lowest and the highest level that were spent
-  spent_between : (b c : PlainBounds) (l h : ℕ) → c.refuted < l → l ≤ h → h < c.placed → c.placed ≤ top → Denies c.refuted c.tokens → Shows c.placed c.numbers
+  spent_between : (b c : PlainBounds) (l h : ℕ) → c.refuted < l → l ≤ h → h < c.placed → c.placed ≤ top
+      → Denies c.refuted c.tokens → Shows c.placed c.numbers
       → c.lowest ≡ l → c.highest ≡ h → Past l → Past h → (l - c.refuted) + (c.placed - h) < asked_left b → IsStep b c
   spent_between b c l h low order high within denied shown el eh pl ph less = record {
     are = record {
@@ -67,72 +80,90 @@ module _ (Shows : ℕ → List ℕ → Type 0) (Denies : ℕ → List PlainToken
 
   module _ (b : PlainBounds) (h : Are b) (level : ℕ) where
     -- a level that is placed
-    placed_low : (ns : List ℕ) → Shows level ns → b.refuted < level → level < b.lowest → AreSpent Past b → IsStep b (narrowed b level (PlacedBy ns))
+    placed_low : (ns : List ℕ) → Shows level ns → b.refuted < level → level < b.lowest → AreSpent Past b
+        → IsStep b (narrowed b level (PlacedBy ns))
     placed_low ns shown x y (inl (l, g)) =
         let w = h.within in
         let o = h.order in
         let e = left_none b (omega (arith, l, g, o)) in
-        unspent b (narrowed b level (PlacedBy ns)) level x (omega (arith, y, l, w)) h.denied shown (by_less level b.lowest level b.lowest y)
+        unspent b (narrowed b level (PlacedBy ns)) level x (omega (arith, y, l, w)) h.denied shown
+        (by_less level b.lowest level b.lowest y)
         (by_less b.highest level b.highest b.refuted (omega (arith, g, x)) ∙ g) (omega (arith, e, x, y, l))
     placed_low ns shown x y (inr (o, p)) =
         let w = h.within in
         let t = h.high in
         let e = left_some b o in
-        unspent b (narrowed b level (PlacedBy ns)) level x (omega (arith, y, o, t, w)) h.denied shown (by_less level b.lowest level b.lowest y)
+        unspent b (narrowed b level (PlacedBy ns)) level x (omega (arith, y, o, t, w)) h.denied shown
+        (by_less level b.lowest level b.lowest y)
         (by_more b.highest level b.highest b.refuted (omega (arith, o, y))) (omega (arith, e, x, y, o, t))
 
-    placed_high : (ns : List ℕ) → Shows level ns → b.highest < level → level < b.placed → AreSpent Past b → IsStep b (narrowed b level (PlacedBy ns))
+    placed_high : (ns : List ℕ) → Shows level ns → b.highest < level → level < b.placed → AreSpent Past b
+        → IsStep b (narrowed b level (PlacedBy ns))
     placed_high ns shown x y (inl (l, g)) = placed_low ns shown (omega (arith, x, g)) (omega (arith, y, l)) (inl (l, g))
     placed_high ns shown x y (inr (o, p)) =
         let w = h.within in
         let t = h.low in
         let e = left_some b o in
         spent_between b (narrowed b level (PlacedBy ns)) b.lowest b.highest t o x (omega (arith, y, w)) h.denied shown
-        (by_more level b.lowest level b.lowest (omega (arith, o, x))) (by_less b.highest level b.highest b.refuted x) p.0 p.1 (omega (arith, e, x, y))
+        (by_more level b.lowest level b.lowest (omega (arith, o, x))) (by_less b.highest level b.highest b.refuted x)
+        p.0 p.1 (omega (arith, e, x, y))
 
     -- a level that is refuted
-    refuted_high : (ts : List PlainToken) → Denies level ts → b.highest < level → level < b.placed → AreSpent Past b → IsStep b (narrowed b level (RefutedBy ts))
+    refuted_high : (ts : List PlainToken) → Denies level ts → b.highest < level → level < b.placed → AreSpent Past b
+        → IsStep b (narrowed b level (RefutedBy ts))
     refuted_high ts denied x y (inl (l, g)) =
         let o = h.order in
         let e = left_none b (omega (arith, l, g, o)) in
         unspent b (narrowed b level (RefutedBy ts)) level y h.within denied h.shown
-        (by_less level b.lowest b.lowest b.placed (omega (arith, y, l)) ∙ l) (by_less b.highest level level b.highest x) (omega (arith, e, x, y, g))
+        (by_less level b.lowest b.lowest b.placed (omega (arith, y, l)) ∙ l) (by_less b.highest level level b.highest x)
+        (omega (arith, e, x, y, g))
     refuted_high ts denied x y (inr (o, p)) =
         let t = h.low in
         let e = left_some b o in
         unspent b (narrowed b level (RefutedBy ts)) level y h.within denied h.shown
-        (by_more level b.lowest b.lowest b.placed (omega (arith, o, x))) (by_less b.highest level level b.highest x) (omega (arith, e, x, y, o, t))
+        (by_more level b.lowest b.lowest b.placed (omega (arith, o, x))) (by_less b.highest level level b.highest x)
+        (omega (arith, e, x, y, o, t))
 
-    refuted_low : (ts : List PlainToken) → Denies level ts → b.refuted < level → level < b.lowest → AreSpent Past b → IsStep b (narrowed b level (RefutedBy ts))
-    refuted_low ts denied x y (inl (l, g)) = refuted_high ts denied (omega (arith, x, g)) (omega (arith, y, l)) (inl (l, g))
+    refuted_low : (ts : List PlainToken) → Denies level ts → b.refuted < level → level < b.lowest → AreSpent Past b
+        → IsStep b (narrowed b level (RefutedBy ts))
+    refuted_low ts denied x y (inl (l, g)) =
+        refuted_high ts denied (omega (arith, x, g)) (omega (arith, y, l)) (inl (l, g))
     refuted_low ts denied x y (inr (o, p)) =
         let t = h.high in
         let e = left_some b o in
         spent_between b (narrowed b level (RefutedBy ts)) b.lowest b.highest y o t h.within denied h.shown
-        (by_less level b.lowest b.lowest b.placed y) (by_more b.highest level level b.highest (omega (arith, o, y))) p.0 p.1 (omega (arith, e, x, y))
+        (by_less level b.lowest b.lowest b.placed y) (by_more b.highest level level b.highest (omega (arith, o, y))) p.0
+        p.1 (omega (arith, e, x, y))
 
     -- a level that is spent
-    spent_low : Past level → b.refuted < level → level < b.lowest → AreSpent Past b → IsStep b (narrowed b level SpentAt)
+    spent_low : Past level → b.refuted < level → level < b.lowest → AreSpent Past b
+        → IsStep b (narrowed b level SpentAt)
     spent_low past x y (inl (l, g)) =
         let o = h.order in
         let e = left_none b (omega (arith, l, g, o)) in
-        spent_between b (narrowed b level SpentAt) level level x (omega arith) (omega (arith, y, l)) h.within h.denied h.shown
-        (by_less level b.lowest level b.lowest y) (by_less b.highest level level b.highest (omega (arith, x, g))) past past (omega (arith, e, x, y, l))
+        spent_between b (narrowed b level SpentAt) level level x (omega arith) (omega (arith, y, l)) h.within
+        h.denied h.shown
+        (by_less level b.lowest level b.lowest y) (by_less b.highest level level b.highest (omega (arith, x, g))) past
+        past (omega (arith, e, x, y, l))
     spent_low past x y (inr (o, p)) =
         let t = h.high in
         let e = left_some b o in
         spent_between b (narrowed b level SpentAt) level b.highest x (omega (arith, y, o)) t h.within h.denied h.shown
-        (by_less level b.lowest level b.lowest y) (by_more b.highest level level b.highest (omega (arith, o, y))) past p.1 (omega (arith, e, x, y))
+        (by_less level b.lowest level b.lowest y) (by_more b.highest level level b.highest (omega (arith, o, y))) past
+        p.1 (omega (arith, e, x, y))
 
-    spent_high : Past level → b.highest < level → level < b.placed → AreSpent Past b → IsStep b (narrowed b level SpentAt)
+    spent_high : Past level → b.highest < level → level < b.placed → AreSpent Past b
+        → IsStep b (narrowed b level SpentAt)
     spent_high past x y (inl (l, g)) = spent_low past (omega (arith, x, g)) (omega (arith, y, l)) (inl (l, g))
     spent_high past x y (inr (o, p)) =
         let t = h.low in
         let e = left_some b o in
         spent_between b (narrowed b level SpentAt) b.lowest level t (omega (arith, x, o)) y h.within h.denied h.shown
-        (by_more level b.lowest level b.lowest (omega (arith, o, x))) (by_less b.highest level level b.highest x) p.0 past (omega (arith, e, x, y))
+        (by_more level b.lowest level b.lowest (omega (arith, o, x))) (by_less b.highest level level b.highest x) p.0
+        past (omega (arith, e, x, y))
 
-    pub step : (answer : PlainLevel) → IsAsked b level → IsRightAnswer Shows Denies Past level answer → IsStep b (narrowed b level answer)
+    pub step : (answer : PlainLevel) → IsAsked b level → IsRightAnswer Shows Denies Past level answer
+        → IsStep b (narrowed b level answer)
     step (PlacedBy ns) (inl (x, y)) right = placed_low ns right x y h.spent
     step (PlacedBy ns) (inr (x, y)) right = placed_high ns right x y h.spent
     step (RefutedBy ts) (inl (x, y)) right = refuted_low ts right x y h.spent

@@ -1,8 +1,11 @@
 -- Bounds of an optimum: a level that is refuted and a greater one that is placed, narrowed from both ends.
 --
---     refuted      lowest     highest      placed      while they aren't neighbours, the level halfway between refuted and
---        |-----x------|          |------------|        lowest is asked, and then the one halfway between highest and placed
-use Rattle.std.specs.Prelude.{ℕ, suc, pred, ◌+◌, ◌-◌, ◌/◌, ◌^◌, min, ◌<◌, ◌≤◌, ◌≡◌, ◌⊎◌, Bool, true, false, List, nat_lt, if◌then◌else◌}
+-- refuted      lowest     highest      placed      while they aren't neighbours, the level halfway
+-- between refuted and
+-- |-----x------|          |------------|        lowest is asked, and then the one halfway between
+-- highest and placed
+use Rattle.std.specs.Prelude.{ℕ, suc, pred, ◌+◌, ◌-◌, ◌/◌, ◌^◌, min, ◌<◌, ◌≤◌, ◌≡◌, ◌⊎◌, Bool, true, false, List}
+use Rattle.std.specs.Prelude.{nat_lt, if◌then◌else◌}
 use Rattle.packing_terms.specs.Tokens.{PlainToken}
 use Rattle.tree_terms.specs.Levels.{PlainLevel, PlacedBy, RefutedBy, SpentAt}
 use Rattle.proof_tree.specs.Plain.{plain_tokens}
@@ -112,22 +115,26 @@ narrowed b level SpentAt = record b {
 
 -- how many levels may still be asked, at most
 abbrev pub asked_left : PlainBounds → ℕ
-asked_left b = if nat_lt b.highest b.lowest then suc (b.placed - b.refuted) else (b.lowest - b.refuted) + (b.placed - b.highest)
+asked_left b = if nat_lt b.highest b.lowest then suc (b.placed - b.refuted) else
+    (b.lowest - b.refuted) + (b.placed - b.highest)
 
 -- The answer at a level is right, where these numbers show a level, these tokens refute one, and this
 -- holds of one that was spent.
-abbrev pub IsRightAnswer : (ℕ → List ℕ → Type 0) → (ℕ → List PlainToken → Type 0) → (ℕ → Type 0) → ℕ → PlainLevel → Type 0
+abbrev pub IsRightAnswer : (ℕ → List ℕ → Type 0) → (ℕ → List PlainToken → Type 0) → (ℕ → Type 0) → ℕ
+    → PlainLevel → Type 0
 IsRightAnswer Shows Denies Past level (PlacedBy ns) = Shows level ns
 IsRightAnswer Shows Denies Past level (RefutedBy ts) = Denies level ts
 IsRightAnswer Shows Denies Past level SpentAt = Past level
 
 -- none of the levels between the two was spent, or the lowest and the highest one were
 abbrev pub AreSpent : (ℕ → Type 0) → PlainBounds → Type 0
-AreSpent Past b = ((b.lowest ≡ b.placed) × (b.highest ≡ b.refuted)) ⊎ ((b.lowest ≤ b.highest) × (Past b.lowest × Past b.highest))
+AreSpent Past b = ((b.lowest ≡ b.placed) × (b.highest ≡ b.refuted))
+    ⊎ ((b.lowest ≤ b.highest) × (Past b.lowest × Past b.highest))
 
 -- What bounds keep: the refuted level is below the placed one, which is at most a given one; both have
 -- their certificates; and what lies between them was spent.
-pub record AreBounds (Shows : ℕ → List ℕ → Type 0) (Denies : ℕ → List PlainToken → Type 0) (Past : ℕ → Type 0) (top : ℕ) (b : PlainBounds) : Type 0 where
+pub record AreBounds (Shows : ℕ → List ℕ → Type 0) (Denies : ℕ → List PlainToken → Type 0) (Past : ℕ → Type 0) (top : ℕ)
+    (b : PlainBounds) : Type 0 where
   pub order : b.refuted < b.placed
   pub within : b.placed ≤ top
   pub denied : Denies b.refuted b.tokens

@@ -18,11 +18,18 @@ plain_level Spent = SpentAt
 
 -- how far a run came, with plain lists
 abbrev pub plain_reached : Reached → PlainReached
-plain_reached r = record { refuted = r.refuted; tokens = plain_tokens r.tokens.items; placed = r.placed; numbers = r.numbers.items; spent = r.spent }
+plain_reached r = record {
+  refuted = r.refuted;
+  tokens = plain_tokens r.tokens.items;
+  placed = r.placed;
+  numbers = r.numbers.items;
+  spent = r.spent;
+}
 
 -- the first two levels of a run
 abbrev pub first_two : ℕ → List PlainToken → ℕ → List ℕ → PlainReached
-first_two refuted tokens placed numbers = record { refuted = refuted; tokens = tokens; placed = placed; numbers = numbers; spent = false }
+first_two refuted tokens placed numbers =
+    record { refuted = refuted; tokens = tokens; placed = placed; numbers = numbers; spent = false }
 
 -- the run isn't over, and this level is decided next
 abbrev pub IsNext : PlainReached → ℕ → Type 0

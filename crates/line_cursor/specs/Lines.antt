@@ -34,5 +34,6 @@ filled_left bytes at = past_blank at.line.number (lines_left bytes at)
 -- the next line that isn't blank is told, or only blank ones are left
 abbrev pub IsNextFilled : List ℕ → Cursor → Cursor → Bool → Type 0
 IsNextFilled bytes old new true =
-    (n : ℕ) × (filled_left bytes old ≡ (n, told_now new.line ∷ lines_left bytes new)) × (is_blank (told_now new.line).line ≡ false)
+    (n : ℕ) × (filled_left bytes old ≡ (n, told_now new.line ∷ lines_left bytes new))
+    × (is_blank (told_now new.line).line ≡ false)
 IsNextFilled bytes old new false = filled_left bytes old ≡ (new.line.number, [])

@@ -1,5 +1,6 @@
 -- A step of a rule, by what it leaves at its place.
-use Rattle.std.proofs.Common.{◌≡◌, ℕ, ◌+◌, ◌<◌, ◌≤◌, ◌⊎◌, ◌↔◌, inl, inr, refl, sym, ap, ◌∙◌, arith, Bool, true, false, not, cond, ◌&&◌, ◌||◌, List, if◌then◌else◌, IsTrue}
+use Rattle.std.proofs.Common.{◌≡◌, ℕ, ◌+◌, ◌<◌, ◌≤◌, ◌⊎◌, ◌↔◌, inl, inr, refl, sym, ap, ◌∙◌, arith, Bool, true, false}
+use Rattle.std.proofs.Common.{not, cond, ◌&&◌, ◌||◌, List, if◌then◌else◌, IsTrue}
 use Rattle.std.specs.List.{list_any, list_all}
 use Rattle.std.proofs.lemmas.Bool.{true≢false, cases_Bool, cases_lt, and_parts, and_from, or_parts}
 use Rattle.packing_terms.specs.Relations.{allows}
@@ -23,30 +24,37 @@ use Rattle.explained_terms.specs.Explaining.{leaves, after_rule}
 use Rattle.explained_terms.specs.Judging.{applies, is_change}
 use Rattle.line_proofs.specs.Taken.{IsRuleTaken}
 
-pub same_narrowed : (es : List Exclusion) (i u v : ℕ) (k l : Rel → Bool) → ((r : Rel) → k r ≡ l r) → narrowed es i u v k ≡ narrowed es i u v l
+pub same_narrowed : (es : List Exclusion) (i u v : ℕ) (k l : Rel → Bool) → ((r : Rel) → k r ≡ l r)
+    → narrowed es i u v k ≡ narrowed es i u v l
 same_narrowed es i u v k l h = rw (h Overlap, h Before, h After) refl
 
-pub same_change : (es : List Exclusion) (i u v : ℕ) (k l : Rel → Bool) → ((r : Rel) → k r ≡ l r) → is_narrowed es i u v k ≡ is_narrowed es i u v l
+pub same_change : (es : List Exclusion) (i u v : ℕ) (k l : Rel → Bool) → ((r : Rel) → k r ≡ l r)
+    → is_narrowed es i u v k ≡ is_narrowed es i u v l
 same_change es i u v k l h = rw (h Overlap, h Before, h After) refl
 
-one_same : (es : List Exclusion) (i u v : ℕ) (keep : Rel → Bool) (r : Rel) → narrows es i u v keep r ≡ false → narrowed_by es i u v keep r ≡ es
+one_same : (es : List Exclusion) (i u v : ℕ) (keep : Rel → Bool) (r : Rel) → narrows es i u v keep r ≡ false
+    → narrowed_by es i u v keep r ≡ es
 one_same es i u v keep r h = go (keep r) (excludes es i u v r) refl h
   where
-    go : (a b : Bool) → excludes es i u v r ≡ b → (not a && not b) ≡ false → cond a es (with_exclusion es (exclusion_at i u v r)) ≡ es
+    go : (a b : Bool) → excludes es i u v r ≡ b → (not a && not b) ≡ false
+        → cond a es (with_exclusion es (exclusion_at i u v r)) ≡ es
     go true b e k = refl
     go false true e k = rw e refl
     go false false e k = absurd (true≢false k)
 
 -- where no mask changes, the list stays
-pub unchanged : (es : List Exclusion) (i u v : ℕ) (keep : Rel → Bool) → is_narrowed es i u v keep ≡ false → narrowed es i u v keep ≡ es
+pub unchanged : (es : List Exclusion) (i u v : ℕ) (keep : Rel → Bool) → is_narrowed es i u v keep ≡ false
+    → narrowed es i u v keep ≡ es
 unchanged es i u v keep h =
     let one = narrowed_by es i u v keep Overlap in
     let two = narrowed_by one i u v keep Before in
-    let a = or_parts (narrows es i u v keep Overlap || narrows one i u v keep Before) (narrows two i u v keep After) h in
+    let a = or_parts (narrows es i u v keep Overlap || narrows one i u v keep Before)
+    (narrows two i u v keep After) h in
     let b = or_parts (narrows es i u v keep Overlap) (narrows one i u v keep Before) a.0 in
     one_same two i u v keep After a.1 ∙ (one_same one i u v keep Before b.1 ∙ one_same es i u v keep Overlap b.0)
 
-pub kept_or_same : (es : List Exclusion) (i u v : ℕ) (keep : Rel → Bool) → narrowed es i u v keep ≡ (if is_narrowed es i u v keep then narrowed es i u v keep else es)
+pub kept_or_same : (es : List Exclusion) (i u v : ℕ) (keep : Rel → Bool)
+    → narrowed es i u v keep ≡ (if is_narrowed es i u v keep then narrowed es i u v keep else es)
 kept_or_same es i u v keep = go (is_narrowed es i u v keep) refl
   where
     go : (b : Bool) → is_narrowed es i u v keep ≡ b → narrowed es i u v keep ≡ cond b (narrowed es i u v keep) es
@@ -59,15 +67,22 @@ pub rule_taken : (instance : PlainInstance) (old new : PlainEdges) (rule : Rule)
           then narrowed old.trail (dim_of rule) (first_of rule) (second_of rule) (mask_has mask) else old.trail);
     }
     → taken ≡ (holds && is_narrowed old.trail (dim_of rule) (first_of rule) (second_of rule) (mask_has mask))
-    → holds ≡ applies instance (excludes old.trail) rule → ((r : Rel) → mask_has mask r ≡ leaves (excludes old.trail) rule r)
+    → holds ≡ applies instance (excludes old.trail) rule
+    → ((r : Rel) → mask_has mask r ≡ leaves (excludes old.trail) rule r)
     → IsRuleTaken instance old new rule taken
 rule_taken instance old new rule holds taken mask state told premises kept =
-    let change = same_change old.trail (dim_of rule) (first_of rule) (second_of rule) (mask_has mask) (leaves (excludes old.trail) rule) kept in
-    let list = same_narrowed old.trail (dim_of rule) (first_of rule) (second_of rule) (mask_has mask) (leaves (excludes old.trail) rule) kept in
+    let change = same_change old.trail (dim_of rule) (first_of rule) (second_of rule) (mask_has mask)
+    (leaves (excludes old.trail) rule) kept in
+    let list = same_narrowed old.trail (dim_of rule) (first_of rule) (second_of rule) (mask_has mask)
+    (leaves (excludes old.trail) rule) kept in
     record {
-      told = told ∙ (ap (λ b. b && is_narrowed old.trail (dim_of rule) (first_of rule) (second_of rule) (mask_has mask)) premises
+      told = told ∙ (ap (λ b. b && is_narrowed old.trail (dim_of rule) (first_of rule) (second_of rule)
+          (mask_has mask)) premises
           ∙ ap (λ b. applies instance (excludes old.trail) rule && b) change);
-      state = state ∙ (ap (λ b. record old { trail = cond b (narrowed old.trail (dim_of rule) (first_of rule) (second_of rule) (mask_has mask)) old.trail }) (sym told)
+      state = state ∙ (ap (λ b. record old {
+        trail = cond b (narrowed old.trail (dim_of rule) (first_of rule) (second_of rule) (mask_has mask))
+            old.trail;
+      }) (sym told)
           ∙ ap (λ l. record old { trail = cond taken l old.trail }) list);
     }
 
@@ -91,15 +106,18 @@ hasnt has m x e f = ap not (e ∙ f) ∙ not_not x
 
 -- ---- the composition of two masks
 
-module _ (X : Exclusions) (i u v x a b m : ℕ) (ha : (r : Rel) → mask_has a r ≡ not (X i u v r)) (hb : (r : Rel) → mask_has b r ≡ not (X i v x r))
+module _ (X : Exclusions) (i u v x a b m : ℕ) (ha : (r : Rel) → mask_has a r ≡ not (X i u v r))
+    (hb : (r : Rel) → mask_has b r ≡ not (X i v x r))
     (exact : (r : Rel) → IsTrue (mask_has m r) ↔ IsComposed a b r) where
   pub composed_leaves : (r : Rel) → mask_has m r ≡ leaves X (Compose i u v x) r
-  composed_leaves r = same_bool (mask_has m r) (leaves X (Compose i u v x) r) (λ h. there ((exact r).0 h)) (λ h. (exact r).1 (back h))
+  composed_leaves r = same_bool (mask_has m r) (leaves X (Compose i u v x) r) (λ h. there ((exact r).0 h))
+      (λ h. (exact r).1 (back h))
     where
       there : IsComposed a b r → leaves X (Compose i u v x) r ≡ true
       there (q, s, h, k, t) =
           any_at (λ q. list_any (λ s. not (X i u v q) && not (X i v x s) && allows q s r) rels) q rels (rel_in q)
-          (any_at (λ s. not (X i u v q) && not (X i v x s) && allows q s r) s rels (rel_in s) (and_from _ _ (and_from _ _ (sym (ha q) ∙ h) (sym (hb s) ∙ k)) t))
+          (any_at (λ s. not (X i u v q) && not (X i v x s) && allows q s r) s rels (rel_in s)
+          (and_from _ _ (and_from _ _ (sym (ha q) ∙ h) (sym (hb s) ∙ k)) t))
 
       back : leaves X (Compose i u v x) r ≡ true → IsComposed a b r
       back h =
@@ -118,7 +136,8 @@ pub not_all_below : (p : ℕ → Bool) (n i : ℕ) → i < n → p i ≡ false �
 not_all_below p n i l f = go (cases_Bool (list_all p (below n)))
   where
     go : (list_all p (below n) ≡ true) ⊎ (list_all p (below n) ≡ false) → false ≡ list_all p (below n)
-    go (inl e) = absurd (true≢false (sym (all_at p i (below n) e (in_range 0 n i (omega arith) (omega (arith, l)))) ∙ f))
+    go (inl e) = absurd (true≢false
+        (sym (all_at p i (below n) e (in_range 0 n i (omega arith) (omega (arith, l)))) ∙ f))
     go (inr e) = sym e
 
 pub next_below : (p : ℕ → Bool) (n : ℕ) → ((i : ℕ) → i < n → p i ≡ true) → p n ≡ true → (i : ℕ) → i < n + 1 → p i ≡ true

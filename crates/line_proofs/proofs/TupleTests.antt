@@ -1,5 +1,6 @@
 -- Tests of all numbers below one, and what a tuple is refused for.
-use Rattle.std.proofs.Common.{Option, ◌≡◌, ℕ, ◌<◌, ◌≤◌, ◌⊎◌, inl, inr, refl, sym, subst, ◌+◌, ◌∙◌, arith, Bool, true, false, ◌&&◌, nat_le, List, length, Some, None, IsTrue}
+use Rattle.std.proofs.Common.{Option, ◌≡◌, ℕ, ◌<◌, ◌≤◌, ◌⊎◌, inl, inr, refl, sym, subst, ◌+◌, ◌∙◌, arith, Bool, true}
+use Rattle.std.proofs.Common.{false, ◌&&◌, nat_le, List, length, Some, None, IsTrue}
 use Rattle.std.specs.Prelude.{◌==◌}
 use Rattle.std.proofs.lemmas.Bool.{true≢false, cases_Bool, cases_lt, eq-eqb, leb-true}
 use Rattle.std.specs.List.{list_all}
@@ -30,10 +31,12 @@ pub not_all_below : (p : ℕ → Bool) (n i : ℕ) → i < n → p i ≡ false �
 not_all_below p n i there no_more = go (cases_Bool (list_all p (below n)))
   where
     go : (list_all p (below n) ≡ true) ⊎ (list_all p (below n) ≡ false) → false ≡ list_all p (below n)
-    go (inl h) = absurd (true≢false (sym (all_at p i (below n) h (in_range 0 n i (omega arith) (omega arith))) ∙ no_more))
+    go (inl h) = absurd (true≢false
+        (sym (all_at p i (below n) h (in_range 0 n i (omega arith) (omega arith))) ∙ no_more))
     go (inr h) = sym h
 
-pub legal_told : (instance : PlainInstance) (W : ℕ) (f : ScaleFn) (b : Bool) → (IsTrue b ↔ IsLegalScale f W) → is_legal W f ≡ b
+pub legal_told : (instance : PlainInstance) (W : ℕ) (f : ScaleFn) (b : Bool) → (IsTrue b ↔ IsLegalScale f W)
+    → is_legal W f ≡ b
 legal_told instance W f true h = legal_is instance W f (h.0 refl)
 legal_told instance W f false h = go (cases_Bool (is_legal W f))
   where
@@ -41,24 +44,30 @@ legal_told instance W f false h = go (cases_Bool (is_legal W f))
     go (inl e) = absurd (true≢false (sym (h.1 (legal instance W f e))))
     go (inr e) = e
 
-pub legal_tuple : (instance : PlainInstance) (fs : List ScaleFn) → length fs ≡ dims instance → are_legal instance fs ≡ true → IsTuple instance fs
+pub legal_tuple : (instance : PlainInstance) (fs : List ScaleFn) → length fs ≡ dims instance
+    → are_legal instance fs ≡ true → IsTuple instance fs
 legal_tuple instance fs count h = record {
   count = count;
   legal = λ i l. legal instance (container_side instance i) (function_at fs i)
-      (all_at (λ i. is_legal (container_side instance i) (function_at fs i)) i (below (dims instance)) h (in_range 0 (dims instance) i (omega arith) (omega arith)));
+      (all_at (λ i. is_legal (container_side instance i) (function_at fs i)) i (below (dims instance)) h
+      (in_range 0 (dims instance) i (omega arith) (omega arith)));
 }
 
-module _ (instance : PlainInstance) (fs : List ScaleFn) (copies : ℕ) (b : Bool) (exactly : IsTrue b ↔ Exceeds instance fs copies) where
+module _ (instance : PlainInstance) (fs : List ScaleFn) (copies : ℕ) (b : Bool)
+    (exactly : IsTrue b ↔ Exceeds instance fs copies) where
   pub accepted : b ≡ true → None ≡ tuple_refusal instance copies fs
   accepted h = sym ((tuple_exact instance copies fs).1 (exactly.0 h))
 
-  pub not_exceeding : b ≡ false → length fs ≡ dims instance → are_legal instance fs ≡ true → Some Excess ≡ tuple_refusal instance copies fs
+  pub not_exceeding : b ≡ false → length fs ≡ dims instance → are_legal instance fs ≡ true
+      → Some Excess ≡ tuple_refusal instance copies fs
   not_exceeding h count legal = go (cases_Bool (sides_fit instance && has_excess instance copies fs))
     where
       to : (length fs == dims instance) ≡ true
       to = eq-eqb (length fs) (dims instance) count
 
-      go : ((sides_fit instance && has_excess instance copies fs) ≡ true) ⊎ ((sides_fit instance && has_excess instance copies fs) ≡ false) → Some Excess ≡ tuple_refusal instance copies fs
+      go : ((sides_fit instance && has_excess instance copies fs) ≡ true)
+          ⊎ ((sides_fit instance && has_excess instance copies fs) ≡ false)
+          → Some Excess ≡ tuple_refusal instance copies fs
       go (inr e) = unless_false _ Excess None e ∙ (unless_true _ Range _ legal ∙ unless_true _ Kind _ to)
       go (inl e) = absurd (true≢false (sym (exactly.1 ((tuple_exact instance copies fs).0
           (sym (unless_true _ Excess None e ∙ (unless_true _ Range _ legal ∙ unless_true _ Kind _ to))))) ∙ h))

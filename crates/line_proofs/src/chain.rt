@@ -20,14 +20,14 @@ pub struct Chain {
 }
 
 /// Whether the next box belongs to the first chain.
-pub fn is_first(chain: &Chain, begun: Begun) -> bool
+pub(crate) fn is_first(chain: &Chain, begun: Begun) -> bool
     ensures { result ≡ is_first (chain_at begun chain.now.before.items chain.now.after.items) }
 {
     chain.before.len() < begun.first as usize
 }
 
 /// Whether all boxes came.
-pub fn has_all(chain: &Chain, begun: Begun) -> bool
+pub(crate) fn has_all(chain: &Chain, begun: Begun) -> bool
     ensures { result ≡ has_all (chain_at begun chain.now.before.items chain.now.after.items) }
 {
     let first = chain.before.len() == begun.first as usize;
@@ -36,7 +36,7 @@ pub fn has_all(chain: &Chain, begun: Begun) -> bool
 }
 
 /// One box more.
-pub fn push_box(chain: &mut Chain, begun: Begun, first: bool, v: u32)
+pub(crate) fn push_box(chain: &mut Chain, begun: Begun, first: bool, v: u32)
     requires first { first
         ≡ is_first (chain_at begun chain.old.before.items chain.old.after.items) }
     requires before_room { first ≡ true
@@ -57,7 +57,7 @@ pub fn push_box(chain: &mut Chain, begun: Begun, first: bool, v: u32)
 }
 
 /// Takes the last box back.
-pub fn drop_box(chain: &mut Chain, first: bool, before: usize, after: usize)
+pub(crate) fn drop_box(chain: &mut Chain, first: bool, before: usize, after: usize)
     ensures before { chain.new.before.items
         ≡ (if first then take before chain.old.before.items else chain.old.before.items) }
     ensures after { chain.new.after.items

@@ -18,7 +18,7 @@ use edge_state::{EdgeState, Rel};
 use explained_terms::AuditCode;
 
 // Whether a box goes on with these: it isn't among them, and the last one is surely before it.
-pub fn follows(state: &EdgeState, dim: u32, part: &[u32], v: u32) -> bool
+pub(crate) fn follows(state: &EdgeState, dim: u32, part: &[u32], v: u32) -> bool
     requires dim { dim < state.now.dims }
     requires there { All (λ u. u < state.now.boxes) part.now }
     requires box_there { v < state.now.boxes }
@@ -31,7 +31,13 @@ pub fn follows(state: &EdgeState, dim: u32, part: &[u32], v: u32) -> bool
 }
 
 // Whether a box goes on with its chain.
-pub fn box_follows(state: &EdgeState, chain: &Chain, begun: Begun, first: bool, v: u32) -> bool
+pub(crate) fn box_follows(
+    state: &EdgeState,
+    chain: &Chain,
+    begun: Begun,
+    first: bool,
+    v: u32,
+) -> bool
     requires dim { begun.dim < state.now.dims }
     requires before { All (λ u. u < state.now.boxes) chain.now.before.items }
     requires after { All (λ u. u < state.now.boxes) chain.now.after.items }
@@ -50,7 +56,7 @@ pub fn box_follows(state: &EdgeState, chain: &Chain, begun: Begun, first: bool, 
 
 // Whether the chains are together too long, end in one box and begin with another, and it isn't
 // known yet that the first isn't before the second.
-pub fn changes(
+pub(crate) fn changes(
     instance: &Instance,
     state: &EdgeState,
     begun: Begun,
@@ -81,7 +87,7 @@ pub fn changes(
 }
 
 // Ends a chain whose boxes all came, where it changes a mask; else nothing changes.
-pub fn end_chain(
+pub(crate) fn end_chain(
     instance: &Instance,
     state: &mut EdgeState,
     chain: &mut Chain,
@@ -114,7 +120,7 @@ pub fn end_chain(
 }
 
 /// The next box of a chain begun.
-pub fn box_line(
+pub(crate) fn box_line(
     instance: &Instance,
     state: &mut EdgeState,
     chain: &mut Chain,

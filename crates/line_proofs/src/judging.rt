@@ -28,7 +28,7 @@ use explained_terms::AuditCode;
 use proof_tree::Token;
 
 /// The number from 0 of a number of a text.
-pub fn from_text(number: u32) -> u32
+pub(crate) fn from_text(number: u32) -> u32
     requires { 1 ≤ number }
     ensures { result ≡ pred number }
 {
@@ -43,7 +43,7 @@ fn told(changed: bool) -> Option<AuditCode>
 }
 
 /// A step by PAIR: two distinct boxes.
-pub fn pair_line(
+pub(crate) fn pair_line(
     instance: &Instance,
     state: &mut EdgeState,
     dim: u32,
@@ -64,7 +64,7 @@ pub fn pair_line(
 }
 
 /// A step by APART: two distinct boxes.
-pub fn apart_line(
+pub(crate) fn apart_line(
     instance: &Instance,
     state: &mut EdgeState,
     dim: u32,
@@ -85,7 +85,7 @@ pub fn apart_line(
 }
 
 /// A step by TRIPLE: three distinct boxes.
-pub fn triple_line(
+pub(crate) fn triple_line(
     instance: &Instance,
     state: &mut EdgeState,
     dim: u32,
@@ -114,7 +114,7 @@ pub fn triple_line(
 }
 
 /// A step by COMPOSE: three distinct boxes.
-pub fn compose_line(
+pub(crate) fn compose_line(
     instance: &Instance,
     state: &mut EdgeState,
     dim: u32,
@@ -142,7 +142,7 @@ pub fn compose_line(
 }
 
 /// A step by CYCLE: four distinct boxes.
-pub fn cycle_line(
+pub(crate) fn cycle_line(
     instance: &Instance,
     state: &mut EdgeState,
     dim: u32,
@@ -172,7 +172,7 @@ pub fn cycle_line(
 }
 
 /// A step by ORDER: four distinct boxes.
-pub fn order_line(
+pub(crate) fn order_line(
     instance: &Instance,
     state: &mut EdgeState,
     dim: u32,
@@ -202,7 +202,7 @@ pub fn order_line(
 }
 
 /// The exclusion at the numbers of a text.
-pub fn exclusion_at(dim: u32, u: u32, v: u32, rel: Rel) -> Exclusion
+pub(crate) fn exclusion_at(dim: u32, u: u32, v: u32, rel: Rel) -> Exclusion
     ensures { result ≡ exclusion_of dim u v rel }
 {
     Exclusion {
@@ -214,7 +214,7 @@ pub fn exclusion_at(dim: u32, u: u32, v: u32, rel: Rel) -> Exclusion
 }
 
 /// Whether no relation is left at a place of the text; else why not.
-pub fn clash_refusal(
+pub(crate) fn clash_refusal(
     instance: &Instance,
     state: &EdgeState,
     dim: u32,
@@ -236,7 +236,7 @@ pub fn clash_refusal(
 }
 
 /// Whether the pair may be split into apart and joined; else why not.
-pub fn apart_refusal(
+pub(crate) fn apart_refusal(
     instance: &Instance,
     state: &EdgeState,
     dim: u32,
@@ -256,7 +256,7 @@ pub fn apart_refusal(
 }
 
 /// Whether it may be split into its two orders; else why not.
-pub fn order_refusal(
+pub(crate) fn order_refusal(
     instance: &Instance,
     state: &EdgeState,
     dim: u32,
@@ -276,7 +276,7 @@ pub fn order_refusal(
 }
 
 /// Whether the box is longer than the container; else why not.
-pub fn side_refusal(instance: &Instance, box_no: u32, dim: u32) -> Option<AuditCode>
+pub(crate) fn side_refusal(instance: &Instance, box_no: u32, dim: u32) -> Option<AuditCode>
     ensures { (es : List PlainExclusion)
         → result ≡ token_refusal instance.now es (PlainTooLarge box_no dim) }
 {

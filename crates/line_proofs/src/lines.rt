@@ -41,7 +41,7 @@ pub enum Taken {
 }
 
 /// The node goes on unless there is a reason to refuse the line.
-pub fn stays(found: Option<AuditCode>) -> Taken
+pub(crate) fn stays(found: Option<AuditCode>) -> Taken
     ensures { result ≡ found_stays found }
 {
     match found {
@@ -51,7 +51,7 @@ pub fn stays(found: Option<AuditCode>) -> Taken
 }
 
 /// The node is closed unless there is one.
-pub fn closes(found: Option<AuditCode>) -> Taken
+pub(crate) fn closes(found: Option<AuditCode>) -> Taken
     ensures { result ≡ found_closes found }
 {
     match found {
@@ -61,7 +61,7 @@ pub fn closes(found: Option<AuditCode>) -> Taken
 }
 
 // Takes a split into apart and joined.
-pub fn part(instance: &Instance, state: &mut EdgeState, dim: u32, u: u32, v: u32) -> Taken
+pub(crate) fn part(instance: &Instance, state: &mut EdgeState, dim: u32, u: u32, v: u32) -> Taken
     requires dims { state.old.dims ≡ dims instance.now }
     requires count { state.old.boxes ≡ box_count instance.now }
     requires accepted { None ≡ token_refusal instance.now state.old.trail (PlainApart dim u v) }
@@ -87,7 +87,13 @@ pub fn part(instance: &Instance, state: &mut EdgeState, dim: u32, u: u32, v: u32
 }
 
 /// A split into apart and joined.
-pub fn part_line(instance: &Instance, state: &mut EdgeState, dim: u32, u: u32, v: u32) -> Taken
+pub(crate) fn part_line(
+    instance: &Instance,
+    state: &mut EdgeState,
+    dim: u32,
+    u: u32,
+    v: u32,
+) -> Taken
     requires dims { state.old.dims ≡ dims instance.now }
     requires count { state.old.boxes ≡ box_count instance.now }
     ensures taken { IsTaken instance.now (at_rest state.old.trail) (at_rest state.new.trail)
@@ -102,7 +108,13 @@ pub fn part_line(instance: &Instance, state: &mut EdgeState, dim: u32, u: u32, v
 }
 
 /// A split into two orders.
-pub fn ordered_line(instance: &Instance, state: &mut EdgeState, dim: u32, u: u32, v: u32) -> Taken
+pub(crate) fn ordered_line(
+    instance: &Instance,
+    state: &mut EdgeState,
+    dim: u32,
+    u: u32,
+    v: u32,
+) -> Taken
     requires dims { state.old.dims ≡ dims instance.now }
     requires count { state.old.boxes ≡ box_count instance.now }
     ensures taken { IsTaken instance.now (at_rest state.old.trail) (at_rest state.new.trail)
@@ -123,7 +135,7 @@ pub fn ordered_line(instance: &Instance, state: &mut EdgeState, dim: u32, u: u32
 }
 
 /// A token.
-pub fn token_line(instance: &Instance, state: &mut EdgeState, token: &Token) -> Taken
+pub(crate) fn token_line(instance: &Instance, state: &mut EdgeState, token: &Token) -> Taken
     requires dims { state.old.dims ≡ dims instance.now }
     requires count { state.old.boxes ≡ box_count instance.now }
     ensures taken { IsTaken instance.now (at_rest state.old.trail) (at_rest state.new.trail)
@@ -143,7 +155,7 @@ pub fn token_line(instance: &Instance, state: &mut EdgeState, token: &Token) -> 
 }
 
 /// The first line of a chain.
-pub fn begin_line(
+pub(crate) fn begin_line(
     instance: &Instance,
     chain: &mut Chain,
     dim: u32,
@@ -173,7 +185,7 @@ pub fn begin_line(
 }
 
 /// A line where no chain is begun.
-pub fn rest_line(
+pub(crate) fn rest_line(
     instance: &Instance,
     state: &mut EdgeState,
     chain: &mut Chain,
@@ -206,7 +218,7 @@ pub fn rest_line(
 }
 
 /// A line where a chain is begun.
-pub fn begun_line(
+pub(crate) fn begun_line(
     instance: &Instance,
     state: &mut EdgeState,
     chain: &mut Chain,
@@ -236,7 +248,7 @@ pub fn begun_line(
 }
 
 /// A line at the next open node.
-pub fn take_line(
+pub(crate) fn take_line(
     instance: &Instance,
     state: &mut EdgeState,
     chain: &mut Chain,

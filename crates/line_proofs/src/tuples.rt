@@ -88,7 +88,7 @@ fn audit_code(code: RefuseCode) -> AuditCode
 }
 
 /// Whether the tuple exceeds; else why not.
-pub fn tuple_audit(instance: &Instance, tuple: &[ScaleFn]) -> Option<AuditCode>
+pub(crate) fn tuple_audit(instance: &Instance, tuple: &[ScaleFn]) -> Option<AuditCode>
     ensures { (es : List PlainExclusion)
         → result ≡ token_refusal instance.now es (PlainScales tuple.now) }
 {

@@ -27,10 +27,12 @@ pub record AreKeptWeights (limit : ℕ) (sides head tail : List ℕ) (rows fits 
   pub fits_count : length fits ≡ length head
   pub heads : AreSettled (length head) (λ v x. GoesOn rows x v) (λ v. slice_index sides v) head
   pub tails : AreSettled (length head) (λ v x. GoesOn rows v x) (λ v. slice_index sides v) tail
-  pub fit : (u v : ℕ) → u < length head → v < length head → GoesOn fits u v → slice_index head u + slice_index tail v ≤ limit
+  pub fit : (u v : ℕ) → u < length head → v < length head → GoesOn fits u v
+      → slice_index head u + slice_index tail v ≤ limit
 
 -- the same, with memory in each list for so many boxes
-pub record AreRoomy (most limit : ℕ) (sides head tail : List ℕ) (rows fits : List (List ℕ)) (side_room head_room tail_room row_room fit_room : ℕ) : Type 0 where
+pub record AreRoomy (most limit : ℕ) (sides head tail : List ℕ) (rows fits : List (List ℕ))
+    (side_room head_room tail_room row_room fit_room : ℕ) : Type 0 where
   pub kept : AreKeptWeights limit sides head tail rows fits
   pub sides_fit : most ≤ side_room
   pub heads_fit : most ≤ head_room
@@ -40,10 +42,12 @@ pub record AreRoomy (most limit : ℕ) (sides head tail : List ℕ) (rows fits :
 
 -- the sides are those of the boxes, and each box still goes on to those of its row; to another one
 -- only boxes of the other row go on
-pub record StillHolds (instance : PlainInstance) (s : PlainEdges) (i : ℕ) (known : List ℕ) (rows : List (List ℕ)) (first : List ℕ) : Type 0 where
+pub record StillHolds (instance : PlainInstance) (s : PlainEdges) (i : ℕ) (known : List ℕ) (rows : List (List ℕ))
+    (first : List ℕ) : Type 0 where
   pub sides : (u : ℕ) → u < box_count instance → slice_index known u ≡ side instance u i
   pub old : (u x : ℕ) → u < box_count instance → GoesOn rows u x → Leads (excludes s.trail) i Forwards u x
-  pub ahead : (u x : ℕ) → u < box_count instance → x < box_count instance → row_has first u ≡ false → (u ≡ x → ⊥) → Leads (excludes s.trail) i Forwards u x → GoesOn rows u x
+  pub ahead : (u x : ℕ) → u < box_count instance → x < box_count instance → row_has first u ≡ false → (u ≡ x → ⊥)
+      → Leads (excludes s.trail) i Forwards u x → GoesOn rows u x
   pub ahead_within : (u : ℕ) → row_has first u ≡ true → u < s.boxes
 
 -- what is seen of kept weights: how many boxes there is memory for, the limit, and the weights of

@@ -14,7 +14,7 @@ use rule_terms::Direction;
 // Raises the weight of v, whose own side is given, to that of a chain which goes on to x, where
 // that is more.
 #[inline(always)]
-pub fn raise_by(
+pub(crate) fn raise_by(
     instance: &Instance,
     state: &EdgeState,
     dim: u32,
@@ -47,7 +47,7 @@ pub fn raise_by(
 
 // Raises the weight of v by each box of the row, to which a chain of it goes on.
 #[inline(always)]
-pub fn raise_along<const K: usize>(
+pub(crate) fn raise_along<const K: usize>(
     instance: &Instance,
     state: &EdgeState,
     dim: u32,
@@ -104,7 +104,7 @@ fn raise_from<const K: usize>(
 }
 
 // Raises the weight of each box by each other.
-pub fn raise_all<const K: usize>(
+pub(crate) fn raise_all<const K: usize>(
     instance: &Instance,
     state: &EdgeState,
     dim: u32,

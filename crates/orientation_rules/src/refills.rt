@@ -8,7 +8,7 @@ use box_instances::Instance;
 use edge_state::BitRow;
 
 /// Makes the list one of so many zeros, without taking memory.
-pub fn refill(list: &mut Vec<u64>, count: u32)
+pub(crate) fn refill(list: &mut Vec<u64>, count: u32)
     requires { count ≤ vec_capacity list.old }
     ensures items { list.new.items ≡ replicate count 0 }
     ensures capacity { vec_capacity list.new ≡ vec_capacity list.old }
@@ -20,7 +20,7 @@ pub fn refill(list: &mut Vec<u64>, count: u32)
 }
 
 /// Makes the list one of so many rows without a member, without taking memory.
-pub fn refill_rows<const K: usize>(list: &mut Vec<BitRow<K>>, count: u32)
+pub(crate) fn refill_rows<const K: usize>(list: &mut Vec<BitRow<K>>, count: u32)
     requires width { IsRowWidth K }
     requires room { count ≤ vec_capacity list.old }
     ensures count { length list.new.items ≡ count }
@@ -34,7 +34,7 @@ pub fn refill_rows<const K: usize>(list: &mut Vec<BitRow<K>>, count: u32)
 }
 
 /// Makes three lists the sides of the boxes: what each weighs by itself.
-pub fn write_sides(
+pub(crate) fn write_sides(
     instance: &Instance,
     dim: u32,
     sides: &mut [u64],
@@ -64,7 +64,7 @@ pub fn write_sides(
 }
 
 /// Makes all rows such that have no member.
-pub fn clear_rows<const K: usize>(rows: &mut [BitRow<K>])
+pub(crate) fn clear_rows<const K: usize>(rows: &mut [BitRow<K>])
     requires { IsRowWidth K }
     ensures count { length rows.new ≡ length rows.old }
     ensures none { (u x : ℕ) → u < length rows.old → GoesOn rows.new u x → ⊥ }

@@ -197,7 +197,7 @@ fn new_row<const K: usize>(state: &EdgeState, dim: u32, v: u32, kept: &[BitRow<K
 /// Makes weights of chains that start in each box the weights of the heaviest, where they are that
 /// so far as these rows tell, and only the boxes of another row go on to more. Answers a row with
 /// all boxes that rose.
-pub fn raise_tails<const K: usize>(
+pub(crate) fn raise_tails<const K: usize>(
     instance: &Instance,
     state: &EdgeState,
     dim: u32,
@@ -233,7 +233,7 @@ pub fn raise_tails<const K: usize>(
 
 /// The same of the weights of chains that end in each box: only to the boxes to which those of the
 /// row newly go on may more chains lead.
-pub fn raise_heads<const K: usize>(
+pub(crate) fn raise_heads<const K: usize>(
     instance: &Instance,
     state: &EdgeState,
     dim: u32,

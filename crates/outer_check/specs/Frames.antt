@@ -1,7 +1,8 @@
 -- The splits on the path to the current node of an outer tree, the newest first, as a refuter holds
 -- them: of each its box, which of its children the path goes on to, how many it has, and for bins
 -- how many are used at its node.
-use Rattle.std.specs.Prelude.{ℕ, ◌≡◌, suc, ◌<◌, ◌≤◌, ◌==◌, ◌&&◌, ◌^◌, Bool, true, false, not, max, nat_lt, if◌then◌else◌, List, [], ◌∷◌}
+use Rattle.std.specs.Prelude.{ℕ, ◌≡◌, suc, ◌<◌, ◌≤◌, ◌==◌, ◌&&◌, ◌^◌, Bool, true, false, not, max, nat_lt}
+use Rattle.std.specs.Prelude.{if◌then◌else◌, List, [], ◌∷◌}
 use Rattle.std.specs.List.{list_any, filter, range_with_len}
 use Rattle.packing_terms.specs.Limits.{IsBoxCount}
 use Rattle.outer_check.specs.declared.path.Frame.{Frame}
@@ -43,12 +44,14 @@ used_behind (f ∷ frames) = max f.used (suc f.child)
 -- the path on to the next child of the newest split that has one
 abbrev pub next_frames : List Frame → List Frame
 next_frames [] = []
-next_frames (f ∷ frames) = if nat_lt (suc f.child) f.children then record f { child = suc f.child } ∷ frames else next_frames frames
+next_frames (f ∷ frames) = if nat_lt (suc f.child) f.children then record f { child = suc f.child }
+    ∷ frames else next_frames frames
 
 -- each split is by a box of the text that is there, and has the child that the path goes on to
 abbrev pub AreSplits : ℕ → List Frame → Type 0
 AreSplits n [] = Unit {0}
-AreSplits n (f ∷ frames) = (1 ≤ f.box_no) × (f.box_no ≤ n) × (f.child < f.children) × (f.children < 2 ^ 32) × AreSplits n frames
+AreSplits n (f ∷ frames) = (1 ≤ f.box_no) × (f.box_no ≤ n) × (f.child < f.children) × (f.children < 2 ^ 32)
+    × AreSplits n frames
 
 -- no split is by the box of an older one
 abbrev pub HaveDistinctBoxes : List Frame → Type 0

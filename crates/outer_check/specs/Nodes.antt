@@ -6,7 +6,8 @@ use Rattle.outer_check.specs.declared.path.Frame.{Frame}
 -- the node that the splits lead to from the root
 abbrev pub node_below : {Node : Type 0} → (Node → ℕ → List Node) → Node → List Frame → Node
 node_below below root [] = root
-node_below below root (f ∷ frames) = slice_index_or (below (node_below below root frames) f.box_no) f.child (node_below below root frames)
+node_below below root (f ∷ frames) =
+    slice_index_or (below (node_below below root frames) f.box_no) f.child (node_below below root frames)
 
 -- the path to it
 abbrev pub path_below : {Node : Type 0} → (Node → ℕ → List Node) → Node → List Frame → List (PathNode Node)

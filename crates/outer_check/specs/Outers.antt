@@ -1,7 +1,8 @@
 -- What an outer refuter is seen as: the tree that is fed as the definition has it (the path to the
 -- current node, with the number of closed children of each split on it; behind the token of a
 -- refuted set the open nodes of its inner tree), and the refusal if there was one.
-use Rattle.std.specs.Prelude.{ℕ, ◌≡◌, ◌≤◌, Bool, true, false, List, [], ◌∷◌, length, Option, Some, None, Result, Ok, Err}
+use Rattle.std.specs.Prelude.{ℕ, ◌≡◌, ◌≤◌, Bool, true, false, List, [], ◌∷◌, length, Option, Some, None, Result, Ok}
+use Rattle.std.specs.Prelude.{Err}
 use Rattle.packing_terms.specs.declared.Exclusion.{Exclusion}
 use Rattle.packing_terms.specs.Packing.{PlainInstance, box_count}
 use Rattle.packing_terms.specs.Limits.{most_boxes}
@@ -9,7 +10,8 @@ use Rattle.packing_terms.specs.Scales.{SidesFit}
 use Rattle.packing_terms.specs.Tokens.{PlainToken}
 use Rattle.packing_terms.specs.OuterRefutation.{Bins as UsedBins, Choice as BoxChoice, no_choice}
 use Rattle.packing_terms.specs.OuterFeeding.{OpenNode, Outer, Inner}
-use Rattle.packing_terms.specs.OuterPaths.{PathNode, At, Inside, OuterView, Whole, On, view_after, bins_with, bin_step, choices_with, choice_step}
+use Rattle.packing_terms.specs.OuterPaths.{PathNode, At, Inside, OuterView, Whole, On, view_after, bins_with, bin_step}
+use Rattle.packing_terms.specs.OuterPaths.{choices_with, choice_step}
 use Rattle.check_terms.specs.declared.answers.RefuseCode.{RefuseCode}
 use Rattle.check_terms.specs.declared.answers.RefuseCode.TheVariants.{After}
 use Rattle.check_terms.specs.declared.answers.FeedVerdict.{FeedVerdict}
@@ -40,7 +42,8 @@ started (Bins k) = ForBins k (On [] (At []))
 started (Value y) = ForValue y (On [] (At no_choice))
 
 -- the first test that a token fails at the current node; a whole tree takes no token
-abbrev pub judged_at : {Node : Type 0} → (OpenNode Node → PlainToken → Option RefuseCode) → OuterView Node → PlainToken → Option RefuseCode
+abbrev pub judged_at : {Node : Type 0} → (OpenNode Node → PlainToken → Option RefuseCode) → OuterView Node → PlainToken
+    → Option RefuseCode
 judged_at refusal Whole t = Some After
 judged_at refusal (On path (At node)) t = refusal (Outer node) t
 judged_at refusal (On path (Inside keep es behind)) t = refusal (Inner keep es) t
@@ -50,7 +53,8 @@ tree_refusal instance (ForBins k view) t = judged_at (bin_refusal instance k) vi
 tree_refusal instance (ForValue y view) t = judged_at (value_refusal instance y) view t
 
 -- what a judged token leaves: the refusal, or these open nodes
-abbrev pub left_open : {Node : Type 0} → Option RefuseCode → List (OpenNode Node) → Result (List (OpenNode Node)) RefuseCode
+abbrev pub left_open : {Node : Type 0} → Option RefuseCode → List (OpenNode Node)
+    → Result (List (OpenNode Node)) RefuseCode
 left_open (Some code) nodes = Err code
 left_open None nodes = Ok nodes
 
@@ -102,7 +106,8 @@ inside_view path node keep (es ∷ behind) = On path (Inside keep es behind)
 
 -- the view of a tree by the splits on the path, where it stands, and what the refuter of inner
 -- trees holds
-abbrev pub view_by : {Node : Type 0} → (Node → ℕ → List Node) → Node → List Frame → Point → PlainRefuter → OuterView Node
+abbrev pub view_by : {Node : Type 0} → (Node → ℕ → List Node) → Node → List Frame → Point → PlainRefuter
+    → OuterView Node
 view_by below root frames AtNode inner = On (path_below below root frames) (At (node_below below root frames))
 view_by below root frames InSet inner =
     inside_view (path_below below root frames) (node_below below root frames) inner.keep inner.checked.nodes
@@ -130,14 +135,16 @@ IsOpenAt AtNode inner = Unit {0}
 IsOpenAt AtEnd inner = Unit {0}
 
 -- what holds of the parts as long as nothing is refused
-pub record IsGoing (instance : PlainInstance) (goal : Goal) (path : PlainPath) (point : Point) (inner : PlainRefuter) : Type 0 where
+pub record IsGoing (instance : PlainInstance) (goal : Goal) (path : PlainPath) (point : Point) (inner : PlainRefuter) :
+    Type 0 where
   pub boxes : path.boxes ≡ box_count instance
   pub same : inner.instance ≡ instance
   pub are : AreOf goal path.frames
   pub opens : IsOpenAt point inner
 
 -- what the type keeps
-pub record IsHeld (instance : PlainInstance) (goal : Goal) (path : PlainPath) (point : Point) (inner : PlainRefuter) (refused : Option RefuseCode) (capacity : ℕ) : Type 0 where
+pub record IsHeld (instance : PlainInstance) (goal : Goal) (path : PlainPath) (point : Point) (inner : PlainRefuter)
+    (refused : Option RefuseCode) (capacity : ℕ) : Type 0 where
   pub can : CanBeRefuted instance goal
   pub boxes : path.boxes ≡ box_count instance
   pub room : box_count instance ≤ capacity

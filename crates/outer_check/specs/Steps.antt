@@ -4,7 +4,8 @@ use Rattle.packing_terms.specs.Packing.{PlainInstance, box_count}
 use Rattle.packing_terms.specs.Tokens.{PlainToken}
 use Rattle.packing_terms.specs.OuterRefutation.{no_choice}
 use Rattle.packing_terms.specs.OuterFeeding.{Outer}
-use Rattle.packing_terms.specs.OuterPaths.{At, Inside, OuterView, Whole, On, OuterStep, stepped, bins_with, bin_step, choices_with, choice_step}
+use Rattle.packing_terms.specs.OuterPaths.{At, Inside, OuterView, Whole, On, OuterStep, stepped, bins_with, bin_step}
+use Rattle.packing_terms.specs.OuterPaths.{choices_with, choice_step}
 use Rattle.check_terms.specs.declared.answers.RefuseCode.{RefuseCode}
 use Rattle.check_terms.specs.OuterJudging.{bin_refusal, value_refusal}
 use Rattle.outer_check.specs.declared.path.Frame.{Frame}
@@ -37,23 +38,28 @@ standing below root frames AtNode = On (path_below below root frames) (At (node_
 standing below root frames _ = Whole
 
 -- what a step does to the view of the tree
-abbrev pub StepLeadsTo : {Node : Type 0} → Goal → (Node → ℕ → List Node) → Node → ℕ → List Frame → Option RefuseCode → OuterStep → Step → Type 0
+abbrev pub StepLeadsTo : {Node : Type 0} → Goal → (Node → ℕ → List Node) → Node → ℕ → List Frame → Option RefuseCode
+    → OuterStep → Step → Type 0
 StepLeadsTo goal below root n frames refusal step (Refuse code) = refusal ≡ Some code
 StepLeadsTo goal below root n frames refusal step Close =
     (refusal ≡ None) × (stepped below (path_below below root frames) (node_below below root frames) step
     ≡ standing below root (next_frames frames) (point_behind (next_frames frames)))
 StepLeadsTo goal below root n frames refusal step (Enter box_no children used) =
     (refusal ≡ None) × (stepped below (path_below below root frames) (node_below below root frames) step
-    ≡ standing below root (first_split box_no children used ∷ frames) AtNode) × IsEntry goal n frames box_no children used
+    ≡ standing below root (first_split box_no children used ∷ frames) AtNode)
+    × IsEntry goal n frames box_no children used
 StepLeadsTo goal below root n frames refusal step (Begin child) =
     (refusal ≡ None) × (stepped below (path_below below root frames) (node_below below root frames) step
-    ≡ On (path_below below root frames) (Inside (boxes_put n frames child) [] [])) × (1 ≤ length (boxes_put n frames child))
+    ≡ On (path_below below root frames) (Inside (boxes_put n frames child) [] []))
+    × (1 ≤ length (boxes_put n frames child))
 
 -- the step of a token at the node that the splits lead to
 abbrev pub IsTokenStep : PlainInstance → Goal → List Frame → PlainToken → Step → Type 0
 IsTokenStep instance (Bins k) frames t step =
-    StepLeadsTo (Bins k) (bins_with k) [] (box_count instance) frames (bin_refusal instance k (Outer (node_below (bins_with k) [] frames)) t)
+    StepLeadsTo (Bins k) (bins_with k) [] (box_count instance) frames
+    (bin_refusal instance k (Outer (node_below (bins_with k) [] frames)) t)
     (bin_step (node_below (bins_with k) [] frames) t) step
 IsTokenStep instance (Value y) frames t step =
-    StepLeadsTo (Value y) choices_with no_choice (box_count instance) frames (value_refusal instance y (Outer (node_below choices_with no_choice frames)) t)
+    StepLeadsTo (Value y) choices_with no_choice (box_count instance) frames
+    (value_refusal instance y (Outer (node_below choices_with no_choice frames)) t)
     (choice_step (node_below choices_with no_choice frames) t) step

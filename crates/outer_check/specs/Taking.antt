@@ -11,7 +11,8 @@ use Rattle.outer_check.specs.Outers.{tree_seen, tree_refusal, tree_after, IsGoin
 
 -- Accepted, the tree is that of the definition and goes on; refused, it is as it was, and the code
 -- is that of the first test that failed.
-abbrev pub IsTaken : PlainInstance → Goal → PlainPath → Point → PlainRefuter → PlainToken → PlainPath → Point → PlainRefuter → Result (Unit {0}) RefuseCode → Type 0
+abbrev pub IsTaken : PlainInstance → Goal → PlainPath → Point → PlainRefuter → PlainToken → PlainPath → Point
+    → PlainRefuter → Result (Unit {0}) RefuseCode → Type 0
 IsTaken instance goal path point inner t path' point' inner' (Ok u) =
     (tree_refusal instance (tree_seen goal path.frames point inner) t ≡ None)
     × (tree_seen goal path'.frames point' inner' ≡ tree_after (tree_seen goal path.frames point inner) t)

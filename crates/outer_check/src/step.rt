@@ -104,7 +104,7 @@ fn bin_step(instance: &Instance, path: &Path, bins: u32, bin: u32) -> Step
 }
 
 /// What a token does at the node for bins that the path leads to.
-pub fn step_for_bins(instance: &Instance, path: &Path, bins: u32, token: &Token) -> Step
+pub(crate) fn step_for_bins(instance: &Instance, path: &Path, bins: u32, token: &Token) -> Step
     requires boxes { path.now.boxes ≡ box_count instance.now }
     requires few { bins ≤ most_boxes }
     requires are { AreOf (PlainBins bins) path.now.frames }
@@ -211,7 +211,7 @@ fn set_step(instance: &Instance, path: &Path, value: u64) -> Step
 }
 
 /// What a token does at the node for a value that the path leads to.
-pub fn step_for_value(instance: &Instance, path: &Path, value: u64, token: &Token) -> Step
+pub(crate) fn step_for_value(instance: &Instance, path: &Path, value: u64, token: &Token) -> Step
     requires boxes { path.now.boxes ≡ box_count instance.now }
     requires are { AreOf (PlainValue value) path.now.frames }
     ensures { IsTokenStep instance.now (PlainValue value) path.now.frames (plain_token token.now)

@@ -125,7 +125,7 @@ fn take_outer(
 
 /// A token, where nothing was refused: it is refused and leaves the tree, or the tree is that
 /// behind it.
-pub fn take(
+pub(crate) fn take(
     instance: &Instance,
     goal: Goal,
     path: &mut Path,

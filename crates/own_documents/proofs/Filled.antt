@@ -1,5 +1,6 @@
 -- Lines of words, as they are written, are read as these words.
-use Rattle.std.proofs.Common.{◌≡◌, ℕ, zero, suc, ◌+◌, ◌<◌, ◌≤◌, refl, ap, sym, subst, ◌∙◌, arith, Bool, true, false, cond, codes, List, [], ◌∷◌, ◌++◌, map, append-nil, length, get_or}
+use Rattle.std.proofs.Common.{◌≡◌, ℕ, zero, suc, ◌+◌, ◌<◌, ◌≤◌, refl, ap, sym, subst, ◌∙◌, arith, Bool, true, false}
+use Rattle.std.proofs.Common.{cond, codes, List, [], ◌∷◌, ◌++◌, map, append-nil, length, get_or}
 use Rattle.std.specs.List.{list_any, range_with_len}
 use Rattle.std.specs.Fmt.{decimal}
 use Rattle.packing_terms.specs.Packing.{PlainBox, PlainInstance, no_box, dims}
@@ -23,7 +24,8 @@ filled_append [] ys h k = k
 filled_append (words ∷ xs) ys h k = (h.0, h.1, filled_append xs ys h.2 k)
 
 -- a line for each number of a range
-pub filled_range : (f : ℕ → List (List ℕ)) (a n : ℕ) → ((v : ℕ) → a ≤ v → v < a + n → AreWords (f v) × (is_none (f v) ≡ false))
+pub filled_range : (f : ℕ → List (List ℕ)) (a n : ℕ)
+    → ((v : ℕ) → a ≤ v → v < a + n → AreWords (f v) × (is_none (f v) ≡ false))
     → AreFilled (map f (range_with_len a n))
 filled_range f a zero h = tt
 filled_range f a (suc n) h =
@@ -59,10 +61,14 @@ numbers_plain ns small = subst AreWords (append-nil (map decimal ns)) (words_dec
 
 -- ---- the lines of an instance
 
-boxes_filled : (d : ℕ) (kerfs : List ℕ) (boxes : List PlainBox) → ((v : ℕ) → v < length boxes → IsBox d kerfs (get_or boxes v no_box)) → AreFilled (map box_words boxes)
+boxes_filled : (d : ℕ) (kerfs : List ℕ) (boxes : List PlainBox)
+    → ((v : ℕ) → v < length boxes → IsBox d kerfs (get_or boxes v no_box)) → AreFilled (map box_words boxes)
 boxes_filled d kerfs [] good = tt
-boxes_filled d kerfs (item ∷ boxes) good =
-    (words_box d kerfs item (good zero (omega arith)), refl, boxes_filled d kerfs boxes (λ v h. good (suc v) (omega (arith, h))))
+boxes_filled d kerfs (item ∷ boxes) good = (
+  words_box d kerfs item (good zero (omega arith)),
+  refl,
+  boxes_filled d kerfs boxes (λ v h. good (suc v) (omega (arith, h))),
+)
 
 pub filled_instance : (instance : PlainInstance) → IsInstance instance → AreFilled (instance_words instance)
 filled_instance instance limits = go (has_gap instance.kerfs)
@@ -76,7 +82,8 @@ filled_instance instance limits = go (has_gap instance.kerfs)
     boxes : AreFilled (map box_words instance.boxes)
     boxes = boxes_filled (dims instance) instance.kerfs instance.boxes limits.boxes.each
 
-    go : (g : Bool) → AreFilled ((codes "format" ∷ decimal (cond g 2 1) ∷ []) ∷ (codes "container" ∷ map decimal instance.container)
+    go : (g : Bool) → AreFilled ((codes "format" ∷ decimal (cond g 2 1) ∷ [])
+        ∷ (codes "container" ∷ map decimal instance.container)
         ∷ (cond g ((codes "kerf" ∷ map decimal instance.kerfs) ∷ []) [] ++ map box_words instance.boxes))
     go true = (
       (omega arith, refl, word_decimal 2 (omega arith) [] tt),
@@ -96,5 +103,7 @@ filled_instance instance limits = go (has_gap instance.kerfs)
 pub instance_form : (instance : PlainInstance) → IsInstance instance → HasForm (instance_words instance) instance
 unfolding instance_text
 instance_form instance limits =
-    let text : IsInstanceText (lines_text (instance_words instance)) instance = (texts_have_form (lines_text (instance_words instance)) instance).0 (read_back instance limits) in
-    subst (λ lines. HasForm lines instance) (filled_text (instance_words instance) (filled_instance instance limits)) text.form
+    let text : IsInstanceText (lines_text (instance_words instance)) instance =
+    (texts_have_form (lines_text (instance_words instance)) instance).0 (read_back instance limits) in
+    subst (λ lines. HasForm lines instance)
+    (filled_text (instance_words instance) (filled_instance instance limits)) text.form

@@ -1,5 +1,7 @@
--- The tokens of an outer refutation have lines. A node never holds more boxes than there are, since each that is placed was in no bin before.
-use Rattle.std.proofs.Common.{◌≡◌, ℕ, zero, suc, pred, ◌+◌, ◌*◌, ◌<◌, ◌≤◌, ◌⊎◌, inl, inr, Bool, true, false, ◌||◌, refl, ap, subst, ◌∙◌, arith, List, [], ◌∷◌, ◌++◌, map, length, eqb, if◌then◌else◌}
+-- The tokens of an outer refutation have lines. A node never holds more boxes than there are, since
+-- each that is placed was in no bin before.
+use Rattle.std.proofs.Common.{◌≡◌, ℕ, zero, suc, pred, ◌+◌, ◌*◌, ◌<◌, ◌≤◌, ◌⊎◌, inl, inr, Bool, true, false, ◌||◌, refl}
+use Rattle.std.proofs.Common.{ap, subst, ◌∙◌, arith, List, [], ◌∷◌, ◌++◌, map, length, eqb, if◌then◌else◌}
 use Rattle.std.specs.Prelude.{nat_lt, slice_index_or}
 use Rattle.std.specs.List.{list_any, range_with_len}
 use Rattle.std.proofs.lemmas.Bool.{cases_lt, eq-eqb, or_left, or_right}
@@ -9,7 +11,9 @@ use Rattle.packing_terms.specs.Goals.{subset}
 use Rattle.packing_terms.specs.Limits.{most_boxes}
 use Rattle.packing_terms.specs.Sums.{sum_below}
 use Rattle.packing_terms.specs.Tokens.{PlainToken}
-use Rattle.packing_terms.specs.OuterRefutation.{Bins, insert_box, has_box, with_box, placements, bin_named, Choice, with_taken, RefutesBins, RefutesValue, none_left, by_scales, by_set, by_box, by_value, IsBinRefutation, IsValueRefutation}
+use Rattle.packing_terms.specs.OuterRefutation.{Bins, insert_box, has_box, with_box, placements, bin_named, Choice}
+use Rattle.packing_terms.specs.OuterRefutation.{with_taken, RefutesBins, RefutesValue, none_left, by_scales, by_set}
+use Rattle.packing_terms.specs.OuterRefutation.{by_box, by_value, IsBinRefutation, IsValueRefutation}
 use Rattle.packing_terms.proofs.WithBoxes.{has_inserted, any_with, any_new, inserted_length}
 use Rattle.own_documents.proofs.Written.{HaveLines, lines_joined, IsBounded, tuple_written, refuted_written}
 
@@ -40,11 +44,13 @@ tally_grows zero p q h = omega arith
 tally_grows (suc n) p q h = let a = tally_grows n p q h in let b = one_grows (p n) (q n) (h n) in omega (arith, a, b)
 
 -- one more passes
-tally_more : (n : ℕ) (p q : ℕ → Bool) (v : ℕ) → v < n → p v ≡ false → q v ≡ true → ((u : ℕ) → p u ≡ true → q u ≡ true) → tally n p < tally n q
+tally_more : (n : ℕ) (p q : ℕ → Bool) (v : ℕ) → v < n → p v ≡ false → q v ≡ true → ((u : ℕ) → p u ≡ true → q u ≡ true)
+    → tally n p < tally n q
 tally_more zero p q v l f t h = absurd (omega (arith, l))
 tally_more (suc n) p q v l f t h = go (cases_lt v n) (tally_more n p q v)
   where
-    go : (v < n) ⊎ (n ≤ v) → (v < n → p v ≡ false → q v ≡ true → ((u : ℕ) → p u ≡ true → q u ≡ true) → tally n p < tally n q) → tally (suc n) p < tally (suc n) q
+    go : (v < n) ⊎ (n ≤ v) → (v < n → p v ≡ false → q v ≡ true → ((u : ℕ) → p u ≡ true → q u ≡ true)
+        → tally n p < tally n q) → tally (suc n) p < tally (suc n) q
     go (inl m) rest = let a = rest m f t h in let b = one_grows (p n) (q n) (h n) in omega (arith, a, b)
     go (inr m) rest =
         let e : v ≡ n = omega (arith, l, m) in
@@ -57,7 +63,8 @@ same_box : (v : ℕ) → eqb v v ≡ true
 same_box v = eq-eqb v v refl
 
 -- a set of boxes of the instance, of at most so many
-subset_bounded : (instance : PlainInstance) (keep : List ℕ) → IsBounded instance → length keep ≤ 2 * most_boxes → IsBounded (subset instance keep)
+subset_bounded : (instance : PlainInstance) (keep : List ℕ) → IsBounded instance → length keep ≤ 2 * most_boxes
+    → IsBounded (subset instance keep)
 subset_bounded instance keep b few = record {
   dimensions = b.dimensions;
   boxes = (let n = length-map keep (λ v. slice_index_or instance.boxes v no_box) in omega (arith, n, few));
@@ -93,7 +100,8 @@ new_size [] v = omega arith
 new_size (us ∷ bins) v = let e = new_size bins v in omega (arith, e)
 
 -- a node that has placed one box more, and whose size grew by at most 2
-placed_sized : (n v : ℕ) (bins more : Bins) → v < n → list_any (has_box v) bins ≡ false → IsSized n bins → size more ≤ 2 + size bins
+placed_sized : (n v : ℕ) (bins more : Bins) → v < n → list_any (has_box v) bins ≡ false → IsSized n bins
+    → size more ≤ 2 + size bins
     → ((u : ℕ) → list_any (has_box u) more ≡ (eqb v u || list_any (has_box u) bins)) → IsSized n more
 placed_sized n v bins more l new sized grown has =
     let t : tally n (λ u. list_any (has_box u) bins) < tally n (λ u. list_any (has_box u) more) =
@@ -102,22 +110,27 @@ placed_sized n v bins more l new sized grown has =
     (λ u h. has u ∙ or_right (eqb v u) (list_any (has_box u) bins) h) in
     omega (arith, t, sized, grown)
 
-used_sized : (n v : ℕ) (bins : Bins) → v < n → list_any (has_box v) bins ≡ false → IsSized n bins → (a m : ℕ) → a + m ≤ length bins
+used_sized : (n v : ℕ) (bins : Bins) → v < n → list_any (has_box v) bins ≡ false → IsSized n bins → (a m : ℕ)
+    → a + m ≤ length bins
     → AreSized n (map (λ b. with_box bins b v) (range_with_len a m))
 used_sized n v bins l new sized a zero h = tt
 used_sized n v bins l new sized a (suc m) h =
     let e = with_size bins a v (omega (arith, h)) in (
-      placed_sized n v bins (with_box bins a v) l new sized (omega (arith, e)) (λ u. any_with u v bins a (omega (arith, h))),
+      placed_sized n v bins (with_box bins a v) l new sized (omega (arith, e))
+          (λ u. any_with u v bins a (omega (arith, h))),
       used_sized n v bins l new sized (a + 1) m (omega (arith, h)),
     )
 
-placements_sized : (n k v : ℕ) (bins : Bins) → v < n → list_any (has_box v) bins ≡ false → IsSized n bins → AreSized n (placements k bins v)
+placements_sized : (n k v : ℕ) (bins : Bins) → v < n → list_any (has_box v) bins ≡ false → IsSized n bins
+    → AreSized n (placements k bins v)
 placements_sized n k v bins l new sized =
-    sized_append n (map (λ b. with_box bins b v) (range_with_len 0 (length bins))) (if nat_lt (length bins) k then (bins ++ (v ∷ []) ∷ []) ∷ [] else [])
+    sized_append n (map (λ b. with_box bins b v) (range_with_len 0 (length bins)))
+    (if nat_lt (length bins) k then (bins ++ (v ∷ []) ∷ []) ∷ [] else [])
     (used_sized n v bins l new sized 0 (length bins) (omega arith)) (go (nat_lt (length bins) k))
   where
     go : (b : Bool) → AreSized n (if b then (bins ++ (v ∷ []) ∷ []) ∷ [] else [])
-    go true = let e = new_size bins v in (placed_sized n v bins (bins ++ (v ∷ []) ∷ []) l new sized (omega (arith, e)) (λ u. any_new u v bins), tt)
+    go true = let e = new_size bins v in
+        (placed_sized n v bins (bins ++ (v ∷ []) ∷ []) l new sized (omega (arith, e)) (λ u. any_new u v bins), tt)
     go false = tt
 
 length_size : (bins : Bins) → length bins ≤ size bins
@@ -134,9 +147,11 @@ size_most : (n : ℕ) (bins : Bins) → IsSized n bins → size bins ≤ 2 * n
 size_most n bins sized = let t = tally_most n (λ u. list_any (has_box u) bins) in omega (arith, t, sized)
 
 module _ (instance : PlainInstance) (bounded : IsBounded instance) (few : box_count instance ≤ most_boxes) (k : ℕ) where
-  bins_nodes_written : {nodes : List Bins} {z : List PlainToken} → AreSized (box_count instance) nodes → RefutesBins instance k nodes z → HaveLines (dims instance) z
+  bins_nodes_written : {nodes : List Bins} {z : List PlainToken} → AreSized (box_count instance) nodes
+      → RefutesBins instance k nodes z → HaveLines (dims instance) z
   bins_nodes_written sized none_left = tt
-  bins_nodes_written sized (by_scales {fs = fs} h rest) = (tuple_written instance fs bounded h.tuple, bins_nodes_written sized.1 rest)
+  bins_nodes_written sized (by_scales {fs = fs} h rest) =
+      (tuple_written instance fs bounded h.tuple, bins_nodes_written sized.1 rest)
   bins_nodes_written sized (by_set {bins = bins} {b = b} {x = x} {y = y} {z = z} used refutes e rest) =
       let most = size_most (box_count instance) bins sized.0 in
       let count = length_size bins in
@@ -144,7 +159,8 @@ module _ (instance : PlainInstance) (bounded : IsBounded instance) (few : box_co
       let within = bin_size bins (pred b) in (
         omega (arith, to, count, most, few),
         lines_joined (dims instance) z x y e
-            (refuted_written (subset instance (bin_named bins b)) (subset_bounded instance (bin_named bins b) bounded (omega (arith, within, most, few))) refutes)
+            (refuted_written (subset instance (bin_named bins b))
+            (subset_bounded instance (bin_named bins b) bounded (omega (arith, within, most, few))) refutes)
             (bins_nodes_written sized.1 rest),
       )
   bins_nodes_written sized (by_box {bins = bins} {nodes = nodes} {v = v} new rest) =
@@ -152,7 +168,8 @@ module _ (instance : PlainInstance) (bounded : IsBounded instance) (few : box_co
       let to = new.to in (
         omega (arith, to, few),
         bins_nodes_written (sized_append (box_count instance) (placements k bins (pred v)) nodes
-            (placements_sized (box_count instance) k (pred v) bins (omega (arith, from, to)) new.unplaced sized.0) sized.1) rest,
+            (placements_sized (box_count instance) k (pred v) bins (omega (arith, from, to)) new.unplaced sized.0)
+            sized.1) rest,
       )
 
   pub bins_written : (z : List PlainToken) → IsBinRefutation instance k z → HaveLines (dims instance) z
@@ -176,8 +193,10 @@ taken_few n v c l new few =
     (λ u h. has_inserted u v c.taken ∙ or_right (eqb v u) (has_box u c.taken) h) in
     omega (arith, e, t, few)
 
-module _ (instance : PlainInstance) (bounded : IsBounded instance) (few : box_count instance ≤ most_boxes) (goal : ℕ) where
-  value_nodes_written : {nodes : List Choice} {z : List PlainToken} → AreFew (box_count instance) nodes → RefutesValue instance goal nodes z → HaveLines (dims instance) z
+module _ (instance : PlainInstance) (bounded : IsBounded instance) (few : box_count instance ≤ most_boxes)
+    (goal : ℕ) where
+  value_nodes_written : {nodes : List Choice} {z : List PlainToken} → AreFew (box_count instance) nodes
+      → RefutesValue instance goal nodes z → HaveLines (dims instance) z
   value_nodes_written held none_left = tt
   value_nodes_written held (by_value short rest) = (tt, value_nodes_written held.1 rest)
   value_nodes_written held (by_set {c = c} {x = x} {y = y} {z = z} some refutes e rest) =
@@ -185,14 +204,18 @@ module _ (instance : PlainInstance) (bounded : IsBounded instance) (few : box_co
       let h = held.0 in (
         tt,
         lines_joined (dims instance) z x y e
-            (refuted_written (subset instance c.taken) (subset_bounded instance c.taken bounded (omega (arith, h, most, few))) refutes)
+            (refuted_written (subset instance c.taken)
+            (subset_bounded instance c.taken bounded (omega (arith, h, most, few))) refutes)
             (value_nodes_written held.1 rest),
       )
   value_nodes_written held (by_box {c = c} {v = v} new rest) =
       let from = new.from in
       let to = new.to in (
         omega (arith, to, few),
-        value_nodes_written (taken_few (box_count instance) (pred v) c (omega (arith, from, to)) new.not_taken held.0, (held.0, held.1)) rest,
+        value_nodes_written (
+          taken_few (box_count instance) (pred v) c (omega (arith, from, to)) new.not_taken held.0,
+          (held.0, held.1),
+        ) rest,
       )
 
   pub value_written : (z : List PlainToken) → IsValueRefutation instance goal z → HaveLines (dims instance) z

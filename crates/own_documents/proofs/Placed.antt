@@ -1,10 +1,12 @@
 -- The lines of places are read as these places.
-use Rattle.std.proofs.Common.{◌≡◌, ℕ, zero, suc, ◌+◌, ◌*◌, ◌/◌, ◌%◌, ◌<◌, ◌≤◌, refl, ap, sym, subst, ◌∙◌, arith, List, ◌∷◌, map, length, get_or, codes}
+use Rattle.std.proofs.Common.{◌≡◌, ℕ, zero, suc, ◌+◌, ◌*◌, ◌/◌, ◌%◌, ◌<◌, ◌≤◌, refl, ap, sym, subst, ◌∙◌, arith, List}
+use Rattle.std.proofs.Common.{◌∷◌, map, length, get_or, codes}
 use Rattle.std.specs.List.{range_with_len, flat_map}
 use Rattle.std.proofs.lemmas.Nat.{div-add-mod'}
 use Rattle.std.proofs.Math.Nat.{mod-lt, div-lt_iff_lt-mul}
 use Rattle.std.specs.Fmt.{decimal}
-use Rattle.std.proofs.lemmas.List.FromFn.{length-range_with_len, get_or-range_with_len, length-map-range_with_len, get_or-map-range_with_len, fill_by_all}
+use Rattle.std.proofs.lemmas.List.FromFn.{length-range_with_len, get_or-range_with_len, length-map-range_with_len}
+use Rattle.std.proofs.lemmas.List.FromFn.{get_or-map-range_with_len, fill_by_all}
 use Rattle.packing_terms.specs.Packing.{PlainInstance, dims, box_count, place, IsPacking}
 use Rattle.packing_terms.proofs.InBins.{joined_at}
 use Rattle.packing_terms.proofs.Lengths.{length_parts}
@@ -36,7 +38,8 @@ coordinates_are g a (suc n) h =
     )
 
 place_lines_are : (d : ℕ) (f : ℕ → ℕ → ℕ) (a n : ℕ) → ((v i : ℕ) → a ≤ v → v < a + n → i < d → f v i ≤ most_coordinate)
-    → ArePlaceLines d (map (λ v. codes "place" ∷ map (λ i. decimal (f v i)) (below d)) (range_with_len a n)) (flat_map (λ v. map (λ i. f v i) (below d)) (range_with_len a n))
+    → ArePlaceLines d (map (λ v. codes "place" ∷ map (λ i. decimal (f v i)) (below d)) (range_with_len a n))
+    (flat_map (λ v. map (λ i. f v i) (below d)) (range_with_len a n))
 place_lines_are d f a zero h = refl
 place_lines_are d f a (suc n) h = (
   map (λ i. f a i) (below d),
@@ -52,15 +55,18 @@ place_lines_are d f a (suc n) h = (
 )
 
 -- a flat list is that of its rows
-pub rows_again : (d n : ℕ) (xs : List ℕ) → 1 ≤ d → length xs ≡ n * d → flat_map (λ v. map (λ i. get_or xs (v * d + i) 0) (below d)) (below n) ≡ xs
+pub rows_again : (d n : ℕ) (xs : List ℕ) → 1 ≤ d → length xs ≡ n * d
+    → flat_map (λ v. map (λ i. get_or xs (v * d + i) 0) (below d)) (below n) ≡ xs
 rows_again d n xs some count =
-    fill_by_all (λ k. get_or xs k 0) (flat_map row (below n)) (n * d) 0 long each ∙ sym (fill_by_all (λ k. get_or xs k 0) xs (n * d) 0 count (λ k h. refl))
+    fill_by_all (λ k. get_or xs k 0) (flat_map row (below n)) (n * d) 0 long each
+    ∙ sym (fill_by_all (λ k. get_or xs k 0) xs (n * d) 0 count (λ k h. refl))
   where
     row : ℕ → List ℕ
     row v = map (λ i. get_or xs (v * d + i) 0) (below d)
 
     long : length (flat_map row (below n)) ≡ n * d
-    long = length_parts row d (λ v. length-map-range_with_len (λ i. get_or xs (v * d + i) 0) 0 d) (below n) ∙ ap (λ m. m * d) (length-range_with_len 0 n)
+    long = length_parts row d (λ v. length-map-range_with_len (λ i. get_or xs (v * d + i) 0) 0 d) (below n)
+        ∙ ap (λ m. m * d) (length-range_with_len 0 n)
 
     each : (k : ℕ) → k < n * d → get_or (flat_map row (below n)) k 0 ≡ get_or xs k 0
     each k h =
@@ -68,15 +74,20 @@ rows_again d n xs some count =
         let short : k % d < d = mod-lt k some in
         let inside : k / d < n = (div-lt_iff_lt-mul {k = d} {x = k} {y = n} some).1 h in
         subst (λ j. get_or (flat_map row (below n)) j 0 ≡ get_or xs j 0) parts
-        (joined_at row d (λ v. length-map-range_with_len (λ i. get_or xs (v * d + i) 0) 0 d) (below n) (k / d) (k % d) (subst (λ m. k / d < m) (sym (length-range_with_len 0 n)) inside) short
-        ∙ get_or-map-range_with_len (λ i. get_or xs (get_or (below n) (k / d) 0 * d + i) 0) 0 d (k % d) (k % d) 0 short (omega arith)
-        ∙ ap (λ v. get_or xs (v * d + k % d) 0) (let e = get_or-range_with_len 0 n (k / d) 0 inside in omega (arith, e)))
+        (joined_at row d (λ v. length-map-range_with_len (λ i. get_or xs (v * d + i) 0) 0 d) (below n) (k / d) (k % d)
+        (subst (λ m. k / d < m) (sym (length-range_with_len 0 n)) inside) short
+        ∙ get_or-map-range_with_len (λ i. get_or xs (get_or (below n) (k / d) 0 * d + i) 0) 0 d (k % d) (k % d) 0 short
+        (omega arith)
+        ∙ ap (λ v. get_or xs (v * d + k % d) 0)
+        (let e = get_or-range_with_len 0 n (k / d) 0 inside in omega (arith, e)))
 
 -- place lines of a list of rows
-pub rows_placed : (d n : ℕ) (xs : List ℕ) → 1 ≤ d → length xs ≡ n * d → ((v i : ℕ) → v < n → i < d → get_or xs (v * d + i) 0 ≤ most_coordinate)
+pub rows_placed : (d n : ℕ) (xs : List ℕ) → 1 ≤ d → length xs ≡ n * d
+    → ((v i : ℕ) → v < n → i < d → get_or xs (v * d + i) 0 ≤ most_coordinate)
     → ArePlaceLines d (map (λ v. codes "place" ∷ map (λ i. decimal (get_or xs (v * d + i) 0)) (below d)) (below n)) xs
 rows_placed d n xs some count small =
-    subst (ArePlaceLines d (map (λ v. codes "place" ∷ map (λ i. decimal (get_or xs (v * d + i) 0)) (below d)) (below n)))
+    subst (ArePlaceLines d (map (λ v. codes "place"
+    ∷ map (λ i. decimal (get_or xs (v * d + i) 0)) (below d)) (below n)))
     (rows_again d n xs some count)
     (place_lines_are d (λ v i. get_or xs (v * d + i) 0) 0 n (λ v i p q r. small v i (omega (arith, q)) r))
 
@@ -84,7 +95,14 @@ pub rows_filled : (d n : ℕ) (f : ℕ → ℕ → ℕ) → ((v i : ℕ) → v <
     → AreFilled (map (λ v. codes "place" ∷ map (λ i. decimal (f v i)) (below d)) (below n))
 rows_filled d n f small =
     filled_range (λ v. codes "place" ∷ map (λ i. decimal (f v i)) (below d)) 0 n
-    (λ v p q. ((omega arith, refl, coordinates_plain (λ i. f v i) 0 d (λ i r s. small v i (omega (arith, q)) (omega (arith, s)))), refl))
+    (λ v p q. (
+      (
+        omega arith,
+        refl,
+        coordinates_plain (λ i. f v i) 0 d (λ i r s. small v i (omega (arith, q)) (omega (arith, s))),
+      ),
+      refl,
+    ))
 
 -- the coordinates of a packing are small
 pub places_small : (instance : PlainInstance) (places : List ℕ) → IsBounded instance → IsPacking instance places
@@ -95,11 +113,14 @@ places_small instance places b p v i l m = let a = p.within v i l m in let s = b
 abbrev pub rows_words : ℕ → ℕ → List ℕ → Lines
 rows_words d n xs = map (λ v. codes "place" ∷ map (λ i. decimal (get_or xs (v * d + i) 0)) (below d)) (below n)
 
-pub packing_filled : (instance : PlainInstance) (places : List ℕ) → IsBounded instance → IsPacking instance places → AreFilled (place_lines instance places)
+pub packing_filled : (instance : PlainInstance) (places : List ℕ) → IsBounded instance → IsPacking instance places
+    → AreFilled (place_lines instance places)
 packing_filled instance places b p =
-    rows_filled (dims instance) (box_count instance) (λ v i. get_or places (v * dims instance + i) 0) (places_small instance places b p)
+    rows_filled (dims instance) (box_count instance) (λ v i. get_or places (v * dims instance + i) 0)
+    (places_small instance places b p)
 
-pub packing_placed : (instance : PlainInstance) (places : List ℕ) → 1 ≤ dims instance → IsBounded instance → IsPacking instance places
+pub packing_placed : (instance : PlainInstance) (places : List ℕ) → 1 ≤ dims instance → IsBounded instance
+    → IsPacking instance places
     → ArePlaced instance (place_lines instance places)
 packing_placed instance places some b p = record {
   places = places;

@@ -25,10 +25,12 @@ pub own_reduced : OwnReducedDocumentsAreVerified
 unfolding reduced_text
 own_reduced job budget scales instance claim numbers tokens limits e =
     let shown = reduced_shown job budget scales instance claim numbers tokens limits e in
-    let is = shown_headed Reduced instance claim numbers tokens limits (subst (λ (j : SolvingJob). MayName Reduced j) (sym shown.of_job) (may_name job)) shown.shown in
+    let is = shown_headed Reduced instance claim numbers tokens limits
+    (subst (λ (j : SolvingJob). MayName Reduced j) (sym shown.of_job) (may_name job)) shown.shown in
     record {
       of_job = shown.of_job;
       document = is.document;
       about = is.about;
-      verified = (documents_have_form Reduced (reduced_text instance (Claimed claim numbers tokens)) claim).1 is.document;
+      verified = (documents_have_form Reduced (reduced_text instance (Claimed claim numbers tokens)) claim).1
+          is.document;
     }

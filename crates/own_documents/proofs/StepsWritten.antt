@@ -4,9 +4,12 @@ use Rattle.std.specs.Fmt.{decimal}
 use Rattle.packing_terms.specs.declared.Exclusion.{Exclusion}
 use Rattle.packing_terms.specs.Packing.{PlainInstance, dims, box_count}
 use Rattle.packing_terms.specs.Rules.{Rule, AreBoxes, IsRuleInstance}
-use Rattle.packing_terms.specs.Rules.Rule.{Pair as PairRule, Apart as ApartRule, Triple as TripleRule, Chain as ChainRule, Compose as ComposeRule, Cycle as CycleRule, Order as OrderRule}
+use Rattle.packing_terms.specs.Rules.Rule.{Pair as PairRule, Apart as ApartRule, Triple as TripleRule}
+use Rattle.packing_terms.specs.Rules.Rule.{Chain as ChainRule, Compose as ComposeRule, Cycle as CycleRule}
+use Rattle.packing_terms.specs.Rules.Rule.{Order as OrderRule}
 use Rattle.packing_terms.specs.Tokens.{PlainToken}
-use Rattle.packing_terms.specs.Tokens.PlainToken.{Apart as ApartToken, Order as OrderToken, Rules, TooLarge, Scales, Assign, Choose, SetRefuted, ValueShort, GlobalScales}
+use Rattle.packing_terms.specs.Tokens.PlainToken.{Apart as ApartToken, Order as OrderToken, Rules, TooLarge, Scales}
+use Rattle.packing_terms.specs.Tokens.PlainToken.{Assign, Choose, SetRefuted, ValueShort, GlobalScales}
 use Rattle.packing_terms.proofs.Boxes.{boxes_few}
 use Rattle.text_terms.specs.Texts.{is_none}
 use Rattle.text_terms.proofs.Spelled.{AreWords}
@@ -18,14 +21,16 @@ use Rattle.explained_terms.specs.StepLines.{HasPlainLine, HasStepLine, step_word
 use Rattle.explained_terms.specs.Explaining.{Explains, by_clash, by_side, by_scales, by_step, by_apart, by_order}
 use Rattle.answer_terms.specs.Explained.{step_lines}
 use Rattle.own_documents.proofs.Filled.{AreFilled}
-use Rattle.own_documents.proofs.Written.{IsBounded, one_plain, three_plain, token_plain, tuple_written, named_written, large_written}
+use Rattle.own_documents.proofs.Written.{IsBounded, one_plain, three_plain, token_plain, tuple_written, named_written}
+use Rattle.own_documents.proofs.Written.{large_written}
 
 -- each step has a line with d dimensions
 abbrev pub HaveStepLines : ℕ → List PlainStep → Type 0
 HaveStepLines d [] = Unit {0}
 HaveStepLines d (s ∷ ss) = HasStepLine d s × HaveStepLines d ss
 
-steps_joined : (d : ℕ) (z xs ys : List PlainStep) → z ≡ xs ++ ys → HaveStepLines d xs → HaveStepLines d ys → HaveStepLines d z
+steps_joined : (d : ℕ) (z xs ys : List PlainStep) → z ≡ xs ++ ys → HaveStepLines d xs → HaveStepLines d ys
+    → HaveStepLines d z
 steps_joined d z xs ys e h k = subst (HaveStepLines d) (sym e) (go xs h)
   where
     go : (ts : List PlainStep) → HaveStepLines d ts → HaveStepLines d (ts ++ ys)
@@ -34,13 +39,18 @@ steps_joined d z xs ys e h k = subst (HaveStepLines d) (sym e) (go xs h)
 
 -- ---- their words
 
-four_plain : (x y z u : ℕ) → IsParameter x → IsParameter y → IsParameter z → IsParameter u → AreWords (decimal x ∷ decimal y ∷ decimal z ∷ decimal u ∷ [])
-four_plain x y z u h k l m = word_decimal x (omega (arith, h)) (decimal y ∷ decimal z ∷ decimal u ∷ []) (three_plain y z u k l m)
+four_plain : (x y z u : ℕ) → IsParameter x → IsParameter y → IsParameter z → IsParameter u
+    → AreWords (decimal x ∷ decimal y ∷ decimal z ∷ decimal u ∷ [])
+four_plain x y z u h k l m = word_decimal x (omega (arith, h)) (decimal y ∷ decimal z ∷ decimal u ∷ [])
+    (three_plain y z u k l m)
 
-five_plain : (x y z u v : ℕ) → IsParameter x → IsParameter y → IsParameter z → IsParameter u → IsParameter v → AreWords (decimal x ∷ decimal y ∷ decimal z ∷ decimal u ∷ decimal v ∷ [])
-five_plain x y z u v h k l m n = word_decimal x (omega (arith, h)) (decimal y ∷ decimal z ∷ decimal u ∷ decimal v ∷ []) (four_plain y z u v k l m n)
+five_plain : (x y z u v : ℕ) → IsParameter x → IsParameter y → IsParameter z → IsParameter u → IsParameter v
+    → AreWords (decimal x ∷ decimal y ∷ decimal z ∷ decimal u ∷ decimal v ∷ [])
+five_plain x y z u v h k l m n =
+    word_decimal x (omega (arith, h)) (decimal y ∷ decimal z ∷ decimal u ∷ decimal v ∷ []) (four_plain y z u v k l m n)
 
-plain_plain : (d : ℕ) (t : PlainToken) → HasPlainLine d t → AreWords (step_words (Plain t)) × (is_none (step_words (Plain t)) ≡ false)
+plain_plain : (d : ℕ) (t : PlainToken) → HasPlainLine d t → AreWords (step_words (Plain t))
+    × (is_none (step_words (Plain t)) ≡ false)
 plain_plain d (ApartToken i u v) h = token_plain d (ApartToken i u v) h
 plain_plain d (OrderToken i u v) h = token_plain d (OrderToken i u v) h
 plain_plain d (TooLarge v i) h = token_plain d (TooLarge v i) h
@@ -87,22 +97,48 @@ module _ (instance : PlainInstance) (bounded : IsBounded instance) where
   rule_written : (rule : Rule) → IsRuleInstance instance rule → HaveStepLines (dims instance) (lines_of rule)
   rule_written (PairRule i u v) h = ((dim_written i h.0, box_written u h.1.0, box_written v h.1.2.0), tt)
   rule_written (ApartRule i u v) h = ((dim_written i h.0, box_written u h.1.0, box_written v h.1.2.0), tt)
-  rule_written (TripleRule i u v x) h = ((dim_written i h.0, box_written u h.1.0, box_written v h.1.2.0, box_written x h.1.2.2.0), tt)
-  rule_written (ComposeRule i u v x) h = ((dim_written i h.0, box_written u h.1.0, box_written v h.1.2.0, box_written x h.1.2.2.0), tt)
-  rule_written (CycleRule i a b c d) h = ((dim_written i h.0, box_written a h.1.0, box_written b h.1.2.0, box_written c h.1.2.2.0, box_written d h.1.2.2.2.0), tt)
-  rule_written (OrderRule i a b c d) h = ((dim_written i h.0, box_written a h.1.0, box_written b h.1.2.0, box_written c h.1.2.2.0, box_written d h.1.2.2.2.0), tt)
+  rule_written (TripleRule i u v x) h =
+      ((dim_written i h.0, box_written u h.1.0, box_written v h.1.2.0, box_written x h.1.2.2.0), tt)
+  rule_written (ComposeRule i u v x) h =
+      ((dim_written i h.0, box_written u h.1.0, box_written v h.1.2.0, box_written x h.1.2.2.0), tt)
+  rule_written (CycleRule i a b c d) h = (
+    (
+      dim_written i h.0,
+      box_written a h.1.0,
+      box_written b h.1.2.0,
+      box_written c h.1.2.2.0,
+      box_written d h.1.2.2.2.0,
+    ),
+    tt,
+  )
+  rule_written (OrderRule i a b c d) h = (
+    (
+      dim_written i h.0,
+      box_written a h.1.0,
+      box_written b h.1.2.0,
+      box_written c h.1.2.2.0,
+      box_written d h.1.2.2.2.0,
+    ),
+    tt,
+  )
   rule_written (ChainRule i before u v after) h = (
     (dim_written i h.0, few_written (before ++ u ∷ []) h.1, few_written (v ∷ after) h.2),
-    steps_joined (dims instance) _ (box_lines (before ++ u ∷ [])) (box_lines (v ∷ after)) refl (boxes_written (before ++ u ∷ []) h.1) (boxes_written (v ∷ after) h.2),
+    steps_joined (dims instance) _ (box_lines (before ++ u ∷ [])) (box_lines (v ∷ after)) refl
+        (boxes_written (before ++ u ∷ []) h.1) (boxes_written (v ∷ after) h.2),
   )
 
-  pub explained_written : {es : List Exclusion} {z : List PlainStep} → Explains instance es z → HaveStepLines (dims instance) z
+  pub explained_written : {es : List Exclusion} {z : List PlainStep} → Explains instance es z
+      → HaveStepLines (dims instance) z
   explained_written (by_clash {i = i} {u = u} {v = v} c) = (named_written instance i u v bounded c.named, tt)
   explained_written (by_side {v = v} {i = i} h) = (large_written instance v i bounded h, tt)
   explained_written (by_scales {fs = fs} h) = (tuple_written instance fs bounded h.tuple, tt)
   explained_written (by_step {rule = rule} {z = z} {rest = rest} h e more) =
       steps_joined (dims instance) z (lines_of rule) rest e (rule_written rule h.is) (explained_written more)
-  explained_written (by_apart {i = i} {u = u} {v = v} {l = l} {r = r} {z = z} h e left right) =
-      (named_written instance i u v bounded h.named, steps_joined (dims instance) z l r e (explained_written left) (explained_written right))
-  explained_written (by_order {i = i} {u = u} {v = v} {l = l} {r = r} {z = z} h e left right) =
-      (named_written instance i u v bounded h.named, steps_joined (dims instance) z l r e (explained_written left) (explained_written right))
+  explained_written (by_apart {i = i} {u = u} {v = v} {l = l} {r = r} {z = z} h e left right) = (
+    named_written instance i u v bounded h.named,
+    steps_joined (dims instance) z l r e (explained_written left) (explained_written right),
+  )
+  explained_written (by_order {i = i} {u = u} {v = v} {l = l} {r = r} {z = z} h e left right) = (
+    named_written instance i u v bounded h.named,
+    steps_joined (dims instance) z l r e (explained_written left) (explained_written right),
+  )

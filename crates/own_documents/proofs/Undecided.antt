@@ -5,7 +5,9 @@ use Rattle.text_terms.specs.Spelling.{instance_words, lines_text}
 use Rattle.text_terms.specs.Form.{HasForm, AreBoxLines, IsKerfPart}
 use Rattle.document_terms.specs.declared.claim.Claim.{Claim}
 use Rattle.document_terms.specs.declared.claim.SolvingJob.TheVariants.{Fit, Strip, Bins, Knapsack}
-use Rattle.document_terms.specs.declared.claim.Claim.TheVariants.{Fitting, NotFitting, LeastHeight, HeightBetween, NoHeight, LeastBins, BinsBetween, NoBins, GreatestValue, ValueBetween}
+use Rattle.document_terms.specs.declared.claim.Claim.TheVariants.{Fitting, NotFitting, LeastHeight, HeightBetween}
+use Rattle.document_terms.specs.declared.claim.Claim.TheVariants.{NoHeight, LeastBins, BinsBetween, NoBins}
+use Rattle.document_terms.specs.declared.claim.Claim.TheVariants.{GreatestValue, ValueBetween}
 use Rattle.verdict_terms.specs.declared.heading.Heading.TheVariants.{Answer, Reduced}
 use Rattle.verdict_terms.specs.Form.{IsReducedDocument, IsDocument, IsResult}
 use Rattle.verdict_terms.proofs.FormGiven.{documents_have_form}
@@ -15,7 +17,8 @@ use Rattle.answer_terms.specs.Solved.{solved, strip_answer, bins_answer}
 use Rattle.tree_terms.specs.ClassTree.{first_too_large_box, first_too_wide}
 use Rattle.tree_terms.specs.Levels.{height_run, bin_run}
 use Rattle.reduced_levels.specs.Heights.{reduced_height_run}
-use Rattle.own_documents.specs.Own.{OnlyFitIsUndecided, OnlyReducedFitIsUndecided, UndecidedIsRefused, ReducedUndecidedIsRefused}
+use Rattle.own_documents.specs.Own.{OnlyFitIsUndecided, OnlyReducedFitIsUndecided, UndecidedIsRefused}
+use Rattle.own_documents.specs.Own.{ReducedUndecidedIsRefused}
 use Rattle.answer_terms.specs.declared.job.ReducedJob.TheVariants.{Fit as ReducesFit, Strip as ReducesStrip}
 use Rattle.answer_terms.specs.Reduced.{reduced_solved, reduced_text, reduced_answer_lines}
 use Rattle.own_documents.proofs.Filled.{filled_text, instance_form}
@@ -35,14 +38,17 @@ no_result_after : (xs ys : Lines) → HaveNoResult xs → HaveNoResult ys → Ha
 no_result_after [] ys h k = k
 no_result_after (words ∷ xs) ys h k = (h.0, no_result_after xs ys h.1 k)
 
-boxes_no_result : (format : ℕ) (kerfs : List ℕ) (lines : List (List (List ℕ))) (boxes : List PlainBox) → AreBoxLines format kerfs lines boxes → HaveNoResult lines
+boxes_no_result : (format : ℕ) (kerfs : List ℕ) (lines : List (List (List ℕ))) (boxes : List PlainBox)
+    → AreBoxLines format kerfs lines boxes → HaveNoResult lines
 boxes_no_result format kerfs [] boxes h = tt
 boxes_no_result format kerfs (words ∷ lines) boxes (item, times, more, line, e, rest) = (
-  (λ ws f. absurd (let g : codes "box" ∷ (line.numbers ++ line.ending) ≡ codes "result" ∷ ws = sym line.are ∙ f in cc (g))),
+  (λ ws f. absurd (let g : codes "box" ∷ (line.numbers ++ line.ending) ≡ codes "result" ∷ ws = sym line.are
+      ∙ f in cc (g))),
   boxes_no_result format kerfs lines more rest,
 )
 
-kerf_no_result : (format : ℕ) (container : List ℕ) (lines : List (List (List ℕ))) (kerfs : List ℕ) → IsKerfPart format container lines kerfs → HaveNoResult lines
+kerf_no_result : (format : ℕ) (container : List ℕ) (lines : List (List (List ℕ))) (kerfs : List ℕ)
+    → IsKerfPart format container lines kerfs → HaveNoResult lines
 kerf_no_result format container [] kerfs h = tt
 kerf_no_result format container (words ∷ []) kerfs h =
     ((λ ws f. absurd (let g : codes "kerf" ∷ h.1.numbers ≡ codes "result" ∷ ws = sym h.1.are ∙ f in cc (g))), tt)
@@ -53,9 +59,11 @@ form_no_result lines instance h =
     let boxes : HaveNoResult h.boxes = boxes_no_result h.number instance.kerfs h.boxes instance.boxes h.are_boxes in
     let kerf : HaveNoResult h.kerf = kerf_no_result h.number instance.container h.kerf instance.kerfs h.is_kerf in
     rw h.are (
-      (λ ws e. absurd (let f : codes "format" ∷ h.is_format.number ∷ [] ≡ codes "result" ∷ ws = sym h.is_format.are ∙ e in let n : 102 ≡ 114 = ap first_byte f in omega (arith, n))),
+      (λ ws e. absurd (let f : codes "format" ∷ h.is_format.number ∷ [] ≡ codes "result" ∷ ws = sym h.is_format.are
+          ∙ e in let n : 102 ≡ 114 = ap first_byte f in omega (arith, n))),
       (
-        (λ ws e. absurd (let f : codes "container" ∷ h.is_container.numbers ≡ codes "result" ∷ ws = sym h.is_container.are ∙ e in let n : 99 ≡ 114 = ap first_byte f in omega (arith, n))),
+        (λ ws e. absurd (let f : codes "container" ∷ h.is_container.numbers ≡ codes "result"
+            ∷ ws = sym h.is_container.are ∙ e in let n : 99 ≡ 114 = ap first_byte f in omega (arith, n))),
         no_result_after h.kerf h.boxes kerf boxes,
       ),
     )
@@ -67,10 +75,12 @@ same_result [] [] a b p q h k e = cc (e)
 same_result [] (y ∷ ys) a b p q h k e = absurd (k.0 a (let f : codes "result" ∷ a ≡ y = cc (e) in sym f))
 same_result (x ∷ xs) [] a b p q h k e = absurd (h.0 b (cc (e)))
 same_result (x ∷ xs) (y ∷ ys) a b p q h k e =
-    same_result xs ys a b p q h.1 k.1 (let f : xs ++ (codes "result" ∷ a) ∷ p ≡ ys ++ (codes "result" ∷ b) ∷ q = cc (e) in f)
+    same_result xs ys a b p q h.1 k.1
+    (let f : xs ++ (codes "result" ∷ a) ∷ p ≡ ys ++ (codes "result" ∷ b) ∷ q = cc (e) in f)
 
 -- no claim says undecided
-no_claim : (instance : PlainInstance) (claim : Claim) (words : List (List ℕ)) → codes "undecided" ∷ [] ≡ words → ¬ IsResult instance claim words
+no_claim : (instance : PlainInstance) (claim : Claim) (words : List (List ℕ)) → codes "undecided" ∷ [] ≡ words
+    → ¬ IsResult instance claim words
 no_claim instance Fitting words e h = absurd (let f : codes "undecided" ∷ [] ≡ codes "yes" ∷ [] = e ∙ h in cc (f))
 no_claim instance NotFitting words e h = absurd (let f : codes "undecided" ∷ [] ≡ codes "no" ∷ [] = e ∙ h in cc (f))
 no_claim instance (LeastHeight n) words e h = absurd (let f : 1 ≡ 2 = ap length (e ∙ h.are) in omega (arith, f))
@@ -85,13 +95,17 @@ no_claim instance (ValueBetween a b) words e h = absurd (let f : 1 ≡ 3 = ap le
 pub undecided_refused : UndecidedIsRefused
 unfolding answer_text
 undecided_refused instance claim limits e =
-    let d : IsDocument (lines_text (answer_lines instance Undecided)) claim = (documents_have_form Answer (lines_text (answer_lines instance Undecided)) claim).0 e in
-    let lines = sym (filled_text (answer_lines instance Undecided) (filled_document Answer instance Fit (codes "undecided" ∷ []) [] limits (omega arith, refl, tt) tt)) ∙ d.are in
+    let d : IsDocument (lines_text (answer_lines instance Undecided)) claim =
+    (documents_have_form Answer (lines_text (answer_lines instance Undecided)) claim).0 e in
+    let lines = sym (filled_text (answer_lines instance Undecided)
+    (filled_document Answer instance Fit (codes "undecided" ∷ []) [] limits (omega arith, refl, tt) tt)) ∙ d.are in
     let rest : instance_words instance ++ (codes "result" ∷ codes "undecided" ∷ []) ∷ (codes "end" ∷ []) ∷ []
     ≡ d.written ++ (codes "result" ∷ d.result) ∷ (d.backing ++ (codes "end" ∷ []) ∷ []) = cc (lines) in
     let same : codes "undecided" ∷ [] ≡ d.result =
-    same_result (instance_words instance) d.written (codes "undecided" ∷ []) d.result ((codes "end" ∷ []) ∷ []) (d.backing ++ (codes "end" ∷ []) ∷ [])
-    (form_no_result (instance_words instance) instance (instance_form instance limits)) (form_no_result d.written d.instance d.is_instance) rest in
+    same_result (instance_words instance) d.written (codes "undecided" ∷ []) d.result ((codes "end" ∷ []) ∷ [])
+    (d.backing ++ (codes "end" ∷ []) ∷ [])
+    (form_no_result (instance_words instance) instance (instance_form instance limits))
+    (form_no_result d.written d.instance d.is_instance) rest in
     no_claim d.instance claim d.result same d.is_result
 
 -- an answer that isn't undecided
@@ -122,11 +136,15 @@ only_reduced_fit ReducesStrip budget scales instance e = absurd (by_wide (first_
 pub reduced_undecided_refused : ReducedUndecidedIsRefused
 unfolding reduced_text
 reduced_undecided_refused instance claim limits e =
-    let d : IsReducedDocument (lines_text (reduced_answer_lines instance Undecided)) claim = (documents_have_form Reduced (lines_text (reduced_answer_lines instance Undecided)) claim).0 e in
-    let lines = sym (filled_text (reduced_answer_lines instance Undecided) (filled_document Reduced instance Fit (codes "undecided" ∷ []) [] limits (omega arith, refl, tt) tt)) ∙ d.are in
+    let d : IsReducedDocument (lines_text (reduced_answer_lines instance Undecided)) claim =
+    (documents_have_form Reduced (lines_text (reduced_answer_lines instance Undecided)) claim).0 e in
+    let lines = sym (filled_text (reduced_answer_lines instance Undecided)
+    (filled_document Reduced instance Fit (codes "undecided" ∷ []) [] limits (omega arith, refl, tt) tt)) ∙ d.are in
     let rest : instance_words instance ++ (codes "result" ∷ codes "undecided" ∷ []) ∷ (codes "end" ∷ []) ∷ []
     ≡ d.written ++ (codes "result" ∷ d.result) ∷ (d.backing ++ (codes "end" ∷ []) ∷ []) = cc (lines) in
     let same : codes "undecided" ∷ [] ≡ d.result =
-    same_result (instance_words instance) d.written (codes "undecided" ∷ []) d.result ((codes "end" ∷ []) ∷ []) (d.backing ++ (codes "end" ∷ []) ∷ [])
-    (form_no_result (instance_words instance) instance (instance_form instance limits)) (form_no_result d.written d.instance d.is_instance) rest in
+    same_result (instance_words instance) d.written (codes "undecided" ∷ []) d.result ((codes "end" ∷ []) ∷ [])
+    (d.backing ++ (codes "end" ∷ []) ∷ [])
+    (form_no_result (instance_words instance) instance (instance_form instance limits))
+    (form_no_result d.written d.instance d.is_instance) rest in
     no_claim d.instance claim d.result same d.is_result

@@ -1,5 +1,6 @@
 -- The tokens of a refutation have lines.
-use Rattle.std.proofs.Common.{◌≡◌, ℕ, zero, suc, ◌+◌, ◌*◌, ◌<◌, ◌≤◌, refl, sym, subst, arith, false, List, [], ◌∷◌, ◌++◌, length, Some, None}
+use Rattle.std.proofs.Common.{◌≡◌, ℕ, zero, suc, ◌+◌, ◌*◌, ◌<◌, ◌≤◌, refl, sym, subst, arith, false, List, [], ◌∷◌}
+use Rattle.std.proofs.Common.{◌++◌, length, Some, None}
 use Rattle.std.specs.List.{flat_map}
 use Rattle.std.specs.Fmt.{decimal}
 use Rattle.packing_terms.specs.declared.Exclusion.{Exclusion}
@@ -10,12 +11,15 @@ use Rattle.packing_terms.specs.Limits.{IsInternalInstance, most_boxes, most_heig
 use Rattle.packing_terms.proofs.Internal.{container_small}
 use Rattle.packing_terms.specs.Scales.{IsLegalScale, function_at, IsTuple}
 use Rattle.packing_terms.specs.Tokens.{PlainToken}
-use Rattle.packing_terms.specs.Tokens.PlainToken.{Apart, Order, Rules, TooLarge, Scales, Assign, Choose, SetRefuted, ValueShort, GlobalScales}
-use Rattle.packing_terms.specs.Refutation.{Refutes, by_rules, by_side, by_scales, by_apart, by_order, IsNamed, IsTooLarge}
+use Rattle.packing_terms.specs.Tokens.PlainToken.{Apart, Order, Rules, TooLarge, Scales, Assign, Choose, SetRefuted}
+use Rattle.packing_terms.specs.Tokens.PlainToken.{ValueShort, GlobalScales}
+use Rattle.packing_terms.specs.Refutation.{Refutes, by_rules, by_side, by_scales, by_apart, by_order, IsNamed}
+use Rattle.packing_terms.specs.Refutation.{IsTooLarge}
 use Rattle.text_terms.specs.Texts.{is_none}
 use Rattle.text_terms.proofs.Spelled.{AreWords}
 use Rattle.text_terms.proofs.Back.{word_decimal}
-use Rattle.document_terms.specs.TokenLines.{IsParameter, AreWritten, IsWrittenTuple, HasLine, function_words, token_words}
+use Rattle.document_terms.specs.TokenLines.{IsParameter, AreWritten, IsWrittenTuple, HasLine, function_words}
+use Rattle.document_terms.specs.TokenLines.{token_words}
 use Rattle.verdict_terms.specs.Form.{AreTokenLines}
 use Rattle.document_terms.proofs.TokensBack.{tokens_are_read_back}
 use Rattle.answer_terms.specs.Answers.{token_lines}
@@ -48,7 +52,8 @@ one_plain x h = word_decimal x (omega (arith, h)) [] tt
 two_plain : (x y : ℕ) → IsParameter x → IsParameter y → AreWords (decimal x ∷ decimal y ∷ [])
 two_plain x y h k = word_decimal x (omega (arith, h)) (decimal y ∷ []) (one_plain y k)
 
-pub three_plain : (x y z : ℕ) → IsParameter x → IsParameter y → IsParameter z → AreWords (decimal x ∷ decimal y ∷ decimal z ∷ [])
+pub three_plain : (x y z : ℕ) → IsParameter x → IsParameter y → IsParameter z
+    → AreWords (decimal x ∷ decimal y ∷ decimal z ∷ [])
 three_plain x y z h k l = word_decimal x (omega (arith, h)) (decimal y ∷ decimal z ∷ []) (two_plain y z k l)
 
 pub token_plain : (d : ℕ) (t : PlainToken) → HasLine d t → AreWords (token_words t) × (is_none (token_words t) ≡ false)
@@ -74,7 +79,8 @@ tokens_are_lines d (t ∷ ts) h = (tokens_are_read_back d t h.0, tokens_are_line
 
 -- ---- refutations
 
--- Few dimensions, few boxes, and no long container side. A set is told to have at most twice as many boxes as there are, which is few enough.
+-- Few dimensions, few boxes, and no long container side. A set is told to have at most twice as
+-- many boxes as there are, which is few enough.
 pub record IsBounded (instance : PlainInstance) : Type 0 where
   pub dimensions : dims instance ≤ 4
   pub boxes : box_count instance ≤ 2 * most_boxes
@@ -101,30 +107,40 @@ legal_parameter (Count e) fs h k = (let l = h.legal in let w = h.few in omega (a
 
 legal_written : (fs : List ScaleFn) → ((i : ℕ) → i < length fs → IsLegalSomewhere (function_at fs i)) → AreWritten fs
 legal_written [] h = tt
-legal_written (f ∷ fs) h = legal_parameter f fs (h zero (omega arith)) (legal_written fs (λ i l. h (suc i) (omega arith)))
+legal_written (f ∷ fs) h = legal_parameter f fs (h zero (omega arith))
+    (legal_written fs (λ i l. h (suc i) (omega arith)))
 
-pub tuple_written : (instance : PlainInstance) (fs : List ScaleFn) → IsBounded instance → IsTuple instance fs → IsWrittenTuple (dims instance) fs
+pub tuple_written : (instance : PlainInstance) (fs : List ScaleFn) → IsBounded instance → IsTuple instance fs
+    → IsWrittenTuple (dims instance) fs
 tuple_written instance fs bounded tuple = (
   tuple.count,
   legal_written fs (λ i h. let l : i < dims instance = omega (arith, tuple.count) in
       record { whole = container_side instance i; few = bounded.sides i l; legal = tuple.legal i l }),
 )
 
-pub named_written : (instance : PlainInstance) (i u v : ℕ) → IsBounded instance → IsNamed instance i u v → IsParameter i × IsParameter u × IsParameter v
+pub named_written : (instance : PlainInstance) (i u v : ℕ) → IsBounded instance → IsNamed instance i u v
+    → IsParameter i × IsParameter u × IsParameter v
 named_written instance i u v b n =
     let d = b.dimensions in let m = b.boxes in let t = n.dim_to in let r = n.rising in let w = n.v_to in
     (omega (arith, d, t), omega (arith, m, r, w), omega (arith, m, w))
 
-pub large_written : (instance : PlainInstance) (v i : ℕ) → IsBounded instance → IsTooLarge instance v i → HasLine (dims instance) (TooLarge v i)
+pub large_written : (instance : PlainInstance) (v i : ℕ) → IsBounded instance → IsTooLarge instance v i
+    → HasLine (dims instance) (TooLarge v i)
 large_written instance v i b h =
-    let d = b.dimensions in let m = b.boxes in let t = h.box_to in let s = h.dim_to in (omega (arith, m, t), omega (arith, d, s))
+    let d = b.dimensions in let m = b.boxes in let t = h.box_to in let s = h.dim_to in
+    (omega (arith, m, t), omega (arith, d, s))
 
 module _ (instance : PlainInstance) (bounded : IsBounded instance) where
-  pub refuted_written : {es : List Exclusion} {z : List PlainToken} → Refutes instance es z → HaveLines (dims instance) z
+  pub refuted_written : {es : List Exclusion} {z : List PlainToken} → Refutes instance es z
+      → HaveLines (dims instance) z
   refuted_written (by_rules c) = (tt, tt)
   refuted_written (by_side {v = v} {i = i} h) = (large_written instance v i bounded h, tt)
   refuted_written (by_scales {fs = fs} h) = (tuple_written instance fs bounded h.tuple, tt)
-  refuted_written (by_apart {i = i} {u = u} {v = v} {l = l} {r = r} {z = z} h e left right) =
-      (named_written instance i u v bounded h.named, lines_joined (dims instance) z l r e (refuted_written left) (refuted_written right))
-  refuted_written (by_order {i = i} {u = u} {v = v} {l = l} {r = r} {z = z} h e left right) =
-      (named_written instance i u v bounded h.named, lines_joined (dims instance) z l r e (refuted_written left) (refuted_written right))
+  refuted_written (by_apart {i = i} {u = u} {v = v} {l = l} {r = r} {z = z} h e left right) = (
+    named_written instance i u v bounded h.named,
+    lines_joined (dims instance) z l r e (refuted_written left) (refuted_written right),
+  )
+  refuted_written (by_order {i = i} {u = u} {v = v} {l = l} {r = r} {z = z} h e left right) = (
+    named_written instance i u v bounded h.named,
+    lines_joined (dims instance) z l r e (refuted_written left) (refuted_written right),
+  )

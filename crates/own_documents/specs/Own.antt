@@ -31,8 +31,10 @@ pub record IsDocumentAbout (instance : PlainInstance) (text : List ℕ) (claim :
 
 -- whoever found the numbers and the tokens, the text is a document of the claim about the instance
 abbrev pub ShownClaimsHaveDocuments : Type 0
-ShownClaimsHaveDocuments = (instance : PlainInstance) (claim : Claim) (numbers : List ℕ) (tokens : List PlainToken) → IsInstance instance
-    → Shows instance claim numbers tokens → IsDocumentAbout instance (answer_text instance (Claimed claim numbers tokens)) claim
+ShownClaimsHaveDocuments = (instance : PlainInstance) (claim : Claim) (numbers : List ℕ) (tokens : List PlainToken)
+    → IsInstance instance
+    → Shows instance claim numbers tokens
+    → IsDocumentAbout instance (answer_text instance (Claimed claim numbers tokens)) claim
 
 -- the text is verified with the claim, which is one of the job and about the instance
 pub record IsVerifiedFor (job : SolvingJob) (instance : PlainInstance) (text : List ℕ) (claim : Claim) : Type 0 where
@@ -42,17 +44,20 @@ pub record IsVerifiedFor (job : SolvingJob) (instance : PlainInstance) (text : L
 
 -- the document that answers a job with a claim is verified with it, and about the asked instance
 abbrev pub OwnDocumentsAreVerified : Type 0
-OwnDocumentsAreVerified = (job : SolvingJob) (budget : ℕ) (scales : Bool) (instance : PlainInstance) (claim : Claim) (numbers : List ℕ) (tokens : List PlainToken)
+OwnDocumentsAreVerified = (job : SolvingJob) (budget : ℕ) (scales : Bool) (instance : PlainInstance) (claim : Claim)
+    (numbers : List ℕ) (tokens : List PlainToken)
     → IsInstance instance → solved job budget scales instance ≡ Claimed claim numbers tokens
     → IsVerifiedFor job instance (answer_text instance (Claimed claim numbers tokens)) claim
 
 -- `fit` alone is answered by undecided
 abbrev pub OnlyFitIsUndecided : Type 0
-OnlyFitIsUndecided = (job : SolvingJob) (budget : ℕ) (scales : Bool) (instance : PlainInstance) → solved job budget scales instance ≡ Undecided → job ≡ Fit
+OnlyFitIsUndecided = (job : SolvingJob) (budget : ℕ) (scales : Bool) (instance : PlainInstance)
+    → solved job budget scales instance ≡ Undecided → job ≡ Fit
 
 -- the document that says undecided is verified with no claim
 abbrev pub UndecidedIsRefused : Type 0
-UndecidedIsRefused = (instance : PlainInstance) (claim : Claim) → IsInstance instance → ¬ (document_verdict (answer_text instance Undecided) ≡ Ok claim)
+UndecidedIsRefused = (instance : PlainInstance) (claim : Claim) → IsInstance instance
+    → ¬ (document_verdict (answer_text instance Undecided) ≡ Ok claim)
 
 -- the text is a reduced document of the claim, verified with it, which is one of the job, and the
 -- instance in it is this one
@@ -65,17 +70,21 @@ pub record IsReducedFor (job : ReducedJob) (instance : PlainInstance) (text : Li
 -- the document with which something is claimed from the symmetry facts on is verified with it, and
 -- about the asked instance
 abbrev pub OwnReducedDocumentsAreVerified : Type 0
-OwnReducedDocumentsAreVerified = (job : ReducedJob) (budget : ℕ) (scales : Bool) (instance : PlainInstance) (claim : Claim) (numbers : List ℕ) (tokens : List PlainToken)
+OwnReducedDocumentsAreVerified =
+    (job : ReducedJob) (budget : ℕ) (scales : Bool) (instance : PlainInstance) (claim : Claim) (numbers : List ℕ)
+    (tokens : List PlainToken)
     → IsInstance instance → reduced_solved job budget scales instance ≡ Claimed claim numbers tokens
     → IsReducedFor job instance (reduced_text instance (Claimed claim numbers tokens)) claim
 
 -- of these jobs `fit` alone is answered by undecided
 abbrev pub OnlyReducedFitIsUndecided : Type 0
-OnlyReducedFitIsUndecided = (job : ReducedJob) (budget : ℕ) (scales : Bool) (instance : PlainInstance) → reduced_solved job budget scales instance ≡ Undecided → job ≡ ReducesFit
+OnlyReducedFitIsUndecided = (job : ReducedJob) (budget : ℕ) (scales : Bool) (instance : PlainInstance)
+    → reduced_solved job budget scales instance ≡ Undecided → job ≡ ReducesFit
 
 -- where it says undecided, it is verified with no claim
 abbrev pub ReducedUndecidedIsRefused : Type 0
-ReducedUndecidedIsRefused = (instance : PlainInstance) (claim : Claim) → IsInstance instance → ¬ (reduced_verdict (reduced_text instance Undecided) ≡ Ok claim)
+ReducedUndecidedIsRefused = (instance : PlainInstance) (claim : Claim) → IsInstance instance
+    → ¬ (reduced_verdict (reduced_text instance Undecided) ≡ Ok claim)
 
 -- the text is an explained document by its first line, verified, and about this instance
 pub record IsExplainedFor (instance : PlainInstance) (text : List ℕ) : Type 0 where
@@ -84,5 +93,6 @@ pub record IsExplainedFor (instance : PlainInstance) (text : List ℕ) : Type 0 
 
 -- so is the document that explains a refutation of the instance step by step
 abbrev pub OwnExplanationsAreVerified : Type 0
-OwnExplanationsAreVerified = (instance : PlainInstance) (steps : List PlainStep) → IsInstance instance → Explains instance [] steps
+OwnExplanationsAreVerified = (instance : PlainInstance) (steps : List PlainStep) → IsInstance instance
+    → Explains instance [] steps
     → IsExplainedFor instance (explained_text instance steps)

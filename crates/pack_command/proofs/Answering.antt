@@ -13,8 +13,10 @@ use Rattle.pack_command.specs.Asked.{AsksToSolve}
 use Rattle.pack_command.specs.Inputs.{IsInputRead}
 use Rattle.pack_command.specs.Run.{IsAnswered, IsCutShort}
 
-module _ (words : List (String Global)) (old new sunk_old sunk_new : Option (List ℕ)) (job : DocumentJob) (settings : Settings) (instance : PlainInstance)
-    (solution : Solution) (asks : AsksToSolve words job settings) (read : IsInputRead old new (Ok instance)) (limits : IsInstance instance)
+module _ (words : List (String Global)) (old new sunk_old sunk_new : Option (List ℕ)) (job : DocumentJob)
+    (settings : Settings) (instance : PlainInstance)
+    (solution : Solution) (asks : AsksToSolve words job settings) (read : IsInputRead old new (Ok instance))
+    (limits : IsInstance instance)
     (found : IsSolution job settings instance solution) where
   answered : IsAnswered words old new (status_of (answer_found solution)) (solution_text instance solution)
   answered = record {
@@ -30,5 +32,11 @@ module _ (words : List (String Global)) (old new sunk_old sunk_new : Option (Lis
     document_is = found.text;
   }
 
-  pub answer_cut : GainsPart sunk_old sunk_new (solution_text instance solution) → IsCutShort words old new sunk_old sunk_new
-  answer_cut part = record { status = status_of (answer_found solution); document = solution_text instance solution; answered = answered; part = part }
+  pub answer_cut : GainsPart sunk_old sunk_new (solution_text instance solution)
+      → IsCutShort words old new sunk_old sunk_new
+  answer_cut part = record {
+    status = status_of (answer_found solution);
+    document = solution_text instance solution;
+    answered = answered;
+    part = part;
+  }

@@ -1,6 +1,7 @@
 -- What a job that read a whole document, and ended in its text, says of all bytes; and what an audit
 -- says of the instance in them.
-use Rattle.std.proofs.Common.{◌≡◌, ℕ, ◌⊎◌, inl, inr, refl, sym, ap, subst, ◌∙◌, List, length, arith, Option, Some, Result, Ok, Err, String, Global}
+use Rattle.std.proofs.Common.{◌≡◌, ℕ, ◌⊎◌, inl, inr, refl, sym, ap, subst, ◌∙◌, List, length, arith, Option, Some}
+use Rattle.std.proofs.Common.{Result, Ok, Err, String, Global}
 use Rattle.packing_terms.specs.Packing.{PlainInstance}
 use Rattle.document_terms.specs.declared.claim.Claim.{Claim}
 use Rattle.answer_terms.specs.declared.job.DocumentJob.{DocumentJob}
@@ -12,21 +13,28 @@ use Rattle.verdict_terms.specs.Form.{IsReducedDocument}
 use Rattle.verdict_terms.proofs.FormGiven.{documents_have_form}
 use Rattle.verdict_terms.proofs.True.{documents_are_true}
 use Rattle.explained_documents.specs.declared.kind.DocumentKind.{DocumentKind}
-use Rattle.explained_documents.specs.declared.kind.DocumentKind.TheVariants.{Explained as OfExplained, Front as OfFront, Reduced as OfReduced}
+use Rattle.explained_documents.specs.declared.kind.DocumentKind.TheVariants.{Explained as OfExplained, Front as OfFront}
+use Rattle.explained_documents.specs.declared.kind.DocumentKind.TheVariants.{Reduced as OfReduced}
 use Rattle.explained_documents.specs.Kinds.{document_kind}
 use Rattle.explained_documents.specs.Documents.{ExplainedRefusal, explained_verdict, explained_line, explained_status}
 use Rattle.explained_documents.proofs.Shown.{documents_are_true as explained_are_true}
-use Rattle.front_verdict_terms.specs.Verdicts.{FrontRead, front_document_verdict, front_verdict_line, front_verdict_status}
+use Rattle.front_verdict_terms.specs.Verdicts.{FrontRead, front_document_verdict, front_verdict_line}
+use Rattle.front_verdict_terms.specs.Verdicts.{front_verdict_status}
 use Rattle.front_verdict_terms.proofs.Verified.{verified_fronts_are_true}
 use Rattle.answer_streams.specs.declared.verdict.Verdict.{Verdict}
 use Rattle.answer_streams.specs.declared.audited.AuditedVerdict.{AuditedVerdict}
-use Rattle.answer_streams.specs.declared.audited.AuditedVerdict.TheVariants.{Reduced as ToldReduced, Explained as ToldExplained, Front as ToldFront}
+use Rattle.answer_streams.specs.declared.audited.AuditedVerdict.TheVariants.{Reduced as ToldReduced}
+use Rattle.answer_streams.specs.declared.audited.AuditedVerdict.TheVariants.{Explained as ToldExplained}
+use Rattle.answer_streams.specs.declared.audited.AuditedVerdict.TheVariants.{Front as ToldFront}
 use Rattle.answer_streams.specs.declared.audited.ExplainedVerdict.{ExplainedVerdict}
 use Rattle.answer_streams.specs.declared.audited.ExplainedVerdict.TheVariants.{Verified, Refused}
 use Rattle.answer_streams.specs.declared.audited_fronts.FrontAudited.{FrontAudited}
-use Rattle.answer_streams.specs.declared.audited_fronts.FrontAudited.TheVariants.{Verified as VerifiedFront, Refused as RefusedFront}
+use Rattle.answer_streams.specs.declared.audited_fronts.FrontAudited.TheVariants.{Verified as VerifiedFront}
+use Rattle.answer_streams.specs.declared.audited_fronts.FrontAudited.TheVariants.{Refused as RefusedFront}
 use Rattle.answer_streams.specs.Verdicts.{plain_verdict, verdict_status}
-use Rattle.answer_streams.specs.Audited.{KindVerdict, ReducedVerdictOf, ExplainedVerdictOf, FrontVerdictOf, verdict_of_kind, audit_verdict, audit_line, audit_status, IsTrueVerdict, IsExplainedAs, IsFrontToldAs, IsToldAs}
+use Rattle.answer_streams.specs.Audited.{KindVerdict, ReducedVerdictOf, ExplainedVerdictOf, FrontVerdictOf}
+use Rattle.answer_streams.specs.Audited.{verdict_of_kind, audit_verdict, audit_line, audit_status, IsTrueVerdict}
+use Rattle.answer_streams.specs.Audited.{IsExplainedAs, IsFrontToldAs, IsToldAs}
 use Rattle.answer_streams.proofs.Lined.{front_line}
 use Rattle.pack_command.specs.Asked.{AsksToSolve, AsksTask, AsksNothing, IsLongReading}
 use Rattle.pack_command.specs.Audits.{IsAuditClaimed}
@@ -34,22 +42,29 @@ use Rattle.pack_command.specs.Readings.{DocumentTask, Audits, ComesTo, IsReading
 use Rattle.pack_command.specs.Ends.{IsDone, IsUndone}
 use Rattle.pack_command.specs.Run.{IsStopped}
 use Rattle.pack_command.specs.declared.stop.Stop.{Stop}
-use Rattle.pack_command.specs.declared.stop.Stop.TheVariants.{Words, TooLong, Text, Dimensions, ReadFault, WriteFault, NoMemory}
+use Rattle.pack_command.specs.declared.stop.Stop.TheVariants.{Words, TooLong, Text, Dimensions, ReadFault, WriteFault}
+use Rattle.pack_command.specs.declared.stop.Stop.TheVariants.{NoMemory}
 use Rattle.pack_command.proofs.Written.{taken_all}
 use Rattle.pack_command.proofs.Generating.{no_task, task_solves, task_checks, same_task}
 use Rattle.pack_command.proofs.OneJob.{front_tasks, proposed_tasks}
 
 module _ (words : List (String Global)) (old new sunk_old sunk_new : Option (List ℕ)) where
   -- what was done for the job is its text, written whole
-  pub reading_done : (task : DocumentTask) (status : ℕ) → AsksTask words task → IsDone words old new sunk_old sunk_new status → IsReadingDone task old new sunk_old sunk_new status
-  reading_done task status asks (inl w) = absurd (task_solves words w.answered.job w.answered.settings task w.answered.asked asks)
+  pub reading_done : (task : DocumentTask) (status : ℕ) → AsksTask words task
+      → IsDone words old new sunk_old sunk_new status → IsReadingDone task old new sunk_old sunk_new status
+  reading_done task status asks (inl w) =
+      absurd (task_solves words w.answered.job w.answered.settings task w.answered.asked asks)
   reading_done task status asks (inr (inl c)) = absurd (task_checks words task c.0 asks)
   reading_done task status asks (inr (inr (inl m))) = absurd (no_task words m.number m.settings task m.asked asks)
-  reading_done task status asks (inr (inr (inr (inl a)))) = subst (λ t. IsReadingDone t old new sunk_old sunk_new status) (same_task words a.0 task a.1 asks) a.2
-  reading_done task status asks (inr (inr (inr (inr (inl f))))) = absurd (front_tasks words f.settings task f.answered.asked asks)
-  reading_done task status asks (inr (inr (inr (inr (inr p))))) = absurd (proposed_tasks words p.job p.settings task p.answered.asked asks)
+  reading_done task status asks (inr (inr (inr (inl a)))) =
+      subst (λ t. IsReadingDone t old new sunk_old sunk_new status) (same_task words a.0 task a.1 asks) a.2
+  reading_done task status asks (inr (inr (inr (inr (inl f))))) =
+      absurd (front_tasks words f.settings task f.answered.asked asks)
+  reading_done task status asks (inr (inr (inr (inr (inr p))))) =
+      absurd (proposed_tasks words p.job p.settings task p.answered.asked asks)
 
-  pub reading_undone : (task : DocumentTask) (stop : Stop) → AsksTask words task → IsUndone words old new sunk_old sunk_new stop
+  pub reading_undone : (task : DocumentTask) (stop : Stop) → AsksTask words task
+      → IsUndone words old new sunk_old sunk_new stop
       → IsWithoutReading task old new sunk_old sunk_new stop ⊎ (stop ≡ NoMemory)
   reading_undone task stop asks (inl s) = go stop s
     where
@@ -59,7 +74,8 @@ module _ (words : List (String Global)) (old new sunk_old sunk_new : Option (Lis
       solves : ((job : DocumentJob) × (settings : Settings) × AsksToSolve words job settings) → ⊥
       solves a = task_solves words a.0 a.1 task a.2 asks
 
-      go : (stop : Stop) → IsStopped words old new sunk_old sunk_new stop → IsWithoutReading task old new sunk_old sunk_new stop ⊎ (stop ≡ NoMemory)
+      go : (stop : Stop) → IsStopped words old new sunk_old sunk_new stop
+          → IsWithoutReading task old new sunk_old sunk_new stop ⊎ (stop ≡ NoMemory)
       go Words s = absurd (none s.0)
       go TooLong s = absurd (solves s.0)
       go (Text fault) s = absurd (solves s.0)
@@ -69,41 +85,51 @@ module _ (words : List (String Global)) (old new sunk_old sunk_new : Option (Lis
       go NoMemory s = inr refl
   reading_undone task stop asks (inr (inl c)) = absurd (task_checks words task c.0 asks)
   reading_undone task stop asks (inr (inr (inl m))) = absurd (no_task words m.number m.settings task m.asked asks)
-  reading_undone task stop asks (inr (inr (inr (inl a)))) = inl (subst (λ t. IsWithoutReading t old new sunk_old sunk_new stop) (same_task words a.0 task a.1 asks) a.2)
+  reading_undone task stop asks (inr (inr (inr (inl a)))) =
+      inl (subst (λ t. IsWithoutReading t old new sunk_old sunk_new stop) (same_task words a.0 task a.1 asks) a.2)
   reading_undone task stop asks (inr (inr (inr (inr (inl f))))) = absurd (front_tasks words f.0.0 task f.0.1 asks)
-  reading_undone task stop asks (inr (inr (inr (inr (inr p))))) = absurd (proposed_tasks words p.0.0 p.0.1 task p.0.2 asks)
+  reading_undone task stop asks (inr (inr (inr (inr (inr p))))) =
+      absurd (proposed_tasks words p.0.0 p.0.1 task p.0.2 asks)
 
   -- more bytes than are read have no text
-  pub long_read : (task : DocumentTask) (status : ℕ) → IsLongReading words old → IsReadingDone task old new sunk_old sunk_new status → ⊥
+  pub long_read : (task : DocumentTask) (status : ℕ) → IsLongReading words old
+      → IsReadingDone task old new sunk_old sunk_new status → ⊥
   long_read task status l a =
       let same : a.bytes ≡ l.bytes = taken_all old new a.bytes l.bytes l.told (a.input).taken (a.input).ended in
       let few = (a.input).within in
       let past = l.past in
       omega (arith, ap length same, few, past)
 
-pub exactly_read : (task : DocumentTask) (old new sunk_old sunk_new : Option (List ℕ)) (status : ℕ) (bytes : List ℕ) → old ≡ Some bytes
+pub exactly_read : (task : DocumentTask) (old new sunk_old sunk_new : Option (List ℕ)) (status : ℕ) (bytes : List ℕ)
+    → old ≡ Some bytes
     → IsReadingDone task old new sunk_old sunk_new status → IsExactlyRead task bytes sunk_old sunk_new status
 exactly_read task old new sunk_old sunk_new status bytes is a =
     let same : a.bytes ≡ bytes = taken_all old new a.bytes bytes is (a.input).taken (a.input).ended in
     record { text = a.text; comes = subst (λ b. ComesTo task b status a.text) same a.comes; written = a.written }
 
 -- what is verified is true
-true_verdict : (bytes : List ℕ) (kind : DocumentKind) → audit_status (verdict_of_kind kind bytes) ≡ 0 → IsTrueVerdict bytes (verdict_of_kind kind bytes)
+true_verdict : (bytes : List ℕ) (kind : DocumentKind) → audit_status (verdict_of_kind kind bytes) ≡ 0
+    → IsTrueVerdict bytes (verdict_of_kind kind bytes)
 true_verdict bytes OfReduced zero = go (reduced_verdict bytes) refl zero
   where
-    go : (verdict : Result Claim Refusal) → reduced_verdict bytes ≡ verdict → verdict_status verdict ≡ 0 → IsTrueVerdict bytes (ReducedVerdictOf verdict)
+    go : (verdict : Result Claim Refusal) → reduced_verdict bytes ≡ verdict → verdict_status verdict ≡ 0
+        → IsTrueVerdict bytes (ReducedVerdictOf verdict)
     go (Ok claim) is ok =
-        let document : IsReducedDocument bytes claim = (documents_have_form Reduced bytes claim).0 is in (document, documents_are_true Reduced bytes claim document)
+        let document : IsReducedDocument bytes claim = (documents_have_form Reduced bytes claim).0 is in
+        (document, documents_are_true Reduced bytes claim document)
     go (Err refusal) is bad = absurd (cc (bad))
 true_verdict bytes OfExplained zero = go (explained_verdict bytes) refl zero
   where
-    go : (verdict : Result PlainInstance ExplainedRefusal) → explained_verdict bytes ≡ verdict → explained_status verdict ≡ 0 → IsTrueVerdict bytes (ExplainedVerdictOf verdict)
+    go : (verdict : Result PlainInstance ExplainedRefusal) → explained_verdict bytes ≡ verdict
+        → explained_status verdict ≡ 0 → IsTrueVerdict bytes (ExplainedVerdictOf verdict)
     go (Ok instance) is ok = (is, explained_are_true bytes instance is)
     go (Err refusal) is bad = absurd (cc (bad))
 true_verdict bytes OfFront zero = go (front_document_verdict bytes) refl zero
   where
-    go : (verdict : Result FrontRead Refusal) → front_document_verdict bytes ≡ verdict → front_verdict_status verdict ≡ 0 → IsTrueVerdict bytes (FrontVerdictOf verdict)
-    go (Ok r) is ok = let t = verified_fronts_are_true bytes r is in record { verdict = is; limits = t.0; plane = t.1; front = t.2 }
+    go : (verdict : Result FrontRead Refusal) → front_document_verdict bytes ≡ verdict
+        → front_verdict_status verdict ≡ 0 → IsTrueVerdict bytes (FrontVerdictOf verdict)
+    go (Ok r) is ok = let t = verified_fronts_are_true bytes r is in
+        record { verdict = is; limits = t.0; plane = t.1; front = t.2 }
     go (Err refusal) is bad = absurd (cc (bad))
 
 pub audited_claimed : (old new sunk_old sunk_new : Option (List ℕ)) (status : ℕ) → status ≡ 0
@@ -118,18 +144,28 @@ audited_claimed old new sunk_old sunk_new status zero a = record {
 
 -- ---- how a verdict is told
 
-pub told_reduced : (verdict : Verdict) (is : Result Claim Refusal) → plain_verdict verdict ≡ is → IsToldAs (ReducedVerdictOf is) (ToldReduced verdict)
+pub told_reduced : (verdict : Verdict) (is : Result Claim Refusal) → plain_verdict verdict ≡ is
+    → IsToldAs (ReducedVerdictOf is) (ToldReduced verdict)
 told_reduced verdict is e = record { line = ap reduced_verdict_line e; status = ap verdict_status e }
 
-pub told_explained : (verdict : ExplainedVerdict) (is : Result PlainInstance ExplainedRefusal) → IsExplainedAs is verdict → IsToldAs (ExplainedVerdictOf is) (ToldExplained verdict)
+pub told_explained : (verdict : ExplainedVerdict) (is : Result PlainInstance ExplainedRefusal)
+    → IsExplainedAs is verdict → IsToldAs (ExplainedVerdictOf is) (ToldExplained verdict)
 told_explained Verified is e = record { line = ap explained_line (sym e.1); status = ap explained_status (sym e.1) }
-told_explained (Refused line reason) is e = record { line = ap explained_line (sym e); status = ap explained_status (sym e) }
+told_explained (Refused line reason) is e =
+    record { line = ap explained_line (sym e); status = ap explained_status (sym e) }
 
-pub told_fronts : (verdict : FrontAudited) (is : Result FrontRead Refusal) → IsFrontToldAs is verdict → IsToldAs (FrontVerdictOf is) (ToldFront verdict)
-told_fronts (VerifiedFront complete points) is e = record { line = front_line complete points e.0 ∙ ap front_verdict_line (sym e.1); status = ap front_verdict_status (sym e.1) }
-told_fronts (RefusedFront line reason) is e = record { line = ap front_verdict_line (sym e); status = ap front_verdict_status (sym e) }
+pub told_fronts : (verdict : FrontAudited) (is : Result FrontRead Refusal) → IsFrontToldAs is verdict
+    → IsToldAs (FrontVerdictOf is) (ToldFront verdict)
+told_fronts (VerifiedFront complete points) is e =
+    record {
+      line = front_line complete points e.0 ∙ ap front_verdict_line (sym e.1);
+      status = ap front_verdict_status (sym e.1);
+    }
+told_fronts (RefusedFront line reason) is e =
+    record { line = ap front_verdict_line (sym e); status = ap front_verdict_status (sym e) }
 
 -- a verdict of the kind of the bytes
-pub told_as : (bytes : List ℕ) (kind : DocumentKind) (told : AuditedVerdict) → kind ≡ document_kind bytes → IsToldAs (verdict_of_kind kind bytes) told
+pub told_as : (bytes : List ℕ) (kind : DocumentKind) (told : AuditedVerdict) → kind ≡ document_kind bytes
+    → IsToldAs (verdict_of_kind kind bytes) told
     → IsToldAs (audit_verdict bytes) told
 told_as bytes kind told e h = subst (λ k. IsToldAs (verdict_of_kind k bytes) told) e h

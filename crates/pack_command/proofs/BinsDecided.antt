@@ -20,12 +20,14 @@ use Rattle.text_terms.specs.declared.settings.Settings.{Settings}
 use Rattle.pack_command.specs.Answered.{answer_for}
 use Rattle.pack_command.specs.FewestBins.{AreBinsDecided}
 
-module _ (settings : Settings) (instance : PlainInstance) (limits : IsInstance instance) (old new : Option (List ℕ)) where
+module _ (settings : Settings) (instance : PlainInstance) (limits : IsInstance instance)
+    (old new : Option (List ℕ)) where
   abbrev run : PlainReached
   run = bin_run instance settings.budget settings.scales
 
   -- the answer, by the first box that is too large, and by whether a decision was spent
-  by_large : (p : Option (ℕ × ℕ)) → first_too_large_box instance ≡ p → solved Bins settings.budget settings.scales instance ≡ bins_answer p run
+  by_large : (p : Option (ℕ × ℕ)) → first_too_large_box instance ≡ p
+      → solved Bins settings.budget settings.scales instance ≡ bins_answer p run
   unfolding solved
   by_large p e = ap (λ (q : Option (ℕ × ℕ)). bins_answer q run) e
 
@@ -34,19 +36,25 @@ module _ (settings : Settings) (instance : PlainInstance) (limits : IsInstance i
       ≡ Claimed (reached_claim b (LeastBins run.placed) (BinsBetween run.refuted run.placed)) run.numbers run.tokens
   by_spent b e s =
       by_large None e
-      ∙ ap (λ (x : Bool). Claimed (reached_claim x (LeastBins run.placed) (BinsBetween run.refuted run.placed)) run.numbers run.tokens) s
+      ∙ ap (λ (x : Bool). Claimed (reached_claim x (LeastBins run.placed) (BinsBetween run.refuted run.placed))
+      run.numbers run.tokens) s
 
   reached : (b : Bool) → first_too_large_box instance ≡ None → run.spent ≡ b
-      → Gains old new (answer_text instance (Claimed (reached_claim b (LeastBins run.placed) (BinsBetween run.refuted run.placed)) run.numbers run.tokens))
+      → Gains old new (answer_text instance
+      (Claimed (reached_claim b (LeastBins run.placed) (BinsBetween run.refuted run.placed)) run.numbers
+      run.tokens))
       → AreBinsDecided instance settings old new
-      (status_of (Claimed (reached_claim b (LeastBins run.placed) (BinsBetween run.refuted run.placed)) run.numbers run.tokens))
+      (status_of (Claimed (reached_claim b (LeastBins run.placed) (BinsBetween run.refuted run.placed)) run.numbers
+      run.tokens))
   reached false e s g =
       let is = by_spent false e s in
-      let shown = (answers_shown Bins settings.budget settings.scales instance (LeastBins run.placed) run.numbers run.tokens limits is).shown in
+      let shown = (answers_shown Bins settings.budget settings.scales instance (LeastBins run.placed) run.numbers
+      run.tokens limits is).shown in
       inl (record {
         status_is = refl;
         bins = run.placed;
-        least = answers_true Bins settings.budget settings.scales instance (LeastBins run.placed) run.numbers run.tokens limits is;
+        least = answers_true Bins settings.budget settings.scales instance (LeastBins run.placed) run.numbers
+            run.tokens limits is;
         numbers = run.numbers;
         packing = shown.packing;
         tokens = run.tokens;
@@ -56,13 +64,15 @@ module _ (settings : Settings) (instance : PlainInstance) (limits : IsInstance i
       })
   reached true e s g =
       let is = by_spent true e s in
-      let shown = (answers_shown Bins settings.budget settings.scales instance (BinsBetween run.refuted run.placed) run.numbers run.tokens limits is).shown in
+      let shown = (answers_shown Bins settings.budget settings.scales instance (BinsBetween run.refuted run.placed)
+      run.numbers run.tokens limits is).shown in
       inr (inl (record {
         status_is = refl;
         refuted = run.refuted;
         placed = run.placed;
         order = shown.rising;
-        between = answers_true Bins settings.budget settings.scales instance (BinsBetween run.refuted run.placed) run.numbers run.tokens limits is;
+        between = answers_true Bins settings.budget settings.scales instance (BinsBetween run.refuted run.placed)
+            run.numbers run.tokens limits is;
         numbers = run.numbers;
         packing = shown.packing;
         tokens = run.tokens;
@@ -71,7 +81,8 @@ module _ (settings : Settings) (instance : PlainInstance) (limits : IsInstance i
         written = g;
       }))
 
-  by_first : (p : Option (ℕ × ℕ)) → first_too_large_box instance ≡ p → Gains old new (answer_text instance (bins_answer p run))
+  by_first : (p : Option (ℕ × ℕ)) → first_too_large_box instance ≡ p
+      → Gains old new (answer_text instance (bins_answer p run))
       → AreBinsDecided instance settings old new (status_of (bins_answer p run))
   by_first (Some p) e g =
       let none = answers_true Bins settings.budget settings.scales instance NoBins _ _ limits (by_large (Some p) e) in
@@ -86,6 +97,7 @@ module _ (settings : Settings) (instance : PlainInstance) (limits : IsInstance i
   by_first None e g = reached run.spent e refl g
 
   -- the answer of `bins` is the least number of bins, two numbers between which it lies, or none
-  pub bins_decided : Gains old new (answer_for (Solves Bins) settings instance).text → AreBinsDecided instance settings old new (answer_for (Solves Bins) settings instance).status
+  pub bins_decided : Gains old new (answer_for (Solves Bins) settings instance).text
+      → AreBinsDecided instance settings old new (answer_for (Solves Bins) settings instance).status
   unfolding solved
   bins_decided g = by_first (first_too_large_box instance) refl g

@@ -1,5 +1,6 @@
 -- What a check that ended in a verdict says of all bytes, and of the instance in them.
-use Rattle.std.proofs.Common.{◌≡◌, ℕ, ◌<◌, ◌≤◌, ◌+◌, ◌-◌, inl, inr, sym, ap, subst, ◌∙◌, List, ◌++◌, length, take, arith, Option, Some, None, Result, Ok, Err, String, Global}
+use Rattle.std.proofs.Common.{◌≡◌, ℕ, ◌<◌, ◌≤◌, ◌+◌, ◌-◌, inl, inr, sym, ap, subst, ◌∙◌, List, ◌++◌, length, take}
+use Rattle.std.proofs.Common.{arith, Option, Some, None, Result, Ok, Err, String, Global}
 use Rattle.std.proofs.Math.Seq.{take-append-add}
 use Rattle.document_terms.specs.declared.claim.Claim.{Claim}
 use Rattle.pack_streams.specs.Moves.{Gives, Gains}
@@ -27,47 +28,71 @@ use Rattle.pack_command.proofs.Generating.{no_solve, no_check, task_solves, task
 use Rattle.pack_command.proofs.OneJob.{front_solves, front_checks, proposed_solves, proposed_checks}
 
 -- no words ask for a solving job and for a check
-pub one_job : (words : List (String Global)) (job : DocumentJob) (settings : Settings) → AsksToSolve words job settings → AsksCheck words → ⊥
+pub one_job : (words : List (String Global)) (job : DocumentJob) (settings : Settings) → AsksToSolve words job settings
+    → AsksCheck words → ⊥
 one_job words job settings solve check =
     let same : solve.asked ≡ check.asked = some_inj (sym solve.is ∙ check.is) in
-    let none : None ≡ Some job = sym (ap (λ (w : JobWords). document_job w.job) same ∙ ap document_job check.job) ∙ solve.job_is in
+    let none : None ≡ Some job = sym (ap (λ (w : JobWords). document_job w.job) same ∙ ap document_job check.job)
+    ∙ solve.job_is in
     absurd (cc (none))
 
 -- what was done for a solving job is a written answer, and for a check a written verdict
-pub solved_done : (words : List (String Global)) (old new sunk_old sunk_new : Option (List ℕ)) (status : ℕ) (job : DocumentJob) (settings : Settings)
-    → AsksToSolve words job settings → IsDone words old new sunk_old sunk_new status → IsWritten words old new sunk_old sunk_new status
+pub solved_done : (words : List (String Global)) (old new sunk_old sunk_new : Option (List ℕ)) (status : ℕ)
+    (job : DocumentJob) (settings : Settings)
+    → AsksToSolve words job settings → IsDone words old new sunk_old sunk_new status
+    → IsWritten words old new sunk_old sunk_new status
 solved_done words old new sunk_old sunk_new status job settings asks (inl w) = w
-solved_done words old new sunk_old sunk_new status job settings asks (inr (inl c)) = absurd (one_job words job settings asks c.0)
-solved_done words old new sunk_old sunk_new status job settings asks (inr (inr (inl m))) = absurd (no_solve words m.number m.settings job settings m.asked asks)
-solved_done words old new sunk_old sunk_new status job settings asks (inr (inr (inr (inl a)))) = absurd (task_solves words job settings a.0 asks a.1)
-solved_done words old new sunk_old sunk_new status job settings asks (inr (inr (inr (inr (inl f))))) = absurd (front_solves words job settings f.settings asks f.answered.asked)
-solved_done words old new sunk_old sunk_new status job settings asks (inr (inr (inr (inr (inr p))))) = absurd (proposed_solves words job p.job settings p.settings asks p.answered.asked)
+solved_done words old new sunk_old sunk_new status job settings asks (inr (inl c)) =
+    absurd (one_job words job settings asks c.0)
+solved_done words old new sunk_old sunk_new status job settings asks (inr (inr (inl m))) =
+    absurd (no_solve words m.number m.settings job settings m.asked asks)
+solved_done words old new sunk_old sunk_new status job settings asks (inr (inr (inr (inl a)))) =
+    absurd (task_solves words job settings a.0 asks a.1)
+solved_done words old new sunk_old sunk_new status job settings asks (inr (inr (inr (inr (inl f))))) =
+    absurd (front_solves words job settings f.settings asks f.answered.asked)
+solved_done words old new sunk_old sunk_new status job settings asks (inr (inr (inr (inr (inr p))))) =
+    absurd (proposed_solves words job p.job settings p.settings asks p.answered.asked)
 
-pub solved_undone : (words : List (String Global)) (old new sunk_old sunk_new : Option (List ℕ)) (stop : Stop) (job : DocumentJob) (settings : Settings)
-    → AsksToSolve words job settings → IsUndone words old new sunk_old sunk_new stop → IsStopped words old new sunk_old sunk_new stop
+pub solved_undone : (words : List (String Global)) (old new sunk_old sunk_new : Option (List ℕ)) (stop : Stop)
+    (job : DocumentJob) (settings : Settings)
+    → AsksToSolve words job settings → IsUndone words old new sunk_old sunk_new stop
+    → IsStopped words old new sunk_old sunk_new stop
 solved_undone words old new sunk_old sunk_new stop job settings asks (inl s) = s
-solved_undone words old new sunk_old sunk_new stop job settings asks (inr (inl c)) = absurd (one_job words job settings asks c.0)
-solved_undone words old new sunk_old sunk_new stop job settings asks (inr (inr (inl u))) = absurd (no_solve words u.number u.settings job settings u.asked asks)
-solved_undone words old new sunk_old sunk_new stop job settings asks (inr (inr (inr (inl a)))) = absurd (task_solves words job settings a.0 asks a.1)
-solved_undone words old new sunk_old sunk_new stop job settings asks (inr (inr (inr (inr (inl f))))) = absurd (front_solves words job settings f.0.0 asks f.0.1)
-solved_undone words old new sunk_old sunk_new stop job settings asks (inr (inr (inr (inr (inr p))))) = absurd (proposed_solves words job p.0.0 settings p.0.1 asks p.0.2)
+solved_undone words old new sunk_old sunk_new stop job settings asks (inr (inl c)) =
+    absurd (one_job words job settings asks c.0)
+solved_undone words old new sunk_old sunk_new stop job settings asks (inr (inr (inl u))) =
+    absurd (no_solve words u.number u.settings job settings u.asked asks)
+solved_undone words old new sunk_old sunk_new stop job settings asks (inr (inr (inr (inl a)))) =
+    absurd (task_solves words job settings a.0 asks a.1)
+solved_undone words old new sunk_old sunk_new stop job settings asks (inr (inr (inr (inr (inl f))))) =
+    absurd (front_solves words job settings f.0.0 asks f.0.1)
+solved_undone words old new sunk_old sunk_new stop job settings asks (inr (inr (inr (inr (inr p))))) =
+    absurd (proposed_solves words job p.0.0 settings p.0.1 asks p.0.2)
 
-pub judged_done : (words : List (String Global)) (old new sunk_old sunk_new : Option (List ℕ)) (status : ℕ) → AsksCheck words
+pub judged_done : (words : List (String Global)) (old new sunk_old sunk_new : Option (List ℕ)) (status : ℕ)
+    → AsksCheck words
     → IsDone words old new sunk_old sunk_new status → IsVerdictWritten old new sunk_old sunk_new status
-judged_done words old new sunk_old sunk_new status asks (inl w) = absurd (one_job words w.answered.job w.answered.settings w.answered.asked asks)
+judged_done words old new sunk_old sunk_new status asks (inl w) =
+    absurd (one_job words w.answered.job w.answered.settings w.answered.asked asks)
 judged_done words old new sunk_old sunk_new status asks (inr (inl c)) = c.1
-judged_done words old new sunk_old sunk_new status asks (inr (inr (inl m))) = absurd (no_check words m.number m.settings m.asked asks)
-judged_done words old new sunk_old sunk_new status asks (inr (inr (inr (inl a)))) = absurd (task_checks words a.0 asks a.1)
-judged_done words old new sunk_old sunk_new status asks (inr (inr (inr (inr (inl f))))) = absurd (front_checks words f.settings f.answered.asked asks)
-judged_done words old new sunk_old sunk_new status asks (inr (inr (inr (inr (inr p))))) = absurd (proposed_checks words p.job p.settings p.answered.asked asks)
+judged_done words old new sunk_old sunk_new status asks (inr (inr (inl m))) =
+    absurd (no_check words m.number m.settings m.asked asks)
+judged_done words old new sunk_old sunk_new status asks (inr (inr (inr (inl a)))) =
+    absurd (task_checks words a.0 asks a.1)
+judged_done words old new sunk_old sunk_new status asks (inr (inr (inr (inr (inl f))))) =
+    absurd (front_checks words f.settings f.answered.asked asks)
+judged_done words old new sunk_old sunk_new status asks (inr (inr (inr (inr (inr p))))) =
+    absurd (proposed_checks words p.job p.settings p.answered.asked asks)
 
 -- what was taken, and the rest of the bytes
-told_rest : (old left : Option (List ℕ)) (taken bytes : List ℕ) → old ≡ Some bytes → Gives old left taken → (rest : List ℕ) × (bytes ≡ taken ++ rest)
+told_rest : (old left : Option (List ℕ)) (taken bytes : List ℕ) → old ≡ Some bytes → Gives old left taken
+    → (rest : List ℕ) × (bytes ≡ taken ++ rest)
 told_rest old None taken bytes is gives = absurd (cc (is, gives))
 told_rest old (Some rest) taken bytes is gives = (rest, some_inj (sym is ∙ gives))
 
 -- the verdict that was reached is that of all bytes
-reached_verdict : (old left : Option (List ℕ)) (taken bytes : List ℕ) (verdict : Result Claim Refusal) → old ≡ Some bytes → Gives old left taken
+reached_verdict : (old left : Option (List ℕ)) (taken bytes : List ℕ) (verdict : Result Claim Refusal)
+    → old ≡ Some bytes → Gives old left taken
     → HasVerdict left taken verdict → document_verdict bytes ≡ verdict
 reached_verdict old left taken bytes (Ok claim) is gives reached =
     ap document_verdict (sym (taken_all old left taken bytes is gives reached.2)) ∙ reached.0
@@ -83,7 +108,8 @@ pub judged_exactly : (old new sunk_old sunk_new : Option (List ℕ)) (status : �
     → IsVerdictWritten old new sunk_old sunk_new status → IsExactly bytes sunk_old sunk_new status
 judged_exactly old new sunk_old sunk_new status bytes is judged =
     let found = judged.found in
-    let same : document_verdict bytes ≡ judged.verdict = reached_verdict old new found.taken bytes judged.verdict is found.gives found.reached in
+    let same : document_verdict bytes ≡ judged.verdict =
+    reached_verdict old new found.taken bytes judged.verdict is found.gives found.reached in
     record {
       status_is = judged.status_is ∙ ap verdict_status (sym same);
       line = subst (λ v. Gains sunk_old sunk_new (verdict_line v)) (sym same) judged.line;
@@ -91,35 +117,42 @@ judged_exactly old new sunk_old sunk_new status bytes is judged =
 
 -- no verdict is reached on more bytes than are read, where no whole line within these is refused
 pub found_within : (old new : Option (List ℕ)) (bytes : List ℕ) → old ≡ Some bytes → most_document_bytes < length bytes
-    → NoneRefused (take most_document_bytes bytes) → (verdict : Result Claim Refusal) → IsVerdictFound old new verdict → ⊥
+    → NoneRefused (take most_document_bytes bytes) → (verdict : Result Claim Refusal)
+    → IsVerdictFound old new verdict → ⊥
 found_within old new bytes is past none = go
   where
     whole : (taken : List ℕ) → length taken ≤ most_document_bytes → taken ≡ bytes → ⊥
     whole taken few same = omega (arith, few, past, ap length same)
 
     go : (verdict : Result Claim Refusal) → IsVerdictFound old new verdict → ⊥
-    go (Ok claim) found = whole found.taken found.reached.1 (taken_all old new found.taken bytes is found.gives found.reached.2)
+    go (Ok claim) found = whole found.taken found.reached.1
+        (taken_all old new found.taken bytes is found.gives found.reached.2)
     go (Err refusal) found = by_enough found.reached.2
       where
         by_enough : AreBytesEnough new found.taken refusal → ⊥
-        by_enough (inr all) = whole found.taken found.reached.1 (taken_all old new found.taken bytes is found.gives all.0)
+        by_enough (inr all) = whole found.taken found.reached.1
+            (taken_all old new found.taken bytes is found.gives all.0)
         by_enough (inl ends) =
             let rest = told_rest old new found.taken bytes is found.gives in
             let few : length found.taken ≤ most_document_bytes = found.reached.1 in
             let more : ℕ = most_document_bytes - length found.taken in
             let split : most_document_bytes ≡ length found.taken + more = omega (arith, few) in
             none found.taken (take more rest.0) refusal
-            (ap (take most_document_bytes) rest.1 ∙ ap (λ n. take n (found.taken ++ rest.0)) split ∙ take-append-add found.taken rest.0 more) ends found.reached.0
+            (ap (take most_document_bytes) rest.1 ∙ ap (λ n. take n (found.taken ++ rest.0)) split
+            ∙ take-append-add found.taken rest.0 more) ends found.reached.0
 
 -- a verified document shows its claim, and that is true
 pub judged_claimed : (old new sunk_old sunk_new : Option (List ℕ)) (status : ℕ) → status ≡ 0
     → IsVerdictWritten old new sunk_old sunk_new status → IsClaimed old new sunk_old sunk_new
-judged_claimed old new sunk_old sunk_new status zero judged = go judged.verdict judged.found (sym judged.status_is ∙ zero) judged.line
+judged_claimed old new sunk_old sunk_new status zero judged =
+    go judged.verdict judged.found (sym judged.status_is ∙ zero) judged.line
   where
-    go : (verdict : Result Claim Refusal) → IsVerdictFound old new verdict → verdict_status verdict ≡ 0 → Gains sunk_old sunk_new (verdict_line verdict)
+    go : (verdict : Result Claim Refusal) → IsVerdictFound old new verdict → verdict_status verdict ≡ 0
+        → Gains sunk_old sunk_new (verdict_line verdict)
         → IsClaimed old new sunk_old sunk_new
     go (Ok claim) found ok line =
-        let document : IsDocument found.taken claim = (documents_have_form Answer found.taken claim).0 found.reached.0 in
+        let document : IsDocument found.taken claim =
+        (documents_have_form Answer found.taken claim).0 found.reached.0 in
         record {
           bytes = found.taken;
           taken = found.gives;

@@ -1,5 +1,6 @@
 -- What the answer of `fit` says.
-use Rattle.std.proofs.Common.{ℕ, ◌≡◌, ◌≤◌, ◌<◌, inl, inr, Bool, true, false, refl, ltb, if◌then◌else◌, List, [], sym, subst}
+use Rattle.std.proofs.Common.{ℕ, ◌≡◌, ◌≤◌, ◌<◌, inl, inr, Bool, true, false, refl, ltb, if◌then◌else◌, List, [], sym}
+use Rattle.std.proofs.Common.{subst}
 use Rattle.std.proofs.lemmas.Bool.{ltb-true, ltb-false}
 use Rattle.std.specs.declared.option.Option.{Option}
 use Rattle.packing_terms.specs.Packing.{PlainInstance}
@@ -21,7 +22,8 @@ use Rattle.pack_command.specs.Answered.{answer_for, branchings, IsDecided}
 
 -- the answer of `fit` is yes with a packing, no with a refutation, or undecided
 pub fit_decided : (settings : Settings) (instance : PlainInstance) → IsInstance instance → (old new : Option (List ℕ))
-    → Gains old new (answer_for (Solves Fit) settings instance).text → IsDecided instance settings old new (answer_for (Solves Fit) settings instance).status
+    → Gains old new (answer_for (Solves Fit) settings instance).text
+    → IsDecided instance settings old new (answer_for (Solves Fit) settings instance).status
 unfolding solved
 fit_decided settings instance limits old new gains =
     go (ltb settings.budget (branchings settings instance)) (outcome (class_tree instance [] settings.scales)) refl refl
@@ -30,7 +32,8 @@ fit_decided settings instance limits old new gains =
     internal : IsInternalInstance instance
     internal = written_internal instance limits
 
-    go : (b : Bool) (v : Verdict) → b ≡ ltb settings.budget (count_of v) → v ≡ outcome (class_tree instance [] settings.scales) → IsRightUnder instance [] v
+    go : (b : Bool) (v : Verdict) → b ≡ ltb settings.budget (count_of v)
+        → v ≡ outcome (class_tree instance [] settings.scales) → IsRightUnder instance [] v
         → Gains old new (answer_text instance (fit_answer (if b then Past else Decided v)))
         → IsDecided instance settings old new (status_of (fit_answer (if b then Past else Decided v)))
     go true v e f r g =
@@ -38,7 +41,13 @@ fit_decided settings instance limits old new gains =
         inr (inr (record { status_is = refl; past = subst (λ w. settings.budget < count_of w) f l; written = g }))
     go false (Yes ns c) e f r g =
         let l : c ≤ settings.budget = ltb-false settings.budget c (sym e) in
-        inl (record { status_is = refl; places = ns; packing = r; within = subst (λ w. count_of w ≤ settings.budget) f l; written = g })
+        inl (record {
+          status_is = refl;
+          places = ns;
+          packing = r;
+          within = subst (λ w. count_of w ≤ settings.budget) f l;
+          written = g;
+        })
     go false (No ts c) e f r g =
         let l : c ≤ settings.budget = ltb-false settings.budget c (sym e) in
         inr (inl (record {

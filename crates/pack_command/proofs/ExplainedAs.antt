@@ -6,7 +6,9 @@ use Rattle.packing_terms.specs.Tokens.{PlainToken}
 use Rattle.packing_terms.specs.Refutation.{Refutes}
 use Rattle.text_terms.specs.Lines.{text_lines}
 use Rattle.document_terms.specs.declared.claim.Claim.{Claim}
-use Rattle.document_terms.specs.declared.claim.Claim.TheVariants.{Fitting, NotFitting, LeastHeight, HeightBetween, NoHeight, LeastBins, BinsBetween, NoBins, GreatestValue, ValueBetween}
+use Rattle.document_terms.specs.declared.claim.Claim.TheVariants.{Fitting, NotFitting, LeastHeight, HeightBetween}
+use Rattle.document_terms.specs.declared.claim.Claim.TheVariants.{NoHeight, LeastBins, BinsBetween, NoBins}
+use Rattle.document_terms.specs.declared.claim.Claim.TheVariants.{GreatestValue, ValueBetween}
 use Rattle.verdict_terms.specs.declared.heading.Heading.TheVariants.{Answer}
 use Rattle.verdict_terms.specs.declared.reason.Reason.{Reason}
 use Rattle.verdict_terms.specs.declared.reason.Reason.TheVariants.{NoClaim}
@@ -22,16 +24,21 @@ use Rattle.document_refutations.specs.Refutations.{IsRefutationIn, result_number
 use Rattle.pack_command.specs.Explanations.{is_no, IsExplanation, IsWrittenFor, unexplained}
 
 -- the tokens of the document refute its instance
-pub held_refutes : (bytes : List ℕ) (instance : PlainInstance) (tokens : List PlainToken) → IsRefutationIn bytes instance tokens → Refutes instance [] tokens
+pub held_refutes : (bytes : List ℕ) (instance : PlainInstance) (tokens : List PlainToken)
+    → IsRefutationIn bytes instance tokens → Refutes instance [] tokens
 held_refutes bytes instance tokens r =
-    subst (λ i. Refutes i [] tokens) r.of (subst (λ ts. Refutes r.document.instance [] ts) r.by r.document.backed.refute)
+    subst (λ i. Refutes i [] tokens) r.of
+    (subst (λ ts. Refutes r.document.instance [] ts) r.by r.document.backed.refute)
 
-pub held_limits : (bytes : List ℕ) (instance : PlainInstance) (tokens : List PlainToken) → IsRefutationIn bytes instance tokens → IsInstance instance
+pub held_limits : (bytes : List ℕ) (instance : PlainInstance) (tokens : List PlainToken)
+    → IsRefutationIn bytes instance tokens → IsInstance instance
 held_limits bytes instance tokens r = subst IsInstance r.of (document_limits Answer bytes NotFitting r.document)
 
 -- steps that explain the instance, and hold its tokens
-pub held_explained : (bytes : List ℕ) (instance : PlainInstance) (tokens : List PlainToken) (steps : List PlainStep) → document_verdict bytes ≡ Ok NotFitting
-    → IsRefutationIn bytes instance tokens → Explains instance [] steps → tokens_among steps ≡ tokens → IsWrittenFor bytes (document_verdict bytes) 0 (explained_text instance steps)
+pub held_explained : (bytes : List ℕ) (instance : PlainInstance) (tokens : List PlainToken) (steps : List PlainStep)
+    → document_verdict bytes ≡ Ok NotFitting
+    → IsRefutationIn bytes instance tokens → Explains instance [] steps → tokens_among steps ≡ tokens
+    → IsWrittenFor bytes (document_verdict bytes) 0 (explained_text instance steps)
 held_explained bytes instance tokens steps e r explains same =
     subst (λ v. IsWrittenFor bytes v 0 (explained_text instance steps)) (sym e) (refl, shown)
   where
@@ -44,7 +51,8 @@ held_explained bytes instance tokens steps e r explains same =
     audited : audit_verdict (explained_text r.document.instance steps) ≡ ExplainedVerdictOf (Ok r.document.instance)
     audited =
         let own = own_explained r.document.instance steps (document_limits Answer bytes NotFitting r.document) mine in
-        ap (λ k. verdict_of_kind k (explained_text r.document.instance steps)) own.kind ∙ ap ExplainedVerdictOf own.verified
+        ap (λ k. verdict_of_kind k (explained_text r.document.instance steps)) own.kind
+        ∙ ap ExplainedVerdictOf own.verified
 
     shown : IsExplanation bytes (explained_text instance steps)
     shown = record {
@@ -70,15 +78,18 @@ no_is (GreatestValue v) e = absurd (cc (e))
 no_is (ValueBetween a b) e = absurd (cc (e))
 
 -- a claim that isn't a no is refused at the result line
-pub other_refused : (bytes : List ℕ) (claim : Claim) (line : ℕ) → document_verdict bytes ≡ Ok claim → is_no claim ≡ false → line ≡ result_number (text_lines bytes)
+pub other_refused : (bytes : List ℕ) (claim : Claim) (line : ℕ) → document_verdict bytes ≡ Ok claim
+    → is_no claim ≡ false → line ≡ result_number (text_lines bytes)
     → IsWrittenFor bytes (document_verdict bytes) 1 (verdict_line (Err (record { line = line; reason = NoClaim })))
 other_refused bytes claim line e other is =
-    subst (λ v. IsWrittenFor bytes v 1 (verdict_line (Err (record { line = line; reason = NoClaim })))) (sym e) (go claim other)
+    subst (λ v. IsWrittenFor bytes v 1 (verdict_line (Err (record { line = line; reason = NoClaim })))) (sym e)
+    (go claim other)
   where
     text_is : verdict_line (Err (record { line = line; reason = NoClaim })) ≡ verdict_line (Err (unexplained bytes))
     text_is = ap (λ n. verdict_line (Err (record { line = n; reason = NoClaim }))) is
 
-    go : (c : Claim) → is_no c ≡ false → IsWrittenFor bytes (Ok c) 1 (verdict_line (Err (record { line = line; reason = NoClaim })))
+    go : (c : Claim) → is_no c ≡ false
+        → IsWrittenFor bytes (Ok c) 1 (verdict_line (Err (record { line = line; reason = NoClaim })))
     go NotFitting e = absurd (cc (e))
     go Fitting e = record { status_is = refl; line = text_is }
     go (LeastHeight h) e = record { status_is = refl; line = text_is }
@@ -90,7 +101,9 @@ other_refused bytes claim line e other is =
     go (GreatestValue v) e = record { status_is = refl; line = text_is }
     go (ValueBetween a b) e = record { status_is = refl; line = text_is }
 
-pub bad_refused : (bytes : List ℕ) (line : ℕ) (reason : Reason) → document_verdict bytes ≡ Err (record { line = line; reason = reason })
+pub bad_refused : (bytes : List ℕ) (line : ℕ) (reason : Reason)
+    → document_verdict bytes ≡ Err (record { line = line; reason = reason })
     → IsWrittenFor bytes (document_verdict bytes) 1 (verdict_line (Err (record { line = line; reason = reason })))
 bad_refused bytes line reason e =
-    subst (λ v. IsWrittenFor bytes v 1 (verdict_line (Err (record { line = line; reason = reason })))) (sym e) (record { status_is = refl; line = refl })
+    subst (λ v. IsWrittenFor bytes v 1 (verdict_line (Err (record { line = line; reason = reason })))) (sym e)
+    (record { status_is = refl; line = refl })

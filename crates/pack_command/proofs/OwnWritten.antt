@@ -25,10 +25,15 @@ use Rattle.pack_command.proofs.Written.{written_answers, written_limits}
 
 own_answer : (job : SolvingJob) (settings : Settings) (instance : PlainInstance) → IsInstance instance → (a : Answer)
     → solved job settings.budget settings.scales instance ≡ a
-    → IsVerified (Solves job) instance (answer_text instance a) (status_of a) ⊎ IsUnverified (Solves job) (answer_text instance a) (status_of a)
+    → IsVerified (Solves job) instance (answer_text instance a) (status_of a)
+    ⊎ IsUnverified (Solves job) (answer_text instance a) (status_of a)
 own_answer job settings instance limits Undecided e =
     let fit = only_fit job settings.budget settings.scales instance e in
-    inr (record { asked = subst (λ j. AsksWhetherFits (Solves j)) (sym fit) tt; undecided = refl; refused = (λ claim v. undecided_refused instance claim limits v) })
+    inr (record {
+      asked = subst (λ j. AsksWhetherFits (Solves j)) (sym fit) tt;
+      undecided = refl;
+      refused = (λ claim v. undecided_refused instance claim limits v);
+    })
 own_answer job settings instance limits (Claimed claim numbers tokens) e =
     inl (record {
       claim = claim;
@@ -36,12 +41,18 @@ own_answer job settings instance limits (Claimed claim numbers tokens) e =
       status_is = refl;
     })
 
-reduced_answer : (job : ReducedJob) (settings : Settings) (instance : PlainInstance) → IsInstance instance → (a : Answer)
+reduced_answer : (job : ReducedJob) (settings : Settings) (instance : PlainInstance) → IsInstance instance
+    → (a : Answer)
     → reduced_solved job settings.budget settings.scales instance ≡ a
-    → IsVerified (Reduces job) instance (reduced_text instance a) (status_of a) ⊎ IsUnverified (Reduces job) (reduced_text instance a) (status_of a)
+    → IsVerified (Reduces job) instance (reduced_text instance a) (status_of a)
+    ⊎ IsUnverified (Reduces job) (reduced_text instance a) (status_of a)
 reduced_answer job settings instance limits Undecided e =
     let fit = only_reduced_fit job settings.budget settings.scales instance e in
-    inr (record { asked = subst (λ j. AsksWhetherFits (Reduces j)) (sym fit) tt; undecided = refl; refused = (λ claim v. reduced_undecided_refused instance claim limits v) })
+    inr (record {
+      asked = subst (λ j. AsksWhetherFits (Reduces j)) (sym fit) tt;
+      undecided = refl;
+      refused = (λ claim v. reduced_undecided_refused instance claim limits v);
+    })
 reduced_answer job settings instance limits (Claimed claim numbers tokens) e =
     inl (record {
       claim = claim;
@@ -50,8 +61,10 @@ reduced_answer job settings instance limits (Claimed claim numbers tokens) e =
     })
 
 -- the document of the definition
-pub own_text : (job : DocumentJob) (settings : Settings) (instance : PlainInstance) → IsInstance instance → (sunk_old sunk_new : Option (List ℕ))
-    → Gains sunk_old sunk_new (answer_for job settings instance).text → IsOwnDocument job instance sunk_old sunk_new (answer_for job settings instance).status
+pub own_text : (job : DocumentJob) (settings : Settings) (instance : PlainInstance) → IsInstance instance
+    → (sunk_old sunk_new : Option (List ℕ))
+    → Gains sunk_old sunk_new (answer_for job settings instance).text
+    → IsOwnDocument job instance sunk_old sunk_new (answer_for job settings instance).status
 own_text (Solves job) settings instance limits sunk_old sunk_new gains = record {
   document = (answer_for (Solves job) settings instance).text;
   written = gains;
@@ -63,8 +76,10 @@ own_text (Reduces job) settings instance limits sunk_old sunk_new gains = record
   own = reduced_answer job settings instance limits (reduced_solved job settings.budget settings.scales instance) refl;
 }
 
-pub own_written : (words : List (String Global)) (old new sunk_old sunk_new : Option (List ℕ)) (status : ℕ) (settings : Settings) (told : List ℕ) (instance : PlainInstance)
-    → IsWritten words old new sunk_old sunk_new status → old ≡ Some told → text_instance told ≡ Ok instance → (job : DocumentJob) → AsksToSolve words job settings
+pub own_written : (words : List (String Global)) (old new sunk_old sunk_new : Option (List ℕ)) (status : ℕ)
+    (settings : Settings) (told : List ℕ) (instance : PlainInstance)
+    → IsWritten words old new sunk_old sunk_new status → old ≡ Some told → text_instance told ≡ Ok instance
+    → (job : DocumentJob) → AsksToSolve words job settings
     → IsOwnDocument job instance sunk_old sunk_new status
 own_written words old new sunk_old sunk_new status settings told instance w is read job asks =
     let a = written_answers words old new sunk_old sunk_new status settings told instance w is read job asks in

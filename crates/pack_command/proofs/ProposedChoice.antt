@@ -1,5 +1,6 @@
 -- What the answer of `knapsack` with proposals says.
-use Rattle.std.proofs.Common.{ℕ, zero, suc, pred, ◌≡◌, ◌+◌, ◌*◌, ◌≤◌, ◌<◌, ◌⊎◌, inl, inr, arith, refl, sym, subst, List, get_or}
+use Rattle.std.proofs.Common.{ℕ, zero, suc, pred, ◌≡◌, ◌+◌, ◌*◌, ◌≤◌, ◌<◌, ◌⊎◌, inl, inr, arith, refl, sym, subst, List}
+use Rattle.std.proofs.Common.{get_or}
 use Rattle.std.specs.declared.option.Option.{Option}
 use Rattle.std.proofs.lemmas.Bool.{cases_lt}
 use Rattle.packing_terms.specs.Packing.{PlainInstance, no_box, box_count}
@@ -25,8 +26,10 @@ use Rattle.pack_command.specs.Proposed.{IsProposedChoice, IsProposedSolution, Is
 use Rattle.pack_command.proofs.ProposedOwn.{IsOwnAnswer}
 
 -- what was found is a solution
-pub choice_proposed : (settings : Settings) (instance : PlainInstance) (choice : FoundChoice) → IsTrueChoice instance choice
-    → IsLimitedChoice instance choice → IsPastBeside instance settings.budget settings.scales choice → IsProposedSolution SolvesKnapsack settings instance (Knapsack choice)
+pub choice_proposed : (settings : Settings) (instance : PlainInstance) (choice : FoundChoice)
+    → IsTrueChoice instance choice
+    → IsLimitedChoice instance choice → IsPastBeside instance settings.budget settings.scales choice
+    → IsProposedSolution SolvesKnapsack settings instance (Knapsack choice)
 choice_proposed settings instance choice right limited past = record {
   is = record { choice = choice; right = right; limited = limited; past = past; answer_is = refl };
   text = refl;
@@ -41,9 +44,12 @@ module _ (instance : PlainInstance) (limits : IsInternalInstance instance) where
   sum_to zero l = (0, record { is = refl; small = omega arith })
   sum_to (suc v) l =
       let below_v = sum_to v (omega (arith, l)) in
-      let next = sum_next instance limits v below_v.0 (get_or instance.boxes v no_box).value (omega (arith, l)) below_v.1 refl in
-      let e : v + 1 ≡ suc v = omega arith in
-      (below_v.0 + (get_or instance.boxes v no_box).value, subst (λ (n : ℕ). IsSum instance n (below_v.0 + (get_or instance.boxes v no_box).value)) e next)
+      let next = sum_next instance limits v below_v.0 (get_or instance.boxes v no_box).value (omega (arith, l))
+      below_v.1 refl in
+      let e : v + 1 ≡ suc v = omega arith in (
+        below_v.0 + (get_or instance.boxes v no_box).value,
+        subst (λ (n : ℕ). IsSum instance n (below_v.0 + (get_or instance.boxes v no_box).value)) e next,
+      )
 
   top_small : top_value instance ≤ most_worth
   top_small =
@@ -53,28 +59,40 @@ module _ (instance : PlainInstance) (limits : IsInternalInstance instance) where
       let few = limits.boxes.count.1 in
       omega (arith, is, small, few)
 
-  own_by : (choice : FoundChoice) → IsTrueChoice instance choice → IsLimitedChoice instance choice → IsOwnAnswer SolvesKnapsack instance (choice_found choice)
+  own_by : (choice : FoundChoice) → IsTrueChoice instance choice → IsLimitedChoice instance choice
+      → IsOwnAnswer SolvesKnapsack instance (choice_found choice)
   own_by (Greatest value numbers tokens) t limited =
-      let s = top_small in
-      (refl, record { rising = omega arith; most = omega (arith, limited, s); packing = t.packed; refutation = t.refuted })
+      let s = top_small in (
+        refl,
+        record {
+          rising = omega arith;
+          most = omega (arith, limited, s);
+          packing = t.packed;
+          refutation = t.refuted;
+        },
+      )
   own_by (Between placed numbers refuted tokens) t limited =
       let s = top_small in
       (refl, record { rising = t.order; most = omega (arith, limited, s); packing = t.packed; refutation = t.refutes })
 
 -- ---- and it is the greatest value, or two values
 
-below_by : (instance : PlainInstance) (refuted t : ℕ) → ((y : ℕ) → refuted ≤ y → ¬ ReachesValue instance y) → ReachesValue instance t → t < refuted
+below_by : (instance : PlainInstance) (refuted t : ℕ) → ((y : ℕ) → refuted ≤ y → ¬ ReachesValue instance y)
+    → ReachesValue instance t → t < refuted
 below_by instance refuted t none reached = go (cases_lt t refuted)
   where
     go : (t < refuted) ⊎ (refuted ≤ t) → t < refuted
     go (inl l) = l
     go (inr l) = absurd (none t l reached)
 
-reached_by : (instance : PlainInstance) (value : ℕ) (numbers : List ℕ) → AreTakenNumbers instance value numbers → ReachesValue instance value
+reached_by : (instance : PlainInstance) (value : ℕ) (numbers : List ℕ) → AreTakenNumbers instance value numbers
+    → ReachesValue instance value
 reached_by instance value numbers shown = (shown.taken, shown.set, shown.reached, (shown.places, shown.packing))
 
-decided_by : (settings : Settings) (instance : PlainInstance) (old new : Option (List ℕ)) (choice : FoundChoice) → IsTrueChoice instance choice
-    → IsPastBeside instance settings.budget settings.scales choice → Gains old new (answer_text instance (choice_found choice))
+decided_by : (settings : Settings) (instance : PlainInstance) (old new : Option (List ℕ)) (choice : FoundChoice)
+    → IsTrueChoice instance choice
+    → IsPastBeside instance settings.budget settings.scales choice
+    → Gains old new (answer_text instance (choice_found choice))
     → IsProposedValueDecided instance settings old new (status_of (choice_found choice))
 decided_by settings instance old new (Greatest value numbers tokens) t past written = inl (record {
   status_is = refl;
@@ -104,10 +122,12 @@ decided_by settings instance old new (Between placed numbers refuted tokens) t p
   written = written;
 })
 
-module _ (settings : Settings) (instance : PlainInstance) (answer : Answer) (is : IsProposedChoice settings instance answer) where
+module _ (settings : Settings) (instance : PlainInstance) (answer : Answer)
+    (is : IsProposedChoice settings instance answer) where
   pub choice_own : IsInstance instance → IsOwnAnswer SolvesKnapsack instance answer
   choice_own limits =
-      subst (λ (a : Answer). IsOwnAnswer SolvesKnapsack instance a) (sym is.answer_is) (own_by instance (written_internal instance limits) is.choice is.right is.limited)
+      subst (λ (a : Answer). IsOwnAnswer SolvesKnapsack instance a) (sym is.answer_is)
+      (own_by instance (written_internal instance limits) is.choice is.right is.limited)
 
   pub choice_proposed_decided : (old new : Option (List ℕ)) → Gains old new (answer_text instance answer)
       → IsProposedValueDecided instance settings old new (status_of answer)
@@ -117,7 +137,9 @@ module _ (settings : Settings) (instance : PlainInstance) (answer : Answer) (is 
       (subst (λ (a : Answer). Gains old new (answer_text instance a)) is.answer_is written))
 
 -- it isn't two values where the tree of no value is past the budget
-pub choice_within : (settings : Settings) (instance : PlainInstance) (old new : Option (List ℕ)) (status : ℕ) → IsProposedValueDecided instance settings old new status
+pub choice_within : (settings : Settings) (instance : PlainInstance) (old new : Option (List ℕ)) (status : ℕ)
+    → IsProposedValueDecided instance settings old new status
     → ((t : ℕ) → value_count instance settings.scales t ≤ settings.budget) → ¬ (status ≡ 3)
 choice_within settings instance old new status (inl g) few three = let e = g.status_is in omega (arith, e, three)
-choice_within settings instance old new status (inr b) few three = let p = b.past_above in let f = few (suc b.placed) in omega (arith, p, f)
+choice_within settings instance old new status (inr b) few three = let p = b.past_above in let f = few (suc b.placed) in
+    omega (arith, p, f)

@@ -5,7 +5,8 @@ use Rattle.packing_terms.specs.Packing.{PlainInstance}
 use Rattle.packing_terms.specs.Limits.{IsInstance}
 use Rattle.text_terms.specs.declared.settings.Settings.{Settings}
 use Rattle.document_terms.specs.declared.claim.SolvingJob.{SolvingJob}
-use Rattle.document_terms.specs.declared.claim.SolvingJob.TheVariants.{Fit as SolvesFit, Strip as SolvesStrip, Bins as SolvesBins, Knapsack as SolvesKnapsack}
+use Rattle.document_terms.specs.declared.claim.SolvingJob.TheVariants.{Fit as SolvesFit, Strip as SolvesStrip}
+use Rattle.document_terms.specs.declared.claim.SolvingJob.TheVariants.{Bins as SolvesBins, Knapsack as SolvesKnapsack}
 use Rattle.answer_terms.specs.declared.job.DocumentJob.TheVariants.{Solving as Solves}
 use Rattle.answer_terms.specs.Answers.{Answer, answer_text, status_of}
 use Rattle.pack_streams.specs.Moves.{Gains}
@@ -15,7 +16,8 @@ use Rattle.pack_command.specs.Asked.{AsksProposed, IsProposing}
 use Rattle.pack_command.specs.Decides.{IsExactlyFit}
 use Rattle.pack_command.specs.Inputs.{IsInputRead}
 use Rattle.pack_command.specs.Own.{IsOwnDocument}
-use Rattle.pack_command.specs.Proposed.{IsProposed, IsProposedSolution, IsProposedAnswered, IsProposedWritten, IsProposedCut, IsProposedDecided, IsAmple}
+use Rattle.pack_command.specs.Proposed.{IsProposed, IsProposedSolution, IsProposedAnswered, IsProposedWritten}
+use Rattle.pack_command.specs.Proposed.{IsProposedCut, IsProposedDecided, IsAmple}
 use Rattle.pack_command.proofs.OneJob.{proposed_settings, proposed_job}
 use Rattle.pack_command.proofs.ProposedBins.{bins_own, bins_proposed_decided, bins_within}
 use Rattle.pack_command.proofs.ProposedChoice.{choice_own, choice_proposed_decided, choice_within}
@@ -26,38 +28,67 @@ use Rattle.pack_command.proofs.Written.{taken_all}
 
 -- ---- of an answer
 
-module _ (settings : Settings) (instance : PlainInstance) (limits : IsInstance instance) (answer : Answer) (old new : Option (List ℕ))
+module _ (settings : Settings) (instance : PlainInstance) (limits : IsInstance instance) (answer : Answer)
+    (old new : Option (List ℕ))
     (written : Gains old new (answer_text instance answer)) where
-  pub job_decided : (job : SolvingJob) → IsProposed job settings instance answer → IsProposedDecided job instance settings old new (status_of answer)
+  pub job_decided : (job : SolvingJob) → IsProposed job settings instance answer
+      → IsProposedDecided job instance settings old new (status_of answer)
   job_decided SolvesFit is = fit_proposed_decided settings instance limits answer is old new written
   job_decided SolvesStrip is = strip_proposed_decided settings instance answer is old new written
   job_decided SolvesBins is = bins_proposed_decided settings instance answer is old new written
   job_decided SolvesKnapsack is = choice_proposed_decided settings instance answer is old new written
 
-  pub job_own : (job : SolvingJob) → IsProposed job settings instance answer → IsOwnDocument (Solves job) instance old new (status_of answer)
-  job_own SolvesFit is = own_proposed SolvesFit instance limits answer (fit_own settings instance limits answer is) old new written
-  job_own SolvesStrip is = own_proposed SolvesStrip instance limits answer (strip_own settings instance answer is) old new written
-  job_own SolvesBins is = own_proposed SolvesBins instance limits answer (bins_own settings instance answer is) old new written
-  job_own SolvesKnapsack is = own_proposed SolvesKnapsack instance limits answer (choice_own settings instance answer is limits) old new written
+  pub job_own : (job : SolvingJob) → IsProposed job settings instance answer
+      → IsOwnDocument (Solves job) instance old new (status_of answer)
+  job_own SolvesFit is = own_proposed SolvesFit instance limits answer (fit_own settings instance limits answer is)
+      old new written
+  job_own SolvesStrip is = own_proposed SolvesStrip instance limits answer (strip_own settings instance answer is)
+      old new written
+  job_own SolvesBins is = own_proposed SolvesBins instance limits answer (bins_own settings instance answer is)
+      old new written
+  job_own SolvesKnapsack is = own_proposed SolvesKnapsack instance limits answer
+      (choice_own settings instance answer is limits) old new written
 
 -- ---- of what was read and found
 
-module _ (words : List (String Global)) (old new sunk_old sunk_new : Option (List ℕ)) (job : SolvingJob) (settings : Settings) (instance : PlainInstance) (answer : Answer)
-    (asks : AsksProposed words job settings) (read : IsInputRead old new (Ok instance)) (limits : IsInstance instance) (is : IsProposed job settings instance answer) where
+module _ (words : List (String Global)) (old new sunk_old sunk_new : Option (List ℕ)) (job : SolvingJob)
+    (settings : Settings) (instance : PlainInstance) (answer : Answer)
+    (asks : AsksProposed words job settings) (read : IsInputRead old new (Ok instance)) (limits : IsInstance instance)
+    (is : IsProposed job settings instance answer) where
   answered : IsProposedAnswered words old new job settings instance answer
   answered = record { asked = asks; bytes = read.0; input = read.1; read = read.2; limits = limits; is = is }
 
-  pub proposed_written : (status : ℕ) → status ≡ status_of answer → Gains sunk_old sunk_new (answer_text instance answer)
+  pub proposed_written : (status : ℕ) → status ≡ status_of answer
+      → Gains sunk_old sunk_new (answer_text instance answer)
       → IsProposedWritten words old new sunk_old sunk_new status
-  proposed_written status e written = record { job = job; settings = settings; instance = instance; answer = answer; answered = answered; status_is = e; written = written }
+  proposed_written status e written =
+      record {
+        job = job;
+        settings = settings;
+        instance = instance;
+        answer = answer;
+        answered = answered;
+        status_is = e;
+        written = written;
+      }
 
-  pub proposed_cut : GainsPart sunk_old sunk_new (answer_text instance answer) → IsProposedCut words old new sunk_old sunk_new
-  proposed_cut part = record { job = job; settings = settings; instance = instance; answer = answer; answered = answered; part = part }
+  pub proposed_cut : GainsPart sunk_old sunk_new (answer_text instance answer)
+      → IsProposedCut words old new sunk_old sunk_new
+  proposed_cut part = record {
+    job = job;
+    settings = settings;
+    instance = instance;
+    answer = answer;
+    answered = answered;
+    part = part;
+  }
 
 -- ---- of the instance that the source tells
 
-module _ (words : List (String Global)) (old new sunk_old sunk_new : Option (List ℕ)) (status : ℕ) (job : SolvingJob) (settings : Settings) (instance : PlainInstance)
-    (s : IsProposing words old job settings instance) (w : IsProposedWritten words old new sunk_old sunk_new status) where
+module _ (words : List (String Global)) (old new sunk_old sunk_new : Option (List ℕ)) (status : ℕ) (job : SolvingJob)
+    (settings : Settings) (instance : PlainInstance)
+    (s : IsProposing words old job settings instance)
+    (w : IsProposedWritten words old new sunk_old sunk_new status) where
   same_instance : w.instance ≡ instance
   same_instance =
       let a = w.answered in
@@ -72,8 +103,10 @@ module _ (words : List (String Global)) (old new sunk_old sunk_new : Option (Lis
   told_is : IsProposed job settings instance w.answer
   told_is =
       subst (λ (i : PlainInstance). IsProposed job settings i w.answer) same_instance
-      (subst (λ (t : Settings). IsProposed job t w.instance w.answer) (proposed_settings words w.job job w.settings settings (w.answered).asked s.asks)
-      (subst (λ (j : SolvingJob). IsProposed j w.settings w.instance w.answer) (proposed_job words w.job job w.settings settings (w.answered).asked s.asks) (w.answered).is))
+      (subst (λ (t : Settings). IsProposed job t w.instance w.answer)
+      (proposed_settings words w.job job w.settings settings (w.answered).asked s.asks)
+      (subst (λ (j : SolvingJob). IsProposed j w.settings w.instance w.answer)
+      (proposed_job words w.job job w.settings settings (w.answered).asked s.asks) (w.answered).is))
 
   told_written : Gains sunk_old sunk_new (answer_text instance w.answer)
   told_written = subst (λ (i : PlainInstance). Gains sunk_old sunk_new (answer_text i w.answer)) same_instance w.written
@@ -91,21 +124,28 @@ module _ (words : List (String Global)) (old new sunk_old sunk_new : Option (Lis
   pub proposed_limits : IsInstance instance
   proposed_limits = told_limits
 
-within_by : (job : SolvingJob) (settings : Settings) (instance : PlainInstance) (old new : Option (List ℕ)) (status : ℕ) → IsProposedDecided job instance settings old new status
+within_by : (job : SolvingJob) (settings : Settings) (instance : PlainInstance) (old new : Option (List ℕ)) (status : ℕ)
+    → IsProposedDecided job instance settings old new status
     → IsAmple job settings instance → ¬ (status ≡ 3)
 within_by SolvesFit settings instance old new status d ample = fit_within settings instance old new status d.0 ample
 within_by SolvesStrip settings instance old new status d ample = strip_within settings instance old new status d ample
 within_by SolvesBins settings instance old new status d ample = bins_within settings instance old new status d ample
-within_by SolvesKnapsack settings instance old new status d ample = choice_within settings instance old new status d ample
+within_by SolvesKnapsack settings instance old new status d ample =
+    choice_within settings instance old new status d ample
 
 module _ (words : List (String Global)) (old new sunk_old sunk_new : Option (List ℕ)) (status : ℕ) where
-  pub proposed_within : (job : SolvingJob) (settings : Settings) (instance : PlainInstance) → IsProposing words old job settings instance
+  pub proposed_within : (job : SolvingJob) (settings : Settings) (instance : PlainInstance)
+      → IsProposing words old job settings instance
       → IsProposedWritten words old new sunk_old sunk_new status → IsAmple job settings instance → ¬ (status ≡ 3)
   proposed_within job settings instance s w ample =
-      within_by job settings instance sunk_old sunk_new status (proposed_decided words old new sunk_old sunk_new status job settings instance s w) ample
+      within_by job settings instance sunk_old sunk_new status
+      (proposed_decided words old new sunk_old sunk_new status job settings instance s w) ample
 
-  pub proposed_exactly : (settings : Settings) (instance : PlainInstance) → IsProposing words old SolvesFit settings instance
-      → IsProposedWritten words old new sunk_old sunk_new status → class_bound instance ≤ settings.budget + 1 → IsExactlyFit instance status
+  pub proposed_exactly : (settings : Settings) (instance : PlainInstance)
+      → IsProposing words old SolvesFit settings instance
+      → IsProposedWritten words old new sunk_old sunk_new status → class_bound instance ≤ settings.budget + 1
+      → IsExactlyFit instance status
   proposed_exactly settings instance s w enough =
-      fit_proposed_exactly settings instance sunk_old sunk_new status (proposed_limits words old new sunk_old sunk_new status SolvesFit settings instance s w) enough
+      fit_proposed_exactly settings instance sunk_old sunk_new status
+      (proposed_limits words old new sunk_old sunk_new status SolvesFit settings instance s w) enough
       (proposed_decided words old new sunk_old sunk_new status SolvesFit settings instance s w).0

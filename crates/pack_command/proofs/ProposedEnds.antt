@@ -6,26 +6,35 @@ use Rattle.text_terms.specs.declared.settings.Settings.{Settings}
 use Rattle.document_terms.specs.declared.claim.SolvingJob.{SolvingJob}
 use Rattle.answer_terms.specs.declared.job.DocumentJob.{DocumentJob}
 use Rattle.answer_terms.specs.Answers.{Answer}
-use Rattle.pack_command.specs.Asked.{AsksToSolve, AsksNothing, AsksProposed, IsProposing, IsLongProposed, IsFaultyProposed}
+use Rattle.pack_command.specs.Asked.{AsksToSolve, AsksNothing, AsksProposed, IsProposing, IsLongProposed}
+use Rattle.pack_command.specs.Asked.{IsFaultyProposed}
 use Rattle.pack_command.specs.Ends.{IsDone, IsUndone}
 use Rattle.pack_command.specs.Proposed.{IsProposedWritten, IsProposedAnswered, IsWithoutProposed}
 use Rattle.pack_command.specs.Run.{IsStopped}
 use Rattle.pack_command.specs.declared.stop.Stop.{Stop}
-use Rattle.pack_command.specs.declared.stop.Stop.TheVariants.{Words, TooLong, Text, Dimensions, ReadFault, WriteFault, NoMemory}
+use Rattle.pack_command.specs.declared.stop.Stop.TheVariants.{Words, TooLong, Text, Dimensions, ReadFault, WriteFault}
+use Rattle.pack_command.specs.declared.stop.Stop.TheVariants.{NoMemory}
 use Rattle.pack_command.proofs.Written.{taken_all, taken_within}
-use Rattle.pack_command.proofs.OneJob.{proposed_solves, proposed_checks, proposed_tasks, proposed_makes, proposed_fronts}
+use Rattle.pack_command.proofs.OneJob.{proposed_solves, proposed_checks, proposed_tasks, proposed_makes}
+use Rattle.pack_command.proofs.OneJob.{proposed_fronts}
 
 module _ (words : List (String Global)) (old new sunk_old sunk_new : Option (List ℕ)) where
-  pub proposed_done : (status : ℕ) (job : SolvingJob) (settings : Settings) → AsksProposed words job settings → IsDone words old new sunk_old sunk_new status
+  pub proposed_done : (status : ℕ) (job : SolvingJob) (settings : Settings) → AsksProposed words job settings
+      → IsDone words old new sunk_old sunk_new status
       → IsProposedWritten words old new sunk_old sunk_new status
-  proposed_done status job settings asks (inl w) = absurd (proposed_solves words w.answered.job job w.answered.settings settings w.answered.asked asks)
+  proposed_done status job settings asks (inl w) =
+      absurd (proposed_solves words w.answered.job job w.answered.settings settings w.answered.asked asks)
   proposed_done status job settings asks (inr (inl c)) = absurd (proposed_checks words job settings asks c.0)
-  proposed_done status job settings asks (inr (inr (inl m))) = absurd (proposed_makes words m.number job m.settings settings m.asked asks)
-  proposed_done status job settings asks (inr (inr (inr (inl a)))) = absurd (proposed_tasks words job settings a.0 asks a.1)
-  proposed_done status job settings asks (inr (inr (inr (inr (inl f))))) = absurd (proposed_fronts words job f.settings settings f.answered.asked asks)
+  proposed_done status job settings asks (inr (inr (inl m))) =
+      absurd (proposed_makes words m.number job m.settings settings m.asked asks)
+  proposed_done status job settings asks (inr (inr (inr (inl a)))) =
+      absurd (proposed_tasks words job settings a.0 asks a.1)
+  proposed_done status job settings asks (inr (inr (inr (inr (inl f))))) =
+      absurd (proposed_fronts words job f.settings settings f.answered.asked asks)
   proposed_done status job settings asks (inr (inr (inr (inr (inr p))))) = p
 
-  pub proposed_undone : (stop : Stop) (job : SolvingJob) (settings : Settings) → AsksProposed words job settings → IsUndone words old new sunk_old sunk_new stop
+  pub proposed_undone : (stop : Stop) (job : SolvingJob) (settings : Settings) → AsksProposed words job settings
+      → IsUndone words old new sunk_old sunk_new stop
       → IsWithoutProposed words old new sunk_old sunk_new stop ⊎ (stop ≡ NoMemory)
   proposed_undone stop job settings asks (inl s) = go stop s
     where
@@ -35,30 +44,38 @@ module _ (words : List (String Global)) (old new sunk_old sunk_new : Option (Lis
       solves : ((job : DocumentJob) × (others : Settings) × AsksToSolve words job others) → ⊥
       solves a = proposed_solves words a.0 job a.1 settings a.2 asks
 
-      go : (stop : Stop) → IsStopped words old new sunk_old sunk_new stop → IsWithoutProposed words old new sunk_old sunk_new stop ⊎ (stop ≡ NoMemory)
+      go : (stop : Stop) → IsStopped words old new sunk_old sunk_new stop
+          → IsWithoutProposed words old new sunk_old sunk_new stop ⊎ (stop ≡ NoMemory)
       go Words s = absurd (none s.0)
       go TooLong s = absurd (solves s.0)
       go (Text fault) s = absurd (solves s.0)
       go Dimensions s = absurd s
       go ReadFault s = absurd (solves s.0)
-      go WriteFault s = absurd (proposed_solves words s.answered.job job s.answered.settings settings s.answered.asked asks)
+      go WriteFault s = absurd (proposed_solves words s.answered.job job s.answered.settings settings
+          s.answered.asked asks)
       go NoMemory s = inr refl
   proposed_undone stop job settings asks (inr (inl c)) = absurd (proposed_checks words job settings asks c.0)
-  proposed_undone stop job settings asks (inr (inr (inl m))) = absurd (proposed_makes words m.number job m.settings settings m.asked asks)
-  proposed_undone stop job settings asks (inr (inr (inr (inl a)))) = absurd (proposed_tasks words job settings a.0 asks a.1)
-  proposed_undone stop job settings asks (inr (inr (inr (inr (inl f))))) = absurd (proposed_fronts words job f.0.0 settings f.0.1 asks)
+  proposed_undone stop job settings asks (inr (inr (inl m))) =
+      absurd (proposed_makes words m.number job m.settings settings m.asked asks)
+  proposed_undone stop job settings asks (inr (inr (inr (inl a)))) =
+      absurd (proposed_tasks words job settings a.0 asks a.1)
+  proposed_undone stop job settings asks (inr (inr (inr (inr (inl f))))) =
+      absurd (proposed_fronts words job f.0.0 settings f.0.1 asks)
   proposed_undone stop job settings asks (inr (inr (inr (inr (inr p))))) = inl p.1
 
   -- ---- an input that has an answer
 
-  module _ (job : SolvingJob) (settings : Settings) (instance : PlainInstance) (s : IsProposing words old job settings instance) where
-    never_long : (bytes : List ℕ) → old ≡ Some bytes → length bytes ≤ 1048576 → IsWithoutProposed words old new sunk_old sunk_new TooLong → ⊥
+  module _ (job : SolvingJob) (settings : Settings) (instance : PlainInstance)
+      (s : IsProposing words old job settings instance) where
+    never_long : (bytes : List ℕ) → old ≡ Some bytes → length bytes ≤ 1048576
+        → IsWithoutProposed words old new sunk_old sunk_new TooLong → ⊥
     never_long told is few w =
         let (bytes, gives, past, most) = w.0 in
         let l = taken_within old new bytes told is gives in
         omega (arith, l, past, few)
 
-    pub proposed_never_stops : (stop : Stop) → IsWithoutProposed words old new sunk_old sunk_new stop ⊎ (stop ≡ NoMemory)
+    pub proposed_never_stops : (stop : Stop) → IsWithoutProposed words old new sunk_old sunk_new stop
+        ⊎ (stop ≡ NoMemory)
         → ¬ (stop ≡ ReadFault) → ¬ (stop ≡ WriteFault) → ¬ (stop ≡ NoMemory) → ⊥
     proposed_never_stops stop (inr e) r w m = m e
     proposed_never_stops Words (inl s) r w m = s
@@ -75,31 +92,38 @@ module _ (words : List (String Global)) (old new sunk_old sunk_new : Option (Lis
 
   -- ---- an input that is to be refused
 
-  long_answered : IsLongProposed words old → (job : SolvingJob) (settings : Settings) (instance : PlainInstance) (answer : Answer) → IsProposedAnswered words old new job settings instance answer → ⊥
+  long_answered : IsLongProposed words old
+      → (job : SolvingJob) (settings : Settings) (instance : PlainInstance) (answer : Answer)
+      → IsProposedAnswered words old new job settings instance answer → ⊥
   long_answered l job settings instance answer a =
       let same : a.bytes ≡ l.bytes = taken_all old new a.bytes l.bytes l.told a.input.taken a.input.ended in
       let few = a.input.within in
       let past = l.past in
       omega (arith, ap length same, few, past)
 
-  faulty_answered : (fault : TextFault) → IsFaultyProposed words old fault → (job : SolvingJob) (settings : Settings) (instance : PlainInstance) (answer : Answer) → IsProposedAnswered words old new job settings instance answer → ⊥
+  faulty_answered : (fault : TextFault) → IsFaultyProposed words old fault
+      → (job : SolvingJob) (settings : Settings) (instance : PlainInstance) (answer : Answer)
+      → IsProposedAnswered words old new job settings instance answer → ⊥
   faulty_answered fault l job settings instance answer a =
       let same : a.bytes ≡ l.bytes = taken_all old new a.bytes l.bytes l.told a.input.taken a.input.ended in
       let wrong = l.wrong in
       let read = a.read in
       absurd (cc (same, wrong, read))
 
-  pub long_proposed : (status : ℕ) → IsLongProposed words old → IsProposedWritten words old new sunk_old sunk_new status → ⊥
+  pub long_proposed : (status : ℕ) → IsLongProposed words old
+      → IsProposedWritten words old new sunk_old sunk_new status → ⊥
   long_proposed status l w = long_answered l w.job w.settings w.instance w.answer w.answered
 
-  pub faulty_proposed : (status : ℕ) (fault : TextFault) → IsFaultyProposed words old fault → IsProposedWritten words old new sunk_old sunk_new status → ⊥
+  pub faulty_proposed : (status : ℕ) (fault : TextFault) → IsFaultyProposed words old fault
+      → IsProposedWritten words old new sunk_old sunk_new status → ⊥
   faulty_proposed status fault l w = faulty_answered fault l w.job w.settings w.instance w.answer w.answered
 
   -- how else it ends: for this cause, or by a failed read or want of memory
   abbrev EndsFor : Stop → Stop → Type 0
   EndsFor stop end = (end ≡ stop) ⊎ ((end ≡ ReadFault) ⊎ (end ≡ NoMemory))
 
-  pub proposed_long_ends : IsLongProposed words old → (end : Stop) → IsWithoutProposed words old new sunk_old sunk_new end ⊎ (end ≡ NoMemory) → EndsFor TooLong end
+  pub proposed_long_ends : IsLongProposed words old → (end : Stop)
+      → IsWithoutProposed words old new sunk_old sunk_new end ⊎ (end ≡ NoMemory) → EndsFor TooLong end
   proposed_long_ends l end (inr e) = inr (inr e)
   proposed_long_ends l Words (inl s) = absurd s
   proposed_long_ends l TooLong (inl s) = inl refl
@@ -114,7 +138,8 @@ module _ (words : List (String Global)) (old new sunk_old sunk_new : Option (Lis
   proposed_long_ends l WriteFault (inl s) = absurd (long_answered l s.job s.settings s.instance s.answer s.answered)
   proposed_long_ends l NoMemory (inl s) = inr (inr refl)
 
-  pub proposed_faulty_ends : (fault : TextFault) → IsFaultyProposed words old fault → (end : Stop) → IsWithoutProposed words old new sunk_old sunk_new end ⊎ (end ≡ NoMemory)
+  pub proposed_faulty_ends : (fault : TextFault) → IsFaultyProposed words old fault → (end : Stop)
+      → IsWithoutProposed words old new sunk_old sunk_new end ⊎ (end ≡ NoMemory)
       → EndsFor (Text fault) end
   proposed_faulty_ends fault l end (inr e) = inr (inr e)
   proposed_faulty_ends fault l Words (inl s) = absurd s
@@ -131,5 +156,6 @@ module _ (words : List (String Global)) (old new sunk_old sunk_new : Option (Lis
       inl (ap (λ f. Text f) one)
   proposed_faulty_ends fault l Dimensions (inl s) = absurd s
   proposed_faulty_ends fault l ReadFault (inl s) = inr (inl refl)
-  proposed_faulty_ends fault l WriteFault (inl s) = absurd (faulty_answered fault l s.job s.settings s.instance s.answer s.answered)
+  proposed_faulty_ends fault l WriteFault (inl s) =
+      absurd (faulty_answered fault l s.job s.settings s.instance s.answer s.answered)
   proposed_faulty_ends fault l NoMemory (inl s) = inr (inr refl)

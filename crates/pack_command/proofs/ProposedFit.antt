@@ -26,7 +26,8 @@ use Rattle.pack_command.proofs.Found.{right_placed}
 use Rattle.pack_command.proofs.ProposedOwn.{IsOwnAnswer}
 
 -- an outcome that was found is a solution
-pub fit_proposed : (settings : Settings) (instance : PlainInstance) (o : Outcome) → IsBehind instance settings.budget settings.scales (plain_outcome o)
+pub fit_proposed : (settings : Settings) (instance : PlainInstance) (o : Outcome)
+    → IsBehind instance settings.budget settings.scales (plain_outcome o)
     → IsRight instance [] (plain_outcome o) → IsProposedSolution SolvesFit settings instance (Fit o)
 fit_proposed settings instance o behind right = record {
   is = record { outcome = plain_outcome o; is = behind; answer_is = refl };
@@ -35,9 +36,11 @@ fit_proposed settings instance o behind right = record {
 }
 
 -- yes with a packing, no with a refutation, or undecided
-decided_by : (settings : Settings) (instance : PlainInstance) → IsInternalInstance instance → (old new : Option (List ℕ)) (o : PlainOutcome)
+decided_by : (settings : Settings) (instance : PlainInstance) → IsInternalInstance instance
+    → (old new : Option (List ℕ)) (o : PlainOutcome)
     → IsRight instance [] o → (o ≡ Past → settings.budget < branchings settings instance)
-    → Gains old new (answer_text instance (fit_answer o)) → IsProposedFitDecided instance settings old new (status_of (fit_answer o))
+    → Gains old new (answer_text instance (fit_answer o))
+    → IsProposedFitDecided instance settings old new (status_of (fit_answer o))
 decided_by settings instance limits old new (Decided (Yes places count)) right past written =
     inl (record { status_is = refl; places = places; packing = right; written = written })
 decided_by settings instance limits old new (Decided (No tokens count)) right past written =
@@ -48,44 +51,54 @@ decided_by settings instance limits old new (Decided (No tokens count)) right pa
       refutation = right;
       written = written;
     }))
-decided_by settings instance limits old new Past right past written = inr (inr (record { status_is = refl; past = past refl; written = written }))
+decided_by settings instance limits old new Past right past written =
+    inr (inr (record { status_is = refl; past = past refl; written = written }))
 
-own_by : (instance : PlainInstance) (o : PlainOutcome) → IsRight instance [] o → IsOwnAnswer SolvesFit instance (fit_answer o)
+own_by : (instance : PlainInstance) (o : PlainOutcome) → IsRight instance [] o
+    → IsOwnAnswer SolvesFit instance (fit_answer o)
 own_by instance (Decided (Yes places count)) right = (refl, right)
 own_by instance (Decided (No tokens count)) right = (refl, right)
 own_by instance Past right = tt
 
-module _ (settings : Settings) (instance : PlainInstance) (limits : IsInstance instance) (answer : Answer) (is : IsProposedFit settings instance answer) where
+module _ (settings : Settings) (instance : PlainInstance) (limits : IsInstance instance) (answer : Answer)
+    (is : IsProposedFit settings instance answer) where
   right : IsRight instance [] is.outcome
   right =
       let b = is.is in
-      outcome_right instance (written_internal instance limits) settings.budget settings.scales b.proposal is.outcome b.is b.counted
+      outcome_right instance (written_internal instance limits) settings.budget settings.scales b.proposal is.outcome
+      b.is b.counted
 
   past : is.outcome ≡ Past → settings.budget < branchings settings instance
-  past = let b = is.is in outcome_past instance (written_internal instance limits) settings.budget settings.scales b.proposal is.outcome b.is
+  past = let b = is.is in outcome_past instance (written_internal instance limits) settings.budget settings.scales
+      b.proposal is.outcome b.is
 
   pub fit_own : IsOwnAnswer SolvesFit instance answer
-  fit_own = subst (λ (a : Answer). IsOwnAnswer SolvesFit instance a) (sym is.answer_is) (own_by instance is.outcome right)
+  fit_own = subst (λ (a : Answer). IsOwnAnswer SolvesFit instance a) (sym is.answer_is)
+      (own_by instance is.outcome right)
 
   module _ (old new : Option (List ℕ)) (written : Gains old new (answer_text instance answer)) where
     of_outcome : Gains old new (answer_text instance (fit_answer is.outcome))
     of_outcome = subst (λ (a : Answer). Gains old new (answer_text instance a)) is.answer_is written
 
-    pub fit_proposed_decided : IsProposedFitDecided instance settings old new (status_of answer) × IsProposedAnswer instance settings old new (status_of answer)
+    pub fit_proposed_decided : IsProposedFitDecided instance settings old new (status_of answer)
+        × IsProposedAnswer instance settings old new (status_of answer)
     fit_proposed_decided =
-        subst (λ (a : Answer). IsProposedFitDecided instance settings old new (status_of a) × IsProposedAnswer instance settings old new (status_of a)) (sym is.answer_is) (
+        subst (λ (a : Answer). IsProposedFitDecided instance settings old new (status_of a)
+        × IsProposedAnswer instance settings old new (status_of a)) (sym is.answer_is) (
           decided_by settings instance (written_internal instance limits) old new is.outcome right past of_outcome,
           record { outcome = is.outcome; is = is.is; status_is = refl; written = of_outcome },
         )
 
 module _ (settings : Settings) (instance : PlainInstance) (old new : Option (List ℕ)) (status : ℕ) where
-  pub fit_within : IsProposedFitDecided instance settings old new status → branchings settings instance ≤ settings.budget → ¬ (status ≡ 3)
+  pub fit_within : IsProposedFitDecided instance settings old new status
+      → branchings settings instance ≤ settings.budget → ¬ (status ≡ 3)
   fit_within (inl y) few three = let e = y.status_is in omega (arith, e, three)
   fit_within (inr (inl n)) few three = let e = n.status_is in omega (arith, e, three)
   fit_within (inr (inr u)) few three = let p = u.past in omega (arith, p, few)
 
   -- with a budget that is enough the status says exactly whether the instance fits
-  pub fit_proposed_exactly : IsInstance instance → class_bound instance ≤ settings.budget + 1 → IsProposedFitDecided instance settings old new status → IsExactlyFit instance status
+  pub fit_proposed_exactly : IsInstance instance → class_bound instance ≤ settings.budget + 1
+      → IsProposedFitDecided instance settings old new status → IsExactlyFit instance status
   fit_proposed_exactly limits enough (inl y) =
       let e = y.status_is in
       record {

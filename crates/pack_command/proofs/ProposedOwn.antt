@@ -22,19 +22,29 @@ abbrev pub IsOwnAnswer : SolvingJob → PlainInstance → Answer → Type 0
 IsOwnAnswer job instance Undecided = AsksWhetherFits (Solves job)
 IsOwnAnswer job instance (Claimed claim numbers tokens) = (job_of claim ≡ job) × Shows instance claim numbers tokens
 
-own_by : (job : SolvingJob) (instance : PlainInstance) → IsInstance instance → (answer : Answer) → IsOwnAnswer job instance answer
-    → IsVerified (Solves job) instance (answer_text instance answer) (status_of answer) ⊎ IsUnverified (Solves job) (answer_text instance answer) (status_of answer)
-own_by job instance limits Undecided own = inr (record { asked = own; undecided = refl; refused = (λ claim v. undecided_refused instance claim limits v) })
+own_by : (job : SolvingJob) (instance : PlainInstance) → IsInstance instance → (answer : Answer)
+    → IsOwnAnswer job instance answer
+    → IsVerified (Solves job) instance (answer_text instance answer) (status_of answer)
+    ⊎ IsUnverified (Solves job) (answer_text instance answer) (status_of answer)
+own_by job instance limits Undecided own =
+    inr (record { asked = own; undecided = refl; refused = (λ claim v. undecided_refused instance claim limits v) })
 own_by job instance limits (Claimed claim numbers tokens) own =
     let is = shown_documents instance claim numbers tokens limits own.1 in
     inl (record {
       claim = claim;
-      verified = record { of_job = own.0; is = is; verified = (documents_have_form AnswerHeading (answer_text instance (Claimed claim numbers tokens)) claim).1 is.document };
+      verified = record {
+        of_job = own.0;
+        is = is;
+        verified = (documents_have_form AnswerHeading (answer_text instance (Claimed claim numbers tokens)) claim).1
+            is.document;
+      };
       status_is = refl;
     })
 
 -- the document is verified with the claim, or says undecided and is verified with none
-pub own_proposed : (job : SolvingJob) (instance : PlainInstance) → IsInstance instance → (answer : Answer) → IsOwnAnswer job instance answer
-    → (old new : Option (List ℕ)) → Gains old new (answer_text instance answer) → IsOwnDocument (Solves job) instance old new (status_of answer)
+pub own_proposed : (job : SolvingJob) (instance : PlainInstance) → IsInstance instance → (answer : Answer)
+    → IsOwnAnswer job instance answer
+    → (old new : Option (List ℕ)) → Gains old new (answer_text instance answer)
+    → IsOwnDocument (Solves job) instance old new (status_of answer)
 own_proposed job instance limits answer own old new written =
     record { document = answer_text instance answer; written = written; own = own_by job instance limits answer own }

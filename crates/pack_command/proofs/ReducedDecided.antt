@@ -25,17 +25,22 @@ use Rattle.pack_command.specs.Answered.{answer_for}
 use Rattle.pack_command.specs.Reductions.{reduced_branchings, IsReducedDecided}
 
 -- the answer of `reduced` is yes with a packing, no with a refutation under the facts, or undecided
-pub reduced_decided : (settings : Settings) (instance : PlainInstance) → IsInstance instance → (old new : Option (List ℕ))
-    → Gains old new (answer_for (Reduces FromFit) settings instance).text → IsReducedDecided instance settings old new (answer_for (Reduces FromFit) settings instance).status
+pub reduced_decided : (settings : Settings) (instance : PlainInstance) → IsInstance instance
+    → (old new : Option (List ℕ))
+    → Gains old new (answer_for (Reduces FromFit) settings instance).text
+    → IsReducedDecided instance settings old new (answer_for (Reduces FromFit) settings instance).status
 unfolding reduced_solved
 reduced_decided settings instance limits old new gains =
-    go (ltb settings.budget (reduced_branchings settings instance)) (outcome (class_tree instance (symmetry_facts instance) settings.scales)) refl refl
-    (class_tree_right instance internal (symmetry_facts instance) (facts_at_edges instance (some_dimension instance internal)) settings.scales) gains
+    go (ltb settings.budget (reduced_branchings settings instance))
+    (outcome (class_tree instance (symmetry_facts instance) settings.scales)) refl refl
+    (class_tree_right instance internal (symmetry_facts instance)
+    (facts_at_edges instance (some_dimension instance internal)) settings.scales) gains
   where
     internal : IsInternalInstance instance
     internal = written_internal instance limits
 
-    go : (b : Bool) (v : Verdict) → b ≡ ltb settings.budget (count_of v) → v ≡ outcome (class_tree instance (symmetry_facts instance) settings.scales)
+    go : (b : Bool) (v : Verdict) → b ≡ ltb settings.budget (count_of v)
+        → v ≡ outcome (class_tree instance (symmetry_facts instance) settings.scales)
         → IsRightUnder instance (symmetry_facts instance) v
         → Gains old new (reduced_text instance (fit_answer (if b then Past else Decided v)))
         → IsReducedDecided instance settings old new (status_of (fit_answer (if b then Past else Decided v)))
@@ -44,12 +49,19 @@ reduced_decided settings instance limits old new gains =
         inr (inr (record { status_is = refl; past = subst (λ w. settings.budget < count_of w) f l; written = g }))
     go false (Yes ns c) e f r g =
         let l : c ≤ settings.budget = ltb-false settings.budget c (sym e) in
-        inl (record { status_is = refl; places = ns; packing = r; within = subst (λ w. count_of w ≤ settings.budget) f l; written = g })
+        inl (record {
+          status_is = refl;
+          places = ns;
+          packing = r;
+          within = subst (λ w. count_of w ≤ settings.budget) f l;
+          written = g;
+        })
     go false (No ts c) e f r g =
         let l : c ≤ settings.budget = ltb-false settings.budget c (sym e) in
         inr (inl (record {
           status_is = refl;
-          none = (λ fits. (let k = some_packing_respects instance (internal_sides instance internal) (some_dimension instance internal) fits.0 fits.1 in
+          none = (λ fits. (let k = some_packing_respects instance (internal_sides instance internal)
+              (some_dimension instance internal) fits.0 fits.1 in
               refutes_sound excess_law instance (internal_sides instance internal) k.0 k.1 r k.2));
           tokens = ts;
           refutation = r;

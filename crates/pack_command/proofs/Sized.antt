@@ -1,5 +1,7 @@
 -- What the answer of `front` says of the instance, and that its document is verified.
-use Rattle.std.proofs.Common.{◌≡◌, ℕ, zero, suc, ◌+◌, ◌-◌, ◌*◌, ◌/◌, ◌^◌, ◌<◌, ◌≤◌, inl, inr, arith, refl, sym, ap, ap₂, subst, ◌∙◌, Bool, true, false, List, [], ◌∷◌, map, length, Option, Some, Ok, Err, String, Global}
+use Rattle.std.proofs.Common.{◌≡◌, ℕ, zero, suc, ◌+◌, ◌-◌, ◌*◌, ◌/◌, ◌^◌, ◌<◌, ◌≤◌, inl, inr, arith, refl, sym, ap, ap₂}
+use Rattle.std.proofs.Common.{subst, ◌∙◌, Bool, true, false, List, [], ◌∷◌, map, length, Option, Some, Ok, Err, String}
+use Rattle.std.proofs.Common.{Global}
 use Rattle.std.specs.Prelude.{◌↔◌}
 use Rattle.std.specs.List.{AllByRecursion}
 use Rattle.std.specs.Prelude.{◌==◌}
@@ -22,7 +24,8 @@ use Rattle.answer_streams.specs.Audited.{FrontVerdictOf, verdict_of_kind}
 use Rattle.pack_streams.specs.Moves.{Gains}
 use Rattle.pack_command.specs.Answered.{class_bound}
 use Rattle.pack_command.specs.Asked.{AsksFront, IsFronting}
-use Rattle.pack_command.specs.Fronts.{front_for, IsFrontWritten, IsFrontAnswered, AreAllPacked, AreAllRefuted, IsFrontDecided, IsOwnFront}
+use Rattle.pack_command.specs.Fronts.{front_for, IsFrontWritten, IsFrontAnswered, AreAllPacked, AreAllRefuted}
+use Rattle.pack_command.specs.Fronts.{IsFrontDecided, IsOwnFront}
 use Rattle.pack_command.proofs.Written.{taken_all}
 use Rattle.pack_command.proofs.OneJob.{front_settings}
 
@@ -34,21 +37,33 @@ some_points n = let other : (suc n == 0) ≡ false = ne_eqb (suc n) 0 (omega ari
 three_partial : (complete : Bool) (points : ℕ) → (front_status complete points ≡ 3) ↔ (complete ≡ false)
 three_partial false points = ((λ e. refl), (λ e. refl))
 three_partial true zero = ((λ e. absurd (omega (arith, e))), (λ e. absurd (true≢false e)))
-three_partial true (suc n) = ((λ e. let zero_is = some_points n in absurd (omega (arith, e, zero_is))), (λ e. absurd (true≢false e)))
+three_partial true (suc n) = (
+  (λ e. let zero_is = some_points n in absurd (omega (arith, e, zero_is))),
+  (λ e. absurd (true≢false e)),
+)
 
-one_empty : (instance : PlainInstance) (complete : Bool) (points : List PlainPoint) → IsClaimed instance complete (sizes points) → front_status complete (length points) ≡ 1
+one_empty : (instance : PlainInstance) (complete : Bool) (points : List PlainPoint)
+    → IsClaimed instance complete (sizes points) → front_status complete (length points) ≡ 1
     → ((width height : ℕ) → ¬ IsLeastSize instance width height) × (complete ≡ true)
-one_empty instance true [] claimed e = ((λ width height least. let found = claimed.complete width height least in let none = found.1 in omega (arith, none)), refl)
-one_empty instance true (p ∷ points) claimed e = let zero_is = some_points (length points) in absurd (omega (arith, e, zero_is))
+one_empty instance true [] claimed e = (
+  (λ width height least. let found = claimed.complete width height least in let none = found.1 in
+      omega (arith, none)),
+  refl,
+)
+one_empty instance true (p ∷ points) claimed e = let zero_is = some_points (length points) in
+    absurd (omega (arith, e, zero_is))
 one_empty instance false points claimed e = absurd (omega (arith, e))
 
-empty_one : (instance : PlainInstance) (complete : Bool) (points : List PlainPoint) → IsClaimed instance complete (sizes points)
-    → ((width height : ℕ) → ¬ IsLeastSize instance width height) → complete ≡ true → front_status complete (length points) ≡ 1
+empty_one : (instance : PlainInstance) (complete : Bool) (points : List PlainPoint)
+    → IsClaimed instance complete (sizes points)
+    → ((width height : ℕ) → ¬ IsLeastSize instance width height) → complete ≡ true
+    → front_status complete (length points) ≡ 1
 empty_one instance true [] claimed none e = refl
 empty_one instance true (p ∷ points) claimed none e = absurd (none p.width p.height claimed.least.0)
 empty_one instance false points claimed none e = absurd (true≢false (sym e))
 
-whole_front : (instance : PlainInstance) (complete : Bool) (points : List PlainPoint) → IsClaimed instance complete (sizes points)
+whole_front : (instance : PlainInstance) (complete : Bool) (points : List PlainPoint)
+    → IsClaimed instance complete (sizes points)
     → ¬ (front_status complete (length points) ≡ 3) → IsFront instance (sizes points)
 whole_front instance true points claimed other = claimed
 whole_front instance false points claimed other = absurd (other refl)
@@ -58,11 +73,13 @@ not_false true n = refl
 not_false false n = absurd (n refl)
 
 module _ (instance : PlainInstance) where
-  all_packed : (points : List PlainPoint) → AllByRecursion (IsBackedPoint instance) points → AreAllPacked instance points
+  all_packed : (points : List PlainPoint) → AllByRecursion (IsBackedPoint instance) points
+      → AreAllPacked instance points
   all_packed [] h = tt
   all_packed (p ∷ points) h = ((h.0).packs, all_packed points h.1)
 
-  all_refuted : (corners : List PlainCorner) → AllByRecursion (IsBackedCorner instance) corners → AreAllRefuted instance corners
+  all_refuted : (corners : List PlainCorner) → AllByRecursion (IsBackedCorner instance) corners
+      → AreAllRefuted instance corners
   all_refuted [] h = tt
   all_refuted (c ∷ corners) h = ((h.0).refutes, all_refuted corners h.1)
 
@@ -80,14 +97,16 @@ module _ (instance : PlainInstance) where
         all_refuted _ (front_backed instance internal plane (size_answer instance settings.budget settings.scales)
         (right_sizes instance internal plane settings.budget settings.scales)).0
 
-    walk_claimed : IsClaimed instance (front_walk instance settings.budget settings.scales).complete (sizes (front_walk instance settings.budget settings.scales).points)
+    walk_claimed : IsClaimed instance (front_walk instance settings.budget settings.scales).complete
+        (sizes (front_walk instance settings.budget settings.scales).points)
     walk_claimed = walks_are_fronts instance settings.budget settings.scales internal plane
 
     module _ (sunk_old sunk_new : Option (List ℕ)) (status : ℕ) (is : status ≡ (front_for settings instance).status)
         (written : Gains sunk_old sunk_new (front_for settings instance).text) where
       pub front_decided : IsFrontDecided instance settings sunk_old sunk_new status
       front_decided =
-          let three = three_partial (front_walk instance settings.budget settings.scales).complete (length (front_walk instance settings.budget settings.scales).points) in
+          let three = three_partial (front_walk instance settings.budget settings.scales).complete
+          (length (front_walk instance settings.budget settings.scales).points) in
           let past = spent_exactly instance settings.budget settings.scales in
           record {
             front = front_walk instance settings.budget settings.scales;
@@ -97,7 +116,8 @@ module _ (instance : PlainInstance) where
             refuted = walk_refuted;
             spent = ((λ e. past.0 (three.0 (sym is ∙ e))), (λ large. is ∙ three.1 (past.1 large)));
             none = (
-              (λ e. let o = one_empty instance _ _ walk_claimed (sym is ∙ e) in (o.0, (λ large. true≢false (sym o.1 ∙ past.1 large)))),
+              (λ e. let o = one_empty instance _ _ walk_claimed (sym is ∙ e) in
+                  (o.0, (λ large. true≢false (sym o.1 ∙ past.1 large)))),
               (λ h. is ∙ empty_one instance _ _ walk_claimed h.0 (not_false _ (λ e. h.1 (past.0 e)))),
             );
             status_is = is;
@@ -112,7 +132,8 @@ module _ (instance : PlainInstance) where
           complete = (front_walk instance settings.budget settings.scales).complete;
           points = length (front_walk instance settings.budget settings.scales).points;
         };
-        verified = ap (λ k. verdict_of_kind k (front_for settings instance).text) (own_fronts_are_fronts instance settings.budget settings.scales limits plane)
+        verified = ap (λ k. verdict_of_kind k (front_for settings instance).text)
+            (own_fronts_are_fronts instance settings.budget settings.scales limits plane)
             ∙ ap FrontVerdictOf (own_fronts_are_verified instance settings.budget settings.scales limits plane);
         status_is = is;
       }
@@ -120,11 +141,13 @@ module _ (instance : PlainInstance) where
       pub front_whole : class_bound instance ≤ settings.budget + 1 → ¬ (status ≡ 3)
       front_whole bound e =
           true≢false (sym (enough instance settings.budget settings.scales internal plane bound)
-          ∙ (three_partial (front_walk instance settings.budget settings.scales).complete (length (front_walk instance settings.budget settings.scales).points)).0 (sym is ∙ e))
+          ∙ (three_partial (front_walk instance settings.budget settings.scales).complete
+          (length (front_walk instance settings.budget settings.scales).points)).0 (sym is ∙ e))
 
 -- ---- of the instance that the source tells
 
-module _ (words : List (String Global)) (old new sunk_old sunk_new : Option (List ℕ)) (status : ℕ) (settings : Settings) (instance : PlainInstance)
+module _ (words : List (String Global)) (old new sunk_old sunk_new : Option (List ℕ)) (status : ℕ) (settings : Settings)
+    (instance : PlainInstance)
     (s : IsFronting words old settings instance) (w : IsFrontWritten words old new sunk_old sunk_new status) where
   same_instance : w.instance ≡ instance
   same_instance =
@@ -135,13 +158,18 @@ module _ (words : List (String Global)) (old new sunk_old sunk_new : Option (Lis
       cc (same, one, two)
 
   same_front : front_for w.settings w.instance ≡ front_for settings instance
-  same_front = ap₂ (λ (t : Settings) (i : PlainInstance). front_for t i) (front_settings words w.settings settings (w.answered).asked s.asks) same_instance
+  same_front = ap₂ (λ (t : Settings) (i : PlainInstance). front_for t i)
+      (front_settings words w.settings settings (w.answered).asked s.asks) same_instance
 
   told_limits : IsInstance instance
   told_limits = subst IsInstance same_instance (w.answered).limits
 
-  pub told_front : (status ≡ (front_for settings instance).status) × Gains sunk_old sunk_new (front_for settings instance).text
-  told_front = (w.status_is ∙ ap (λ a. a.status) same_front, subst (λ a. Gains sunk_old sunk_new a.text) same_front w.written)
+  pub told_front : (status ≡ (front_for settings instance).status)
+      × Gains sunk_old sunk_new (front_for settings instance).text
+  told_front = (
+    w.status_is ∙ ap (λ a. a.status) same_front,
+    subst (λ a. Gains sunk_old sunk_new a.text) same_front w.written,
+  )
 
   pub told_decided : IsFrontDecided instance settings sunk_old sunk_new status
   told_decided = front_decided instance settings told_limits s.plane sunk_old sunk_new status told_front.0 told_front.1

@@ -7,12 +7,16 @@ use Rattle.text_terms.specs.declared.settings.Settings.{Settings}
 use Rattle.pack_command.specs.Asked.{AsksToSolve}
 use Rattle.pack_command.specs.Run.{IsStopped}
 use Rattle.pack_command.specs.declared.stop.Stop.{Stop}
-use Rattle.pack_command.specs.declared.stop.Stop.TheVariants.{Words, TooLong, Text, Dimensions, ReadFault, WriteFault, NoMemory}
+use Rattle.pack_command.specs.declared.stop.Stop.TheVariants.{Words, TooLong, Text, Dimensions, ReadFault, WriteFault}
+use Rattle.pack_command.specs.declared.stop.Stop.TheVariants.{NoMemory}
 use Rattle.pack_command.proofs.Written.{taken_all, taken_within}
 
-module _ (words : List (String Global)) (old new sunk_old sunk_new : Option (List ℕ)) (job : DocumentJob) (settings : Settings) (told : List ℕ)
-    (instance : PlainInstance) (asks : AsksToSolve words job settings) (is : old ≡ Some told) (few : length told ≤ 1048576) (read : text_instance told ≡ Ok instance) where
-  pub never_stops : (stop : Stop) → IsStopped words old new sunk_old sunk_new stop → ¬ (stop ≡ ReadFault) → ¬ (stop ≡ WriteFault) → ¬ (stop ≡ NoMemory) → ⊥
+module _ (words : List (String Global)) (old new sunk_old sunk_new : Option (List ℕ)) (job : DocumentJob)
+    (settings : Settings) (told : List ℕ)
+    (instance : PlainInstance) (asks : AsksToSolve words job settings) (is : old ≡ Some told)
+    (few : length told ≤ 1048576) (read : text_instance told ≡ Ok instance) where
+  pub never_stops : (stop : Stop) → IsStopped words old new sunk_old sunk_new stop → ¬ (stop ≡ ReadFault)
+      → ¬ (stop ≡ WriteFault) → ¬ (stop ≡ NoMemory) → ⊥
   never_stops Words s r w m = absurd (cc (s.0, asks.is))
   never_stops TooLong s r w m =
       let (bytes, gives, past, most) = s.1 in

@@ -1,5 +1,6 @@
 -- What the answer of `strip` says under each heading.
-use Rattle.std.proofs.Common.{ℕ, ◌≡◌, inl, inr, Bool, true, false, refl, sym, ap, subst, ◌∙◌, List, [], Option, Some, None}
+use Rattle.std.proofs.Common.{ℕ, ◌≡◌, inl, inr, Bool, true, false, refl, sym, ap, subst, ◌∙◌, List, [], Option, Some}
+use Rattle.std.proofs.Common.{None}
 use Rattle.std.proofs.lemmas.Bool.{true≢false}
 use Rattle.packing_terms.specs.Packing.{PlainInstance}
 use Rattle.packing_terms.specs.Limits.{IsInstance}
@@ -36,23 +37,36 @@ abbrev pub solved_under : Heading → ℕ → Bool → PlainInstance → Answer
 solved_under Answered budget scales instance = solved Strip budget scales instance
 solved_under Reduced budget scales instance = reduced_solved FromStrip budget scales instance
 
-solved_is : (heading : Heading) (budget : ℕ) (scales : Bool) (instance : PlainInstance) (p : Option (ℕ × ℕ)) → first_too_wide instance ≡ p
-    → solved_under heading budget scales instance ≡ strip_answer p (height_run_from (start_exclusions heading instance) instance budget scales)
+solved_is : (heading : Heading) (budget : ℕ) (scales : Bool) (instance : PlainInstance) (p : Option (ℕ × ℕ))
+    → first_too_wide instance ≡ p
+    → solved_under heading budget scales instance
+    ≡ strip_answer p (height_run_from (start_exclusions heading instance) instance budget scales)
 unfolding solved reduced_solved
-solved_is Answered budget scales instance p e = ap (λ (q : Option (ℕ × ℕ)). strip_answer q (height_run_from [] instance budget scales)) e
-solved_is Reduced budget scales instance p e = ap (λ (q : Option (ℕ × ℕ)). strip_answer q (height_run_from (symmetry_facts instance) instance budget scales)) e
+solved_is Answered budget scales instance p e =
+    ap (λ (q : Option (ℕ × ℕ)). strip_answer q (height_run_from [] instance budget scales)) e
+solved_is Reduced budget scales instance p e =
+    ap (λ (q : Option (ℕ × ℕ)). strip_answer q (height_run_from (symmetry_facts instance) instance budget scales)) e
 
-shown_under : (heading : Heading) (budget : ℕ) (scales : Bool) (instance : PlainInstance) (claim : Claim) (numbers : List ℕ) (tokens : List PlainToken)
-    → IsInstance instance → solved_under heading budget scales instance ≡ Claimed claim numbers tokens → IsShownFrom (start_exclusions heading instance) Strip instance claim numbers tokens
-shown_under Answered budget scales instance claim numbers tokens limits e = answers_shown Strip budget scales instance claim numbers tokens limits e
-shown_under Reduced budget scales instance claim numbers tokens limits e = reduced_shown FromStrip budget scales instance claim numbers tokens limits e
+shown_under : (heading : Heading) (budget : ℕ) (scales : Bool) (instance : PlainInstance) (claim : Claim)
+    (numbers : List ℕ) (tokens : List PlainToken)
+    → IsInstance instance → solved_under heading budget scales instance ≡ Claimed claim numbers tokens
+    → IsShownFrom (start_exclusions heading instance) Strip instance claim numbers tokens
+shown_under Answered budget scales instance claim numbers tokens limits e =
+    answers_shown Strip budget scales instance claim numbers tokens limits e
+shown_under Reduced budget scales instance claim numbers tokens limits e =
+    reduced_shown FromStrip budget scales instance claim numbers tokens limits e
 
-true_under : (heading : Heading) (budget : ℕ) (scales : Bool) (instance : PlainInstance) (claim : Claim) (numbers : List ℕ) (tokens : List PlainToken)
-    → IsInstance instance → solved_under heading budget scales instance ≡ Claimed claim numbers tokens → IsTrueOf instance claim
-true_under Answered budget scales instance claim numbers tokens limits e = answers_true Strip budget scales instance claim numbers tokens limits e
-true_under Reduced budget scales instance claim numbers tokens limits e = reduced_true FromStrip budget scales instance claim numbers tokens limits e
+true_under : (heading : Heading) (budget : ℕ) (scales : Bool) (instance : PlainInstance) (claim : Claim)
+    (numbers : List ℕ) (tokens : List PlainToken)
+    → IsInstance instance → solved_under heading budget scales instance ≡ Claimed claim numbers tokens
+    → IsTrueOf instance claim
+true_under Answered budget scales instance claim numbers tokens limits e =
+    answers_true Strip budget scales instance claim numbers tokens limits e
+true_under Reduced budget scales instance claim numbers tokens limits e =
+    reduced_true FromStrip budget scales instance claim numbers tokens limits e
 
-module _ (heading : Heading) (settings : Settings) (instance : PlainInstance) (limits : IsInstance instance) (old new : Option (List ℕ)) where
+module _ (heading : Heading) (settings : Settings) (instance : PlainInstance) (limits : IsInstance instance)
+    (old new : Option (List ℕ)) where
   abbrev run : PlainReached
   run = height_run_from (start_exclusions heading instance) instance settings.budget settings.scales
 
@@ -68,35 +82,44 @@ module _ (heading : Heading) (settings : Settings) (instance : PlainInstance) (l
       ≡ Claimed (reached_claim b (LeastHeight run.placed) (HeightBetween run.refuted run.placed)) run.numbers run.tokens
   by_spent b e s =
       by_wide None e
-      ∙ ap (λ (x : Bool). Claimed (reached_claim x (LeastHeight run.placed) (HeightBetween run.refuted run.placed)) run.numbers run.tokens) s
+      ∙ ap (λ (x : Bool). Claimed (reached_claim x (LeastHeight run.placed) (HeightBetween run.refuted run.placed))
+      run.numbers run.tokens) s
 
   reached : (b : Bool) → first_too_wide instance ≡ None → run.spent ≡ b
-      → Gains old new (headed_text heading instance (Claimed (reached_claim b (LeastHeight run.placed) (HeightBetween run.refuted run.placed)) run.numbers run.tokens))
+      → Gains old new (headed_text heading instance
+      (Claimed (reached_claim b (LeastHeight run.placed) (HeightBetween run.refuted run.placed)) run.numbers
+      run.tokens))
       → IsStripDecided heading instance settings old new
-      (status_of (Claimed (reached_claim b (LeastHeight run.placed) (HeightBetween run.refuted run.placed)) run.numbers run.tokens))
+      (status_of (Claimed (reached_claim b (LeastHeight run.placed) (HeightBetween run.refuted run.placed)) run.numbers
+      run.tokens))
   reached false e s g =
       let is = by_spent false e s in
-      let shown = (shown_under heading settings.budget settings.scales instance (LeastHeight run.placed) run.numbers run.tokens limits is).shown in
+      let shown = (shown_under heading settings.budget settings.scales instance (LeastHeight run.placed) run.numbers
+      run.tokens limits is).shown in
       inl (record {
         status_is = refl;
         height = run.placed;
-        least = true_under heading settings.budget settings.scales instance (LeastHeight run.placed) run.numbers run.tokens limits is;
+        least = true_under heading settings.budget settings.scales instance (LeastHeight run.placed) run.numbers
+            run.tokens limits is;
         places = run.numbers;
         packing = shown.packing;
         tokens = run.tokens;
         refutation = shown.refutation;
-        within = (λ large. true≢false (sym ((spent_from instance (start_exclusions heading instance) settings.budget settings.scales).1 large) ∙ s));
+        within = (λ large. true≢false (sym
+            ((spent_from instance (start_exclusions heading instance) settings.budget settings.scales).1 large) ∙ s));
         written = g;
       })
   reached true e s g =
       let is = by_spent true e s in
-      let shown = (shown_under heading settings.budget settings.scales instance (HeightBetween run.refuted run.placed) run.numbers run.tokens limits is).shown in
+      let shown = (shown_under heading settings.budget settings.scales instance (HeightBetween run.refuted run.placed)
+      run.numbers run.tokens limits is).shown in
       inr (inl (record {
         status_is = refl;
         refuted = run.refuted;
         placed = run.placed;
         order = shown.rising;
-        between = true_under heading settings.budget settings.scales instance (HeightBetween run.refuted run.placed) run.numbers run.tokens limits is;
+        between = true_under heading settings.budget settings.scales instance (HeightBetween run.refuted run.placed)
+            run.numbers run.tokens limits is;
         places = run.numbers;
         packing = shown.packing;
         tokens = run.tokens;
@@ -105,7 +128,8 @@ module _ (heading : Heading) (settings : Settings) (instance : PlainInstance) (l
         written = g;
       }))
 
-  by_first : (p : Option (ℕ × ℕ)) → first_too_wide instance ≡ p → Gains old new (headed_text heading instance (strip_answer p run))
+  by_first : (p : Option (ℕ × ℕ)) → first_too_wide instance ≡ p
+      → Gains old new (headed_text heading instance (strip_answer p run))
       → IsStripDecided heading instance settings old new (status_of (strip_answer p run))
   by_first (Some p) e g =
       let none = true_under heading settings.budget settings.scales instance NoHeight _ _ limits (by_wide (Some p) e) in
@@ -120,8 +144,10 @@ module _ (heading : Heading) (settings : Settings) (instance : PlainInstance) (l
   by_first None e g = reached run.spent e refl g
 
   -- the answer of `strip` is the least height, two heights between which it lies, or none
-  pub strip_decided : Gains old new (headed_text heading instance found) → IsStripDecided heading instance settings old new (status_of found)
+  pub strip_decided : Gains old new (headed_text heading instance found)
+      → IsStripDecided heading instance settings old new (status_of found)
   strip_decided g =
       let e = by_wide (first_too_wide instance) refl in
       subst (λ (a : Answer). IsStripDecided heading instance settings old new (status_of a)) (sym e)
-      (by_first (first_too_wide instance) refl (subst (λ (a : Answer). Gains old new (headed_text heading instance a)) e g))
+      (by_first (first_too_wide instance) refl
+      (subst (λ (a : Answer). Gains old new (headed_text heading instance a)) e g))

@@ -18,29 +18,37 @@ use Rattle.text_terms.specs.declared.settings.Settings.{Settings}
 use Rattle.pack_command.specs.Answered.{answer_for}
 use Rattle.pack_command.specs.GreatestValues.{IsValueDecided}
 
-module _ (settings : Settings) (instance : PlainInstance) (limits : IsInstance instance) (old new : Option (List ℕ)) where
+module _ (settings : Settings) (instance : PlainInstance) (limits : IsInstance instance)
+    (old new : Option (List ℕ)) where
   abbrev run : PlainReached
   run = value_run instance settings.budget settings.scales
 
   -- the answer, by whether a decision was spent
   by_spent : (b : Bool) → run.spent ≡ b
       → solved Knapsack settings.budget settings.scales instance
-      ≡ Claimed (reached_claim b (GreatestValue run.placed) (ValueBetween run.placed run.refuted)) run.numbers run.tokens
+      ≡ Claimed (reached_claim b (GreatestValue run.placed) (ValueBetween run.placed run.refuted))
+      run.numbers run.tokens
   unfolding solved
   by_spent b s =
-      ap (λ (x : Bool). Claimed (reached_claim x (GreatestValue run.placed) (ValueBetween run.placed run.refuted)) run.numbers run.tokens) s
+      ap (λ (x : Bool). Claimed (reached_claim x (GreatestValue run.placed) (ValueBetween run.placed run.refuted))
+      run.numbers run.tokens) s
 
   reached : (b : Bool) → run.spent ≡ b
-      → Gains old new (answer_text instance (Claimed (reached_claim b (GreatestValue run.placed) (ValueBetween run.placed run.refuted)) run.numbers run.tokens))
+      → Gains old new (answer_text instance
+      (Claimed (reached_claim b (GreatestValue run.placed) (ValueBetween run.placed run.refuted)) run.numbers
+      run.tokens))
       → IsValueDecided instance settings old new
-      (status_of (Claimed (reached_claim b (GreatestValue run.placed) (ValueBetween run.placed run.refuted)) run.numbers run.tokens))
+      (status_of (Claimed (reached_claim b (GreatestValue run.placed) (ValueBetween run.placed run.refuted)) run.numbers
+      run.tokens))
   reached false s g =
       let is = by_spent false s in
-      let shown = (answers_shown Knapsack settings.budget settings.scales instance (GreatestValue run.placed) run.numbers run.tokens limits is).shown in
+      let shown = (answers_shown Knapsack settings.budget settings.scales instance (GreatestValue run.placed)
+      run.numbers run.tokens limits is).shown in
       inl (record {
         status_is = refl;
         value = run.placed;
-        greatest = answers_true Knapsack settings.budget settings.scales instance (GreatestValue run.placed) run.numbers run.tokens limits is;
+        greatest = answers_true Knapsack settings.budget settings.scales instance (GreatestValue run.placed) run.numbers
+            run.tokens limits is;
         numbers = run.numbers;
         packing = shown.packing;
         tokens = run.tokens;
@@ -50,13 +58,15 @@ module _ (settings : Settings) (instance : PlainInstance) (limits : IsInstance i
       })
   reached true s g =
       let is = by_spent true s in
-      let shown = (answers_shown Knapsack settings.budget settings.scales instance (ValueBetween run.placed run.refuted) run.numbers run.tokens limits is).shown in
+      let shown = (answers_shown Knapsack settings.budget settings.scales instance (ValueBetween run.placed run.refuted)
+      run.numbers run.tokens limits is).shown in
       inr (record {
         status_is = refl;
         placed = run.placed;
         refuted = run.refuted;
         order = shown.rising;
-        between = answers_true Knapsack settings.budget settings.scales instance (ValueBetween run.placed run.refuted) run.numbers run.tokens limits is;
+        between = answers_true Knapsack settings.budget settings.scales instance (ValueBetween run.placed run.refuted)
+            run.numbers run.tokens limits is;
         numbers = run.numbers;
         packing = shown.packing;
         tokens = run.tokens;
@@ -66,6 +76,7 @@ module _ (settings : Settings) (instance : PlainInstance) (limits : IsInstance i
       })
 
   -- the answer of `knapsack` is the greatest value, or two values between which it lies
-  pub value_decided : Gains old new (answer_for (Solves Knapsack) settings instance).text → IsValueDecided instance settings old new (answer_for (Solves Knapsack) settings instance).status
+  pub value_decided : Gains old new (answer_for (Solves Knapsack) settings instance).text
+      → IsValueDecided instance settings old new (answer_for (Solves Knapsack) settings instance).status
   unfolding solved
   value_decided g = reached run.spent refl g

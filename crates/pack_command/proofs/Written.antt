@@ -1,5 +1,6 @@
 -- Within the limits, and without a fault, the answer that was written is the one that the instance has, and it decides.
-use Rattle.std.proofs.Common.{ℕ, ◌≡◌, ◌+◌, ◌≤◌, inl, inr, List, [], ◌++◌, length, length-append, append-nil, arith, sym, ap, ◌∙◌, subst, Option, Some, None, Ok, String, Global, Result}
+use Rattle.std.proofs.Common.{ℕ, ◌≡◌, ◌+◌, ◌≤◌, inl, inr, List, [], ◌++◌, length, length-append, append-nil, arith, sym}
+use Rattle.std.proofs.Common.{ap, ◌∙◌, subst, Option, Some, None, Ok, String, Global, Result}
 use Rattle.std.proofs.lemmas.Bool.{true≢false}
 use Rattle.std.specs.Io.KnownBytes.{IsAtEnd}
 use Rattle.packing_terms.specs.Packing.{PlainInstance}
@@ -40,7 +41,8 @@ ok_same : {A B : Type 0} (x y : A) (r : Result A B) → r ≡ Ok x → r ≡ Ok 
 ok_same x y r e f = cc
 
 -- what was taken up to the end is all that the source told
-pub taken_all : (old new : Option (List ℕ)) (bytes told : List ℕ) → old ≡ Some told → Gives old new bytes → IsAtEnd new → bytes ≡ told
+pub taken_all : (old new : Option (List ℕ)) (bytes told : List ℕ) → old ≡ Some told → Gives old new bytes → IsAtEnd new
+    → bytes ≡ told
 taken_all old None bytes told is gives end = absurd (cc (is, gives))
 taken_all old (Some rest) bytes told is gives end =
     let whole : bytes ++ rest ≡ told = some_inj (sym gives ∙ is) in
@@ -48,34 +50,41 @@ taken_all old (Some rest) bytes told is gives end =
     sym none ∙ whole
 
 -- no more can be taken than the source told
-pub taken_within : (old new : Option (List ℕ)) (bytes told : List ℕ) → old ≡ Some told → Gives old new bytes → length bytes ≤ length told
+pub taken_within : (old new : Option (List ℕ)) (bytes told : List ℕ) → old ≡ Some told → Gives old new bytes
+    → length bytes ≤ length told
 taken_within old None bytes told is gives = absurd (cc (is, gives))
 taken_within old (Some rest) bytes told is gives =
     let whole : bytes ++ rest ≡ told = some_inj (sym gives ∙ is) in
     omega (arith, ap length whole, length-append bytes rest)
 
 -- the words ask for one job
-job_same : (words : List (String Global)) (j k : DocumentJob) (a b : Settings) → AsksToSolve words j a → AsksToSolve words k b → j ≡ k
+job_same : (words : List (String Global)) (j k : DocumentJob) (a b : Settings) → AsksToSolve words j a
+    → AsksToSolve words k b → j ≡ k
 job_same words j k a b x y =
     let same : x.asked ≡ y.asked = some_inj (sym x.is ∙ y.is) in
     some_inj (sym x.job_is ∙ (ap (λ (w : JobWords). document_job w.job) same ∙ y.job_is))
 
 -- with one list of settings
-settings_same : (words : List (String Global)) (j k : DocumentJob) (a b : Settings) → AsksToSolve words j a → AsksToSolve words k b → a ≡ b
+settings_same : (words : List (String Global)) (j k : DocumentJob) (a b : Settings) → AsksToSolve words j a
+    → AsksToSolve words k b → a ≡ b
 settings_same words j k a b x y =
     let same : x.asked ≡ y.asked = some_inj (sym x.is ∙ y.is) in
     sym x.with_settings ∙ ap (λ (w : JobWords). w.settings) same ∙ y.with_settings
 
-module _ (words : List (String Global)) (old new sunk_old sunk_new : Option (List ℕ)) (status : ℕ) (settings : Settings) (told : List ℕ) (instance : PlainInstance)
-    (w : IsWritten words old new sunk_old sunk_new status) (is : old ≡ Some told) (read : text_instance told ≡ Ok instance) where
+module _ (words : List (String Global)) (old new sunk_old sunk_new : Option (List ℕ)) (status : ℕ) (settings : Settings)
+    (told : List ℕ) (instance : PlainInstance)
+    (w : IsWritten words old new sunk_old sunk_new status) (is : old ≡ Some told)
+    (read : text_instance told ≡ Ok instance) where
   same_instance : (w.answered).instance ≡ instance
   same_instance =
       let a = w.answered in
       let bytes_are : a.bytes ≡ told = taken_all old new a.bytes told is a.input.taken a.input.ended in
-      let read_told : text_instance told ≡ Ok a.instance = subst (λ b. text_instance b ≡ Ok a.instance) bytes_are a.read in
+      let read_told : text_instance told ≡ Ok a.instance =
+      subst (λ b. text_instance b ≡ Ok a.instance) bytes_are a.read in
       ok_same _ _ _ read_told read
 
-  same_answer : (job : DocumentJob) → AsksToSolve words job settings → answer_for (w.answered).job (w.answered).settings (w.answered).instance ≡ answer_for job settings instance
+  same_answer : (job : DocumentJob) → AsksToSolve words job settings
+      → answer_for (w.answered).job (w.answered).settings (w.answered).instance ≡ answer_for job settings instance
   same_answer job asks =
       let a = w.answered in
       ap (λ i. answer_for a.job a.settings i) same_instance
@@ -84,7 +93,8 @@ module _ (words : List (String Global)) (old new sunk_old sunk_new : Option (Lis
 
   -- the answer that was written is that of the instance that the source told
   pub written_answers : (job : DocumentJob) → AsksToSolve words job settings
-      → (status ≡ (answer_for job settings instance).status) × Gains sunk_old sunk_new (answer_for job settings instance).text
+      → (status ≡ (answer_for job settings instance).status)
+      × Gains sunk_old sunk_new (answer_for job settings instance).text
   written_answers job asks =
       let a = w.answered in
       let e = same_answer job asks in
@@ -98,34 +108,46 @@ module _ (words : List (String Global)) (old new sunk_old sunk_new : Option (Lis
   pub written_decides : AsksToSolve words (Solves Fit) settings → IsDecided instance settings sunk_old sunk_new status
   written_decides asks =
       let a = written_answers (Solves Fit) asks in
-      subst (λ s. IsDecided instance settings sunk_old sunk_new s) (sym a.0) (fit_decided settings instance written_limits sunk_old sunk_new a.1)
+      subst (λ s. IsDecided instance settings sunk_old sunk_new s) (sym a.0)
+      (fit_decided settings instance written_limits sunk_old sunk_new a.1)
 
-  pub written_least : AsksToSolve words (Solves Strip) settings → IsStripDecided Answered instance settings sunk_old sunk_new status
+  pub written_least : AsksToSolve words (Solves Strip) settings
+      → IsStripDecided Answered instance settings sunk_old sunk_new status
   written_least asks =
       let a = written_answers (Solves Strip) asks in
-      subst (λ s. IsStripDecided Answered instance settings sunk_old sunk_new s) (sym a.0) (strip_decided Answered settings instance written_limits sunk_old sunk_new a.1)
+      subst (λ s. IsStripDecided Answered instance settings sunk_old sunk_new s) (sym a.0)
+      (strip_decided Answered settings instance written_limits sunk_old sunk_new a.1)
 
-  pub written_reduced_least : AsksToSolve words (Reduces FromStrip) settings → IsStripDecided Reduced instance settings sunk_old sunk_new status
+  pub written_reduced_least : AsksToSolve words (Reduces FromStrip) settings
+      → IsStripDecided Reduced instance settings sunk_old sunk_new status
   written_reduced_least asks =
       let a = written_answers (Reduces FromStrip) asks in
-      subst (λ s. IsStripDecided Reduced instance settings sunk_old sunk_new s) (sym a.0) (strip_decided Reduced settings instance written_limits sunk_old sunk_new a.1)
+      subst (λ s. IsStripDecided Reduced instance settings sunk_old sunk_new s) (sym a.0)
+      (strip_decided Reduced settings instance written_limits sunk_old sunk_new a.1)
 
-  pub written_fewest : AsksToSolve words (Solves Bins) settings → AreBinsDecided instance settings sunk_old sunk_new status
+  pub written_fewest : AsksToSolve words (Solves Bins) settings
+      → AreBinsDecided instance settings sunk_old sunk_new status
   written_fewest asks =
       let a = written_answers (Solves Bins) asks in
-      subst (λ s. AreBinsDecided instance settings sunk_old sunk_new s) (sym a.0) (bins_decided settings instance written_limits sunk_old sunk_new a.1)
+      subst (λ s. AreBinsDecided instance settings sunk_old sunk_new s) (sym a.0)
+      (bins_decided settings instance written_limits sunk_old sunk_new a.1)
 
-  pub written_greatest : AsksToSolve words (Solves Knapsack) settings → IsValueDecided instance settings sunk_old sunk_new status
+  pub written_greatest : AsksToSolve words (Solves Knapsack) settings
+      → IsValueDecided instance settings sunk_old sunk_new status
   written_greatest asks =
       let a = written_answers (Solves Knapsack) asks in
-      subst (λ s. IsValueDecided instance settings sunk_old sunk_new s) (sym a.0) (value_decided settings instance written_limits sunk_old sunk_new a.1)
+      subst (λ s. IsValueDecided instance settings sunk_old sunk_new s) (sym a.0)
+      (value_decided settings instance written_limits sunk_old sunk_new a.1)
 
-  pub written_reduced : AsksToSolve words (Reduces FromFit) settings → IsReducedDecided instance settings sunk_old sunk_new status
+  pub written_reduced : AsksToSolve words (Reduces FromFit) settings
+      → IsReducedDecided instance settings sunk_old sunk_new status
   written_reduced asks =
       let a = written_answers (Reduces FromFit) asks in
-      subst (λ s. IsReducedDecided instance settings sunk_old sunk_new s) (sym a.0) (reduced_decided settings instance written_limits sunk_old sunk_new a.1)
+      subst (λ s. IsReducedDecided instance settings sunk_old sunk_new s) (sym a.0)
+      (reduced_decided settings instance written_limits sunk_old sunk_new a.1)
 
-  pub written_job : (job : DocumentJob) → AsksToSolve words job settings → IsJobDecided job instance settings sunk_old sunk_new status
+  pub written_job : (job : DocumentJob) → AsksToSolve words job settings
+      → IsJobDecided job instance settings sunk_old sunk_new status
   written_job (Solves Fit) asks = written_decides asks
   written_job (Solves Strip) asks = written_least asks
   written_job (Solves Bins) asks = written_fewest asks
@@ -134,7 +156,8 @@ module _ (words : List (String Global)) (old new sunk_old sunk_new : Option (Lis
   written_job (Reduces FromStrip) asks = written_reduced_least asks
 
   -- with a budget that is enough the status of `fit` says exactly whether the instance fits
-  fit_exactly : class_bound instance ≤ settings.budget + 1 → IsDecided instance settings sunk_old sunk_new status → IsExactlyFit instance status
+  fit_exactly : class_bound instance ≤ settings.budget + 1 → IsDecided instance settings sunk_old sunk_new status
+      → IsExactlyFit instance status
   fit_exactly enough (inl y) =
       let e = y.status_is in
       record {
@@ -149,10 +172,12 @@ module _ (words : List (String Global)) (old new sunk_old sunk_new : Option (Lis
       }
   fit_exactly enough (inr (inr u)) =
       let p = u.past in
-      let b = class_count instance (some_dimension instance (written_internal instance written_limits)) [] settings.scales in
+      let b = class_count instance (some_dimension instance (written_internal instance written_limits)) []
+      settings.scales in
       absurd (omega (arith, p, b, enough))
 
-  reduced_exactly : class_bound instance ≤ settings.budget + 1 → IsReducedDecided instance settings sunk_old sunk_new status → IsExactlyFit instance status
+  reduced_exactly : class_bound instance ≤ settings.budget + 1
+      → IsReducedDecided instance settings sunk_old sunk_new status → IsExactlyFit instance status
   reduced_exactly enough (inl y) =
       let e = y.status_is in
       record {
@@ -167,10 +192,12 @@ module _ (words : List (String Global)) (old new sunk_old sunk_new : Option (Lis
       }
   reduced_exactly enough (inr (inr u)) =
       let p = u.past in
-      let b = class_count instance (some_dimension instance (written_internal instance written_limits)) (symmetry_facts instance) settings.scales in
+      let b = class_count instance (some_dimension instance (written_internal instance written_limits))
+      (symmetry_facts instance) settings.scales in
       absurd (omega (arith, p, b, enough))
 
-  pub written_fits : (job : DocumentJob) → AsksWhetherFits job → AsksToSolve words job settings → class_bound instance ≤ settings.budget + 1 → IsExactlyFit instance status
+  pub written_fits : (job : DocumentJob) → AsksWhetherFits job → AsksToSolve words job settings
+      → class_bound instance ≤ settings.budget + 1 → IsExactlyFit instance status
   written_fits (Solves Fit) fits asks enough = fit_exactly enough (written_decides asks)
   written_fits (Solves Strip) fits asks enough = absurd fits
   written_fits (Solves Bins) fits asks enough = absurd fits
@@ -178,44 +205,54 @@ module _ (words : List (String Global)) (old new sunk_old sunk_new : Option (Lis
   written_fits (Reduces FromFit) fits asks enough = reduced_exactly enough (written_reduced asks)
   written_fits (Reduces FromStrip) fits asks enough = absurd fits
 
-  fit_enough : IsEnough (Solves Fit) instance settings.budget → IsDecided instance settings sunk_old sunk_new status → ¬ (status ≡ 3)
+  fit_enough : IsEnough (Solves Fit) instance settings.budget → IsDecided instance settings sunk_old sunk_new status
+      → ¬ (status ≡ 3)
   fit_enough enough (inl y) three = let e = y.status_is in omega (arith, e, three)
   fit_enough enough (inr (inl n)) three = let e = n.status_is in omega (arith, e, three)
   fit_enough enough (inr (inr u)) three =
       let p = u.past in
-      let b = class_count instance (some_dimension instance (written_internal instance written_limits)) [] settings.scales in
+      let b = class_count instance (some_dimension instance (written_internal instance written_limits)) []
+      settings.scales in
       omega (arith, p, b, enough)
 
-  reduced_enough : IsEnough (Reduces FromFit) instance settings.budget → IsReducedDecided instance settings sunk_old sunk_new status → ¬ (status ≡ 3)
+  reduced_enough : IsEnough (Reduces FromFit) instance settings.budget
+      → IsReducedDecided instance settings sunk_old sunk_new status → ¬ (status ≡ 3)
   reduced_enough enough (inl y) three = let e = y.status_is in omega (arith, e, three)
   reduced_enough enough (inr (inl n)) three = let e = n.status_is in omega (arith, e, three)
   reduced_enough enough (inr (inr u)) three =
       let p = u.past in
-      let b = class_count instance (some_dimension instance (written_internal instance written_limits)) (symmetry_facts instance) settings.scales in
+      let b = class_count instance (some_dimension instance (written_internal instance written_limits))
+      (symmetry_facts instance) settings.scales in
       omega (arith, p, b, enough)
 
-  strip_enough : (heading : Heading) → class_bound instance ≤ settings.budget + 1 → IsStripDecided heading instance settings sunk_old sunk_new status → ¬ (status ≡ 3)
+  strip_enough : (heading : Heading) → class_bound instance ≤ settings.budget + 1
+      → IsStripDecided heading instance settings sunk_old sunk_new status → ¬ (status ≡ 3)
   strip_enough heading enough (inl l) three = let e = l.status_is in omega (arith, e, three)
   strip_enough heading enough (inr (inl b)) three =
-      true≢false (sym ((spent_from instance (start_exclusions heading instance) settings.budget settings.scales).1 b.past)
-      ∙ enough_from instance (start_exclusions heading instance) settings.budget settings.scales (written_internal instance written_limits) enough)
+      true≢false (sym ((spent_from instance (start_exclusions heading instance) settings.budget
+      settings.scales).1 b.past)
+      ∙ enough_from instance (start_exclusions heading instance) settings.budget settings.scales
+      (written_internal instance written_limits) enough)
   strip_enough heading enough (inr (inr n)) three = let e = n.status_is in omega (arith, e, three)
 
-  fewest_enough : IsEnough (Solves Bins) instance settings.budget → AreBinsDecided instance settings sunk_old sunk_new status → ¬ (status ≡ 3)
+  fewest_enough : IsEnough (Solves Bins) instance settings.budget
+      → AreBinsDecided instance settings sunk_old sunk_new status → ¬ (status ≡ 3)
   fewest_enough enough (inl l) three = let e = l.status_is in omega (arith, e, three)
   fewest_enough enough (inr (inl b)) three =
       true≢false (sym ((bins_spent instance settings.budget settings.scales).1 b.past)
       ∙ bins_enough instance (written_internal instance written_limits) settings.budget settings.scales enough)
   fewest_enough enough (inr (inr n)) three = let e = n.status_is in omega (arith, e, three)
 
-  greatest_enough : IsEnough (Solves Knapsack) instance settings.budget → IsValueDecided instance settings sunk_old sunk_new status → ¬ (status ≡ 3)
+  greatest_enough : IsEnough (Solves Knapsack) instance settings.budget
+      → IsValueDecided instance settings sunk_old sunk_new status → ¬ (status ≡ 3)
   greatest_enough enough (inl l) three = let e = l.status_is in omega (arith, e, three)
   greatest_enough enough (inr b) three =
       true≢false (sym ((value_spent instance settings.budget settings.scales).1 b.past)
       ∙ value_enough instance (written_internal instance written_limits) settings.budget settings.scales enough)
 
   -- a budget that bounds every count is enough
-  pub written_enough : (job : DocumentJob) → AsksToSolve words job settings → IsEnough job instance settings.budget → ¬ (status ≡ 3)
+  pub written_enough : (job : DocumentJob) → AsksToSolve words job settings → IsEnough job instance settings.budget
+      → ¬ (status ≡ 3)
   written_enough (Solves Fit) asks enough = fit_enough enough (written_decides asks)
   written_enough (Solves Strip) asks enough = strip_enough Answered enough (written_least asks)
   written_enough (Reduces FromStrip) asks enough = strip_enough Reduced enough (written_reduced_least asks)

@@ -33,7 +33,8 @@ abbrev pub IsAnswerStatus : ℕ → Type 0
 IsAnswerStatus status = (status ≡ 0) ⊎ ((status ≡ 1) ⊎ (status ≡ 3))
 
 -- yes, with the places of a packing, and a count of branchings within the budget
-pub record IsYes (instance : PlainInstance) (settings : Settings) (sunk_old sunk_new : Option (List ℕ)) (status : ℕ) : Type 0 where
+pub record IsYes (instance : PlainInstance) (settings : Settings) (sunk_old sunk_new : Option (List ℕ)) (status : ℕ) :
+    Type 0 where
   pub status_is : status ≡ 0
   pub places : List ℕ
   pub packing : IsPacking instance places
@@ -42,7 +43,8 @@ pub record IsYes (instance : PlainInstance) (settings : Settings) (sunk_old sunk
 
 -- no, with the tokens of a refutation, where the instance doesn't fit, and a count of branchings
 -- within the budget
-pub record IsNo (instance : PlainInstance) (settings : Settings) (sunk_old sunk_new : Option (List ℕ)) (status : ℕ) : Type 0 where
+pub record IsNo (instance : PlainInstance) (settings : Settings) (sunk_old sunk_new : Option (List ℕ)) (status : ℕ) :
+    Type 0 where
   pub status_is : status ≡ 1
   pub none : ¬ Fits instance
   pub tokens : List PlainToken
@@ -51,7 +53,8 @@ pub record IsNo (instance : PlainInstance) (settings : Settings) (sunk_old sunk_
   pub written : Gains sunk_old sunk_new (answer_text instance (Claimed NotFitting [] tokens))
 
 -- undecided, where the count of branchings is greater than the budget
-pub record IsUndecided (instance : PlainInstance) (settings : Settings) (sunk_old sunk_new : Option (List ℕ)) (status : ℕ) : Type 0 where
+pub record IsUndecided (instance : PlainInstance) (settings : Settings) (sunk_old sunk_new : Option (List ℕ))
+    (status : ℕ) : Type 0 where
   pub status_is : status ≡ 3
   pub past : settings.budget < branchings settings instance
   pub written : Gains sunk_old sunk_new (answer_text instance Undecided)

@@ -1,5 +1,6 @@
 -- What the words of a command line ask for.
-use Rattle.std.specs.Prelude.{ℕ, ◌≡◌, ◌<◌, ◌≤◌, ◌⊎◌, List, length, map, take, String, string_bytes, Option, Some, None, Result, Ok, Err}
+use Rattle.std.specs.Prelude.{ℕ, ◌≡◌, ◌<◌, ◌≤◌, ◌⊎◌, List, length, map, take, String, string_bytes, Option, Some, None}
+use Rattle.std.specs.Prelude.{Result, Ok, Err}
 use Rattle.std.specs.declared.alloc.Global.{Global}
 use Rattle.packing_terms.specs.Packing.{PlainInstance, dims}
 use Rattle.text_terms.specs.Texts.{text_instance}
@@ -7,10 +8,12 @@ use Rattle.answer_terms.specs.declared.job.DocumentJob.{DocumentJob}
 use Rattle.answer_terms.specs.declared.job.DocumentJob.TheVariants.{Solving as Solves, Reduced as Reduces}
 use Rattle.answer_terms.specs.declared.job.ReducedJob.TheVariants.{Fit as FromFit, Strip as FromStrip}
 use Rattle.document_terms.specs.declared.claim.SolvingJob.{SolvingJob}
-use Rattle.document_terms.specs.declared.claim.SolvingJob.TheVariants.{Fit as SolvesFit, Strip as SolvesStrip, Bins as SolvesBins, Knapsack as SolvesKnapsack}
+use Rattle.document_terms.specs.declared.claim.SolvingJob.TheVariants.{Fit as SolvesFit, Strip as SolvesStrip}
+use Rattle.document_terms.specs.declared.claim.SolvingJob.TheVariants.{Bins as SolvesBins, Knapsack as SolvesKnapsack}
 use Rattle.pack_words.specs.Job.{job_of_words}
 use Rattle.pack_words.specs.declared.job.Job.{Job}
-use Rattle.pack_words.specs.declared.job.Job.TheVariants.{Fit, Strip, Bins, Knapsack, Check, Make, Audit, Explain, Reduced, Front, ReducedStrip, Proposed}
+use Rattle.pack_words.specs.declared.job.Job.TheVariants.{Fit, Strip, Bins, Knapsack, Check, Make, Audit, Explain}
+use Rattle.pack_words.specs.declared.job.Job.TheVariants.{Reduced, Front, ReducedStrip, Proposed}
 use Rattle.pack_words.specs.declared.job.JobWords.{JobWords}
 use Rattle.text_terms.specs.declared.settings.Settings.{Settings}
 use Rattle.verdict_terms.specs.Fed.{NoneRefused}
@@ -19,9 +22,11 @@ use Rattle.text_terms.specs.declared.fault.TextFault.{TextFault}
 use Rattle.pack_command.specs.Inputs.{most_instance_bytes, most_read_bytes}
 use Rattle.pack_command.specs.Readings.{DocumentTask, Audits, Explains}
 use Rattle.pack_command.specs.declared.words.Asked.{Asked}
-use Rattle.pack_command.specs.declared.words.Asked.TheVariants.{Solving, Checking, Making, Auditing, Explaining, Fronting, Proposing}
+use Rattle.pack_command.specs.declared.words.Asked.TheVariants.{Solving, Checking, Making, Auditing, Explaining}
+use Rattle.pack_command.specs.declared.words.Asked.TheVariants.{Fronting, Proposing}
 use Rattle.pack_command.specs.declared.stop.Stop.{Stop}
-use Rattle.pack_command.specs.declared.stop.Stop.TheVariants.{Words, TooLong, Text, Dimensions, ReadFault, WriteFault, NoMemory}
+use Rattle.pack_command.specs.declared.stop.Stop.TheVariants.{Words, TooLong, Text, Dimensions, ReadFault, WriteFault}
+use Rattle.pack_command.specs.declared.stop.Stop.TheVariants.{NoMemory}
 
 -- the jobs that answer with a document
 abbrev pub document_job : Job → Option DocumentJob
@@ -118,7 +123,8 @@ IsAsked words (Err WriteFault) = ⊥
 
 -- The words ask for a solving job, and the input is the text of this instance. `left` is what the
 -- source tells.
-pub record IsSolving (words : List (String Global)) (left : Option (List ℕ)) (job : DocumentJob) (settings : Settings) (instance : PlainInstance) : Type 0 where
+pub record IsSolving (words : List (String Global)) (left : Option (List ℕ)) (job : DocumentJob) (settings : Settings)
+    (instance : PlainInstance) : Type 0 where
   pub asks : AsksToSolve words job settings
   pub bytes : List ℕ
   pub told : left ≡ Some bytes
@@ -132,7 +138,8 @@ pub record IsChecking (words : List (String Global)) (left : Option (List ℕ)) 
   pub within : length bytes ≤ most_document_bytes
 
 -- the words ask for this job, and the input is these bytes
-pub record IsReading (words : List (String Global)) (left : Option (List ℕ)) (task : DocumentTask) (bytes : List ℕ) : Type 0 where
+pub record IsReading (words : List (String Global)) (left : Option (List ℕ)) (task : DocumentTask) (bytes : List ℕ) :
+    Type 0 where
   pub asks : AsksTask words task
   pub told : left ≡ Some bytes
   pub within : length bytes ≤ most_read_bytes
@@ -145,7 +152,8 @@ abbrev pub IsExplaining : List (String Global) → Option (List ℕ) → List �
 IsExplaining words left bytes = IsReading words left Explains bytes
 
 -- the words ask for `front`, and the input is the text of this instance, which has two dimensions
-pub record IsFronting (words : List (String Global)) (left : Option (List ℕ)) (settings : Settings) (instance : PlainInstance) : Type 0 where
+pub record IsFronting (words : List (String Global)) (left : Option (List ℕ)) (settings : Settings)
+    (instance : PlainInstance) : Type 0 where
   pub asks : AsksFront words settings
   pub bytes : List ℕ
   pub told : left ≡ Some bytes
@@ -154,7 +162,8 @@ pub record IsFronting (words : List (String Global)) (left : Option (List ℕ)) 
   pub plane : dims instance ≡ 2
 
 -- the words ask for the job with proposals, and the input is the text of this instance
-pub record IsProposing (words : List (String Global)) (left : Option (List ℕ)) (job : SolvingJob) (settings : Settings) (instance : PlainInstance) : Type 0 where
+pub record IsProposing (words : List (String Global)) (left : Option (List ℕ)) (job : SolvingJob) (settings : Settings)
+    (instance : PlainInstance) : Type 0 where
   pub asks : AsksProposed words job settings
   pub bytes : List ℕ
   pub told : left ≡ Some bytes
@@ -164,12 +173,14 @@ pub record IsProposing (words : List (String Global)) (left : Option (List ℕ))
 -- the words and the input have an answer
 abbrev pub HasAnswer : List (String Global) → Option (List ℕ) → Type 0
 HasAnswer words left =
-    ((job : DocumentJob) × (settings : Settings) × (instance : PlainInstance) × IsSolving words left job settings instance)
+    ((job : DocumentJob) × (settings : Settings) × (instance : PlainInstance)
+    × IsSolving words left job settings instance)
     ⊎ (((bytes : List ℕ) × IsChecking words left bytes)
     ⊎ (((number : ℕ) × (settings : Settings) × AsksToMake words number settings)
     ⊎ (((task : DocumentTask) × (bytes : List ℕ) × IsReading words left task bytes)
     ⊎ (((settings : Settings) × (instance : PlainInstance) × IsFronting words left settings instance)
-    ⊎ ((job : SolvingJob) × (settings : Settings) × (instance : PlainInstance) × IsProposing words left job settings instance)))))
+    ⊎ ((job : SolvingJob) × (settings : Settings) × (instance : PlainInstance)
+    × IsProposing words left job settings instance)))))
 
 -- the words are a job that reads nothing, or none
 abbrev pub ReadsNothing : List (String Global) → Type 0
@@ -261,8 +272,11 @@ pub record IsFaultyProposed (words : List (String Global)) (left : Option (List 
 -- the words and the input are to be refused for this cause
 abbrev pub IsRefusable : List (String Global) → Option (List ℕ) → Stop → Type 0
 IsRefusable words left Words = AsksNothing words
-IsRefusable words left TooLong = IsLongInstance words left ⊎ (IsLongDocument words left ⊎ (IsLongReading words left ⊎ (IsLongFront words left ⊎ IsLongProposed words left)))
-IsRefusable words left (Text fault) = IsFaultyText words left fault ⊎ (IsFaultyFront words left fault ⊎ IsFaultyProposed words left fault)
+IsRefusable words left TooLong =
+    IsLongInstance words left ⊎ (IsLongDocument words left
+    ⊎ (IsLongReading words left ⊎ (IsLongFront words left ⊎ IsLongProposed words left)))
+IsRefusable words left (Text fault) =
+    IsFaultyText words left fault ⊎ (IsFaultyFront words left fault ⊎ IsFaultyProposed words left fault)
 IsRefusable words left Dimensions = IsOtherFront words left
 IsRefusable words left ReadFault = ⊥
 IsRefusable words left WriteFault = ⊥

@@ -12,14 +12,17 @@ use Rattle.verdict_terms.specs.Form.{IsDocument}
 use Rattle.document_lines.specs.Reading.{AreBytesEnough, NoneRefusedBefore}
 use Rattle.document_check.specs.Checked.{most_document_bytes}
 use Rattle.pack_command.specs.declared.stop.Stop.{Stop}
-use Rattle.pack_command.specs.declared.stop.Stop.TheVariants.{Words, TooLong, Text, Dimensions, ReadFault, WriteFault, NoMemory}
+use Rattle.pack_command.specs.declared.stop.Stop.TheVariants.{Words, TooLong, Text, Dimensions, ReadFault, WriteFault}
+use Rattle.pack_command.specs.declared.stop.Stop.TheVariants.{NoMemory}
 use Rattle.answer_streams.specs.declared.verdict.Verdict.{Verdict}
 use Rattle.answer_streams.specs.Verdicts.{plain_verdict, verdict_status}
 
 -- the bytes taken have the verdict, and are enough for it
 abbrev pub HasVerdict : Option (List ℕ) → List ℕ → Result Claim Refusal → Type 0
-HasVerdict left taken (Ok claim) = (document_verdict taken ≡ Ok claim) × (length taken ≤ most_document_bytes) × IsAtEnd left
-HasVerdict left taken (Err refusal) = (document_verdict taken ≡ Err refusal) × (length taken ≤ most_document_bytes) × AreBytesEnough left taken refusal
+HasVerdict left taken (Ok claim) = (document_verdict taken ≡ Ok claim) × (length taken ≤ most_document_bytes)
+    × IsAtEnd left
+HasVerdict left taken (Err refusal) = (document_verdict taken ≡ Err refusal) × (length taken ≤ most_document_bytes)
+    × AreBytesEnough left taken refusal
 
 -- a verdict was reached
 pub record IsVerdictFound (old new : Option (List ℕ)) (verdict : Result Claim Refusal) : Type 0 where

@@ -2,7 +2,8 @@
 use Rattle.std.specs.Prelude.{ℕ, ◌≡◌, ◌≢◌, ◌⊎◌, Result, Ok, Err}
 use Rattle.pack_streams.specs.Faults.{FailedOnce}
 use Rattle.pack_command.specs.declared.stop.Stop.{Stop}
-use Rattle.pack_command.specs.declared.stop.Stop.TheVariants.{Words, TooLong, Text, Dimensions, ReadFault, WriteFault, NoMemory}
+use Rattle.pack_command.specs.declared.stop.Stop.TheVariants.{Words, TooLong, Text, Dimensions, ReadFault, WriteFault}
+use Rattle.pack_command.specs.declared.stop.Stop.TheVariants.{NoMemory}
 
 -- the count of the source, by how a job ended
 abbrev pub CountsReads : {A : Type 0} → ℕ → ℕ → Result A Stop → Type 0

@@ -19,7 +19,8 @@ IsDone words old new sunk_old sunk_new status =
     ⊎ ((AsksCheck words × IsVerdictWritten old new sunk_old sunk_new status)
     ⊎ (IsMade words old new sunk_old sunk_new status
     ⊎ (((task : DocumentTask) × AsksTask words task × IsReadingDone task old new sunk_old sunk_new status)
-    ⊎ (IsFrontWritten words old new sunk_old sunk_new status ⊎ IsProposedWritten words old new sunk_old sunk_new status))))
+    ⊎ (IsFrontWritten words old new sunk_old sunk_new status
+    ⊎ IsProposedWritten words old new sunk_old sunk_new status))))
 
 -- why a job ended without
 abbrev pub IsUndone : List (String Global) → (old new sunk_old sunk_new : Option (List ℕ)) → Stop → Type 0

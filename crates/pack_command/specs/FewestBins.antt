@@ -18,7 +18,8 @@ use Rattle.text_terms.specs.declared.settings.Settings.{Settings}
 
 -- The least number of bins over all packings, with each box's bin and place and tokens that refute
 -- one bin less. No number of bins that was decided has more branchings than the budget.
-pub record IsLeast (instance : PlainInstance) (settings : Settings) (sunk_old sunk_new : Option (List ℕ)) (status : ℕ) : Type 0 where
+pub record IsLeast (instance : PlainInstance) (settings : Settings) (sunk_old sunk_new : Option (List ℕ)) (status : ℕ) :
+    Type 0 where
   pub status_is : status ≡ 0
   pub bins : ℕ
   pub least : IsLeastBins instance bins
@@ -31,7 +32,8 @@ pub record IsLeast (instance : PlainInstance) (settings : Settings) (sunk_old su
 
 -- Two numbers of bins between which the least one lies: a refuted one and a placed one, with both
 -- certificates. Some number of bins that was decided has more branchings than the budget.
-pub record IsBetween (instance : PlainInstance) (settings : Settings) (sunk_old sunk_new : Option (List ℕ)) (status : ℕ) : Type 0 where
+pub record IsBetween (instance : PlainInstance) (settings : Settings) (sunk_old sunk_new : Option (List ℕ))
+    (status : ℕ) : Type 0 where
   pub status_is : status ≡ 3
   pub refuted : ℕ
   pub placed : ℕ

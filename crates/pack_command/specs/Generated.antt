@@ -16,7 +16,8 @@ use Rattle.pack_command.specs.Answered.{branchings, class_bound}
 use Rattle.pack_command.specs.Asked.{AsksToMake}
 use Rattle.answer_streams.specs.declared.summary.Made.{Made}
 use Rattle.pack_command.specs.declared.stop.Stop.{Stop}
-use Rattle.pack_command.specs.declared.stop.Stop.TheVariants.{Words, TooLong, Text, Dimensions, ReadFault, WriteFault, NoMemory}
+use Rattle.pack_command.specs.declared.stop.Stop.TheVariants.{Words, TooLong, Text, Dimensions, ReadFault, WriteFault}
+use Rattle.pack_command.specs.declared.stop.Stop.TheVariants.{NoMemory}
 
 -- the answer for a number; the number of workers has no part
 abbrev pub made_for : ℕ → Settings → JobAnswer
@@ -27,10 +28,12 @@ pub record IsMadeOf (number : ℕ) (settings : Settings) (made : Made) : Type 0 
   pub number_is : made.number ≡ number
   pub instance_is : made.instance ≡ made_instance number
   pub budget_is : made.budget ≡ settings.budget
-  pub outcome_is : plain_outcome made.outcome ≡ told settings.budget (outcome (class_tree (made_instance number) [] settings.scales))
+  pub outcome_is : plain_outcome made.outcome
+      ≡ told settings.budget (outcome (class_tree (made_instance number) [] settings.scales))
 
 -- The summary of the number was written whole, with its status. Nothing was taken from the source.
-pub record IsMade (words : List (String Global)) (old new sunk_old sunk_new : Option (List ℕ)) (status : ℕ) : Type 0 where
+pub record IsMade (words : List (String Global)) (old new sunk_old sunk_new : Option (List ℕ)) (status : ℕ) :
+    Type 0 where
   pub number : ℕ
   pub settings : Settings
   pub asked : AsksToMake words number settings
@@ -49,7 +52,8 @@ IsMadeCut number settings sunk_old sunk_new Dimensions = ⊥
 IsMadeCut number settings sunk_old sunk_new ReadFault = ⊥
 
 -- why the job ended without its summary. Nothing was taken from the source.
-pub record IsUnmade (words : List (String Global)) (old new sunk_old sunk_new : Option (List ℕ)) (stop : Stop) : Type 0 where
+pub record IsUnmade (words : List (String Global)) (old new sunk_old sunk_new : Option (List ℕ)) (stop : Stop) :
+    Type 0 where
   pub number : ℕ
   pub settings : Settings
   pub asked : AsksToMake words number settings
@@ -57,7 +61,8 @@ pub record IsUnmade (words : List (String Global)) (old new sunk_old sunk_new : 
   pub cut : IsMadeCut number settings sunk_old sunk_new stop
 
 -- exactly the summary of the number was written, with its status
-pub record IsExactlyMade (number : ℕ) (settings : Settings) (sunk_old sunk_new : Option (List ℕ)) (status : ℕ) : Type 0 where
+pub record IsExactlyMade (number : ℕ) (settings : Settings) (sunk_old sunk_new : Option (List ℕ)) (status : ℕ) :
+    Type 0 where
   pub status_is : status ≡ (made_for number settings).status
   pub written : Gains sunk_old sunk_new (made_for number settings).text
   pub yes : status ≡ 0 → Fits (made_instance number)

@@ -16,7 +16,8 @@ use Rattle.text_terms.specs.declared.settings.Settings.{Settings}
 
 -- The greatest value over all sets of boxes that fit, with the taken boxes and their places and
 -- tokens that refute one more. No value that was decided has more branchings than the budget.
-pub record IsGreatest (instance : PlainInstance) (settings : Settings) (sunk_old sunk_new : Option (List ℕ)) (status : ℕ) : Type 0 where
+pub record IsGreatest (instance : PlainInstance) (settings : Settings) (sunk_old sunk_new : Option (List ℕ))
+    (status : ℕ) : Type 0 where
   pub status_is : status ≡ 0
   pub value : ℕ
   pub greatest : IsGreatestValue instance value
@@ -29,7 +30,8 @@ pub record IsGreatest (instance : PlainInstance) (settings : Settings) (sunk_old
 
 -- Two values between which the greatest one lies: a placed one and a refuted one, with both
 -- certificates. Some value that was decided has more branchings than the budget.
-pub record IsBetween (instance : PlainInstance) (settings : Settings) (sunk_old sunk_new : Option (List ℕ)) (status : ℕ) : Type 0 where
+pub record IsBetween (instance : PlainInstance) (settings : Settings) (sunk_old sunk_new : Option (List ℕ))
+    (status : ℕ) : Type 0 where
   pub status_is : status ≡ 3
   pub placed : ℕ
   pub refuted : ℕ

@@ -7,7 +7,8 @@ use Rattle.text_terms.specs.Texts.{text_instance}
 use Rattle.pack_streams.specs.Moves.{Gives}
 use Rattle.pack_streams.specs.Reading.{block}
 use Rattle.pack_command.specs.declared.stop.Stop.{Stop}
-use Rattle.pack_command.specs.declared.stop.Stop.TheVariants.{Words, TooLong, Text, Dimensions, ReadFault, WriteFault, NoMemory}
+use Rattle.pack_command.specs.declared.stop.Stop.TheVariants.{Words, TooLong, Text, Dimensions, ReadFault, WriteFault}
+use Rattle.pack_command.specs.declared.stop.Stop.TheVariants.{NoMemory}
 
 -- the most bytes that the text of an instance may have: 2 ^ 20
 abbrev pub most_instance_bytes : ℕ
@@ -33,9 +34,11 @@ pub record IsPartTaken (old new : Option (List ℕ)) : Type 0 where
 abbrev pub IsInputRead : Option (List ℕ) → Option (List ℕ) → Result PlainInstance Stop → Type 0
 IsInputRead old new (Ok instance) =
     (bytes : List ℕ) × IsWholeInput old new bytes × (text_instance bytes ≡ Ok instance)
-IsInputRead old new (Err (Text fault)) = (bytes : List ℕ) × IsWholeInput old new bytes × (text_instance bytes ≡ Err fault)
+IsInputRead old new (Err (Text fault)) =
+    (bytes : List ℕ) × IsWholeInput old new bytes × (text_instance bytes ≡ Err fault)
 IsInputRead old new (Err TooLong) =
-    (bytes : List ℕ) × Gives old new bytes × (most_instance_bytes < length bytes) × (length bytes ≤ most_instance_bytes + block)
+    (bytes : List ℕ) × Gives old new bytes × (most_instance_bytes < length bytes)
+    × (length bytes ≤ most_instance_bytes + block)
 IsInputRead old new (Err ReadFault) = (bytes : List ℕ) × Gives old new bytes × (length bytes ≤ most_instance_bytes)
 IsInputRead old new (Err NoMemory) = IsPartTaken old new
 IsInputRead old new (Err Words) = ⊥

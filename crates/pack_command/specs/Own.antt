@@ -36,7 +36,8 @@ pub record IsUnverified (job : DocumentJob) (document : List ℕ) (status : ℕ)
   pub refused : IsRefusedBy job document
 
 -- a whole document was written, which is the one or the other
-pub record IsOwnDocument (job : DocumentJob) (instance : PlainInstance) (sunk_old sunk_new : Option (List ℕ)) (status : ℕ) : Type 0 where
+pub record IsOwnDocument (job : DocumentJob) (instance : PlainInstance) (sunk_old sunk_new : Option (List ℕ))
+    (status : ℕ) : Type 0 where
   pub document : List ℕ
   pub written : Gains sunk_old sunk_new document
   pub own : IsVerified job instance document status ⊎ IsUnverified job document status

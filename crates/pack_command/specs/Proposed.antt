@@ -14,13 +14,16 @@ use Rattle.text_terms.specs.Texts.{text_instance}
 use Rattle.text_terms.specs.declared.settings.Settings.{Settings}
 use Rattle.document_terms.specs.Claims.{IsHeightBetween, IsBinsBetween, IsValueBetween}
 use Rattle.document_terms.specs.declared.claim.SolvingJob.{SolvingJob}
-use Rattle.document_terms.specs.declared.claim.SolvingJob.TheVariants.{Fit as SolvesFit, Strip as SolvesStrip, Bins as SolvesBins, Knapsack as SolvesKnapsack}
-use Rattle.document_terms.specs.declared.claim.Claim.TheVariants.{Fitting, NotFitting, LeastHeight, HeightBetween, LeastBins, BinsBetween, GreatestValue, ValueBetween}
+use Rattle.document_terms.specs.declared.claim.SolvingJob.TheVariants.{Fit as SolvesFit, Strip as SolvesStrip}
+use Rattle.document_terms.specs.declared.claim.SolvingJob.TheVariants.{Bins as SolvesBins, Knapsack as SolvesKnapsack}
+use Rattle.document_terms.specs.declared.claim.Claim.TheVariants.{Fitting, NotFitting, LeastHeight, HeightBetween}
+use Rattle.document_terms.specs.declared.claim.Claim.TheVariants.{LeastBins, BinsBetween, GreatestValue, ValueBetween}
 use Rattle.answer_terms.specs.Answers.{Answer, answer_text, status_of}
 use Rattle.answer_terms.specs.Answers.Answer.{Undecided, Claimed}
 use Rattle.answer_terms.specs.Solved.{fit_answer}
 use Rattle.answer_streams.specs.declared.solution.Solution.{Solution}
-use Rattle.answer_streams.specs.Solutions.{answer_found, solution_text, strip_found, bins_found, choice_found, IsPlacedSolution}
+use Rattle.answer_streams.specs.Solutions.{answer_found, solution_text, strip_found, bins_found, choice_found}
+use Rattle.answer_streams.specs.Solutions.{IsPlacedSolution}
 use Rattle.strip_solver.specs.declared.strip.Strip.{Strip as FoundStrip}
 use Rattle.strip_solver.specs.Strips.{IsTrueStrip}
 use Rattle.bin_knapsack.specs.declared.bins.Bins.{Bins as FoundBins}
@@ -39,7 +42,8 @@ use Rattle.pack_command.specs.FewestBins.{IsNone as HasNoBins}
 use Rattle.pack_command.specs.Inputs.{IsWholeInput, IsPartTaken, IsInputRead}
 use Rattle.pack_command.specs.Strips.{IsNone}
 use Rattle.pack_command.specs.declared.stop.Stop.{Stop}
-use Rattle.pack_command.specs.declared.stop.Stop.TheVariants.{Words, TooLong, Text, Dimensions, ReadFault, WriteFault, NoMemory}
+use Rattle.pack_command.specs.declared.stop.Stop.TheVariants.{Words, TooLong, Text, Dimensions, ReadFault, WriteFault}
+use Rattle.pack_command.specs.declared.stop.Stop.TheVariants.{NoMemory}
 
 -- an outcome behind some proposal: the proposal where it passes its test, and else what is told of
 -- the class tree under the budget; the number of workers has no part in what stands behind it
@@ -89,14 +93,16 @@ IsProposed SolvesBins settings instance answer = AreProposedBins settings instan
 IsProposed SolvesKnapsack settings instance answer = IsProposedChoice settings instance answer
 
 -- what was found is such an answer, with its document
-pub record IsProposedSolution (job : SolvingJob) (settings : Settings) (instance : PlainInstance) (solution : Solution) : Type 0 where
+pub record IsProposedSolution (job : SolvingJob) (settings : Settings) (instance : PlainInstance)
+    (solution : Solution) : Type 0 where
   pub is : IsProposed job settings instance (answer_found solution)
   pub text : solution_text instance solution ≡ answer_text instance (answer_found solution)
   pub placed : IsPlacedSolution instance solution
 
 -- the words ask for the job with proposals, the whole input is the text of this instance, and this is
 -- its answer
-pub record IsProposedAnswered (words : List (String Global)) (old new : Option (List ℕ)) (job : SolvingJob) (settings : Settings) (instance : PlainInstance) (answer : Answer) : Type 0 where
+pub record IsProposedAnswered (words : List (String Global)) (old new : Option (List ℕ)) (job : SolvingJob)
+    (settings : Settings) (instance : PlainInstance) (answer : Answer) : Type 0 where
   pub asked : AsksProposed words job settings
   pub bytes : List ℕ
   pub input : IsWholeInput old new bytes
@@ -105,7 +111,8 @@ pub record IsProposedAnswered (words : List (String Global)) (old new : Option (
   pub is : IsProposed job settings instance answer
 
 -- the document of the answer was written whole, with its status
-pub record IsProposedWritten (words : List (String Global)) (old new sunk_old sunk_new : Option (List ℕ)) (status : ℕ) : Type 0 where
+pub record IsProposedWritten (words : List (String Global)) (old new sunk_old sunk_new : Option (List ℕ)) (status : ℕ) :
+    Type 0 where
   pub job : SolvingJob
   pub settings : Settings
   pub instance : PlainInstance
@@ -130,9 +137,11 @@ AsksForProposals words = (job : SolvingJob) × (settings : Settings) × AsksProp
 -- why it ended without its document
 abbrev pub IsWithoutProposed : List (String Global) → (old new sunk_old sunk_new : Option (List ℕ)) → Stop → Type 0
 IsWithoutProposed words old new sunk_old sunk_new TooLong = IsInputRead old new (Err TooLong) × (sunk_new ≡ sunk_old)
-IsWithoutProposed words old new sunk_old sunk_new (Text fault) = IsInputRead old new (Err (Text fault)) × (sunk_new ≡ sunk_old)
+IsWithoutProposed words old new sunk_old sunk_new (Text fault) =
+    IsInputRead old new (Err (Text fault)) × (sunk_new ≡ sunk_old)
 IsWithoutProposed words old new sunk_old sunk_new Dimensions = ⊥
-IsWithoutProposed words old new sunk_old sunk_new ReadFault = IsInputRead old new (Err ReadFault) × (sunk_new ≡ sunk_old)
+IsWithoutProposed words old new sunk_old sunk_new ReadFault =
+    IsInputRead old new (Err ReadFault) × (sunk_new ≡ sunk_old)
 IsWithoutProposed words old new sunk_old sunk_new WriteFault = IsProposedCut words old new sunk_old sunk_new
 IsWithoutProposed words old new sunk_old sunk_new NoMemory = IsPartTaken old new × (sunk_new ≡ sunk_old)
 IsWithoutProposed words old new sunk_old sunk_new Words = ⊥
@@ -155,7 +164,8 @@ pub record IsProposedNo (instance : PlainInstance) (sunk_old sunk_new : Option (
   pub written : Gains sunk_old sunk_new (answer_text instance (Claimed NotFitting [] tokens))
 
 -- undecided, only where the count of branchings of the class tree is greater than the budget
-pub record IsProposedUndecided (instance : PlainInstance) (settings : Settings) (sunk_old sunk_new : Option (List ℕ)) (status : ℕ) : Type 0 where
+pub record IsProposedUndecided (instance : PlainInstance) (settings : Settings) (sunk_old sunk_new : Option (List ℕ))
+    (status : ℕ) : Type 0 where
   pub status_is : status ≡ 3
   pub past : settings.budget < branchings settings instance
   pub written : Gains sunk_old sunk_new (answer_text instance Undecided)
@@ -167,7 +177,8 @@ IsProposedFitDecided instance settings sunk_old sunk_new status =
     ⊎ (IsProposedNo instance sunk_old sunk_new status ⊎ IsProposedUndecided instance settings sunk_old sunk_new status)
 
 -- the status and the document are those of an outcome behind some proposal
-pub record IsProposedAnswer (instance : PlainInstance) (settings : Settings) (sunk_old sunk_new : Option (List ℕ)) (status : ℕ) : Type 0 where
+pub record IsProposedAnswer (instance : PlainInstance) (settings : Settings) (sunk_old sunk_new : Option (List ℕ))
+    (status : ℕ) : Type 0 where
   pub outcome : PlainOutcome
   pub is : IsOutcome settings instance outcome
   pub status_is : status ≡ status_of (fit_answer outcome)
@@ -190,7 +201,8 @@ pub record IsProposedLeast (instance : PlainInstance) (sunk_old sunk_new : Optio
 -- Two heights between which the least one lies: a refuted one and a placed one, with both certificates.
 -- The class trees of the height above the refuted one and of the height below the placed one have more
 -- branchings than the budget.
-pub record IsProposedBetween (instance : PlainInstance) (settings : Settings) (sunk_old sunk_new : Option (List ℕ)) (status : ℕ) : Type 0 where
+pub record IsProposedBetween (instance : PlainInstance) (settings : Settings) (sunk_old sunk_new : Option (List ℕ))
+    (status : ℕ) : Type 0 where
   pub status_is : status ≡ 3
   pub refuted : ℕ
   pub placed : ℕ
@@ -227,7 +239,8 @@ pub record IsProposedFewest (instance : PlainInstance) (sunk_old sunk_new : Opti
 -- Two numbers of bins between which the least one lies: a refuted one and a placed one, with both
 -- certificates. The bin trees of the number above the refuted one and of the number below the placed one
 -- have more branchings than the budget.
-pub record AreProposedBetween (instance : PlainInstance) (settings : Settings) (sunk_old sunk_new : Option (List ℕ)) (status : ℕ) : Type 0 where
+pub record AreProposedBetween (instance : PlainInstance) (settings : Settings) (sunk_old sunk_new : Option (List ℕ))
+    (status : ℕ) : Type 0 where
   pub status_is : status ≡ 3
   pub refuted : ℕ
   pub placed : ℕ
@@ -251,7 +264,8 @@ AreProposedBinsDecided instance settings sunk_old sunk_new status =
 
 -- the greatest value over all sets of boxes that fit, with the taken boxes and their places, and tokens
 -- that refute one more
-pub record IsProposedGreatest (instance : PlainInstance) (sunk_old sunk_new : Option (List ℕ)) (status : ℕ) : Type 0 where
+pub record IsProposedGreatest (instance : PlainInstance) (sunk_old sunk_new : Option (List ℕ)) (status : ℕ) :
+    Type 0 where
   pub status_is : status ≡ 0
   pub value : ℕ
   pub greatest : IsGreatestValue instance value
@@ -264,7 +278,8 @@ pub record IsProposedGreatest (instance : PlainInstance) (sunk_old sunk_new : Op
 -- Two values between which the greatest one lies: a placed one and a refuted one, with both certificates.
 -- The choice trees of the value above the placed one and of the value below the refuted one have more
 -- branchings than the budget.
-pub record AreProposedValues (instance : PlainInstance) (settings : Settings) (sunk_old sunk_new : Option (List ℕ)) (status : ℕ) : Type 0 where
+pub record AreProposedValues (instance : PlainInstance) (settings : Settings) (sunk_old sunk_new : Option (List ℕ))
+    (status : ℕ) : Type 0 where
   pub status_is : status ≡ 3
   pub placed : ℕ
   pub refuted : ℕ
@@ -285,12 +300,17 @@ IsProposedValueDecided instance settings sunk_old sunk_new status =
 
 -- ---- of each job
 
-abbrev pub IsProposedDecided : SolvingJob → PlainInstance → Settings → (sunk_old sunk_new : Option (List ℕ)) → ℕ → Type 0
+abbrev pub IsProposedDecided : SolvingJob → PlainInstance → Settings → (sunk_old sunk_new : Option (List ℕ))
+    → ℕ → Type 0
 IsProposedDecided SolvesFit instance settings sunk_old sunk_new status =
-    IsProposedFitDecided instance settings sunk_old sunk_new status × IsProposedAnswer instance settings sunk_old sunk_new status
-IsProposedDecided SolvesStrip instance settings sunk_old sunk_new status = IsProposedStripDecided instance settings sunk_old sunk_new status
-IsProposedDecided SolvesBins instance settings sunk_old sunk_new status = AreProposedBinsDecided instance settings sunk_old sunk_new status
-IsProposedDecided SolvesKnapsack instance settings sunk_old sunk_new status = IsProposedValueDecided instance settings sunk_old sunk_new status
+    IsProposedFitDecided instance settings sunk_old sunk_new status
+    × IsProposedAnswer instance settings sunk_old sunk_new status
+IsProposedDecided SolvesStrip instance settings sunk_old sunk_new status =
+    IsProposedStripDecided instance settings sunk_old sunk_new status
+IsProposedDecided SolvesBins instance settings sunk_old sunk_new status =
+    AreProposedBinsDecided instance settings sunk_old sunk_new status
+IsProposedDecided SolvesKnapsack instance settings sunk_old sunk_new status =
+    IsProposedValueDecided instance settings sunk_old sunk_new status
 
 -- The budget is enough for the trees that the job decides for the instance, by their counts: for `fit` its
 -- class tree, for `strip` that of each height, for `bins` the bin tree of each number of bins, for

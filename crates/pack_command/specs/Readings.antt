@@ -10,7 +10,8 @@ use Rattle.answer_streams.specs.Audited.{audit_verdict, audit_line, audit_status
 use Rattle.pack_command.specs.Explanations.{IsExplainedTo}
 use Rattle.pack_command.specs.Inputs.{most_read_bytes}
 use Rattle.pack_command.specs.declared.stop.Stop.{Stop}
-use Rattle.pack_command.specs.declared.stop.Stop.TheVariants.{Words, TooLong, Text, Dimensions, ReadFault, WriteFault, NoMemory}
+use Rattle.pack_command.specs.declared.stop.Stop.TheVariants.{Words, TooLong, Text, Dimensions, ReadFault, WriteFault}
+use Rattle.pack_command.specs.declared.stop.Stop.TheVariants.{NoMemory}
 
 -- what is done with the document
 pub data DocumentTask : Type 0 where
@@ -19,7 +20,8 @@ pub data DocumentTask : Type 0 where
 
 -- the status and the text that a document comes to
 abbrev pub ComesTo : DocumentTask → List ℕ → ℕ → List ℕ → Type 0
-ComesTo Audits bytes status text = (status ≡ audit_status (audit_verdict bytes)) × (text ≡ audit_line (audit_verdict bytes))
+ComesTo Audits bytes status text =
+    (status ≡ audit_status (audit_verdict bytes)) × (text ≡ audit_line (audit_verdict bytes))
 ComesTo Explains bytes status text = IsExplainedTo bytes status text
 
 -- these bytes are all that the source had to give, and not too many
@@ -34,7 +36,8 @@ IsDocumentRead old new (Ok bytes) = IsWholeDocument old new bytes.items
 IsDocumentRead old new (Err TooLong) =
     (bytes : List ℕ) × Gives old new bytes × (most_read_bytes < length bytes) × (length bytes ≤ most_read_bytes + block)
 IsDocumentRead old new (Err ReadFault) = (bytes : List ℕ) × Gives old new bytes × (length bytes ≤ most_read_bytes)
-IsDocumentRead old new (Err NoMemory) = (bytes : List ℕ) × Gives old new bytes × (length bytes ≤ most_read_bytes + block)
+IsDocumentRead old new (Err NoMemory) =
+    (bytes : List ℕ) × Gives old new bytes × (length bytes ≤ most_read_bytes + block)
 IsDocumentRead old new (Err Words) = ⊥
 IsDocumentRead old new (Err (Text fault)) = ⊥
 IsDocumentRead old new (Err Dimensions) = ⊥
@@ -60,7 +63,8 @@ pub record IsReadingCut (task : DocumentTask) (old new sunk_old sunk_new : Optio
 -- why the job ended without its text
 abbrev pub IsWithoutReading : DocumentTask → (old new sunk_old sunk_new : Option (List ℕ)) → Stop → Type 0
 IsWithoutReading task old new sunk_old sunk_new TooLong = IsDocumentRead old new (Err TooLong) × (sunk_new ≡ sunk_old)
-IsWithoutReading task old new sunk_old sunk_new ReadFault = IsDocumentRead old new (Err ReadFault) × (sunk_new ≡ sunk_old)
+IsWithoutReading task old new sunk_old sunk_new ReadFault =
+    IsDocumentRead old new (Err ReadFault) × (sunk_new ≡ sunk_old)
 IsWithoutReading task old new sunk_old sunk_new NoMemory = IsDocumentRead old new (Err NoMemory) × (sunk_new ≡ sunk_old)
 IsWithoutReading task old new sunk_old sunk_new WriteFault = IsReadingCut task old new sunk_old sunk_new
 IsWithoutReading task old new sunk_old sunk_new Words = ⊥
@@ -68,7 +72,8 @@ IsWithoutReading task old new sunk_old sunk_new (Text fault) = ⊥
 IsWithoutReading task old new sunk_old sunk_new Dimensions = ⊥
 
 -- exactly the text that these bytes come to was written, with its status
-pub record IsExactlyRead (task : DocumentTask) (bytes : List ℕ) (sunk_old sunk_new : Option (List ℕ)) (status : ℕ) : Type 0 where
+pub record IsExactlyRead (task : DocumentTask) (bytes : List ℕ) (sunk_old sunk_new : Option (List ℕ)) (status : ℕ) :
+    Type 0 where
   pub text : List ℕ
   pub comes : ComesTo task bytes status text
   pub written : Gains sunk_old sunk_new text

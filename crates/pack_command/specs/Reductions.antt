@@ -15,10 +15,12 @@ use Rattle.text_terms.specs.declared.settings.Settings.{Settings}
 
 -- the count of branchings of the class tree that begins with the symmetry facts
 abbrev pub reduced_branchings : Settings → PlainInstance → ℕ
-reduced_branchings settings instance = count_of (outcome (class_tree instance (symmetry_facts instance) settings.scales))
+reduced_branchings settings instance =
+    count_of (outcome (class_tree instance (symmetry_facts instance) settings.scales))
 
 -- yes, with the places of a packing, and a count of branchings within the budget
-pub record IsReducedYes (instance : PlainInstance) (settings : Settings) (sunk_old sunk_new : Option (List ℕ)) (status : ℕ) : Type 0 where
+pub record IsReducedYes (instance : PlainInstance) (settings : Settings) (sunk_old sunk_new : Option (List ℕ))
+    (status : ℕ) : Type 0 where
   pub status_is : status ≡ 0
   pub places : List ℕ
   pub packing : IsPacking instance places
@@ -27,7 +29,8 @@ pub record IsReducedYes (instance : PlainInstance) (settings : Settings) (sunk_o
 
 -- no, where the instance doesn't fit, with the tokens of a refutation under its symmetry facts, and
 -- a count of branchings within the budget
-pub record IsReducedNo (instance : PlainInstance) (settings : Settings) (sunk_old sunk_new : Option (List ℕ)) (status : ℕ) : Type 0 where
+pub record IsReducedNo (instance : PlainInstance) (settings : Settings) (sunk_old sunk_new : Option (List ℕ))
+    (status : ℕ) : Type 0 where
   pub status_is : status ≡ 1
   pub none : ¬ Fits instance
   pub tokens : List PlainToken
@@ -36,7 +39,8 @@ pub record IsReducedNo (instance : PlainInstance) (settings : Settings) (sunk_ol
   pub written : Gains sunk_old sunk_new (reduced_text instance (Claimed NotFitting [] tokens))
 
 -- undecided, where the count of branchings is greater than the budget
-pub record IsReducedUndecided (instance : PlainInstance) (settings : Settings) (sunk_old sunk_new : Option (List ℕ)) (status : ℕ) : Type 0 where
+pub record IsReducedUndecided (instance : PlainInstance) (settings : Settings) (sunk_old sunk_new : Option (List ℕ))
+    (status : ℕ) : Type 0 where
   pub status_is : status ≡ 3
   pub past : settings.budget < reduced_branchings settings instance
   pub written : Gains sunk_old sunk_new (reduced_text instance Undecided)
@@ -45,4 +49,5 @@ pub record IsReducedUndecided (instance : PlainInstance) (settings : Settings) (
 abbrev pub IsReducedDecided : PlainInstance → Settings → (sunk_old sunk_new : Option (List ℕ)) → ℕ → Type 0
 IsReducedDecided instance settings sunk_old sunk_new status =
     IsReducedYes instance settings sunk_old sunk_new status
-    ⊎ (IsReducedNo instance settings sunk_old sunk_new status ⊎ IsReducedUndecided instance settings sunk_old sunk_new status)
+    ⊎ (IsReducedNo instance settings sunk_old sunk_new status
+    ⊎ IsReducedUndecided instance settings sunk_old sunk_new status)

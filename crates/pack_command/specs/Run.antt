@@ -14,11 +14,13 @@ use Rattle.pack_command.specs.Asked.{AsksToSolve, AsksNothing}
 use Rattle.pack_command.specs.Inputs.{IsWholeInput, IsPartTaken, IsInputRead}
 use Rattle.pack_streams.specs.declared.moves.WriteFault.{WriteFault as WriteFailed}
 use Rattle.pack_command.specs.declared.stop.Stop.{Stop}
-use Rattle.pack_command.specs.declared.stop.Stop.TheVariants.{Words, TooLong, Text, Dimensions, ReadFault, WriteFault, NoMemory}
+use Rattle.pack_command.specs.declared.stop.Stop.TheVariants.{Words, TooLong, Text, Dimensions, ReadFault, WriteFault}
+use Rattle.pack_command.specs.declared.stop.Stop.TheVariants.{NoMemory}
 
 -- the words ask for a solving job, the whole input is the text of an instance, and these are its
 -- status and its document
-pub record IsAnswered (words : List (String Global)) (old new : Option (List ℕ)) (status : ℕ) (document : List ℕ) : Type 0 where
+pub record IsAnswered (words : List (String Global)) (old new : Option (List ℕ)) (status : ℕ) (document : List ℕ) :
+    Type 0 where
   pub job : DocumentJob
   pub settings : Settings
   pub bytes : List ℕ
@@ -44,15 +46,20 @@ Asks words = (job : DocumentJob) × (settings : Settings) × AsksToSolve words j
 -- why a job ended without an answer, and what it took from the source and gave to the sink
 abbrev pub IsStopped : List (String Global) → (old new sunk_old sunk_new : Option (List ℕ)) → Stop → Type 0
 IsStopped words old new sunk_old sunk_new Words = AsksNothing words × (new ≡ old) × (sunk_new ≡ sunk_old)
-IsStopped words old new sunk_old sunk_new TooLong = Asks words × IsInputRead old new (Err TooLong) × (sunk_new ≡ sunk_old)
-IsStopped words old new sunk_old sunk_new (Text fault) = Asks words × IsInputRead old new (Err (Text fault)) × (sunk_new ≡ sunk_old)
+IsStopped words old new sunk_old sunk_new TooLong =
+    Asks words × IsInputRead old new (Err TooLong) × (sunk_new ≡ sunk_old)
+IsStopped words old new sunk_old sunk_new (Text fault) = Asks words × IsInputRead old new (Err (Text fault))
+    × (sunk_new ≡ sunk_old)
 IsStopped words old new sunk_old sunk_new Dimensions = ⊥
-IsStopped words old new sunk_old sunk_new ReadFault = Asks words × IsInputRead old new (Err ReadFault) × (sunk_new ≡ sunk_old)
+IsStopped words old new sunk_old sunk_new ReadFault =
+    Asks words × IsInputRead old new (Err ReadFault) × (sunk_new ≡ sunk_old)
 IsStopped words old new sunk_old sunk_new WriteFault = IsCutShort words old new sunk_old sunk_new
-IsStopped words old new sunk_old sunk_new NoMemory = ((new ≡ old) ⊎ (Asks words × IsPartTaken old new)) × (sunk_new ≡ sunk_old)
+IsStopped words old new sunk_old sunk_new NoMemory = ((new ≡ old) ⊎ (Asks words × IsPartTaken old new))
+    × (sunk_new ≡ sunk_old)
 
 -- an answer with its whole document written
-pub record IsWritten (words : List (String Global)) (old new sunk_old sunk_new : Option (List ℕ)) (status : ℕ) : Type 0 where
+pub record IsWritten (words : List (String Global)) (old new sunk_old sunk_new : Option (List ℕ)) (status : ℕ) :
+    Type 0 where
   pub document : List ℕ
   pub answered : IsAnswered words old new status document
   pub written : Gains sunk_old sunk_new document

@@ -21,7 +21,8 @@ use Rattle.text_terms.specs.declared.settings.Settings.{Settings}
 
 -- The least height over all packings, with places that are a packing in it and tokens that refute
 -- the height below. No height that was decided has more branchings than the budget.
-pub record IsLeast (heading : Heading) (instance : PlainInstance) (settings : Settings) (sunk_old sunk_new : Option (List ℕ)) (status : ℕ) : Type 0 where
+pub record IsLeast (heading : Heading) (instance : PlainInstance) (settings : Settings)
+    (sunk_old sunk_new : Option (List ℕ)) (status : ℕ) : Type 0 where
   pub status_is : status ≡ 0
   pub height : ℕ
   pub least : IsLeastHeight instance height
@@ -34,7 +35,8 @@ pub record IsLeast (heading : Heading) (instance : PlainInstance) (settings : Se
 
 -- Two heights between which the least one lies: a refuted one and a placed one, with both
 -- certificates. Some height that was decided has more branchings than the budget.
-pub record IsBetween (heading : Heading) (instance : PlainInstance) (settings : Settings) (sunk_old sunk_new : Option (List ℕ)) (status : ℕ) : Type 0 where
+pub record IsBetween (heading : Heading) (instance : PlainInstance) (settings : Settings)
+    (sunk_old sunk_new : Option (List ℕ)) (status : ℕ) : Type 0 where
   pub status_is : status ≡ 3
   pub refuted : ℕ
   pub placed : ℕ
@@ -45,11 +47,13 @@ pub record IsBetween (heading : Heading) (instance : PlainInstance) (settings : 
   pub tokens : List PlainToken
   pub refutation : Refutes (with_last_side instance refuted) (start_exclusions heading instance) tokens
   pub past : HasLargeHeightFrom (start_exclusions heading instance) instance settings.budget settings.scales
-  pub written : Gains sunk_old sunk_new (headed_text heading instance (Claimed (HeightBetween refuted placed) places tokens))
+  pub written : Gains sunk_old sunk_new
+      (headed_text heading instance (Claimed (HeightBetween refuted placed) places tokens))
 
 -- There is no least height, because of the first box that exceeds the container in a dimension
 -- other than the last.
-pub record IsNoneUnder (heading : Heading) (instance : PlainInstance) (sunk_old sunk_new : Option (List ℕ)) (status : ℕ) : Type 0 where
+pub record IsNoneUnder (heading : Heading) (instance : PlainInstance) (sunk_old sunk_new : Option (List ℕ))
+    (status : ℕ) : Type 0 where
   pub status_is : status ≡ 1
   pub none : ¬ ((height : ℕ) × IsLeastHeight instance height)
   pub box_no : ℕ
@@ -65,4 +69,5 @@ IsNone instance sunk_old sunk_new status = IsNoneUnder Answered instance sunk_ol
 abbrev pub IsStripDecided : Heading → PlainInstance → Settings → (sunk_old sunk_new : Option (List ℕ)) → ℕ → Type 0
 IsStripDecided heading instance settings sunk_old sunk_new status =
     IsLeast heading instance settings sunk_old sunk_new status
-    ⊎ (IsBetween heading instance settings sunk_old sunk_new status ⊎ IsNoneUnder heading instance sunk_old sunk_new status)
+    ⊎ (IsBetween heading instance settings sunk_old sunk_new status
+    ⊎ IsNoneUnder heading instance sunk_old sunk_new status)

@@ -80,7 +80,11 @@ fn verdict_on(alloc: Global, bytes: &[u8]) -> Result<AuditedVerdict, NoMemory>
 
 /// Reads a document whole and writes the line of its verdict. It answers the verdict's status, or
 /// why there is no whole line.
-pub fn audit<S: Source, K: Sink>(alloc: Global, input: &mut S, out: &mut K) -> Result<u8, Stop>
+pub(crate) fn audit<S: Source, K: Sink>(
+    alloc: Global,
+    input: &mut S,
+    out: &mut K,
+) -> Result<u8, Stop>
     ensures judged { IfOk result
         (IsReadingDone Audits (S.left input.old) (S.left input.new) (K.written out.old)
         (K.written out.new)) }

@@ -30,7 +30,11 @@ fn read_verdict<S: Source>(alloc: Global, input: &mut S) -> Result<Verdict, Stop
 
 /// Reads a document and writes the line of its verdict. It answers the verdict's status, or why
 /// there is no whole line.
-pub fn check<S: Source, K: Sink>(alloc: Global, input: &mut S, out: &mut K) -> Result<u8, Stop>
+pub(crate) fn check<S: Source, K: Sink>(
+    alloc: Global,
+    input: &mut S,
+    out: &mut K,
+) -> Result<u8, Stop>
     ensures judged { IfOk result
         (IsVerdictWritten (S.left input.old) (S.left input.new) (K.written out.old)
         (K.written out.new)) }

@@ -63,7 +63,11 @@ fn explanation_of(alloc: Global, bytes: &[u8]) -> Result<Explanation, NoMemory>
 
 /// Reads a document whole and writes the document that explains its refutation, or the line that
 /// refuses it. It answers the status, or why nothing whole was written.
-pub fn explain<S: Source, K: Sink>(alloc: Global, input: &mut S, out: &mut K) -> Result<u8, Stop>
+pub(crate) fn explain<S: Source, K: Sink>(
+    alloc: Global,
+    input: &mut S,
+    out: &mut K,
+) -> Result<u8, Stop>
     ensures explained { IfOk result
         (IsReadingDone Explains (S.left input.old) (S.left input.new) (K.written out.old)
         (K.written out.new)) }

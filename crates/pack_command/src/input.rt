@@ -18,7 +18,7 @@ const LIMIT: usize = 1_048_576;
 const DOCUMENT_LIMIT: usize = 16_777_216;
 
 /// Reads the whole source as the text of an instance.
-pub fn read_input<S: Source>(alloc: Global, input: &mut S) -> Result<Instance, Stop>
+pub(crate) fn read_input<S: Source>(alloc: Global, input: &mut S) -> Result<Instance, Stop>
     ensures moves { IsInputRead (S.left input.old) (S.left input.new) result }
     ensures limits { IfOk result IsInstance }
     ensures reads { CountsReads (S.faults input.old) (S.faults input.new) result }
@@ -37,7 +37,7 @@ pub fn read_input<S: Source>(alloc: Global, input: &mut S) -> Result<Instance, S
 }
 
 /// Reads the whole source as the bytes of a document.
-pub fn read_document<S: Source>(alloc: Global, input: &mut S) -> Result<Vec<u8>, Stop>
+pub(crate) fn read_document<S: Source>(alloc: Global, input: &mut S) -> Result<Vec<u8>, Stop>
     ensures moves { IsDocumentRead (S.left input.old) (S.left input.new) result }
     ensures reads { CountsReads (S.faults input.old) (S.faults input.new) result }
 {

@@ -36,7 +36,7 @@ fn made<R: Threads + Wait + Sync, G: Gate + Sync>(
 
 /// Makes the instance of a number, decides whether it fits, and writes the three lines that tell of
 /// it. It answers the status of the decision, or why the lines weren't written whole.
-pub fn make_and_tell<R: Threads + Wait + Sync, K: Sink, G: Gate + Sync>(
+pub(crate) fn make_and_tell<R: Threads + Wait + Sync, K: Sink, G: Gate + Sync>(
     rt: &R,
     alloc: Global,
     number: u32,

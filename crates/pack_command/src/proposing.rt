@@ -56,7 +56,7 @@ fn found<R: Threads + Wait + Sync, G: Gate + Sync>(
 
 /// Reads an instance, decides it by proposals first, and writes the document. It answers the
 /// status, or why the document wasn't written whole.
-pub fn tell_proposed<R: Threads + Wait + Sync, S: Source, K: Sink, G: Gate + Sync>(
+pub(crate) fn tell_proposed<R: Threads + Wait + Sync, S: Source, K: Sink, G: Gate + Sync>(
     rt: &R,
     alloc: Global,
     job: SolvingJob,

@@ -73,7 +73,7 @@ fn solve_reduced<R: Threads + Wait + Sync, G: Gate + Sync>(
 }
 
 /// What a job that answers with a document finds for an instance under these settings.
-pub fn solve<R: Threads + Wait + Sync, G: Gate + Sync>(
+pub(crate) fn solve<R: Threads + Wait + Sync, G: Gate + Sync>(
     rt: &R,
     alloc: Global,
     instance: &Instance,

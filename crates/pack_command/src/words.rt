@@ -39,7 +39,7 @@ pub enum Asked {
 }
 
 /// What the words ask for.
-pub fn read_job(alloc: Global, words: &[String]) -> Result<Asked, Stop>
+pub(crate) fn read_job(alloc: Global, words: &[String]) -> Result<Asked, Stop>
     ensures { IsAsked words.now result }
 {
     let asked = match read_words(alloc, words) {

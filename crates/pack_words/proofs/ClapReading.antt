@@ -1,5 +1,6 @@
 -- How `clap` reads the words of the command line.
-use Rattle.std.specs.Prelude.{ℕ, List, [], ◌∷◌, ◌++◌, Option, Some, None, Bool, false, if◌then◌else◌, codes, is_some, map, option_and_then, slice_get}
+use Rattle.std.specs.Prelude.{ℕ, List, [], ◌∷◌, ◌++◌, Option, Some, None, Bool, false, if◌then◌else◌, codes, is_some}
+use Rattle.std.specs.Prelude.{map, option_and_then, slice_get}
 use Rattle.std.specs.Str.{bytes_eq, chars}
 use Rattle.std.specs.Option.{option_map_or}
 use Rattle.clap.specs.Walk.{Text, Row, has_row}
@@ -12,7 +13,13 @@ use Rattle.pack_words.specs.Items as item
 
 -- the row of one use
 abbrev pub row : Text → Text → Row
-row id value = record { id = id; values = value ∷ []; count = None; source = Some CommandLine; reading = reading.AsWritten }
+row id value = record {
+  id = id;
+  values = value ∷ [];
+  count = None;
+  source = Some CommandLine;
+  reading = reading.AsWritten;
+}
 
 abbrev pub place : List Row → Text → Text → Option (List Row)
 place rows id v = if has_row id rows then None else Some (rows ++ row id v ∷ [])
@@ -37,7 +44,8 @@ abbrev pub dashed : Option (Text × Option Text) → (Option Text → Option (Li
 dashed None next = None
 dashed (Some p) next = if is_option_name p.0 then valued p.0 p.1 next else None
 
-abbrev pub read_other : Option (Text × Option Text) → Bool → Text → (Option Text → Option (List Item)) → Option (List Item)
+abbrev pub read_other : Option (Text × Option Text) → Bool → Text → (Option Text → Option (List Item))
+    → Option (List Item)
 read_other (Some p) flag w go = dashed (Some p) go
 read_other None flag w go = if flag then None else before (item.word w) (go None)
 
@@ -45,10 +53,12 @@ abbrev pub reads : Option Text → List Text → Option (List Item)
 reads None [] = Some []
 reads (Some name) [] = None
 reads None (w ∷ ws) =
-    if bytes_eq w dashes then Some (map item.word ws) else read_other (long_of w) (is_flag w) w (λ wanted. reads wanted ws)
+    if bytes_eq w dashes then Some (map item.word ws) else read_other (long_of w) (is_flag w) w
+    (λ wanted. reads wanted ws)
 reads (Some name) (w ∷ ws) =
     if bytes_eq w dashes then None
-    else (if is_some (long_of w) then None else (if is_flag w then None else before (item.option name w) (reads None ws)))
+    else (if is_some (long_of w) then None else
+    (if is_flag w then None else before (item.option name w) (reads None ws)))
 
 abbrev pub expect : Option (List Row) → Option (List Item) → Option (List Row)
 expect settled_rows r = option_and_then (λ items. option_and_then (λ rs. finish rs items) settled_rows) r

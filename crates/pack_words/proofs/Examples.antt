@@ -1,8 +1,10 @@
 -- Command lines with their jobs.
 use Rattle.std.proofs.Common.{◌≡◌, [], ◌∷◌, Some, None, refl, codes, true, false}
 use Rattle.text_terms.specs.Lines.{number_of}
-use Rattle.pack_words.specs.declared.job.Job.TheVariants.{Fit, Strip, Make, Audit, Explain, Reduced, Front, ReducedStrip, Proposed}
-use Rattle.document_terms.specs.declared.claim.SolvingJob.TheVariants.{Fit as SolvesFit, Strip as SolvesStrip, Bins as SolvesBins, Knapsack as SolvesKnapsack}
+use Rattle.pack_words.specs.declared.job.Job.TheVariants.{Fit, Strip, Make, Audit, Explain, Reduced, Front}
+use Rattle.pack_words.specs.declared.job.Job.TheVariants.{ReducedStrip, Proposed}
+use Rattle.document_terms.specs.declared.claim.SolvingJob.TheVariants.{Fit as SolvesFit, Strip as SolvesStrip}
+use Rattle.document_terms.specs.declared.claim.SolvingJob.TheVariants.{Bins as SolvesBins, Knapsack as SolvesKnapsack}
 use Rattle.pack_words.specs.Job.{job_of_words}
 
 eight_workers : job_of_words (codes "fit" ∷ codes "--workers=08" ∷ [])
@@ -10,8 +12,13 @@ eight_workers : job_of_words (codes "fit" ∷ codes "--workers=08" ∷ [])
 unfolding job_of_words number_of
 eight_workers = refl
 
-all_options : job_of_words (codes "--number" ∷ codes "2147483647" ∷ codes "--budget=10000000" ∷ codes "--scales" ∷ codes "no" ∷ codes "--" ∷ codes "make" ∷ [])
-    ≡ Some (record { job = Make; settings = record { workers = 1; budget = 10000000; scales = false }; number = 2147483647 })
+all_options : job_of_words (codes "--number" ∷ codes "2147483647" ∷ codes "--budget=10000000" ∷ codes "--scales"
+    ∷ codes "no" ∷ codes "--" ∷ codes "make" ∷ [])
+    ≡ Some (record {
+      job = Make;
+      settings = record { workers = 1; budget = 10000000; scales = false };
+      number = 2147483647;
+    })
 unfolding job_of_words number_of
 all_options = refl
 
@@ -72,7 +79,8 @@ reduced_with_number : job_of_words (codes "reduced" ∷ codes "--number" ∷ cod
 unfolding job_of_words number_of
 reduced_with_number = refl
 
-audit_alone : job_of_words (codes "audit" ∷ []) ≡ Some (record { job = Audit; settings = record { workers = 1; budget = 1000000; scales = true }; number = 0 })
+audit_alone : job_of_words (codes "audit" ∷ [])
+    ≡ Some (record { job = Audit; settings = record { workers = 1; budget = 1000000; scales = true }; number = 0 })
 unfolding job_of_words number_of
 audit_alone = refl
 
@@ -99,7 +107,11 @@ unfolding job_of_words number_of
 front_with_number = refl
 
 proposals_asked : job_of_words (codes "fit" ∷ codes "--proposals=yes" ∷ [])
-    ≡ Some (record { job = Proposed SolvesFit; settings = record { workers = 1; budget = 1000000; scales = true }; number = 0 })
+    ≡ Some (record {
+      job = Proposed SolvesFit;
+      settings = record { workers = 1; budget = 1000000; scales = true };
+      number = 0;
+    })
 unfolding job_of_words number_of
 proposals_asked = refl
 
@@ -109,17 +121,29 @@ unfolding job_of_words number_of
 proposals_declined = refl
 
 proposals_of_strip : job_of_words (codes "strip" ∷ codes "--proposals" ∷ codes "yes" ∷ [])
-    ≡ Some (record { job = Proposed SolvesStrip; settings = record { workers = 1; budget = 1000000; scales = true }; number = 0 })
+    ≡ Some (record {
+      job = Proposed SolvesStrip;
+      settings = record { workers = 1; budget = 1000000; scales = true };
+      number = 0;
+    })
 unfolding job_of_words number_of
 proposals_of_strip = refl
 
 proposals_of_bins : job_of_words (codes "bins" ∷ codes "--proposals" ∷ codes "yes" ∷ [])
-    ≡ Some (record { job = Proposed SolvesBins; settings = record { workers = 1; budget = 1000000; scales = true }; number = 0 })
+    ≡ Some (record {
+      job = Proposed SolvesBins;
+      settings = record { workers = 1; budget = 1000000; scales = true };
+      number = 0;
+    })
 unfolding job_of_words number_of
 proposals_of_bins = refl
 
 proposals_of_knapsack : job_of_words (codes "knapsack" ∷ codes "--proposals" ∷ codes "yes" ∷ [])
-    ≡ Some (record { job = Proposed SolvesKnapsack; settings = record { workers = 1; budget = 1000000; scales = true }; number = 0 })
+    ≡ Some (record {
+      job = Proposed SolvesKnapsack;
+      settings = record { workers = 1; budget = 1000000; scales = true };
+      number = 0;
+    })
 unfolding job_of_words number_of
 proposals_of_knapsack = refl
 
@@ -132,7 +156,11 @@ unfolding job_of_words number_of
 proposed_is_no_word = refl
 
 facts_asked : job_of_words (codes "strip" ∷ codes "--facts=yes" ∷ [])
-    ≡ Some (record { job = ReducedStrip; settings = record { workers = 1; budget = 1000000; scales = true }; number = 0 })
+    ≡ Some (record {
+      job = ReducedStrip;
+      settings = record { workers = 1; budget = 1000000; scales = true };
+      number = 0;
+    })
 unfolding job_of_words number_of
 facts_asked = refl
 
@@ -142,7 +170,11 @@ unfolding job_of_words number_of
 facts_declined = refl
 
 facts_without_proposals : job_of_words (codes "strip" ∷ codes "--facts=yes" ∷ codes "--proposals=no" ∷ [])
-    ≡ Some (record { job = ReducedStrip; settings = record { workers = 1; budget = 1000000; scales = true }; number = 0 })
+    ≡ Some (record {
+      job = ReducedStrip;
+      settings = record { workers = 1; budget = 1000000; scales = true };
+      number = 0;
+    })
 unfolding job_of_words number_of
 facts_without_proposals = refl
 
@@ -151,7 +183,11 @@ unfolding job_of_words number_of
 facts_with_proposals = refl
 
 proposals_without_facts : job_of_words (codes "strip" ∷ codes "--facts=no" ∷ codes "--proposals=yes" ∷ [])
-    ≡ Some (record { job = Proposed SolvesStrip; settings = record { workers = 1; budget = 1000000; scales = true }; number = 0 })
+    ≡ Some (record {
+      job = Proposed SolvesStrip;
+      settings = record { workers = 1; budget = 1000000; scales = true };
+      number = 0;
+    })
 unfolding job_of_words number_of
 proposals_without_facts = refl
 

@@ -2,7 +2,8 @@
 -- words.
 --
 --     fit --workers=8 --budget 5 -- x      fit | workers 8 | budget 5 | x
-use Rattle.std.specs.Prelude.{ℕ, ◌==◌, ◌&&◌, Bool, false, List, [], ◌∷◌, Option, Some, None, map, drop, codes, if◌then◌else◌}
+use Rattle.std.specs.Prelude.{ℕ, ◌==◌, ◌&&◌, Bool, false, List, [], ◌∷◌, Option, Some, None, map, drop, codes}
+use Rattle.std.specs.Prelude.{if◌then◌else◌}
 use Rattle.std.specs.Str.{bytes_eq}
 use Rattle.std.specs.List.{list_any, before_first, after_first}
 
@@ -28,7 +29,8 @@ begins_with_two_hyphens [] = false
 begins_with_two_hyphens (b ∷ bs) = (b == 45) && begins_with_hyphen bs
 
 abbrev pub option_names : List Text
-option_names = codes "workers" ∷ codes "budget" ∷ codes "scales" ∷ codes "number" ∷ codes "proposals" ∷ codes "facts" ∷ []
+option_names = codes "workers" ∷ codes "budget" ∷ codes "scales" ∷ codes "number" ∷ codes "proposals"
+    ∷ codes "facts" ∷ []
 
 abbrev pub is_option_name : Text → Bool
 is_option_name name = list_any (λ n. bytes_eq n name) option_names
@@ -63,6 +65,7 @@ items_from (Some name) [] = None
 items_from (Some name) (w ∷ ws) = if begins_with_hyphen w then None else before (option name w) (items_from None ws)
 items_from None (w ∷ ws) =
     if is_separator w then Some (map word ws)
-    else (if begins_with_two_hyphens w && is_option_name (option_name w) then valued (option_name w) (option_value w) (λ waits. items_from waits ws)
+    else (if begins_with_two_hyphens w && is_option_name (option_name w) then valued (option_name w) (option_value w)
+    (λ waits. items_from waits ws)
     else (if begins_with_hyphen w then None
     else before (word w) (items_from None ws)))

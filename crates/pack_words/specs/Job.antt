@@ -1,11 +1,14 @@
 -- The job that the words of a command line name, with its settings and number.
-use Rattle.std.specs.Prelude.{ℕ, ◌≡◌, ◌&&◌, ◌||◌, Bool, true, false, not, nat_le, List, [], ◌∷◌, Option, Some, None, Result, Ok, Err, codes, is_some, if◌then◌else◌}
+use Rattle.std.specs.Prelude.{ℕ, ◌≡◌, ◌&&◌, ◌||◌, Bool, true, false, not, nat_le, List, [], ◌∷◌, Option, Some, None}
+use Rattle.std.specs.Prelude.{Result, Ok, Err, codes, is_some, if◌then◌else◌}
 use Rattle.std.specs.Str.{bytes_eq}
 use Rattle.text_terms.specs.Lines.{number_of}
-use Rattle.document_terms.specs.declared.claim.SolvingJob.TheVariants.{Fit as SolvesFit, Strip as SolvesStrip, Bins as SolvesBins, Knapsack as SolvesKnapsack}
+use Rattle.document_terms.specs.declared.claim.SolvingJob.TheVariants.{Fit as SolvesFit, Strip as SolvesStrip}
+use Rattle.document_terms.specs.declared.claim.SolvingJob.TheVariants.{Bins as SolvesBins, Knapsack as SolvesKnapsack}
 use Rattle.pack_words.specs.Items.{Text, Item, option, word, items_from}
 use Rattle.pack_words.specs.declared.job.Job.{Job}
-use Rattle.pack_words.specs.declared.job.Job.TheVariants.{Fit, Strip, Bins, Knapsack, Check, Make, Audit, Explain, Reduced, Front, ReducedStrip, Proposed}
+use Rattle.pack_words.specs.declared.job.Job.TheVariants.{Fit, Strip, Bins, Knapsack, Check, Make, Audit, Explain}
+use Rattle.pack_words.specs.declared.job.Job.TheVariants.{Reduced, Front, ReducedStrip, Proposed}
 use Rattle.pack_words.specs.declared.job.JobWords.{JobWords}
 use Rattle.pack_words.specs.declared.job.WordsError.{WordsError}
 use Rattle.pack_words.specs.declared.job.WordsError.TheVariants.{Refused, NoMemory}
@@ -28,7 +31,8 @@ pub record Texts : Type 0 where
 -- the values that an option is given
 abbrev pub values_of : Text → List Item → List Text
 values_of name [] = []
-values_of name (option other value ∷ items) = if bytes_eq other name then value ∷ values_of name items else values_of name items
+values_of name (option other value ∷ items) =
+    if bytes_eq other name then value ∷ values_of name items else values_of name items
 values_of name (word text ∷ items) = values_of name items
 
 abbrev pub job_words : List Item → List Text
@@ -52,7 +56,15 @@ texts_of items =
     at_most_once (values_of (codes "number") items) >>= λ number.
     at_most_once (values_of (codes "proposals") items) >>= λ proposals.
     at_most_once (values_of (codes "facts") items) >>= λ facts.
-    Some (record { job = job; workers = workers; budget = budget; scales = scales; number = number; proposals = proposals; facts = facts })
+    Some (record {
+      job = job;
+      workers = workers;
+      budget = budget;
+      scales = scales;
+      number = number;
+      proposals = proposals;
+      facts = facts;
+    })
 
 abbrev pub job_of_name : Text → Option Job
 job_of_name text =
@@ -112,12 +124,14 @@ number_or low high default (Some text) = kept_in_range low high (number_of text)
 -- `yes`, the default, or `no`
 abbrev pub scales_in : Option Text → Option Bool
 scales_in None = Some true
-scales_in (Some text) = if bytes_eq text (codes "yes") then Some true else (if bytes_eq text (codes "no") then Some false else None)
+scales_in (Some text) = if bytes_eq text (codes "yes") then Some true else
+    (if bytes_eq text (codes "no") then Some false else None)
 
 -- `yes`, or `no`, the default
 abbrev pub asked_in : Option Text → Option Bool
 asked_in None = Some false
-asked_in (Some text) = if bytes_eq text (codes "yes") then Some true else (if bytes_eq text (codes "no") then Some false else None)
+asked_in (Some text) = if bytes_eq text (codes "yes") then Some true else
+    (if bytes_eq text (codes "no") then Some false else None)
 
 -- a job with proposals, if it is a solving job
 abbrev pub proposed : Job → Job
@@ -152,7 +166,11 @@ settings_of job texts =
     asked_in texts.proposals >>= λ proposals.
     asked_in texts.facts >>= λ facts.
     by_ways proposals facts job >>= λ asked.
-    Some (record { job = asked; settings = record { workers = workers; budget = budget; scales = scales }; number = number })
+    Some (record {
+      job = asked;
+      settings = record { workers = workers; budget = budget; scales = scales };
+      number = number;
+    })
 
 -- the job of these texts: there is a job word, which is a job that takes these options, and their
 -- values are in range

@@ -1,5 +1,6 @@
 -- Lists of distinct boxes: by index, with one more, and their sums.
-use Rattle.std.proofs.Common.{◌≡◌, ◌≢◌, ℕ, zero, suc, ◌+◌, ◌<◌, ◌≤◌, ◌⊎◌, inl, inr, refl, sym, ap, subst, ◌∙◌, arith, Bool, true, false, cond, eqb, ltb, if◌then◌else◌, List, [], ◌∷◌, length, get_or}
+use Rattle.std.proofs.Common.{◌≡◌, ◌≢◌, ℕ, zero, suc, ◌+◌, ◌<◌, ◌≤◌, ◌⊎◌, inl, inr, refl, sym, ap, subst, ◌∙◌, arith}
+use Rattle.std.proofs.Common.{Bool, true, false, cond, eqb, ltb, if◌then◌else◌, List, [], ◌∷◌, length, get_or}
 use Rattle.std.specs.List.{sum_by, AllByRecursion, range_with_len}
 use Rattle.std.proofs.lemmas.Bool.{cases_eq, cases_Bool, eqb-true, eq-eqb, true≢false, or_cases}
 use Rattle.std.proofs.lemmas.List.Sums.{sum_by-cons}
@@ -25,27 +26,33 @@ box_in n (x ∷ vs) b v (inl e) = let h = b.0 in omega arith
 box_in n (x ∷ vs) b v (inr i) = box_in n vs b.2 v i
 
 -- elements of a list of distinct boxes at two indices differ
-pub differ_at : (n : ℕ) (vs : List ℕ) → AreBoxesAmong n vs → (j k : ℕ) → j < k → k < length vs → get_or vs j 0 ≢ get_or vs k 0
+pub differ_at : (n : ℕ) (vs : List ℕ) → AreBoxesAmong n vs → (j k : ℕ) → j < k → k < length vs
+    → get_or vs j 0 ≢ get_or vs k 0
 differ_at n [] b j k l m e = absurd (omega arith)
 differ_at n (v ∷ vs) b zero zero l m e = absurd (omega arith)
-differ_at n (v ∷ vs) b zero (suc k) l m e = each_in (λ u. v ≢ u) vs b.1 (get_or vs k 0) (index_in 0 vs k (omega arith)) e
+differ_at n (v ∷ vs) b zero (suc k) l m e =
+    each_in (λ u. v ≢ u) vs b.1 (get_or vs k 0) (index_in 0 vs k (omega arith)) e
 differ_at n (v ∷ vs) b (suc j) zero l m e = absurd (omega arith)
 differ_at n (v ∷ vs) b (suc j) (suc k) l m e = differ_at n vs b.2 j k (omega arith) (omega arith) e
 
 -- one box more, put in its place
-pub insert_each : (P : ℕ → Type 0) (v : ℕ) (us : List ℕ) → P v → AllByRecursion P us → AllByRecursion P (insert_box v us)
+pub insert_each : (P : ℕ → Type 0) (v : ℕ) (us : List ℕ) → P v → AllByRecursion P us
+    → AllByRecursion P (insert_box v us)
 insert_each P v [] p h = (p, tt)
 insert_each P v (u ∷ us) p h = go (ltb v u) (insert_each P v us p h.1)
   where
-    go : (b : Bool) → AllByRecursion P (insert_box v us) → AllByRecursion P (if b then v ∷ u ∷ us else u ∷ insert_box v us)
+    go : (b : Bool) → AllByRecursion P (insert_box v us)
+        → AllByRecursion P (if b then v ∷ u ∷ us else u ∷ insert_box v us)
     go true rest = (p, h)
     go false rest = (h.0, rest)
 
-pub insert_boxes : (n v : ℕ) (us : List ℕ) → v < n → AllByRecursion (λ u. v ≢ u) us → AreBoxesAmong n us → AreBoxesAmong n (insert_box v us)
+pub insert_boxes : (n v : ℕ) (us : List ℕ) → v < n → AllByRecursion (λ u. v ≢ u) us → AreBoxesAmong n us
+    → AreBoxesAmong n (insert_box v us)
 insert_boxes n v [] hv away b = (hv, tt, tt)
 insert_boxes n v (u ∷ us) hv away b = go (ltb v u) (insert_boxes n v us hv away.1 b.2)
   where
-    go : (c : Bool) → AreBoxesAmong n (insert_box v us) → AreBoxesAmong n (if c then v ∷ u ∷ us else u ∷ insert_box v us)
+    go : (c : Bool) → AreBoxesAmong n (insert_box v us)
+        → AreBoxesAmong n (if c then v ∷ u ∷ us else u ∷ insert_box v us)
     go true rest = (hv, away, b)
     go false rest = (b.0, insert_each (λ w. u ≢ w) v us (λ e. away.0 (sym e)) b.1, rest)
 
@@ -84,7 +91,8 @@ module _ (w : ℕ → ℕ) where
           → sum_by w (x ∷ xs) ≡ w v + sum_by w (cond (eqb x v) xs (x ∷ remove v xs))
       go (inl e) j rest = rw (eq-eqb x v e) (sum_by-cons w x xs ∙ ap (λ y. w y + sum_by w xs) e)
       go (inr ne) (inl e) rest = absurd (ne (sym e))
-      go (inr ne) (inr j) rest = rw (unequal x v ne) (let r = rest j in omega (arith, sum_by-cons w x xs, sum_by-cons w x (remove v xs), r))
+      go (inr ne) (inr j) rest = rw (unequal x v ne)
+          (let r = rest j in omega (arith, sum_by-cons w x xs, sum_by-cons w x (remove v xs), r))
         where
           unequal : (a b : ℕ) → (a ≡ b → ⊥) → eqb a b ≡ false
           unequal a b no_eq = pick (cases_Bool (eqb a b))
@@ -98,17 +106,20 @@ module _ (w : ℕ → ℕ) where
   in_without v u [] ne i = absurd i
   in_without v u (x ∷ xs) ne i = go (cases_Bool (eqb x v)) i (in_without v u xs ne)
     where
-      go : (eqb x v ≡ true) ⊎ (eqb x v ≡ false) → IsIn u (x ∷ xs) → (IsIn u xs → IsIn u (remove v xs)) → IsIn u (cond (eqb x v) xs (x ∷ remove v xs))
+      go : (eqb x v ≡ true) ⊎ (eqb x v ≡ false) → IsIn u (x ∷ xs) → (IsIn u xs → IsIn u (remove v xs))
+          → IsIn u (cond (eqb x v) xs (x ∷ remove v xs))
       go (inl k) (inl e) rest = absurd (ne (sym (e ∙ eqb-true x v k)))
       go (inl k) (inr j) rest = rw k j
       go (inr k) (inl e) rest = rw k (inl e)
       go (inr k) (inr j) rest = rw k (inr (rest j))
 
   -- distinct boxes that are in a list weigh no more than the list
-  pub sum_within : (n : ℕ) (vs xs : List ℕ) → AreBoxesAmong n vs → ((v : ℕ) → IsIn v vs → IsIn v xs) → sum_by w vs ≤ sum_by w xs
+  pub sum_within : (n : ℕ) (vs xs : List ℕ) → AreBoxesAmong n vs → ((v : ℕ) → IsIn v vs → IsIn v xs)
+      → sum_by w vs ≤ sum_by w xs
   sum_within n [] xs b h = omega arith
   sum_within n (v ∷ vs) xs b h =
-      let rest = sum_within n vs (remove v xs) b.2 (λ u i. in_without v u xs (each_in (λ x. v ≢ x) vs b.1 u i) (h u (inr i))) in
+      let rest = sum_within n vs (remove v xs) b.2
+      (λ u i. in_without v u xs (each_in (λ x. v ≢ x) vs b.1 u i) (h u (inr i))) in
       let whole = sum_without v xs (h v (inl refl)) in
       omega (arith, rest, whole, sum_by-cons w v vs)
 
@@ -119,5 +130,6 @@ ones (x ∷ xs) = let e = ones xs in omega (arith, e, sum_by-cons (λ (y : ℕ).
 -- distinct numbers below n are at most n
 pub boxes_few : (n : ℕ) (vs : List ℕ) → AreBoxesAmong n vs → length vs ≤ n
 boxes_few n vs b =
-    let h = sum_within (λ (x : ℕ). 1) n vs (range_with_len 0 n) b (λ v i. let l = box_in n vs b v i in in_range 0 n v (omega arith) (omega arith)) in
+    let h = sum_within (λ (x : ℕ). 1) n vs (range_with_len 0 n) b
+    (λ v i. let l = box_in n vs b v i in in_range 0 n v (omega arith) (omega arith)) in
     omega (arith, h, ones vs, ones (range_with_len 0 n), length-range_with_len 0 n)

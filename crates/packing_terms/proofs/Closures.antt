@@ -12,14 +12,16 @@ use Rattle.packing_terms.proofs.Monotone.{follows_more}
 
 module _ (instance : PlainInstance) where
   -- a derivation put before another is a derivation
-  derivations_join : (E : Exclusions) (es fs : List Exclusion) → IsDerivation instance E es → IsDerivation instance E fs → IsDerivation instance E (es ++ fs)
+  derivations_join : (E : Exclusions) (es fs : List Exclusion) → IsDerivation instance E es → IsDerivation instance E fs
+      → IsDerivation instance E (es ++ fs)
   derivations_join E [] fs d f = f
   derivations_join E (e ∷ es) fs d f = (go d.0, derivations_join E es fs d.1 f)
     where
       go : IsTrue (E e.dim e.u e.v e.rel) ⊎ Follows instance (excludes es) e.dim e.u e.v e.rel
           → IsTrue (E e.dim e.u e.v e.rel) ⊎ Follows instance (excludes (es ++ fs)) e.dim e.u e.v e.rel
       go (inl k) = inl k
-      go (inr k) = inr (follows_more instance (excludes es) (excludes (es ++ fs)) (excludes_left es fs) e.dim e.u e.v e.rel k)
+      go (inr k) = inr (follows_more instance (excludes es) (excludes (es ++ fs)) (excludes_left es fs) e.dim e.u
+          e.v e.rel k)
 
   -- a derivation from F that has what the list has
   record Reaches (F : Exclusions) (es : List Exclusion) : Type 0 where
@@ -27,11 +29,13 @@ module _ (instance : PlainInstance) where
     derivation : IsDerivation instance F steps
     holds : IsSubset (excludes es) (excludes steps)
 
-  reaches : (E F : Exclusions) → AreDerived instance F E → (es : List Exclusion) → IsDerivation instance E es → Reaches F es
+  reaches : (E F : Exclusions) → AreDerived instance F E → (es : List Exclusion) → IsDerivation instance E es
+      → Reaches F es
   reaches E F derived [] d = record { steps = []; derivation = tt; holds = λ i u v r h. h }
   reaches E F derived (e ∷ es) d = go d.0 (reaches E F derived es d.1)
     where
-      cases : (steps : List Exclusion) → IsTrue (excludes steps e.dim e.u e.v e.rel) → IsSubset (excludes es) (excludes steps)
+      cases : (steps : List Exclusion) → IsTrue (excludes steps e.dim e.u e.v e.rel)
+          → IsSubset (excludes es) (excludes steps)
           → IsSubset (excludes (e ∷ es)) (excludes steps)
       cases steps own rest i u v r h = pick (or_cases _ _ h)
         where
@@ -39,7 +43,8 @@ module _ (instance : PlainInstance) where
           pick (inl k) = of_own (λ j a b s. IsTrue (excludes steps j a b s)) (excludes_symmetric steps) e i u v r k own
           pick (inr k) = rest i u v r k
 
-      go : IsTrue (E e.dim e.u e.v e.rel) ⊎ Follows instance (excludes es) e.dim e.u e.v e.rel → Reaches F es → Reaches F (e ∷ es)
+      go : IsTrue (E e.dim e.u e.v e.rel) ⊎ Follows instance (excludes es) e.dim e.u e.v e.rel → Reaches F es
+          → Reaches F (e ∷ es)
       go (inl k) rest =
           let own : IsDerived instance F e.dim e.u e.v e.rel = derived e.dim e.u e.v e.rel k in
           record {
@@ -50,7 +55,10 @@ module _ (instance : PlainInstance) where
           }
       go (inr k) rest = record {
         steps = e ∷ rest.steps;
-        derivation = (inr (follows_more instance (excludes es) (excludes rest.steps) rest.holds e.dim e.u e.v e.rel k), rest.derivation);
+        derivation = (
+          inr (follows_more instance (excludes es) (excludes rest.steps) rest.holds e.dim e.u e.v e.rel k),
+          rest.derivation,
+        );
         holds = cases (e ∷ rest.steps) (or_true _ _ (inl (or_true _ _ (inl (is_at_own e)))))
             (λ i u v r h. or_true _ _ (inr (rest.holds i u v r h)));
       }
@@ -74,14 +82,23 @@ module _ (instance : PlainInstance) where
   -- one more exclusion on both sides
   pub derives_more : (e : Exclusion) (es fs : List Exclusion) → Derives instance (excludes es) (excludes fs)
       → Derives instance (excludes (e ∷ es)) (excludes (e ∷ fs))
-  derives_more e es fs h = derives_from (excludes (e ∷ es)) (excludes (e ∷ fs)) (λ i u v r k. go i u v r (or_cases _ _ k))
+  derives_more e es fs h = derives_from (excludes (e ∷ es)) (excludes (e ∷ fs))
+      (λ i u v r k. go i u v r (or_cases _ _ k))
     where
-      go : (i u v : ℕ) (r : Rel) → (is_of e i u v r ≡ true) ⊎ (excludes es i u v r ≡ true) → IsDerived instance (excludes (e ∷ fs)) i u v r
+      go : (i u v : ℕ) (r : Rel) → (is_of e i u v r ≡ true) ⊎ (excludes es i u v r ≡ true)
+          → IsDerived instance (excludes (e ∷ fs)) i u v r
       go i u v r (inl k) = given_derived (e ∷ fs) i u v r (or_true _ _ (inl k))
       go i u v r (inr k) =
-          derives_from (excludes fs) (excludes (e ∷ fs)) (λ j a b s l. given_derived (e ∷ fs) j a b s (or_true _ _ (inr l))) i u v r
+          derives_from (excludes fs) (excludes (e ∷ fs))
+          (λ j a b s l. given_derived (e ∷ fs) j a b s (or_true _ _ (inr l))) i u v r
           (h i u v r (given_derived es i u v r k))
 
   -- a conflict of the closure is one of each set that derives as much
   pub conflict_from : (E F : Exclusions) → Derives instance E F → HasConflict instance E → HasConflict instance F
-  conflict_from E F h c = record { dim = c.dim; u = c.u; v = c.v; edge = c.edge; each = λ r. h c.dim c.u c.v r (c.each r) }
+  conflict_from E F h c = record {
+    dim = c.dim;
+    u = c.u;
+    v = c.v;
+    edge = c.edge;
+    each = λ r. h c.dim c.u c.v r (c.each r);
+  }

@@ -31,19 +31,22 @@ stable_holds instance E X symmetric holds stable (e ∷ es) d i u v r h =
     go rest (inr k) = rest i u v r k
 
 -- what holds of u, v holds mirrored of v, u
-pub holds_mirrored : (instance : PlainInstance) (places : List ℕ) (i u v : ℕ) (r : Rel) → Holds instance places i u v r → Holds instance places i v u (mirror r)
+pub holds_mirrored : (instance : PlainInstance) (places : List ℕ) (i u v : ℕ) (r : Rel) → Holds instance places i u v r
+    → Holds instance places i v u (mirror r)
 holds_mirrored instance places i u v Overlap h = (h.1, h.0)
 holds_mirrored instance places i u v Before h = h
 holds_mirrored instance places i u v After h = h
 
 -- a packing that respects E respects each derivation from E
-pub derivation_sound : (instance : PlainInstance) (places : List ℕ) (E : Exclusions) → HasPositiveSides instance → IsPacking instance places → Respects instance places E
+pub derivation_sound : (instance : PlainInstance) (places : List ℕ) (E : Exclusions) → HasPositiveSides instance
+    → IsPacking instance places → Respects instance places E
     → (es : List Exclusion) → IsDerivation instance E es → Respects instance places (excludes es)
 derivation_sound instance places E sides packing respects [] d i u v r h = absurd (true≢false (sym h))
 derivation_sound instance places E sides packing respects (e ∷ es) d i u v r h =
     go (derivation_sound instance places E sides packing respects es d.1) (or_cases _ _ h)
   where
-    own : Respects instance places (excludes es) → IsTrue (E e.dim e.u e.v e.rel) ⊎ Follows instance (excludes es) e.dim e.u e.v e.rel → ¬ Holds instance places e.dim e.u e.v e.rel
+    own : Respects instance places (excludes es) → IsTrue (E e.dim e.u e.v e.rel)
+        ⊎ Follows instance (excludes es) e.dim e.u e.v e.rel → ¬ Holds instance places e.dim e.u e.v e.rel
     own rest (inl k) = respects e.dim e.u e.v e.rel k
     own rest (inr k) = follows_sound instance places (excludes es) sides packing rest e.dim e.u e.v e.rel k
 
@@ -52,18 +55,21 @@ derivation_sound instance places E sides packing respects (e ∷ es) d i u v r h
         let back = holds_mirrored instance places j b a (mirror s) k in
         none (subst (λ (x : Rel). Holds instance places j a b x) (mirror_twice s) back)
 
-    go : Respects instance places (excludes es) → (is_of e i u v r ≡ true) ⊎ (excludes es i u v r ≡ true) → ¬ Holds instance places i u v r
+    go : Respects instance places (excludes es) → (is_of e i u v r ≡ true) ⊎ (excludes es i u v r ≡ true)
+        → ¬ Holds instance places i u v r
     go rest (inl k) = of_own (λ j a b s. ¬ Holds instance places j a b s) mirrored e i u v r k (own rest d.0)
     go rest (inr k) = rest i u v r k
 
 -- the closure is sound
-pub derived_sound : (instance : PlainInstance) (places : List ℕ) (E : Exclusions) → HasPositiveSides instance → IsPacking instance places → Respects instance places E
+pub derived_sound : (instance : PlainInstance) (places : List ℕ) (E : Exclusions) → HasPositiveSides instance
+    → IsPacking instance places → Respects instance places E
     → (i u v : ℕ) (r : Rel) → IsDerived instance E i u v r → ¬ Holds instance places i u v r
 derived_sound instance places E sides packing respects i u v r d =
     derivation_sound instance places E sides packing respects d.steps d.derivation i u v r d.stands
 
 -- no packing respects a set whose closure has a conflict
-pub conflict_sound : (instance : PlainInstance) (places : List ℕ) (E : Exclusions) → HasPositiveSides instance → IsPacking instance places → HasConflict instance E
+pub conflict_sound : (instance : PlainInstance) (places : List ℕ) (E : Exclusions) → HasPositiveSides instance
+    → IsPacking instance places → HasConflict instance E
     → ¬ Respects instance places E
 conflict_sound instance places E sides packing c respects = go (some_relation _ _ _ _)
   where

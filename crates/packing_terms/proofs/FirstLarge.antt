@@ -1,4 +1,5 @@
--- The first box that is longer than the container, and its first such dimension: there is one where some box is, and only one.
+-- The first box that is longer than the container, and its first such dimension: there is one where
+-- some box is, and only one.
 use Rattle.std.proofs.Common.{◌≡◌, ℕ, zero, suc, ◌-◌, ◌<◌, ◌≤◌, ◌⊎◌, inl, inr, sym, subst, arith}
 use Rattle.std.proofs.lemmas.Bool.{cases_lt}
 use Rattle.packing_terms.specs.Packing.{PlainInstance, dims, box_count, container_side, side}
@@ -14,14 +15,17 @@ module _ (instance : PlainInstance) where
   first_dim v zero = inl (λ i l. absurd (omega (arith, l)))
   first_dim v (suc d) = go (first_dim v d) (cases_lt (container_side instance d) (side instance v d))
     where
-      up_to : IsNotLongerBelow instance d v → side instance v d ≤ container_side instance d → IsNotLongerBelow instance (suc d) v
+      up_to : IsNotLongerBelow instance d v → side instance v d ≤ container_side instance d
+          → IsNotLongerBelow instance (suc d) v
       up_to f h i l = pick (cases_lt i d)
         where
           pick : (i < d) ⊎ (d ≤ i) → side instance v i ≤ container_side instance i
           pick (inl m) = f i m
-          pick (inr m) = let e : d ≡ i = omega (arith, l, m) in subst (λ (j : ℕ). side instance v j ≤ container_side instance j) e h
+          pick (inr m) = let e : d ≡ i = omega (arith, l, m) in
+              subst (λ (j : ℕ). side instance v j ≤ container_side instance j) e h
 
-      go : IsNotLongerBelow instance d v ⊎ ((i : ℕ) × IsFirstDim d v i) → (container_side instance d < side instance v d) ⊎ (side instance v d ≤ container_side instance d)
+      go : IsNotLongerBelow instance d v ⊎ ((i : ℕ) × IsFirstDim d v i)
+          → (container_side instance d < side instance v d) ⊎ (side instance v d ≤ container_side instance d)
           → IsNotLongerBelow instance (suc d) v ⊎ ((i : ℕ) × IsFirstDim (suc d) v i)
       go (inr (i, f)) c = inr (i, (let l = f.0 in omega (arith, l), f.1, f.2))
       go (inl f) (inl h) = inr (d, (omega arith, h, f))
@@ -42,20 +46,27 @@ module _ (instance : PlainInstance) where
           pick (inl k) = f v k
           pick (inr k) = let e : n ≡ v = omega (arith, m, k) in subst (λ (u : ℕ). IsNotLongerBelow instance d u) e h
 
-      go : AllFit d n ⊎ ((v i : ℕ) × IsFirstLongerBelow instance d v i) → IsNotLongerBelow instance d n ⊎ ((i : ℕ) × IsFirstDim d n i)
+      go : AllFit d n ⊎ ((v i : ℕ) × IsFirstLongerBelow instance d v i) → IsNotLongerBelow instance d n
+          ⊎ ((i : ℕ) × IsFirstDim d n i)
           → AllFit d (suc n) ⊎ ((v i : ℕ) × IsFirstLongerBelow instance d v i)
       go (inr h) c = inr h
       go (inl f) (inl h) = inl (up_to f h)
-      go (inl f) (inr (i, g)) = inr (n, i, record { there = omega (arith, l); in_range = g.0; large = g.1; shorter = g.2; earlier = f })
+      go (inl f) (inr (i, g)) = inr (
+        n,
+        i,
+        record { there = omega (arith, l); in_range = g.0; large = g.1; shorter = g.2; earlier = f },
+      )
 
   pub first_or_none : (d : ℕ) → AllFit d (box_count instance) ⊎ ((v i : ℕ) × IsFirstLongerBelow instance d v i)
   first_or_none d = first_box d (box_count instance) (omega arith)
 
   -- where a box is longer there is a first one
-  pub first_there : (d v i : ℕ) → v < box_count instance → i < d → container_side instance i < side instance v i → (u j : ℕ) × IsFirstLongerBelow instance d u j
+  pub first_there : (d v i : ℕ) → v < box_count instance → i < d → container_side instance i < side instance v i
+      → (u j : ℕ) × IsFirstLongerBelow instance d u j
   first_there d v i l m h = go (first_or_none d)
     where
-      go : AllFit d (box_count instance) ⊎ ((u j : ℕ) × IsFirstLongerBelow instance d u j) → (u j : ℕ) × IsFirstLongerBelow instance d u j
+      go : AllFit d (box_count instance) ⊎ ((u j : ℕ) × IsFirstLongerBelow instance d u j)
+          → (u j : ℕ) × IsFirstLongerBelow instance d u j
       go (inr k) = k
       go (inl k) = absurd (let s = k v l i m in omega (arith, s, h))
 
@@ -74,7 +85,8 @@ module _ (instance : PlainInstance) where
       go (inr l) = l
       go (inl l) = absurd (let s = a.shorter j l in let m = b.large in omega (arith, s, m))
 
-  pub one_first : (d v i u j : ℕ) → IsFirstLongerBelow instance d v i → IsFirstLongerBelow instance d u j → (v ≡ u) × (i ≡ j)
+  pub one_first : (d v i u j : ℕ) → IsFirstLongerBelow instance d v i → IsFirstLongerBelow instance d u j
+      → (v ≡ u) × (i ≡ j)
   one_first d v i u j a b =
       let l = no_earlier d v i u j a b in
       let m = no_earlier d u j v i b a in
@@ -88,10 +100,12 @@ module _ (instance : PlainInstance) where
   first_large_there h = first_there (dims instance) h.box_no h.dim h.there h.in_range h.large
 
   pub first_wide_there : HasTooWideBox instance → (v i : ℕ) × IsFirstTooWide instance v i
-  first_wide_there h = let l = h.not_last in first_there (dims instance - 1) h.box_no h.dim h.there (omega (arith, l)) h.large
+  first_wide_there h = let l = h.not_last in
+      first_there (dims instance - 1) h.box_no h.dim h.there (omega (arith, l)) h.large
 
   pub large_box : (v i : ℕ) → IsFirstTooLarge instance v i → HasTooLargeBox instance
   large_box v i h = record { box_no = v; dim = i; there = h.there; in_range = h.in_range; large = h.large }
 
   pub wide_box : (v i : ℕ) → IsFirstTooWide instance v i → HasTooWideBox instance
-  wide_box v i h = let l = h.in_range in record { box_no = v; dim = i; there = h.there; not_last = omega (arith, l); large = h.large }
+  wide_box v i h = let l = h.in_range in
+      record { box_no = v; dim = i; there = h.there; not_last = omega (arith, l); large = h.large }

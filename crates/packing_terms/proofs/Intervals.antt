@@ -40,7 +40,8 @@ composes p w q x s y hw hx hy After After Before h k l = absurd (omega arith)
 composes p w q x s y hw hx hy After After Overlap h k l = absurd (omega arith)
 
 -- projections that don't overlap lie before or after
-pub apart_relation : (p w q x : ℕ) → (AreRelated p w q x Overlap → ⊥) → AreRelated p w q x Before ⊎ AreRelated p w q x After
+pub apart_relation : (p w q x : ℕ) → (AreRelated p w q x Overlap → ⊥) → AreRelated p w q x Before
+    ⊎ AreRelated p w q x After
 apart_relation p w q x none = go (some_relation p w q x)
   where
     go : (r : Rel) × AreRelated p w q x r → AreRelated p w q x Before ⊎ AreRelated p w q x After

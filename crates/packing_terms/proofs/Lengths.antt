@@ -7,12 +7,14 @@ pub filter_short : {X : Type 0} (p : X → Bool) (xs : List X) → length (filte
 filter_short p [] = omega arith
 filter_short p (x ∷ xs) = go (p x) (filter_short p xs)
   where
-    go : (b : Bool) → length (filter p xs) ≤ length xs → length (cond b (x ∷ filter p xs) (filter p xs)) ≤ suc (length xs)
+    go : (b : Bool) → length (filter p xs) ≤ length xs
+        → length (cond b (x ∷ filter p xs) (filter p xs)) ≤ suc (length xs)
     go true h = omega (arith, h)
     go false h = omega (arith, h)
 
 -- so many in each part
-pub length_parts : {X Y : Type 0} (f : X → List Y) (k : ℕ) → ((x : X) → length (f x) ≡ k) → (xs : List X) → length (flat_map f xs) ≡ length xs * k
+pub length_parts : {X Y : Type 0} (f : X → List Y) (k : ℕ) → ((x : X) → length (f x) ≡ k) → (xs : List X)
+    → length (flat_map f xs) ≡ length xs * k
 length_parts f k h [] = omega arith
 length_parts f k h (x ∷ xs) =
     let e = length_parts f k h xs in

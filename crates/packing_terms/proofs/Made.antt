@@ -35,7 +35,8 @@ boxes_made number =
     record {
       count = (omega (arith, long), omega (arith, long));
       each = λ v lt. subst (IsBox 2 (0 ∷ 0 ∷ []))
-          (sym (get_or-map-range_with_len (made_box number) 0 (made_count number) v v no_box (omega (arith, long, lt)) (omega arith))) (box_made number v);
+          (sym (get_or-map-range_with_len (made_box number) 0 (made_count number) v v no_box (omega (arith, long, lt))
+          (omega arith))) (box_made number v);
     }
 
 pub made_within : (number : ℕ) → IsInstance (made_instance number)

@@ -1,5 +1,6 @@
 -- What is in a list, and tests over its elements.
-use Rattle.std.proofs.Common.{◌≡◌, ℕ, zero, suc, ◌+◌, ◌<◌, ◌≤◌, ◌⊎◌, inl, inr, refl, sym, ap, subst, ◌∙◌, arith, Bool, true, false, cond, List, [], ◌∷◌, ◌++◌, map, length, get_or}
+use Rattle.std.proofs.Common.{◌≡◌, ℕ, zero, suc, ◌+◌, ◌<◌, ◌≤◌, ◌⊎◌, inl, inr, refl, sym, ap, subst, ◌∙◌, arith, Bool}
+use Rattle.std.proofs.Common.{true, false, cond, List, [], ◌∷◌, ◌++◌, map, length, get_or}
 use Rattle.std.specs.List.{list_any, list_all, filter, flat_map, range_with_len}
 use Rattle.std.proofs.lemmas.Bool.{true≢false, and_parts, or_cases, and_from, cases_eq}
 use Rattle.packing_terms.proofs.Sets.{or_true}
@@ -66,12 +67,14 @@ map_in f z [] i = absurd i
 map_in f z (y ∷ ys) (inl e) = (y, inl refl, e)
 map_in f z (y ∷ ys) (inr i) = let h = map_in f z ys i in (h.0, inr h.1, h.2)
 
-pub in_flat_map : {X Y : Type 0} (f : X → List Y) (x : X) (z : Y) (xs : List X) → IsIn x xs → IsIn z (f x) → IsIn z (flat_map f xs)
+pub in_flat_map : {X Y : Type 0} (f : X → List Y) (x : X) (z : Y) (xs : List X) → IsIn x xs → IsIn z (f x)
+    → IsIn z (flat_map f xs)
 in_flat_map f x z [] i j = absurd i
 in_flat_map f x z (y ∷ ys) (inl e) j = in_append z (f y) (flat_map f ys) (inl (subst (λ w. IsIn z (f w)) e j))
 in_flat_map f x z (y ∷ ys) (inr i) j = in_append z (f y) (flat_map f ys) (inr (in_flat_map f x z ys i j))
 
-pub flat_map_in : {X Y : Type 0} (f : X → List Y) (z : Y) (xs : List X) → IsIn z (flat_map f xs) → (x : X) × IsIn x xs × IsIn z (f x)
+pub flat_map_in : {X Y : Type 0} (f : X → List Y) (z : Y) (xs : List X) → IsIn z (flat_map f xs)
+    → (x : X) × IsIn x xs × IsIn z (f x)
 flat_map_in f z [] i = absurd i
 flat_map_in {X = X} f z (y ∷ ys) i = go (append_in z (f y) (flat_map f ys) i) (flat_map_in f z ys)
   where
@@ -93,7 +96,8 @@ pub filter_in : {X : Type 0} (p : X → Bool) (x : X) (xs : List X) → IsIn x (
 filter_in p x [] i = absurd i
 filter_in p x (y ∷ ys) i = go (p y) refl i (filter_in p x ys)
   where
-    go : (b : Bool) → p y ≡ b → IsIn x (cond b (y ∷ filter p ys) (filter p ys)) → (IsIn x (filter p ys) → IsIn x ys × (p x ≡ true))
+    go : (b : Bool) → p y ≡ b → IsIn x (cond b (y ∷ filter p ys) (filter p ys))
+        → (IsIn x (filter p ys) → IsIn x ys × (p x ≡ true))
         → IsIn x (y ∷ ys) × (p x ≡ true)
     go true e (inl f) rest = (inl f, ap p f ∙ e)
     go true e (inr j) rest = let h = rest j in (inr h.0, h.1)

@@ -5,7 +5,8 @@ use Rattle.packing_terms.specs.declared.Rel.{Rel}
 use Rattle.packing_terms.specs.declared.Rel.TheVariants.{Overlap, Before, After}
 use Rattle.packing_terms.specs.Packing.{PlainInstance}
 use Rattle.packing_terms.specs.Exclusions.{Exclusions, IsJoined, IsSurelyBefore}
-use Rattle.packing_terms.specs.Rules.{Rule, Pair, Apart, Triple, Chain, Compose, Cycle, Order, Premises, Concludes, Follows, by_rule, mirrored, IsChain}
+use Rattle.packing_terms.specs.Rules.{Rule, Pair, Apart, Triple, Chain, Compose, Cycle, Order, Premises, Concludes}
+use Rattle.packing_terms.specs.Rules.{Follows, by_rule, mirrored, IsChain}
 use Rattle.packing_terms.specs.Closure.{IsSubset}
 
 -- what is open for the larger set is open for the smaller
@@ -34,8 +35,13 @@ module _ (instance : PlainInstance) (X Y : Exclusions) (more : IsSubset X Y) whe
   premises_more (Triple i u v x) h = (more i u x Overlap h.0, more i v x Overlap h.1, h.2)
   premises_more (Chain i before u v after) h = (chain_more i (before ++ u ∷ []) h.0, chain_more i (v ∷ after) h.1, h.2)
   premises_more (Compose i u v x) h = tt
-  premises_more (Cycle i a b c d) h =
-      (joined_more i a b h.0, joined_more i b c h.1, joined_more i c d h.2, joined_more i d a h.3, more i a c Overlap h.4)
+  premises_more (Cycle i a b c d) h = (
+    joined_more i a b h.0,
+    joined_more i b c h.1,
+    joined_more i c d h.2,
+    joined_more i d a h.3,
+    more i a c Overlap h.4,
+  )
   premises_more (Order i a b c d) h = (before_more i a b h.0, before_more i c d h.1, more i a d Before h.2)
 
   pub concludes_more : (rule : Rule) (r : Rel) → Concludes X rule r → Concludes Y rule r

@@ -1,6 +1,7 @@
 -- Packings at small numbers: touching without a kerf, the gap with one, and that the kerf doesn't count at the wall.
 use Rattle.std.proofs.Common.{ℕ, zero, suc, ◌+◌, ◌<◌, ◌≤◌, inl, inr, refl, arith, List, [], ◌∷◌}
-use Rattle.packing_terms.specs.Packing.{PlainInstance, PlainBox, written_container, written_side, place, AreApart, IsPacking}
+use Rattle.packing_terms.specs.Packing.{PlainInstance, PlainBox, written_container, written_side, place, AreApart}
+use Rattle.packing_terms.specs.Packing.{IsPacking}
 
 abbrev box : ℕ → ℕ → PlainBox
 box a b = record { sides = a ∷ b ∷ []; value = 1 }
@@ -18,7 +19,8 @@ stacked h = 0 ∷ 0 ∷ 0 ∷ h ∷ []
 touching_planks : IsPacking two_planks (stacked 5)
 touching_planks = record { count = refl; within = within; apart = apart }
   where
-    within : (v i : ℕ) → v < 2 → i < 2 → place two_planks (stacked 5) v i + written_side two_planks v i ≤ written_container two_planks i
+    within : (v i : ℕ) → v < 2 → i < 2
+        → place two_planks (stacked 5) v i + written_side two_planks v i ≤ written_container two_planks i
     within zero zero h l = omega arith
     within zero (suc zero) h l = omega arith
     within (suc zero) zero h l = omega arith
@@ -56,7 +58,8 @@ full k m = record { container = 10 ∷ 10 ∷ []; kerfs = k ∷ m ∷ []; boxes 
 full_board : (k m : ℕ) → IsPacking (full k m) (0 ∷ 0 ∷ [])
 full_board k m = record { count = refl; within = within; apart = λ u v r h. absurd (omega (arith, r, h)) }
   where
-    within : (v i : ℕ) → v < 1 → i < 2 → place (full k m) (0 ∷ 0 ∷ []) v i + written_side (full k m) v i ≤ written_container (full k m) i
+    within : (v i : ℕ) → v < 1 → i < 2
+        → place (full k m) (0 ∷ 0 ∷ []) v i + written_side (full k m) v i ≤ written_container (full k m) i
     within zero zero h l = omega arith
     within zero (suc zero) h l = omega arith
     within (suc v) i h l = absurd (omega (arith, h))
@@ -73,7 +76,8 @@ block k = record {
 full_block : (k : ℕ) → IsPacking (block k) (0 ∷ 0 ∷ 0 ∷ 0 ∷ [])
 full_block k = record { count = refl; within = within; apart = λ u v r h. absurd (omega (arith, r, h)) }
   where
-    within : (v i : ℕ) → v < 1 → i < 4 → place (block k) (0 ∷ 0 ∷ 0 ∷ 0 ∷ []) v i + written_side (block k) v i ≤ written_container (block k) i
+    within : (v i : ℕ) → v < 1 → i < 4
+        → place (block k) (0 ∷ 0 ∷ 0 ∷ 0 ∷ []) v i + written_side (block k) v i ≤ written_container (block k) i
     within zero zero h l = omega arith
     within zero (suc zero) h l = omega arith
     within zero (suc (suc zero)) h l = omega arith
@@ -93,7 +97,8 @@ beside x = 0 ∷ 0 ∷ x ∷ 0 ∷ []
 cut_boards : IsPacking boards (beside 6)
 cut_boards = record { count = refl; within = within; apart = apart }
   where
-    within : (v i : ℕ) → v < 2 → i < 2 → place boards (beside 6) v i + written_side boards v i ≤ written_container boards i
+    within : (v i : ℕ) → v < 2 → i < 2
+        → place boards (beside 6) v i + written_side boards v i ≤ written_container boards i
     within zero zero h l = omega arith
     within zero (suc zero) h l = omega arith
     within (suc zero) zero h l = omega arith
@@ -132,7 +137,8 @@ above x = 0 ∷ 0 ∷ 0 ∷ 0 ∷ 0 ∷ 0 ∷ 0 ∷ x ∷ []
 cut_blocks : IsPacking blocks (above 6)
 cut_blocks = record { count = refl; within = within; apart = apart }
   where
-    within : (v i : ℕ) → v < 2 → i < 4 → place blocks (above 6) v i + written_side blocks v i ≤ written_container blocks i
+    within : (v i : ℕ) → v < 2 → i < 4
+        → place blocks (above 6) v i + written_side blocks v i ≤ written_container blocks i
     within zero zero h l = omega arith
     within zero (suc zero) h l = omega arith
     within zero (suc (suc zero)) h l = omega arith

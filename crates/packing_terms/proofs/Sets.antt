@@ -42,7 +42,8 @@ at_own P e i u v r h p =
     subst (λ (x : Rel). P i u v x) (same_rel _ _ p1.1) q3
 
 pub is_at_own : (e : Exclusion) → is_at e e.dim e.u e.v e.rel ≡ true
-is_at_own e = and_from _ _ (and_from _ _ (and_from _ _ (eq-eqb e.dim e.dim refl) (eq-eqb e.u e.u refl)) (eq-eqb e.v e.v refl)) (is_same_rel_refl e.rel)
+is_at_own e = and_from _ _ (and_from _ _ (and_from _ _ (eq-eqb e.dim e.dim refl) (eq-eqb e.u e.u refl))
+    (eq-eqb e.v e.v refl)) (is_same_rel_refl e.rel)
 
 -- The same of a fact that holds of mirrors too.
 pub of_own : (P : ℕ → ℕ → ℕ → Rel → Type 0) → ((i u v : ℕ) (r : Rel) → P i u v r → P i v u (mirror r))

@@ -14,10 +14,12 @@ use Rattle.packing_terms.specs.Refutation.{exclusion_in_text, IsTooLarge, MaySpl
 
 -- The tokens are accepted one by one from the first nodes on, and leave the last ones. `Accepts` is
 -- what a token asks of its node, `children` the nodes that it puts in its place.
-abbrev pub FeedsBy : {Node : Type 0} → (Node → PlainToken → Type 0) → (Node → PlainToken → List Node) → List Node → List PlainToken → List Node → Type 0
+abbrev pub FeedsBy : {Node : Type 0} → (Node → PlainToken → Type 0) → (Node → PlainToken → List Node) → List Node
+    → List PlainToken → List Node → Type 0
 FeedsBy Accepts children nodes [] left = nodes ≡ left
 FeedsBy Accepts children [] (t ∷ ts) left = ⊥
-FeedsBy Accepts children (n ∷ nodes) (t ∷ ts) left = Accepts n t × FeedsBy Accepts children (children n t ++ nodes) ts left
+FeedsBy Accepts children (n ∷ nodes) (t ∷ ts) left =
+    Accepts n t × FeedsBy Accepts children (children n t ++ nodes) ts left
 
 -- what an inner token asks of a node with these exclusions
 abbrev pub Accepts : PlainInstance → List Exclusion → PlainToken → Type 0
@@ -30,7 +32,8 @@ Accepts instance es _ = ⊥
 
 -- the children of a node by an inner token
 abbrev pub children : List Exclusion → PlainToken → List (List Exclusion)
-children es (Apart i u v) = (exclusion_in_text i u v Overlap ∷ es) ∷ (exclusion_in_text i u v Before ∷ exclusion_in_text i u v After ∷ es) ∷ []
+children es (Apart i u v) = (exclusion_in_text i u v Overlap ∷ es)
+    ∷ (exclusion_in_text i u v Before ∷ exclusion_in_text i u v After ∷ es) ∷ []
 children es (Order i u v) = (exclusion_in_text i u v After ∷ es) ∷ (exclusion_in_text i u v Before ∷ es) ∷ []
 children es _ = []
 

@@ -1,7 +1,8 @@
 -- The generator of instances: each number names one made instance, which is the same on every
 -- machine.
 --
---     number 0      seeds 0, 12345, 1406932606, 654583775      draws 0, 21468, 9988      one box, 219 239, in the container 1000 1000
+-- number 0      seeds 0, 12345, 1406932606, 654583775      draws 0, 21468, 9988      one box, 219
+-- 239, in the container 1000 1000
 --
 -- Source: the pseudo-random numbers are those of the example of `rand` in the C standard.
 use Rattle.std.specs.Prelude.{ℕ, zero, suc, ◌+◌, ◌*◌, ◌/◌, ◌%◌, ◌^◌, [], ◌∷◌, map}
@@ -35,4 +36,8 @@ made_box number v = record { sides = made_side number (2 * v + 2) ∷ made_side 
 
 -- the made instance of a number
 unfoldable pub made_instance : ℕ → PlainInstance
-made_instance number = record { container = 1000 ∷ 1000 ∷ []; kerfs = 0 ∷ 0 ∷ []; boxes = map (made_box number) (range_with_len 0 (made_count number)) }
+made_instance number = record {
+  container = 1000 ∷ 1000 ∷ [];
+  kerfs = 0 ∷ 0 ∷ [];
+  boxes = map (made_box number) (range_with_len 0 (made_count number));
+}

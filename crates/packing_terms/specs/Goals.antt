@@ -6,10 +6,12 @@
 --       |__  ____|                        |__|___|  |___|  |              |__|___|   left out: ..
 --       |  ||    |                        |  |   |  |   |  |              |  |   |
 --       +--++----+                        +--+---+  +---+--+              +--+---+
-use Rattle.std.specs.Prelude.{ℕ, ◌+◌, ◌-◌, ◌*◌, ◌<◌, ◌≤◌, ◌≡◌, ◌==◌, List, length, map, slice_index, slice_index_or, slice_set, sum_by}
+use Rattle.std.specs.Prelude.{ℕ, ◌+◌, ◌-◌, ◌*◌, ◌<◌, ◌≤◌, ◌≡◌, ◌==◌, List, length, map, slice_index, slice_index_or}
+use Rattle.std.specs.Prelude.{slice_set, sum_by}
 use Rattle.std.specs.List.Sorted.{IsStrictlyIncreasing}
 use Rattle.std.specs.List.{filter, flat_map, range_with_len, All}
-use Rattle.packing_terms.specs.Packing.{PlainInstance, no_box, dims, box_count, container_side, side, place, IsPacking, Fits}
+use Rattle.packing_terms.specs.Packing.{PlainInstance, no_box, dims, box_count, container_side, side, place, IsPacking}
+use Rattle.packing_terms.specs.Packing.{Fits}
 
 -- the instance with another last container side
 abbrev pub with_last_side : PlainInstance → ℕ → PlainInstance
@@ -40,7 +42,8 @@ in_bin bins b = filter (λ v. slice_index bins v == b) (range_with_len 0 (length
 
 -- the coordinates of the named boxes
 abbrev pub places_of : PlainInstance → List ℕ → List ℕ → List ℕ
-places_of instance places keep = flat_map (λ v. map (λ i. place instance places v i) (range_with_len 0 (dims instance))) keep
+places_of instance places keep =
+    flat_map (λ v. map (λ i. place instance places v i) (range_with_len 0 (dims instance))) keep
 
 -- a bin below k for each box, and one coordinate for each box and dimension, such that the boxes of
 -- each bin with their coordinates are a packing
@@ -79,7 +82,8 @@ worth instance keep = sum_by (λ v. (slice_index_or instance.boxes v no_box).val
 
 -- some set of boxes has a total value of at least t, and fits
 abbrev pub ReachesValue : PlainInstance → ℕ → Type 0
-ReachesValue instance t = (keep : List ℕ) × IsBoxSet instance keep × (t ≤ worth instance keep) × Fits (subset instance keep)
+ReachesValue instance t = (keep : List ℕ) × IsBoxSet instance keep × (t ≤ worth instance keep)
+    × Fits (subset instance keep)
 
 -- the greatest value that the instance reaches
 pub record IsGreatestValue (instance : PlainInstance) (t : ℕ) : Type 0 where

@@ -9,7 +9,8 @@ use Rattle.packing_terms.specs.Goals.{subset}
 use Rattle.packing_terms.specs.Tokens.{PlainToken}
 use Rattle.packing_terms.specs.Tokens.PlainToken.{Assign, Choose, SetRefuted, ValueShort, GlobalScales}
 use Rattle.packing_terms.specs.Feeding.{Accepts, children, FeedsBy}
-use Rattle.packing_terms.specs.OuterRefutation.{Bins, IsUsedBin, IsUnplaced, bin_named, placements, Choice, IsShort, IsOpenBox, with_taken, with_left}
+use Rattle.packing_terms.specs.OuterRefutation.{Bins, IsUsedBin, IsUnplaced, bin_named, placements, Choice, IsShort}
+use Rattle.packing_terms.specs.OuterRefutation.{IsOpenBox, with_taken, with_left}
 
 -- an open node: one of the outer tree, or one of the inner tree of a set of boxes, with its
 -- exclusions

@@ -65,7 +65,8 @@ enter below path node v =
     ]
 
 -- the inner tree of a set with these open nodes; without one it is closed
-abbrev pub go_on : {Node : Type 0} → (Node → ℕ → List Node) → List (PathNode Node) → List ℕ → List (List Exclusion) → OuterView Node
+abbrev pub go_on : {Node : Type 0} → (Node → ℕ → List Node) → List (PathNode Node) → List ℕ → List (List Exclusion)
+    → OuterView Node
 go_on below path keep [] = leave below path
 go_on below path keep (es ∷ behind) = On path (Inside keep es behind)
 
@@ -76,13 +77,15 @@ stepped below path node (Begin keep) = On path (Inside keep [] [])
 stepped below path node Close = leave below path
 
 -- the tree after a token
-abbrev pub view_after : {Node : Type 0} → (Node → ℕ → List Node) → (Node → PlainToken → OuterStep) → OuterView Node → PlainToken → OuterView Node
+abbrev pub view_after : {Node : Type 0} → (Node → ℕ → List Node) → (Node → PlainToken → OuterStep) → OuterView Node
+    → PlainToken → OuterView Node
 view_after below step Whole t = Whole
 view_after below step (On path (At node)) t = stepped below path node (step node t)
 view_after below step (On path (Inside keep es behind)) t = go_on below path keep (children es t ++ behind)
 
 -- and after some
-abbrev pub views_after : {Node : Type 0} → (Node → ℕ → List Node) → (Node → PlainToken → OuterStep) → OuterView Node → List PlainToken → OuterView Node
+abbrev pub views_after : {Node : Type 0} → (Node → ℕ → List Node) → (Node → PlainToken → OuterStep) → OuterView Node
+    → List PlainToken → OuterView Node
 views_after below step view [] = view
 views_after below step view (t ∷ ts) = views_after below step (view_after below step view t) ts
 

@@ -4,7 +4,8 @@
 -- For bins a node says which boxes share a bin, and nothing of which bin that is: the used bins
 -- stand in the order of their first use. For a value a node says which boxes are in and which are
 -- out.
-use Rattle.std.specs.Prelude.{ℕ, zero, suc, pred, ◌+◌, ◌<◌, ◌≤◌, ◌≡◌, ◌==◌, ◌||◌, not, List, [], ◌∷◌, ◌++◌, length, map, Bool, false, Some, None, nat_lt, if◌then◌else◌, slice_index_or}
+use Rattle.std.specs.Prelude.{ℕ, zero, suc, pred, ◌+◌, ◌<◌, ◌≤◌, ◌≡◌, ◌==◌, ◌||◌, not, List, [], ◌∷◌, ◌++◌, length, map}
+use Rattle.std.specs.Prelude.{Bool, false, Some, None, nat_lt, if◌then◌else◌, slice_index_or}
 use Rattle.std.specs.List.{filter, range_with_len, list_any}
 use Rattle.packing_terms.specs.declared.ScaleFn.{ScaleFn}
 use Rattle.packing_terms.specs.Packing.{PlainInstance, box_count}
@@ -64,7 +65,8 @@ pub data RefutesBins (instance : PlainInstance) (k : ℕ) : List Bins → List P
       → Refutes (subset instance (bin_named bins b)) [] x → z ≡ x ++ y
       → RefutesBins instance k nodes y → RefutesBins instance k (bins ∷ nodes) (SetRefuted (Some b) ∷ z)
   by_box : {bins : Bins} {nodes : List Bins} {v : ℕ} {z : List PlainToken} → IsUnplaced instance bins v
-      → RefutesBins instance k (placements k bins (pred v) ++ nodes) z → RefutesBins instance k (bins ∷ nodes) (Assign v ∷ z)
+      → RefutesBins instance k (placements k bins (pred v) ++ nodes) z
+      → RefutesBins instance k (bins ∷ nodes) (Assign v ∷ z)
 
 -- the tokens show that the instance doesn't fit in k bins
 abbrev pub IsBinRefutation : PlainInstance → ℕ → List PlainToken → Type 0

@@ -45,7 +45,8 @@ pub record MaySplitApart (instance : PlainInstance) (es : List Exclusion) (dim u
   pub named : IsNamed instance dim u v
   pub no_conflict : ¬ HasConflict instance (excludes es)
   pub overlap : LeavesOpen instance es (exclusion_in_text dim u v Overlap)
-  pub other : LeavesOpen instance es (exclusion_in_text dim u v Before) ⊎ LeavesOpen instance es (exclusion_in_text dim u v After)
+  pub other : LeavesOpen instance es (exclusion_in_text dim u v Before)
+      ⊎ LeavesOpen instance es (exclusion_in_text dim u v After)
 
 -- the closure has no conflict, and the mask there is exactly before and after
 pub record MaySplitOrder (instance : PlainInstance) (es : List Exclusion) (dim u v : ℕ) : Type 0 where

@@ -28,7 +28,8 @@ AreRelated p w q x Overlap = (p < q + x) × (q < p + w)
 
 -- in dimension i boxes u and v have this relation
 abbrev pub Holds : PlainInstance → List ℕ → ℕ → ℕ → ℕ → Rel → Type 0
-Holds instance places i u v r = AreRelated (place instance places u i) (side instance u i) (place instance places v i) (side instance v i) r
+Holds instance places i u v r =
+    AreRelated (place instance places u i) (side instance u i) (place instance places v i) (side instance v i) r
 
 -- The composition table, entry by entry: the relations that u and x may have where u, v have the
 -- first and v, x the second.

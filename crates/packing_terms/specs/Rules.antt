@@ -6,7 +6,8 @@
 --     TRIPLE   u, x are apart, v, x are apart, and w(u) + w(v) + w(x) > W: u, v overlap.
 --     CHAIN    a chain that ends in u and one that starts in v are together longer than W: u isn't before v.
 --     COMPOSE  u, x have no relation that no composition of the masks of u, v and of v, x allows.
---     CYCLE    a, b, then b, c, then c, d, then d, a are joined and a, c are apart: b, d overlap (a cycle of four needs a chord).
+-- CYCLE    a, b, then b, c, then c, d, then d, a are joined and a, c are apart: b, d overlap (a
+-- cycle of four needs a chord).
 --     ORDER    a is surely before b, c is surely before d, and a isn't before d: c is before b.
 --
 -- Sources: Fekete, Schepers and van der Veen (2007) for edges that are forced by width, by cliques
@@ -67,7 +68,8 @@ abbrev pub Premises : PlainInstance → Exclusions → Rule → Type 0
 Premises instance X (Pair i u v) = container_side instance i < side instance u i + side instance v i
 Premises instance X (Apart i u v) = (j : ℕ) → j < dims instance → j ≢ i → IsJoined X j u v
 Premises instance X (Triple i u v x) =
-    IsApart X i u x × IsApart X i v x × (container_side instance i < side instance u i + side instance v i + side instance x i)
+    IsApart X i u x × IsApart X i v x
+    × (container_side instance i < side instance u i + side instance v i + side instance x i)
 Premises instance X (Chain i before u v after) =
     IsChain X i (before ++ u ∷ []) × IsChain X i (v ∷ after)
     × (container_side instance i < weight instance i (before ++ u ∷ []) + weight instance i (v ∷ after))

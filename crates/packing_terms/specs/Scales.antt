@@ -6,7 +6,8 @@
 -- Source: Fekete and Schepers, "New classes of fast lower bounds for bin packing problems" (2001)
 -- and "A general framework for bounds for higher-dimensional orthogonal packing problems" (2004):
 -- the functions u(k), U(e) and phi(e), scaled here to whole numbers.
-use Rattle.std.specs.Prelude.{ℕ, ◌+◌, ◌-◌, ◌*◌, ◌/◌, ◌%◌, ◌<◌, ◌≤◌, ◌≡◌, ◌==◌, List, length, slice_index_or, nat_lt, nat_le, if◌then◌else◌, map, sum}
+use Rattle.std.specs.Prelude.{ℕ, ◌+◌, ◌-◌, ◌*◌, ◌/◌, ◌%◌, ◌<◌, ◌≤◌, ◌≡◌, ◌==◌, List, length, slice_index_or, nat_lt}
+use Rattle.std.specs.Prelude.{nat_le, if◌then◌else◌, map, sum}
 use Rattle.packing_terms.specs.declared.ScaleFn.{ScaleFn}
 use Rattle.packing_terms.specs.declared.ScaleFn.TheVariants.{Id, Step, Cut, Count}
 use Rattle.packing_terms.specs.Packing.{PlainInstance, dims, box_count, container_side, side}
@@ -49,7 +50,8 @@ image_product instance fs v =
 
 -- the product of the wholes
 abbrev pub whole_product : PlainInstance → List ScaleFn → ℕ
-whole_product instance fs = product_below (dims instance) (λ i. scale_whole (function_at fs i) (container_side instance i))
+whole_product instance fs = product_below (dims instance)
+    (λ i. scale_whole (function_at fs i) (container_side instance i))
 
 -- one legal function for each dimension
 pub record IsTuple (instance : PlainInstance) (fs : List ScaleFn) : Type 0 where
@@ -58,7 +60,8 @@ pub record IsTuple (instance : PlainInstance) (fs : List ScaleFn) : Type 0 where
 
 -- no box side exceeds its container side
 abbrev pub SidesFit : PlainInstance → Type 0
-SidesFit instance = (v i : ℕ) → v < box_count instance → i < dims instance → side instance v i ≤ container_side instance i
+SidesFit instance = (v i : ℕ) → v < box_count instance → i < dims instance
+    → side instance v i ≤ container_side instance i
 
 -- the products of the images are together more than c containers hold
 abbrev pub HasExcess : PlainInstance → List ScaleFn → ℕ → Type 0

@@ -14,7 +14,8 @@ use Rattle.packing_terms.specs.declared.ScaleFn.{ScaleFn}
 -- Outer tokens:
 --   Assign box_no       a split: the box goes into each used bin in turn, then into a new one
 --   Choose box_no       a split: the box is in, then out
---   SetRefuted bin      a leaf with an inner refutation behind it: of that bin's boxes, or (without a number) of the boxes that are in
+-- SetRefuted bin      a leaf with an inner refutation behind it: of that bin's boxes, or (without a
+-- number) of the boxes that are in
 --   ValueShort          a leaf: what is in and what is undecided is worth too little
 --   GlobalScales tuple  a leaf: the tuple exceeds for as many containers as there are bins
 pub data PlainToken : Type 0 where

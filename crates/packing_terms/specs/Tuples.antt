@@ -5,7 +5,8 @@
 -- rounded down where that is at least 1. The list of tuples has every choice with at most two
 -- functions other than id; the function of dimension 0 varies fastest, then that of dimension 1,
 -- and so on.
-use Rattle.std.specs.Prelude.{ℕ, zero, suc, ◌+◌, ◌-◌, ◌*◌, ◌/◌, ◌==◌, ◌||◌, List, [], ◌∷◌, ◌++◌, map, Option, Bool, true, false, nat_lt, nat_le}
+use Rattle.std.specs.Prelude.{ℕ, zero, suc, ◌+◌, ◌-◌, ◌*◌, ◌/◌, ◌==◌, ◌||◌, List, [], ◌∷◌, ◌++◌, map, Option, Bool}
+use Rattle.std.specs.Prelude.{true, false, nat_lt, nat_le}
 use Rattle.std.specs.List.{filter, flat_map, range_with_len, find, count_by}
 use Rattle.packing_terms.specs.declared.ScaleFn.{ScaleFn}
 use Rattle.packing_terms.specs.declared.ScaleFn.TheVariants.{Id, Step, Cut, Count}
@@ -20,7 +21,8 @@ any_below (suc n) f = any_below n f || f n
 
 -- half of the container's side, rounded down, or the side of a box
 abbrev pub is_threshold : PlainInstance → ℕ → ℕ → Bool
-is_threshold instance i e = (e == container_side instance i / 2) || any_below (box_count instance) (λ v. side instance v i == e)
+is_threshold instance i e = (e == container_side instance i / 2)
+    || any_below (box_count instance) (λ v. side instance v i == e)
 
 -- those above the given number and up to half of the container's side, rising
 abbrev pub thresholds_above : PlainInstance → ℕ → ℕ → List ℕ
@@ -30,10 +32,13 @@ thresholds_above instance i low =
 -- the functions that stand after the given one in the list of dimension i
 abbrev pub functions_after : PlainInstance → ℕ → ScaleFn → List ScaleFn
 functions_after instance i Id =
-    map (λ k. Step k) (range_with_len 1 4) ++ map (λ e. Cut e) (thresholds_above instance i 0) ++ map (λ e. Count e) (thresholds_above instance i 0)
+    map (λ k. Step k) (range_with_len 1 4) ++ map (λ e. Cut e) (thresholds_above instance i 0)
+    ++ map (λ e. Count e) (thresholds_above instance i 0)
 functions_after instance i (Step k) =
-    map (λ k. Step k) (range_with_len (k + 1) (4 - k)) ++ map (λ e. Cut e) (thresholds_above instance i 0) ++ map (λ e. Count e) (thresholds_above instance i 0)
-functions_after instance i (Cut e) = map (λ e. Cut e) (thresholds_above instance i e) ++ map (λ e. Count e) (thresholds_above instance i 0)
+    map (λ k. Step k) (range_with_len (k + 1) (4 - k)) ++ map (λ e. Cut e) (thresholds_above instance i 0)
+    ++ map (λ e. Count e) (thresholds_above instance i 0)
+functions_after instance i (Cut e) =
+    map (λ e. Cut e) (thresholds_above instance i e) ++ map (λ e. Count e) (thresholds_above instance i 0)
 functions_after instance i (Count e) = map (λ e. Count e) (thresholds_above instance i e)
 
 -- the functions of dimension i, in their order
@@ -57,7 +62,8 @@ tuples instance = filter (λ t. nat_le (count_by is_other_function t) 2) (choice
 
 -- whether the products of the images are more than c products of the wholes
 abbrev pub has_excess : PlainInstance → ℕ → List ScaleFn → Bool
-has_excess instance c fs = nat_lt (c * whole_product instance fs) (sum_below (box_count instance) (λ v. image_product instance fs v))
+has_excess instance c fs = nat_lt (c * whole_product instance fs)
+    (sum_below (box_count instance) (λ v. image_product instance fs v))
 
 -- the first tuple of the list with excess for c copies
 abbrev pub first_excess : PlainInstance → ℕ → Option (List ScaleFn)

@@ -10,7 +10,11 @@ use std::process::Abort;
 use std::test::Fail;
 
 /// An instance of these boxes, in a container of sides 10.
-pub fn instance_of(rt: &impl Abort, alloc: Global, boxes: &[[u32; 2]]) -> Result<Instance, Fail>
+pub(crate) fn instance_of(
+    rt: &impl Abort,
+    alloc: Global,
+    boxes: &[[u32; 2]],
+) -> Result<Instance, Fail>
     ensures { IfOk result (λ instance. (dims instance ≡ 2)
         × (box_count instance ≡ length boxes.now)) }
 {
@@ -28,7 +32,7 @@ pub fn instance_of(rt: &impl Abort, alloc: Global, boxes: &[[u32; 2]]) -> Result
 }
 
 /// A state with these exclusions but the one at `skipped`.
-pub fn state_without(
+pub(crate) fn state_without(
     rt: &impl Abort,
     alloc: Global,
     dims: u32,

@@ -1,6 +1,7 @@
 -- What the searches of places find.
 use Rattle.std.specs.Prelude.{ℕ, ◌+◌, ◌<◌, List}
-use Rattle.packing_terms.specs.Packing.{PlainInstance, dims, box_count, kerf, written_container, written_side, place, AreApart}
+use Rattle.packing_terms.specs.Packing.{PlainInstance, dims, box_count, kerf, written_container, written_side, place}
+use Rattle.packing_terms.specs.Packing.{AreApart}
 use Rattle.check_terms.specs.Tested.{LiesWithin}
 
 -- the first dimension in which the box leaves the container

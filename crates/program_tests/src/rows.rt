@@ -13,7 +13,7 @@ pub type Solved = (&'static [&'static str], &'static [u8], u8, &'static [u8]);
 pub type Checked = (&'static [u8], &'static str);
 
 /// Whether the document of a row is the one that it names, with this first line.
-pub fn is_solved<R: AllocGlobal + Threads + Wait + Sync>(
+pub(crate) fn is_solved<R: AllocGlobal + Threads + Wait + Sync>(
     rt: &R,
     first: &[u8],
     row: &Solved,
@@ -24,7 +24,7 @@ pub fn is_solved<R: AllocGlobal + Threads + Wait + Sync>(
 }
 
 /// Whether `check` answers this status and writes the line of a row alone.
-pub fn is_checked<R: AllocGlobal + Threads + Wait + Sync>(
+pub(crate) fn is_checked<R: AllocGlobal + Threads + Wait + Sync>(
     rt: &R,
     status: u8,
     row: &Checked,

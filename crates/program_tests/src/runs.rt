@@ -89,7 +89,7 @@ impl<'a> Plans<'a> {
 
 /// Runs the words on the input, where the source and the sinks follow these plans and the workers
 /// call the gate.
-pub fn told_at<R: AllocGlobal + Threads + Wait + Sync, G: Gate + Sync>(
+pub(crate) fn told_at<R: AllocGlobal + Threads + Wait + Sync, G: Gate + Sync>(
     rt: &R,
     words: &[&str],
     input: &[u8],
@@ -121,7 +121,7 @@ pub fn told_at<R: AllocGlobal + Threads + Wait + Sync, G: Gate + Sync>(
 }
 
 /// Runs the words on the input, where the source and the sink follow these plans.
-pub fn told_with<R: AllocGlobal + Threads + Wait + Sync>(
+pub(crate) fn told_with<R: AllocGlobal + Threads + Wait + Sync>(
     rt: &R,
     words: &[&str],
     input: &[u8],
@@ -137,7 +137,7 @@ pub fn told_with<R: AllocGlobal + Threads + Wait + Sync>(
 }
 
 /// Runs the words on the input, where nothing fails.
-pub fn told_of<R: AllocGlobal + Threads + Wait + Sync>(
+pub(crate) fn told_of<R: AllocGlobal + Threads + Wait + Sync>(
     rt: &R,
     words: &[&str],
     input: &[u8],
@@ -146,7 +146,7 @@ pub fn told_of<R: AllocGlobal + Threads + Wait + Sync>(
 }
 
 /// Runs the words on the input, which comes byte by byte up to a fault behind so many bytes.
-pub fn told_read_to<R: AllocGlobal + Threads + Wait + Sync>(
+pub(crate) fn told_read_to<R: AllocGlobal + Threads + Wait + Sync>(
     rt: &R,
     words: &[&str],
     input: &[u8],
@@ -158,7 +158,7 @@ pub fn told_read_to<R: AllocGlobal + Threads + Wait + Sync>(
 }
 
 /// Runs the words on the input, where so many bytes are taken one by one before a write fails.
-pub fn told_written_to<R: AllocGlobal + Threads + Wait + Sync>(
+pub(crate) fn told_written_to<R: AllocGlobal + Threads + Wait + Sync>(
     rt: &R,
     words: &[&str],
     input: &[u8],
@@ -170,7 +170,7 @@ pub fn told_written_to<R: AllocGlobal + Threads + Wait + Sync>(
 }
 
 /// Runs the words on the input by so many workers, which call the gate.
-pub fn told_by<R: AllocGlobal + Threads + Wait + Sync, G: Gate + Sync>(
+pub(crate) fn told_by<R: AllocGlobal + Threads + Wait + Sync, G: Gate + Sync>(
     rt: &R,
     words: &[&str],
     workers: &str,
@@ -188,7 +188,7 @@ pub fn told_by<R: AllocGlobal + Threads + Wait + Sync, G: Gate + Sync>(
 
 /// Whether ten runs by each of these numbers of workers answer and write what one worker does,
 /// which is this status.
-pub fn is_same_by<R: AllocGlobal + Threads + Wait + Sync>(
+pub(crate) fn is_same_by<R: AllocGlobal + Threads + Wait + Sync>(
     rt: &R,
     words: &[&str],
     input: &[u8],
@@ -230,7 +230,7 @@ impl Source for CountingSource {
 }
 
 /// How often a run of the words reads the input, of which each read takes what fits.
-pub fn told_read_whole<R: AllocGlobal + Threads + Wait + Sync>(
+pub(crate) fn told_read_whole<R: AllocGlobal + Threads + Wait + Sync>(
     rt: &R,
     words: &[&str],
     input: &[u8],

@@ -1,5 +1,7 @@
 -- Words that are read as parameters and as functions.
-use Rattle.std.proofs.Common.{◌≡◌, ◌≢◌, ℕ, ◌+◌, ◌*◌, ◌<◌, ◌≤◌, min, refl, sym, ap, ◌∙◌, arith, Bool, true, false, cond, List, [], ◌∷◌, ◌++◌, length, drop, get_or, Option, Some, None, append_assoc, length-append}
+use Rattle.std.proofs.Common.{◌≡◌, ◌≢◌, ℕ, ◌+◌, ◌*◌, ◌<◌, ◌≤◌, min, refl, sym, ap, ◌∙◌, arith, Bool, true, false, cond}
+use Rattle.std.proofs.Common.{List, [], ◌∷◌, ◌++◌, length, drop, get_or, Option, Some, None, append_assoc}
+use Rattle.std.proofs.Common.{length-append}
 use Rattle.std.proofs.lemmas.Bool.{ne_eqb}
 use Rattle.std.proofs.lemmas.List.{length-drop}
 use Rattle.packing_terms.specs.declared.ScaleFn.{ScaleFn}
@@ -8,7 +10,8 @@ use Rattle.text_terms.specs.Lines.{Line}
 use Rattle.document_terms.specs.TokenLines.{parameters, in_front, functions, of_none, set_token, token_of, line_token}
 use Rattle.document_terms.proofs.Cuts.{parameters_many, functions_many}
 use Rattle.proof_tree.specs.declared.reading.Kind.{Kind}
-use Rattle.proof_tree.specs.declared.reading.Kind.TheVariants.{Apart, Order, Rules, TooLarge, Scales, Assign, Choose, SetRefuted, ValueShort, GlobalScales}
+use Rattle.proof_tree.specs.declared.reading.Kind.TheVariants.{Apart, Order, Rules, TooLarge, Scales, Assign, Choose}
+use Rattle.proof_tree.specs.declared.reading.Kind.TheVariants.{SetRefuted, ValueShort, GlobalScales}
 use Rattle.proof_tree.specs.Kinds.{kind_of, of_kind, only, two_only, three_only, tuple_only}
 
 -- another number of parameters
@@ -42,7 +45,8 @@ three_else words other = go (parameters words) refl
     go (Some (x ∷ y ∷ z ∷ [])) e = absurd (other (sym (parameters_many words (x ∷ y ∷ z ∷ []) e)))
     go (Some (x ∷ y ∷ z ∷ w ∷ xs)) e = refl
 
-pub none_else : (token : PlainToken) (words : List (List ℕ)) → length words ≢ 0 → None ≡ of_none token (parameters words)
+pub none_else : (token : PlainToken) (words : List (List ℕ)) → length words ≢ 0
+    → None ≡ of_none token (parameters words)
 none_else token words other = go (parameters words) refl
   where
     go : (o : Option (List ℕ)) → parameters words ≡ o → None ≡ of_none token o
@@ -50,7 +54,8 @@ none_else token words other = go (parameters words) refl
     go (Some []) e = absurd (other (sym (parameters_many words [] e)))
     go (Some (x ∷ xs)) e = refl
 
-pub set_else : (words : List (List ℕ)) → length words ≢ 0 → None ≡ only (parameters words) → None ≡ set_token (parameters words)
+pub set_else : (words : List (List ℕ)) → length words ≢ 0 → None ≡ only (parameters words)
+    → None ≡ set_token (parameters words)
 set_else words other alone = go (parameters words) refl alone
   where
     go : (o : Option (List ℕ)) → parameters words ≡ o → None ≡ only o → None ≡ set_token o
@@ -60,7 +65,8 @@ set_else words other alone = go (parameters words) refl alone
     go (Some (x ∷ y ∷ xs)) e f = refl
 
 -- another count of words than one
-pub some_behind : (words : List (List ℕ)) (count : ℕ) → 1 ≤ length words → length words ≡ min 12 count → count ≢ 1 → length (drop 1 words) ≢ 0
+pub some_behind : (words : List (List ℕ)) (count : ℕ) → 1 ≤ length words → length words ≡ min 12 count → count ≢ 1
+    → length (drop 1 words) ≢ 0
 some_behind words count some held other e = let m = length-drop 1 words in other (omega (arith, e, m, held, some))
 
 -- the functions before, and those of the words that are left
@@ -74,11 +80,13 @@ pub record AreRead (words : List (List ℕ)) (k : ℕ) (fs : List ScaleFn) : Typ
   pub within : k ≤ length words
   pub few : k ≤ 1 + 2 * length fs
 
-one_more : (fs : List ScaleFn) (f : ScaleFn) (o : Option (List ScaleFn)) → before fs (in_front (Some f) o) ≡ before (fs ++ f ∷ []) o
+one_more : (fs : List ScaleFn) (f : ScaleFn) (o : Option (List ScaleFn))
+    → before fs (in_front (Some f) o) ≡ before (fs ++ f ∷ []) o
 one_more fs f None = refl
 one_more fs f (Some gs) = ap Some (sym (append_assoc fs (f ∷ []) gs))
 
-pub read_more : (words : List (List ℕ)) (k next : ℕ) (fs : List ScaleFn) (f : ScaleFn) → functions (drop k words) ≡ in_front (Some f) (functions (drop next words))
+pub read_more : (words : List (List ℕ)) (k next : ℕ) (fs : List ScaleFn) (f : ScaleFn)
+    → functions (drop k words) ≡ in_front (Some f) (functions (drop next words))
     → next ≤ length words → next ≤ k + 2 → AreRead words k fs → AreRead words next (fs ++ f ∷ [])
 read_more words k next fs f e l m h = record {
   all = h.all ∙ (ap (before fs) e ∙ one_more fs f (functions (drop next words)));
@@ -101,23 +109,29 @@ module _ (d k : ℕ) (words : List (List ℕ)) (fs : List ScaleFn) (h : AreRead 
           let n = functions_many (drop k words) gs f in
           let m = length-drop k words in
           let a = length-append fs gs in
-          sym (ap (tuple_only d) (h.all ∙ ap (before fs) f) ∙ ap (λ b. cond b (Some (fs ++ gs)) None) (ne_eqb (length (fs ++ gs)) d (λ g. omega (arith, a, g, e, n, m, l))))
+          sym (ap (tuple_only d) (h.all ∙ ap (before fs) f)
+          ∙ ap (λ b. cond b (Some (fs ++ gs)) None)
+          (ne_eqb (length (fs ++ gs)) d (λ g. omega (arith, a, g, e, n, m, l))))
 
 -- the token of a line, by what its first word says
 abbrev pub by_kind : ℕ → List (List ℕ) → Option Kind → Option PlainToken
 by_kind d words None = None
 by_kind d words (Some kind) = of_kind d kind words
 
-one_kind : (d : ℕ) (words : List (List ℕ)) (b : Bool) (kind : Kind) (rest : Option Kind) (r : Option PlainToken) → r ≡ by_kind d words rest
+one_kind : (d : ℕ) (words : List (List ℕ)) (b : Bool) (kind : Kind) (rest : Option Kind) (r : Option PlainToken)
+    → r ≡ by_kind d words rest
     → cond b (of_kind d kind words) r ≡ by_kind d words (cond b (Some kind) rest)
 one_kind d words true kind rest r e = refl
 one_kind d words false kind rest r e = e
 
-pub token_by_kind : (d : ℕ) (key : List ℕ) (words : List (List ℕ)) → token_of d (key ∷ words) ≡ by_kind d words (kind_of key)
+pub token_by_kind : (d : ℕ) (key : List ℕ) (words : List (List ℕ))
+    → token_of d (key ∷ words) ≡ by_kind d words (kind_of key)
 unfolding token_of
 token_by_kind d key words =
-    one_kind d words _ Apart _ _ (one_kind d words _ Order _ _ (one_kind d words _ Rules _ _ (one_kind d words _ TooLarge _ _ (one_kind d words _ Scales _ _
-    (one_kind d words _ Assign _ _ (one_kind d words _ Choose _ _ (one_kind d words _ SetRefuted _ _ (one_kind d words _ ValueShort _ _
+    one_kind d words _ Apart _ _ (one_kind d words _ Order _ _
+    (one_kind d words _ Rules _ _ (one_kind d words _ TooLarge _ _ (one_kind d words _ Scales _ _
+    (one_kind d words _ Assign _ _
+    (one_kind d words _ Choose _ _ (one_kind d words _ SetRefuted _ _ (one_kind d words _ ValueShort _ _
     (one_kind d words _ GlobalScales _ _ refl)))))))))
 
 -- a line without a word, one whose first word says nothing, and one whose first word says a kind
@@ -129,11 +143,14 @@ empty_line d line calm none = go line.words none (ap (λ b. cond b None (token_o
     go [] e f = sym f
     go (word ∷ words) e f = absurd (omega (arith, e))
 
-first_word : (d : ℕ) (words : List (List ℕ)) → 1 ≤ length words → token_of d words ≡ by_kind d (drop 1 words) (kind_of (get_or words 0 []))
+first_word : (d : ℕ) (words : List (List ℕ)) → 1 ≤ length words
+    → token_of d words ≡ by_kind d (drop 1 words) (kind_of (get_or words 0 []))
 first_word d [] some = absurd (omega (arith, some))
 first_word d (word ∷ words) some = token_by_kind d word words
 
-pub line_by_kind : (d : ℕ) (line : Line) (kind : Option Kind) → line.bad ≡ false → 1 ≤ length line.words → kind ≡ kind_of (get_or line.words 0 [])
+pub line_by_kind : (d : ℕ) (line : Line) (kind : Option Kind) → line.bad ≡ false → 1 ≤ length line.words
+    → kind ≡ kind_of (get_or line.words 0 [])
     → by_kind d (drop 1 line.words) kind ≡ line_token d line
 line_by_kind d line kind calm some e =
-    ap (by_kind d (drop 1 line.words)) e ∙ sym (ap (λ b. cond b None (token_of d line.words)) calm ∙ first_word d line.words some)
+    ap (by_kind d (drop 1 line.words)) e
+    ∙ sym (ap (λ b. cond b None (token_of d line.words)) calm ∙ first_word d line.words some)

@@ -2,11 +2,17 @@
 use Rattle.std.specs.Prelude.{ℕ, ◌≡◌, ◌==◌, ◌<◌, ◌≤◌, ◌+◌, cond, List, [], ◌∷◌, Option, Some, None, length, drop, codes}
 use Rattle.packing_terms.specs.declared.ScaleFn.{ScaleFn}
 use Rattle.packing_terms.specs.Tokens.{PlainToken}
-use Rattle.packing_terms.specs.Tokens.PlainToken.{Apart, Order, Rules, TooLarge, Scales, Assign, Choose, ValueShort, GlobalScales}
+use Rattle.packing_terms.specs.Tokens.PlainToken.{Apart, Order, Rules, TooLarge, Scales, Assign, Choose, ValueShort}
+use Rattle.packing_terms.specs.Tokens.PlainToken.{GlobalScales}
 use Rattle.text_terms.specs.Lines.{same_bytes}
-use Rattle.document_terms.specs.TokenLines.{parameters, in_front, functions, tuple_of, of_none, of_one, of_two, of_three, set_token}
+use Rattle.document_terms.specs.TokenLines.{parameters, in_front, functions, tuple_of, of_none, of_one, of_two}
+use Rattle.document_terms.specs.TokenLines.{of_three, set_token}
 use Rattle.proof_tree.specs.declared.reading.Kind.{Kind}
-use Rattle.proof_tree.specs.declared.reading.Kind.TheVariants.{Apart as IsApart, Order as IsOrder, Rules as IsRules, TooLarge as IsTooLarge, Scales as IsScales, Assign as IsAssign, Choose as IsChoose, SetRefuted as IsSetRefuted, ValueShort as IsValueShort, GlobalScales as IsGlobalScales}
+use Rattle.proof_tree.specs.declared.reading.Kind.TheVariants.{Apart as IsApart, Order as IsOrder, Rules as IsRules}
+use Rattle.proof_tree.specs.declared.reading.Kind.TheVariants.{TooLarge as IsTooLarge, Scales as IsScales}
+use Rattle.proof_tree.specs.declared.reading.Kind.TheVariants.{Assign as IsAssign, Choose as IsChoose}
+use Rattle.proof_tree.specs.declared.reading.Kind.TheVariants.{SetRefuted as IsSetRefuted, ValueShort as IsValueShort}
+use Rattle.proof_tree.specs.declared.reading.Kind.TheVariants.{GlobalScales as IsGlobalScales}
 use Rattle.proof_tree.specs.declared.reading.Named.{Named}
 
 -- the kind of a first word

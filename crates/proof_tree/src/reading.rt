@@ -15,7 +15,7 @@ use text_terms::read_number;
 
 // What the first word of a token line says.
 #[derive(Clone, Copy, Debug, PartialEq, Eq)]
-pub enum Kind {
+pub(crate) enum Kind {
     Apart,
     Order,
     Rules,
@@ -30,7 +30,7 @@ pub enum Kind {
 
 // A scale function that words are, and the number of the word behind it.
 #[derive(Clone, Copy)]
-pub struct Named {
+pub(crate) struct Named {
     function: ScaleFn,
     next: u32,
 }

@@ -6,7 +6,11 @@ use std::test::Fail;
 use work_share::Settings;
 
 /// The instance of these boxes.
-pub fn instance_of(alloc: Global, container: &[u32], boxes: &[&[u32]]) -> Result<Instance, Fail> {
+pub(crate) fn instance_of(
+    alloc: Global,
+    container: &[u32],
+    boxes: &[&[u32]],
+) -> Result<Instance, Fail> {
     let mut items = Vec::new(alloc);
     for sides in boxes {
         items.push(BoxItem {
@@ -18,7 +22,7 @@ pub fn instance_of(alloc: Global, container: &[u32], boxes: &[&[u32]]) -> Result
 }
 
 /// Four boxes around one in the middle, which fill the square.
-pub fn pinwheel(alloc: Global) -> Result<Instance, Fail> {
+pub(crate) fn pinwheel(alloc: Global) -> Result<Instance, Fail> {
     instance_of(
         alloc,
         &[5, 5],
@@ -27,17 +31,17 @@ pub fn pinwheel(alloc: Global) -> Result<Instance, Fail> {
 }
 
 /// Four boxes of which no two fit above each other, and only three beside each other.
-pub fn four_in_a_row(alloc: Global) -> Result<Instance, Fail> {
+pub(crate) fn four_in_a_row(alloc: Global) -> Result<Instance, Fail> {
     instance_of(alloc, &[10, 10], &[&[3, 6], &[3, 6], &[3, 6], &[3, 6]])
 }
 
 /// Two boxes that have room in each dimension: nothing is settled at the root.
-pub fn two_small(alloc: Global) -> Result<Instance, Fail> {
+pub(crate) fn two_small(alloc: Global) -> Result<Instance, Fail> {
     instance_of(alloc, &[4, 4], &[&[2, 1], &[2, 1]])
 }
 
 /// Settings without scales.
-pub fn settings(workers: u32, budget: u64) -> Settings {
+pub(crate) fn settings(workers: u32, budget: u64) -> Settings {
     Settings {
         workers,
         budget,
@@ -46,7 +50,7 @@ pub fn settings(workers: u32, budget: u64) -> Settings {
 }
 
 /// Settings with scales and no branching, so that only roots and proposals decide.
-pub fn at_roots(workers: u32) -> Settings {
+pub(crate) fn at_roots(workers: u32) -> Settings {
     Settings {
         workers,
         budget: 0,
@@ -55,7 +59,7 @@ pub fn at_roots(workers: u32) -> Settings {
 }
 
 /// Whether two outcomes are the same, as far as places, counts and the number of tokens tell.
-pub fn are_same(first: &Outcome, second: &Outcome) -> bool {
+pub(crate) fn are_same(first: &Outcome, second: &Outcome) -> bool {
     match (first, second) {
         (
             Outcome::Yes { numbers, count },

@@ -9,7 +9,7 @@ pub struct Segment {
 }
 
 /// A segment of no width.
-pub const NOTHING: Segment = Segment {
+pub(crate) const NOTHING: Segment = Segment {
     start: 0,
     width: 0,
     height: 0,
@@ -17,7 +17,7 @@ pub const NOTHING: Segment = Segment {
 
 /// The segment at an index, and one of no width past the end.
 #[inline]
-pub fn segment_at(line: &[Segment], index: usize) -> Segment {
+pub(crate) fn segment_at(line: &[Segment], index: usize) -> Segment {
     if index < line.len() {
         line[index]
     } else {
@@ -26,7 +26,7 @@ pub fn segment_at(line: &[Segment], index: usize) -> Segment {
 }
 
 /// The index of the lowest segment, of several the leftmost.
-pub fn lowest(line: &[Segment]) -> usize {
+pub(crate) fn lowest(line: &[Segment]) -> usize {
     let mut best = 0;
     for k in 1..line.len() {
         if line[k].height < segment_at(line, best).height {
@@ -52,7 +52,13 @@ fn append(next: &mut [Segment], count: usize, segment: Segment) -> usize {
 
 /// Writes the skyline in which the left part of a gap is as high as `top`, up to a width. It
 /// answers how many segments there are.
-pub fn raise(line: &[Segment], gap: usize, width: u32, top: u32, next: &mut [Segment]) -> usize {
+pub(crate) fn raise(
+    line: &[Segment],
+    gap: usize,
+    width: u32,
+    top: u32,
+    next: &mut [Segment],
+) -> usize {
     let mut count = 0;
     for k in 0..line.len() {
         let segment = line[k];

@@ -4,19 +4,19 @@ use box_instances::{Instance, NoMemory};
 use std::alloc::Global;
 
 /// Makes all entries 0.
-pub fn clear(list: &mut [u32]) {
+pub(crate) fn clear(list: &mut [u32]) {
     list.fill(0);
 }
 
 /// Copies a list into another that is as long, and nothing into one that isn't.
-pub fn copy_into(from: &[u32], into: &mut [u32]) {
+pub(crate) fn copy_into(from: &[u32], into: &mut [u32]) {
     if from.len() == into.len() {
         into.copy_from_slice(from);
     }
 }
 
 /// The numbers below a count, from 0 on.
-pub fn first_numbers(alloc: Global, count: u32) -> Result<Vec<u32>, NoMemory> {
+pub(crate) fn first_numbers(alloc: Global, count: u32) -> Result<Vec<u32>, NoMemory> {
     let Ok(list) = (0..count).collect(alloc) else {
         return Err(NoMemory);
     };
@@ -25,7 +25,7 @@ pub fn first_numbers(alloc: Global, count: u32) -> Result<Vec<u32>, NoMemory> {
 
 /// A working side of a box, and 0 where there is none.
 #[inline]
-pub fn side(instance: &Instance, box_no: u32, dim: u32) -> u32 {
+pub(crate) fn side(instance: &Instance, box_no: u32, dim: u32) -> u32 {
     if box_no < instance.len() && dim < instance.dims() {
         instance.side(box_no, dim)
     } else {
@@ -35,7 +35,7 @@ pub fn side(instance: &Instance, box_no: u32, dim: u32) -> u32 {
 
 /// What a box is worth, and 0 where there is none.
 #[inline]
-pub fn value(instance: &Instance, box_no: u32) -> u64 {
+pub(crate) fn value(instance: &Instance, box_no: u32) -> u64 {
     if box_no < instance.len() {
         instance.value(box_no)
     } else {
@@ -45,7 +45,7 @@ pub fn value(instance: &Instance, box_no: u32) -> u64 {
 
 /// A working side of the container, and 0 where there is none.
 #[inline]
-pub fn container_side(instance: &Instance, dim: u32) -> u32 {
+pub(crate) fn container_side(instance: &Instance, dim: u32) -> u32 {
     if dim < instance.dims() {
         instance.container_side(dim)
     } else {

@@ -33,7 +33,7 @@ fn order_of(alloc: Global, dims: u32, up: u32) -> Result<Vec<u32>, NoMemory> {
 }
 
 /// How many boxes a list has; no list has more than an instance may have.
-pub fn count_of(boxes: &[u32]) -> u32 {
+pub(crate) fn count_of(boxes: &[u32]) -> u32 {
     boxes.len().min(128) as u32
 }
 

@@ -1,5 +1,6 @@
 -- What an outcome behind a proposal is worth.
-use Rattle.std.proofs.Common.{◌≡◌, ℕ, ◌+◌, ◌-◌, ◌*◌, ◌/◌, ◌^◌, ◌<◌, ◌≤◌, refl, sym, ◌∙◌, subst, arith, Bool, true, false, nat_lt, ltb, if◌then◌else◌, List, [], map}
+use Rattle.std.proofs.Common.{◌≡◌, ℕ, ◌+◌, ◌-◌, ◌*◌, ◌/◌, ◌^◌, ◌<◌, ◌≤◌, refl, sym, ◌∙◌, subst, arith, Bool, true}
+use Rattle.std.proofs.Common.{false, nat_lt, ltb, if◌then◌else◌, List, [], map}
 use Rattle.std.proofs.lemmas.Bool.{ltb-true}
 use Rattle.packing_terms.specs.Packing.{PlainInstance, Fits, dims, box_count, IsPacking}
 use Rattle.packing_terms.specs.Limits.{IsInternalInstance}
@@ -22,17 +23,22 @@ use Rattle.class_search.specs.Right.{IsRight, Decides, IsYesOrNo}
 use Rattle.class_search.proofs.Rights.{class_right}
 use Rattle.conflict_search.specs.Sizes.{IsSized}
 use Rattle.conflict_search.specs.declared.proposal.Proposal.{Proposal}
-use Rattle.conflict_search.specs.declared.proposal.Proposal.TheVariants.{Places as ProposedPlaces, Tokens as ProposedTokens, Nothing as ProposedNothing}
-use Rattle.proposed_answers.specs.Behind.{PlainProposal, plain_proposal, Places, Tokens, Nothing, IsCounted, is_refutation, by_places, by_tokens, answer_behind, tree_count, tree_told}
+use Rattle.conflict_search.specs.declared.proposal.Proposal.TheVariants.{Places as ProposedPlaces}
+use Rattle.conflict_search.specs.declared.proposal.Proposal.TheVariants.{Tokens as ProposedTokens}
+use Rattle.conflict_search.specs.declared.proposal.Proposal.TheVariants.{Nothing as ProposedNothing}
+use Rattle.proposed_answers.specs.Behind.{PlainProposal, plain_proposal, Places, Tokens, Nothing, IsCounted}
+use Rattle.proposed_answers.specs.Behind.{is_refutation, by_places, by_tokens, answer_behind, tree_count, tree_told}
 
-pub proposal_counted : (instance : PlainInstance) (p : Proposal) → IsSized instance p → IsCounted instance (plain_proposal p)
+pub proposal_counted : (instance : PlainInstance) (p : Proposal) → IsSized instance p
+    → IsCounted instance (plain_proposal p)
 proposal_counted instance (ProposedPlaces places) h = h
 proposal_counted instance (ProposedTokens tokens) h = tt
 proposal_counted instance ProposedNothing h = tt
 
 module _ (instance : PlainInstance) where
   -- a proposal that passes its test is right, and so is what it stands before
-  pub behind_right : (p : PlainProposal) (other : PlainOutcome) → IsCounted instance p → IsRight instance [] other → IsRight instance [] (answer_behind instance p other)
+  pub behind_right : (p : PlainProposal) (other : PlainOutcome) → IsCounted instance p → IsRight instance [] other
+      → IsRight instance [] (answer_behind instance p other)
   behind_right (Places places) other counted right = go (place_verdict instance places) refl
     where
       go : (v : PlaceVerdict) → place_verdict instance places ≡ v → IsRight instance [] (by_places v places other)
@@ -62,7 +68,8 @@ module _ (instance : PlainInstance) where
   behind_past Nothing other e = e
 
   -- it is yes or no where the other outcome is
-  pub behind_decided : (p : PlainProposal) (other : PlainOutcome) → IsYesOrNo other → IsYesOrNo (answer_behind instance p other)
+  pub behind_decided : (p : PlainProposal) (other : PlainOutcome) → IsYesOrNo other
+      → IsYesOrNo (answer_behind instance p other)
   behind_decided (Places places) other h = go (place_verdict instance places)
     where
       go : (v : PlaceVerdict) → IsYesOrNo (by_places v places other)
@@ -77,7 +84,8 @@ module _ (instance : PlainInstance) where
   behind_decided Nothing other h = h
 
   -- where nothing stands behind it, it is itself or past
-  pub behind_shown : (p : PlainProposal) (v : Verdict) (other : PlainOutcome) → answer_behind instance p Past ≡ Decided v → Decided v ≡ answer_behind instance p other
+  pub behind_shown : (p : PlainProposal) (v : Verdict) (other : PlainOutcome)
+      → answer_behind instance p Past ≡ Decided v → Decided v ≡ answer_behind instance p other
   behind_shown (Places places) v other e = go (place_verdict instance places) e
     where
       go : (x : PlaceVerdict) → by_places x places Past ≡ Decided v → Decided v ≡ by_places x places other
@@ -92,7 +100,8 @@ module _ (instance : PlainInstance) where
   behind_shown Nothing v other e = absurd (cc (e))
 
   -- and where it is past, the other outcome comes
-  pub behind_other : (p : PlainProposal) (other : PlainOutcome) → answer_behind instance p Past ≡ Past → other ≡ answer_behind instance p other
+  pub behind_other : (p : PlainProposal) (other : PlainOutcome) → answer_behind instance p Past ≡ Past
+      → other ≡ answer_behind instance p other
   behind_other (Places places) other e = go (place_verdict instance places) e
     where
       go : (x : PlaceVerdict) → by_places x places Past ≡ Past → other ≡ by_places x places other
@@ -107,10 +116,12 @@ module _ (instance : PlainInstance) where
   behind_other Nothing other e = refl
 
 -- tokens that were taken one by one, and leave no node open, refute the instance
-pub tokens_right : (instance : PlainInstance) (tokens all : List Token) (b : Bool) → all ≡ tokens → b ≡ is_refutation instance (map plain_token all) → b ≡ true
+pub tokens_right : (instance : PlainInstance) (tokens all : List Token) (b : Bool) → all ≡ tokens
+    → b ≡ is_refutation instance (map plain_token all) → b ≡ true
     → Refutes instance [] (map plain_token tokens)
 tokens_right instance tokens all b e f g =
-    subst (λ (ts : List Token). Refutes instance [] (map plain_token ts)) e ((inner_fed instance [] (map plain_token all)).0 (sym f ∙ g))
+    subst (λ (ts : List Token). Refutes instance [] (map plain_token ts)) e
+    ((inner_fed instance [] (map plain_token all)).0 (sym f ∙ g))
 
 -- what is told of a tree is past only where the tree has more branchings than the budget
 pub told_more : (budget : ℕ) (v : Verdict) → told budget v ≡ Past → budget < count_of v
@@ -121,18 +132,24 @@ told_more budget v e = go (ltb budget (count_of v)) refl e
     go false f g = absurd (cc (g))
 
 -- what is right decides
-pub right_decides : (instance : PlainInstance) → IsInternalInstance instance → (o : PlainOutcome) → IsRight instance [] o → Decides instance o
+pub right_decides : (instance : PlainInstance) → IsInternalInstance instance → (o : PlainOutcome)
+    → IsRight instance [] o → Decides instance o
 right_decides instance limits (Decided (Yes places count)) h = (places, h)
-right_decides instance limits (Decided (No tokens count)) h = none_fits excess_law instance (internal_sides instance limits) tokens h
+right_decides instance limits (Decided (No tokens count)) h =
+    none_fits excess_law instance (internal_sides instance limits) tokens h
 right_decides instance limits Past h = tt
 
-module _ (instance : PlainInstance) (limits : IsInternalInstance instance) (budget : ℕ) (scales : Bool) (p : PlainProposal) (r : PlainOutcome)
+module _ (instance : PlainInstance) (limits : IsInternalInstance instance) (budget : ℕ) (scales : Bool)
+    (p : PlainProposal) (r : PlainOutcome)
     (is : r ≡ answer_behind instance p (tree_told instance budget scales)) where
   pub outcome_right : IsCounted instance p → IsRight instance [] r
-  outcome_right counted = rw is (behind_right instance p (tree_told instance budget scales) counted (class_right instance limits scales budget _ refl))
+  outcome_right counted = rw is (behind_right instance p (tree_told instance budget scales) counted
+      (class_right instance limits scales budget _ refl))
 
   pub outcome_past : r ≡ Past → budget < tree_count instance scales
-  outcome_past e = told_more budget (outcome (class_tree instance [] scales)) (behind_past instance p (tree_told instance budget scales) (sym is ∙ e))
+  outcome_past e = told_more budget (outcome (class_tree instance [] scales))
+      (behind_past instance p (tree_told instance budget scales) (sym is ∙ e))
 
   pub outcome_within : tree_count instance scales ≤ budget → IsYesOrNo r
-  outcome_within l = rw (is) (behind_decided instance p (tree_told instance budget scales) (subst IsYesOrNo (sym (told_decided budget (outcome (class_tree instance [] scales)) l)) tt))
+  outcome_within l = rw (is) (behind_decided instance p (tree_told instance budget scales)
+      (subst IsYesOrNo (sym (told_decided budget (outcome (class_tree instance [] scales)) l)) tt))

@@ -1,5 +1,6 @@
 -- Tokens that were fed one by one.
-use Rattle.std.proofs.Common.{◌≡◌, ℕ, zero, suc, ◌+◌, ◌<◌, ◌≤◌, ◌∙◌, refl, sym, ap, arith, List, [], ◌∷◌, ◌++◌, length, map, take, get_or}
+use Rattle.std.proofs.Common.{◌≡◌, ℕ, zero, suc, ◌+◌, ◌<◌, ◌≤◌, ◌∙◌, refl, sym, ap, arith, List, [], ◌∷◌, ◌++◌, length}
+use Rattle.std.proofs.Common.{map, take, get_or}
 use Rattle.std.proofs.lemmas.List.FromFn.{fill_by_all}
 use Rattle.std.proofs.lemmas.List.{map_push, take_more}
 use Rattle.packing_terms.specs.declared.Exclusion.{Exclusion}
@@ -16,30 +17,46 @@ use Rattle.refutation_check.specs.Refuters.{PlainRefuter, fed}
 pub whole_set : (instance : PlainInstance) → subset instance (all_boxes instance) ≡ instance
 whole_set instance =
     ap (λ bs. record instance { boxes = bs })
-    (sym (fill_by_all (λ v. get_or instance.boxes v no_box) instance.boxes (box_count instance) no_box refl (λ k l. refl)))
+    (sym (fill_by_all (λ v. get_or instance.boxes v no_box) instance.boxes (box_count instance) no_box refl
+    (λ k l. refl)))
 
 -- the refuter of an instance to which these tokens were fed
 abbrev pub fed_all : PlainInstance → List PlainToken → PlainRefuter
-fed_all instance ts = record { instance = instance; keep = all_boxes instance; checked = checked_after_all (inner_after instance) (starting []) ts }
+fed_all instance ts = record {
+  instance = instance;
+  keep = all_boxes instance;
+  checked = checked_after_all (inner_after instance) (starting []) ts;
+}
 
 after_more : (instance : PlainInstance) (c : Checked (List Exclusion)) (ts : List PlainToken) (t : PlainToken)
-    → checked_after_all (inner_after instance) c (ts ++ t ∷ []) ≡ checked_after (inner_after instance) (checked_after_all (inner_after instance) c ts) t
+    → checked_after_all (inner_after instance) c (ts ++ t ∷ [])
+    ≡ checked_after (inner_after instance) (checked_after_all (inner_after instance) c ts) t
 after_more instance c [] t = refl
 after_more instance c (s ∷ ts) t = after_more instance (checked_after (inner_after instance) c s) ts t
 
 -- one token more
-pub fed_more : (instance : PlainInstance) (ts : List PlainToken) (t : PlainToken) → fed (fed_all instance ts) t ≡ fed_all instance (ts ++ t ∷ [])
+pub fed_more : (instance : PlainInstance) (ts : List PlainToken) (t : PlainToken)
+    → fed (fed_all instance ts) t ≡ fed_all instance (ts ++ t ∷ [])
 fed_more instance ts t =
-    ap (λ (i : PlainInstance). record { instance = instance; keep = all_boxes instance; checked = checked_after (inner_after i) (checked_after_all (inner_after instance) (starting []) ts) t }) (whole_set instance)
-    ∙ sym (ap (λ (c : Checked (List Exclusion)). record { instance = instance; keep = all_boxes instance; checked = c }) (after_more instance (starting []) ts t))
+    ap (λ (i : PlainInstance). record {
+      instance = instance;
+      keep = all_boxes instance;
+      checked = checked_after (inner_after i) (checked_after_all (inner_after instance) (starting []) ts) t;
+    })
+    (whole_set instance)
+    ∙ sym (ap (λ (c : Checked (List Exclusion)). record { instance = instance; keep = all_boxes instance; checked = c })
+    (after_more instance (starting []) ts t))
 
 -- the token at a position more
-pub fed_next : (instance : PlainInstance) (tokens : List Token) (k : ℕ) (t : Token) (r s : PlainRefuter) → k < length tokens → t ≡ get_or tokens k t
-    → r ≡ fed_all instance (map plain_token (take k tokens)) → s ≡ fed r (plain_token t) → s ≡ fed_all instance (map plain_token (take (k + 1) tokens))
+pub fed_next : (instance : PlainInstance) (tokens : List Token) (k : ℕ) (t : Token) (r s : PlainRefuter)
+    → k < length tokens → t ≡ get_or tokens k t
+    → r ≡ fed_all instance (map plain_token (take k tokens)) → s ≡ fed r (plain_token t)
+    → s ≡ fed_all instance (map plain_token (take (k + 1) tokens))
 fed_next instance tokens k t r s l is e f =
     f ∙ (ap (λ (x : PlainRefuter). fed x (plain_token t)) e
     ∙ (fed_more instance (map plain_token (take k tokens)) (plain_token t)
     ∙ ap (λ (ts : List PlainToken). fed_all instance ts) (sym longer)))
   where
     longer : map plain_token (take (k + 1) tokens) ≡ map plain_token (take k tokens) ++ plain_token t ∷ []
-    longer = ap (map plain_token) (take_more tokens k t l ∙ ap (λ (x : Token). take k tokens ++ x ∷ []) (sym is)) ∙ map_push plain_token (take k tokens) t
+    longer = ap (map plain_token) (take_more tokens k t l ∙ ap (λ (x : Token). take k tokens ++ x ∷ []) (sym is))
+        ∙ map_push plain_token (take k tokens) t

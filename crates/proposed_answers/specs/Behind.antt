@@ -11,7 +11,9 @@ use Rattle.check_terms.specs.Placing.{place_verdict}
 use Rattle.check_terms.specs.Checking.{starting, is_whole, inner_after, checked_after_all}
 use Rattle.proof_tree.specs.Plain.{plain_token}
 use Rattle.conflict_search.specs.declared.proposal.Proposal.{Proposal}
-use Rattle.conflict_search.specs.declared.proposal.Proposal.TheVariants.{Places as ProposedPlaces, Tokens as ProposedTokens, Nothing as ProposedNothing}
+use Rattle.conflict_search.specs.declared.proposal.Proposal.TheVariants.{Places as ProposedPlaces}
+use Rattle.conflict_search.specs.declared.proposal.Proposal.TheVariants.{Tokens as ProposedTokens}
+use Rattle.conflict_search.specs.declared.proposal.Proposal.TheVariants.{Nothing as ProposedNothing}
 
 -- a proposal, with lists
 pub data PlainProposal : Type 0 where

@@ -1,5 +1,6 @@
 -- What the answer for bins says, from the bounds that were reached.
-use Rattle.std.proofs.Common.{◌≡◌, ℕ, suc, pred, ◌-◌, ◌<◌, ◌≤◌, inl, inr, refl, sym, ap, subst, arith, Bool, true, false, ltb, if◌then◌else◌, List, []}
+use Rattle.std.proofs.Common.{◌≡◌, ℕ, suc, pred, ◌-◌, ◌<◌, ◌≤◌, inl, inr, refl, sym, ap, subst, arith, Bool, true}
+use Rattle.std.proofs.Common.{false, ltb, if◌then◌else◌, List, []}
 use Rattle.std.proofs.lemmas.Bool.{ltb-true}
 use Rattle.packing_terms.specs.Packing.{PlainInstance, box_count}
 use Rattle.packing_terms.specs.Goals.{FitsInBins, HasTooLargeBox}
@@ -22,15 +23,19 @@ use Rattle.level_bounds.proofs.Narrowing.{are_first, closed}
 use Rattle.bin_knapsack.specs.declared.bins.Bins.{Bins}
 use Rattle.bin_knapsack.specs.declared.bins.Bins.TheVariants.{Least, Between, NoneFits}
 use Rattle.bin_knapsack.specs.BinAnswers.{IsAnswer, AreTrueBins, IsCertifiedBetween}
-use Rattle.proposed_bins.specs.Counts.{bins_count, IsPastCount, IsBinsAnswer, AreBinBounds, AreFirstBounds, TellsBins, AreNamedBins, AreLimitedBins, IsPastBeside}
+use Rattle.proposed_bins.specs.Counts.{bins_count, IsPastCount, IsBinsAnswer, AreBinBounds, AreFirstBounds, TellsBins}
+use Rattle.proposed_bins.specs.Counts.{AreNamedBins, AreLimitedBins, IsPastBeside}
 
 -- what is told of the tree for a number of bins is the answer there
-pub bins_answered : (instance : PlainInstance) (settings : Settings) (k : ℕ) → IsBinRight instance k [] (outcome (bin_tree instance k settings.scales))
+pub bins_answered : (instance : PlainInstance) (settings : Settings) (k : ℕ)
+    → IsBinRight instance k [] (outcome (bin_tree instance k settings.scales))
     → IsBinsAnswer instance settings k (bin_answer instance settings.budget settings.scales k)
 bins_answered instance settings k =
-    go (ltb settings.budget (bins_count instance settings.scales k)) refl (outcome (bin_tree instance k settings.scales))
+    go (ltb settings.budget (bins_count instance settings.scales k)) refl
+    (outcome (bin_tree instance k settings.scales))
   where
-    go : (b : Bool) → ltb settings.budget (bins_count instance settings.scales k) ≡ b → (v : Verdict) → IsBinRight instance k [] v
+    go : (b : Bool) → ltb settings.budget (bins_count instance settings.scales k) ≡ b → (v : Verdict)
+        → IsBinRight instance k [] v
         → IsBinsAnswer instance settings k (level_by (if b then Past else Decided v))
     go true e v h = ltb-true settings.budget (bins_count instance settings.scales k) e
     go false e (Yes ns c) h = h
@@ -57,13 +62,16 @@ module _ (instance : PlainInstance) (limits : IsInternalInstance instance) (budg
 
 -- bounds by two numbers with both certificates
 pub between_bounds : (instance : PlainInstance) (refuted bins : ℕ) (tokens : List PlainToken) (numbers : List ℕ)
-    → IsCertifiedBetween instance refuted tokens bins numbers → bins ≤ box_count instance → AreFirstBounds instance (first_bounds refuted tokens bins numbers)
+    → IsCertifiedBetween instance refuted tokens bins numbers → bins ≤ box_count instance
+    → AreFirstBounds instance (first_bounds refuted tokens bins numbers)
 between_bounds instance refuted bins tokens numbers t most =
-    are_first (AreBinNumbers instance) (IsBinRefutation instance) (λ k. Unit {0}) (box_count instance) refuted bins tokens numbers t.order most t.refutes t.packed
+    are_first (AreBinNumbers instance) (IsBinRefutation instance) (λ k. Unit {0}) (box_count instance) refuted bins
+    tokens numbers t.order most t.refutes t.packed
 
 -- the same two numbers, of which no other is known to be past the budget
 pub bounds_afresh : (instance : PlainInstance) (Spent : ℕ → Type 0) (settings : Settings) (b : PlainBounds)
-    → AreBounds (AreBinNumbers instance) (IsBinRefutation instance) Spent (box_count instance) b → AreBinBounds instance settings (afresh b)
+    → AreBounds (AreBinNumbers instance) (IsBinRefutation instance) Spent (box_count instance) b
+    → AreBinBounds instance settings (afresh b)
 bounds_afresh instance Spent settings b h =
     are_first (AreBinNumbers instance) (IsBinRefutation instance) (IsPastCount instance settings) (box_count instance)
     b.refuted b.placed b.tokens b.numbers h.order h.within h.denied h.shown
@@ -121,10 +129,12 @@ module _ (instance : PlainInstance) (limits : IsInternalInstance instance) (sett
   pub bounds_past : (s : Bins) → TellsBins b s → IsPastBeside instance settings.budget settings.scales s
   bounds_past (Least bins numbers tokens) t = tt
   bounds_past (Between refuted tokens bins numbers) t =
-      go (closed (AreBinNumbers instance) (IsBinRefutation instance) (IsPastCount instance settings) (box_count instance) b are narrow)
+      go (closed (AreBinNumbers instance) (IsBinRefutation instance) (IsPastCount instance settings)
+      (box_count instance) b are narrow)
     where
       go : IsClosed (IsPastCount instance settings) b
-          → (settings.budget < bins_count instance settings.scales (suc refuted)) × (settings.budget < bins_count instance settings.scales (pred bins))
+          → (settings.budget < bins_count instance settings.scales (suc refuted))
+          × (settings.budget < bins_count instance settings.scales (pred bins))
       go (inl n) = let a = t.apart in absurd (omega (arith, n, a))
       go (inr p) = (
         subst (λ (k : ℕ). settings.budget < bins_count instance settings.scales (suc k)) (sym t.refuted_is) p.0,

@@ -26,15 +26,18 @@ IsPastCount instance settings k = settings.budget < bins_count instance settings
 
 -- the answer for a number of bins
 abbrev pub IsBinsAnswer : PlainInstance → Settings → ℕ → PlainLevel → Type 0
-IsBinsAnswer instance settings = IsRightAnswer (AreBinNumbers instance) (IsBinRefutation instance) (IsPastCount instance settings)
+IsBinsAnswer instance settings =
+    IsRightAnswer (AreBinNumbers instance) (IsBinRefutation instance) (IsPastCount instance settings)
 
 -- bounds of the least number of bins
 abbrev pub AreBinBounds : PlainInstance → Settings → PlainBounds → Type 0
-AreBinBounds instance settings = AreBounds (AreBinNumbers instance) (IsBinRefutation instance) (IsPastCount instance settings) (box_count instance)
+AreBinBounds instance settings =
+    AreBounds (AreBinNumbers instance) (IsBinRefutation instance) (IsPastCount instance settings) (box_count instance)
 
 -- the like where nothing is known of what was decided in vain
 abbrev pub AreFirstBounds : PlainInstance → PlainBounds → Type 0
-AreFirstBounds instance = AreBounds (AreBinNumbers instance) (IsBinRefutation instance) (λ k. Unit {0}) (box_count instance)
+AreFirstBounds instance = AreBounds (AreBinNumbers instance) (IsBinRefutation instance) (λ k. Unit {0})
+    (box_count instance)
 
 -- the answer tells these bounds
 pub record TellsLeast (b : PlainBounds) (bins : ℕ) (numbers : List ℕ) (tokens : List PlainToken) : Type 0 where
@@ -43,7 +46,8 @@ pub record TellsLeast (b : PlainBounds) (bins : ℕ) (numbers : List ℕ) (token
   pub numbers_are : numbers ≡ b.numbers
   pub tokens_are : tokens ≡ b.tokens
 
-pub record TellsBetween (b : PlainBounds) (refuted : ℕ) (tokens : List PlainToken) (bins : ℕ) (numbers : List ℕ) : Type 0 where
+pub record TellsBetween (b : PlainBounds) (refuted : ℕ) (tokens : List PlainToken) (bins : ℕ) (numbers : List ℕ) :
+    Type 0 where
   pub apart : suc b.refuted < b.placed
   pub refuted_is : refuted ≡ b.refuted
   pub tokens_are : tokens ≡ b.tokens
@@ -52,7 +56,8 @@ pub record TellsBetween (b : PlainBounds) (refuted : ℕ) (tokens : List PlainTo
 
 abbrev pub TellsBins : PlainBounds → Bins → Type 0
 TellsBins b (Least bins numbers tokens) = TellsLeast b bins numbers.items (plain_tokens tokens.items)
-TellsBins b (Between refuted tokens bins numbers) = TellsBetween b refuted (plain_tokens tokens.items) bins numbers.items
+TellsBins b (Between refuted tokens bins numbers) =
+    TellsBetween b refuted (plain_tokens tokens.items) bins numbers.items
 TellsBins b (NoneFits v i) = ⊥
 
 -- `NoneFits` exactly where a box is too large, with the first one

@@ -15,7 +15,7 @@ use work_share::{Gate, Settings};
 
 /// Bounds of the least number of bins, narrowed until both numbers beside them were decided in vain
 /// or the two are neighbours.
-pub fn narrow_bins<R: Threads + Wait + Sync, G: Gate + Sync>(
+pub(crate) fn narrow_bins<R: Threads + Wait + Sync, G: Gate + Sync>(
     rt: &R,
     alloc: Global,
     search: &mut SetSearch<'_>,

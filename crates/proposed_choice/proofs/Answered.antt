@@ -1,5 +1,6 @@
 -- What the answer for a value says, from the bounds that were reached.
-use Rattle.std.proofs.Common.{◌≡◌, ℕ, suc, pred, ◌<◌, inl, inr, refl, sym, subst, arith, Bool, true, false, ltb, if◌then◌else◌}
+use Rattle.std.proofs.Common.{◌≡◌, ℕ, suc, pred, ◌<◌, inl, inr, refl, sym, subst, arith, Bool, true, false, ltb}
+use Rattle.std.proofs.Common.{if◌then◌else◌}
 use Rattle.std.proofs.lemmas.Bool.{ltb-true}
 use Rattle.packing_terms.specs.Packing.{PlainInstance}
 use Rattle.packing_terms.specs.Goals.{ReachesValue}
@@ -17,33 +18,46 @@ use Rattle.tree_terms.specs.RunEnds.{value_answer}
 use Rattle.tree_terms.proofs.FirstLevels.{value_above, value_zero}
 use Rattle.tree_terms.proofs.OuterDecisions.{choice_tree_right}
 use Rattle.text_terms.specs.declared.settings.Settings.{Settings}
-use Rattle.level_bounds.specs.Bounds.{PlainBounds, first_bounds, afresh, narrowed, asked_left, IsAsked, IsNarrow, IsClosed, AreBounds}
+use Rattle.level_bounds.specs.Bounds.{PlainBounds, first_bounds, afresh, narrowed, asked_left, IsAsked, IsNarrow}
+use Rattle.level_bounds.specs.Bounds.{IsClosed, AreBounds}
 use Rattle.level_bounds.proofs.Narrowing.{are_first, step, closed}
 use Rattle.bin_knapsack.specs.declared.choice.Choice.{Choice}
 use Rattle.bin_knapsack.specs.declared.choice.Choice.TheVariants.{Greatest, Between}
 use Rattle.bin_knapsack.specs.Choices.{IsTrueChoice}
-use Rattle.proposed_choice.specs.Values.{top_value, value_at, value_count, ShowsLevel, RefutesLevel, IsPastLevel, IsLevelAnswer, AreValueBounds, AreFirstBounds, TellsValues, IsLimitedChoice, IsPastBeside}
+use Rattle.proposed_choice.specs.Values.{top_value, value_at, value_count, ShowsLevel, RefutesLevel, IsPastLevel}
+use Rattle.proposed_choice.specs.Values.{IsLevelAnswer, AreValueBounds, AreFirstBounds, TellsValues, IsLimitedChoice}
+use Rattle.proposed_choice.specs.Values.{IsPastBeside}
 
 -- what is told of the tree for a value is the answer there
-pub value_answered : (instance : PlainInstance) (settings : Settings) (level : ℕ) → IsChoiceRight instance (value_at instance level) no_choice (outcome (choice_tree instance (value_at instance level) settings.scales))
-    → IsLevelAnswer instance settings level (value_answer instance settings.budget settings.scales (value_at instance level))
+pub value_answered : (instance : PlainInstance) (settings : Settings) (level : ℕ)
+    → IsChoiceRight instance (value_at instance level) no_choice
+    (outcome (choice_tree instance (value_at instance level) settings.scales))
+    → IsLevelAnswer instance settings level
+    (value_answer instance settings.budget settings.scales (value_at instance level))
 value_answered instance settings level =
-    go (ltb settings.budget (value_count instance settings.scales (value_at instance level))) refl (outcome (choice_tree instance (value_at instance level) settings.scales))
+    go (ltb settings.budget (value_count instance settings.scales (value_at instance level))) refl
+    (outcome (choice_tree instance (value_at instance level) settings.scales))
   where
-    go : (b : Bool) → ltb settings.budget (value_count instance settings.scales (value_at instance level)) ≡ b → (v : Verdict) → IsChoiceRight instance (value_at instance level) no_choice v
+    go : (b : Bool) → ltb settings.budget (value_count instance settings.scales (value_at instance level)) ≡ b
+        → (v : Verdict) → IsChoiceRight instance (value_at instance level) no_choice v
         → IsLevelAnswer instance settings level (level_by (if b then Past else Decided v))
     go true e v h = ltb-true settings.budget (value_count instance settings.scales (value_at instance level)) e
     go false e (Yes ns c) h = h
     go false e (No ts c) h = h
 
 -- an answer at a level that may be asked leaves bounds, and less to be asked
-pub asked_step : (instance : PlainInstance) → IsInternalInstance instance → (settings : Settings) (b : PlainBounds) → AreValueBounds instance settings b
-    → (level : ℕ) → IsAsked b level → (answer : PlainLevel) → answer ≡ value_answer instance settings.budget settings.scales (value_at instance level)
-    → (after : PlainBounds) → after ≡ narrowed b level answer → AreValueBounds instance settings after × (asked_left after < asked_left b)
+pub asked_step : (instance : PlainInstance) → IsInternalInstance instance → (settings : Settings) (b : PlainBounds)
+    → AreValueBounds instance settings b
+    → (level : ℕ) → IsAsked b level → (answer : PlainLevel)
+    → answer ≡ value_answer instance settings.budget settings.scales (value_at instance level)
+    → (after : PlainBounds) → after ≡ narrowed b level answer → AreValueBounds instance settings after
+    × (asked_left after < asked_left b)
 asked_step instance limits settings b are level asked answer told after e =
-    let s = step (ShowsLevel instance) (RefutesLevel instance) (IsPastLevel instance settings) (top_value instance) b are level answer asked
+    let s = step (ShowsLevel instance) (RefutesLevel instance) (IsPastLevel instance settings) (top_value instance) b
+    are level answer asked
     (subst (λ (a : PlainLevel). IsLevelAnswer instance settings level a) (sym told)
-    (value_answered instance settings level (choice_tree_right instance limits (value_at instance level) settings.scales))) in (
+    (value_answered instance settings level
+    (choice_tree_right instance limits (value_at instance level) settings.scales))) in (
       subst (λ (x : PlainBounds). AreValueBounds instance settings x) (sym e) s.are,
       subst (λ (x : PlainBounds). asked_left x < asked_left b) (sym e) s.less,
     )
@@ -52,13 +66,16 @@ asked_step instance limits settings b are level asked answer told after e =
 
 module _ (instance : PlainInstance) (limits : IsInternalInstance instance) (settings : Settings) where
   -- one more than all boxes are worth is refuted, and 0 is reached
-  pub start_bounds : (r : PlainReached) → r ≡ first_values instance → AreValueBounds instance settings (first_bounds 0 r.tokens r.refuted r.numbers)
+  pub start_bounds : (r : PlainReached) → r ≡ first_values instance
+      → AreValueBounds instance settings (first_bounds 0 r.tokens r.refuted r.numbers)
   start_bounds r e =
-      subst (λ (x : PlainReached). AreValueBounds instance settings (first_bounds 0 x.tokens x.refuted x.numbers)) (sym e)
+      subst (λ (x : PlainReached). AreValueBounds instance settings
+      (first_bounds 0 x.tokens x.refuted x.numbers)) (sym e)
       (are_first (ShowsLevel instance) (RefutesLevel instance) (IsPastLevel instance settings) (top_value instance)
       0 (top_value instance) (first_values instance).tokens (first_values instance).numbers
       (omega arith) (omega arith)
-      (subst (λ (k : ℕ). IsValueRefutation instance k (first_values instance).tokens) whole (value_above instance limits))
+      (subst (λ (k : ℕ). IsValueRefutation instance k (first_values instance).tokens) whole
+      (value_above instance limits))
       (subst (λ (k : ℕ). AreTakenNumbers instance k (first_values instance).numbers) none (value_zero instance limits)))
     where
       whole : top_value instance ≡ value_at instance 0
@@ -69,13 +86,15 @@ module _ (instance : PlainInstance) (limits : IsInternalInstance instance) (sett
 
 -- the same two levels, of which no other is known to be past the budget
 pub bounds_forgotten : (instance : PlainInstance) (Spent : ℕ → Type 0) (b : PlainBounds)
-    → AreBounds (ShowsLevel instance) (RefutesLevel instance) Spent (top_value instance) b → AreFirstBounds instance (afresh b)
+    → AreBounds (ShowsLevel instance) (RefutesLevel instance) Spent (top_value instance) b
+    → AreFirstBounds instance (afresh b)
 bounds_forgotten instance Spent b h =
     are_first (ShowsLevel instance) (RefutesLevel instance) (λ level. Unit {0}) (top_value instance)
     b.refuted b.placed b.tokens b.numbers h.order h.within h.denied h.shown
 
 pub bounds_afresh : (instance : PlainInstance) (Spent : ℕ → Type 0) (settings : Settings) (b : PlainBounds)
-    → AreBounds (ShowsLevel instance) (RefutesLevel instance) Spent (top_value instance) b → AreValueBounds instance settings (afresh b)
+    → AreBounds (ShowsLevel instance) (RefutesLevel instance) Spent (top_value instance) b
+    → AreValueBounds instance settings (afresh b)
 bounds_afresh instance Spent settings b h =
     are_first (ShowsLevel instance) (RefutesLevel instance) (IsPastLevel instance settings) (top_value instance)
     b.refuted b.placed b.tokens b.numbers h.order h.within h.denied h.shown
@@ -85,7 +104,8 @@ bounds_afresh instance Spent settings b h =
 module _ (instance : PlainInstance) (limits : IsInternalInstance instance) (settings : Settings) (b : PlainBounds)
     (are : AreValueBounds instance settings b) (narrow : IsNarrow b) where
   refuted_unreached : ¬ ReachesValue instance (value_at instance b.refuted)
-  refuted_unreached = none_reaches excess_law instance (internal_sides instance limits) (value_at instance b.refuted) b.tokens are.denied
+  refuted_unreached = none_reaches excess_law instance (internal_sides instance limits) (value_at instance b.refuted)
+      b.tokens are.denied
 
   placed_reached : ReachesValue instance (value_at instance b.placed)
   placed_reached = let shown = are.shown in (shown.taken, shown.set, shown.reached, (shown.places, shown.packing))
@@ -109,7 +129,8 @@ module _ (instance : PlainInstance) (limits : IsInternalInstance instance) (sett
       let f = t.refuted_is in
       record {
         order = omega (arith, o, w, e, f);
-        none_reaches = (λ y l reached. refuted_unreached (reaches_lower instance (value_at instance b.refuted) y (omega (arith, l, f)) reached));
+        none_reaches = (λ y l reached. refuted_unreached
+            (reaches_lower instance (value_at instance b.refuted) y (omega (arith, l, f)) reached));
         packed = rw (t.placed_is, t.numbers_are) are.shown;
         refutes = rw (t.refuted_is, t.tokens_are) are.denied;
       }
@@ -125,7 +146,8 @@ module _ (instance : PlainInstance) (limits : IsInternalInstance instance) (sett
   pub bounds_past : (c : Choice) → TellsValues instance b c → IsPastBeside instance settings.budget settings.scales c
   bounds_past (Greatest value numbers tokens) t = tt
   bounds_past (Between placed numbers refuted tokens) t =
-      go (closed (ShowsLevel instance) (RefutesLevel instance) (IsPastLevel instance settings) (top_value instance) b are narrow)
+      go (closed (ShowsLevel instance) (RefutesLevel instance) (IsPastLevel instance settings) (top_value instance)
+      b are narrow)
     where
       above : value_at instance (pred b.placed) ≡ suc placed
       above = let o = t.apart in let w = are.within in let e = t.placed_is in omega (arith, o, w, e)
@@ -134,7 +156,8 @@ module _ (instance : PlainInstance) (limits : IsInternalInstance instance) (sett
       below_refuted = let f = t.refuted_is in omega (arith, f)
 
       go : IsClosed (IsPastLevel instance settings) b
-          → (settings.budget < value_count instance settings.scales (suc placed)) × (settings.budget < value_count instance settings.scales (pred refuted))
+          → (settings.budget < value_count instance settings.scales (suc placed))
+          × (settings.budget < value_count instance settings.scales (pred refuted))
       go (inl n) = let a = t.apart in absurd (omega (arith, n, a))
       go (inr p) = (
         subst (λ (k : ℕ). settings.budget < value_count instance settings.scales k) above p.1,

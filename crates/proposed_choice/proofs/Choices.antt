@@ -1,5 +1,6 @@
 -- Proposed boxes, and their numbers in an answer.
-use Rattle.std.proofs.Common.{◌≡◌, ◌∙◌, ℕ, ◌+◌, ◌-◌, ◌*◌, ◌<◌, ◌≤◌, sym, ap, arith, eqb, List, length, get_or, Bool, true, false}
+use Rattle.std.proofs.Common.{◌≡◌, ◌∙◌, ℕ, ◌+◌, ◌-◌, ◌*◌, ◌<◌, ◌≤◌, sym, ap, arith, eqb, List, length, get_or, Bool}
+use Rattle.std.proofs.Common.{true, false}
 use Rattle.std.proofs.lemmas.Bool.{eqb-true, eqb-false}
 use Rattle.std.specs.Prelude.{MatchBool}
 use Rattle.std.specs.List.Sorted.{IsStrictlyIncreasing}
@@ -15,7 +16,8 @@ use Rattle.tree_terms.specs.OuterTrees.{choice_numbers}
 use Rattle.proposed_choice.specs.Values.{IsChoice, top_value, ShowsLevel}
 
 -- as many coordinates as the boxes have
-pub choice_places : (instance : PlainInstance) (taken places : List ℕ) → IsChoice instance taken places → length taken * dims instance ≡ length places
+pub choice_places : (instance : PlainInstance) (taken places : List ℕ) → IsChoice instance taken places
+    → length taken * dims instance ≡ length places
 choice_places instance taken places is = ap (λ n. n * dims instance) (sym (length-map taken _)) ∙ sym (is.packing).count
 
 -- what is told of the boxes and of their places
@@ -26,7 +28,8 @@ choice_by instance taken places set true packing = record { set = set; packing =
 choice_by instance taken places set false none = λ c. none c.packing
 
 -- no box has a packing by no coordinate, and by nothing else
-pub none_packed_by : (instance : PlainInstance) (taken places : List ℕ) → length taken ≡ 0 → (b : Bool) → b ≡ eqb (length places) 0
+pub none_packed_by : (instance : PlainInstance) (taken places : List ℕ) → length taken ≡ 0 → (b : Bool)
+    → b ≡ eqb (length places) 0
     → MatchBool b (IsPacking (subset instance taken) places) (¬ IsPacking (subset instance taken) places)
 none_packed_by instance taken places none true e =
     rw (nil_from_length taken none, nil_from_length places (eqb-true (length places) 0 (sym e))) (none_packed instance)
@@ -35,7 +38,8 @@ none_packed_by instance taken places none false e =
     eqb-false (length places) 0 (sym e) (p.count ∙ (ap (λ n. n * dims instance) (length-map taken _ ∙ none) ∙ z))
 
 -- places of which two boxes overlap are none of a packing
-pub crossing_bad : (set : PlainInstance) (places : List ℕ) (verdict : PlaceVerdict) → verdict ≡ place_verdict set places → (first second : ℕ)
+pub crossing_bad : (set : PlainInstance) (places : List ℕ) (verdict : PlaceVerdict) → verdict ≡ place_verdict set places
+    → (first second : ℕ)
     → verdict ≡ Overlap first second → ¬ IsPacking set places
 crossing_bad set places verdict is first second e p = other (sym e ∙ (is ∙ (places_tested set places Good p.count).1 p))
   where
@@ -43,7 +47,8 @@ crossing_bad set places verdict is first second e p = other (sym e ∙ (is ∙ (
     other f = absurd (cc f)
 
 -- a number that isn't below the next
-pub not_rising : (numbers : List ℕ) (k : ℕ) → 1 ≤ k → k < length numbers → get_or numbers k 0 ≤ get_or numbers (k - 1) 0 → ¬ IsStrictlyIncreasing numbers
+pub not_rising : (numbers : List ℕ) (k : ℕ) → 1 ≤ k → k < length numbers → get_or numbers k 0 ≤ get_or numbers (k - 1) 0
+    → ¬ IsStrictlyIncreasing numbers
 not_rising numbers k one below more rising =
     let e : k - 1 + 1 ≡ k = omega (arith, one) in
     let r = rising (k - 1) (omega (arith, one, below)) in
@@ -51,8 +56,10 @@ not_rising numbers k one below more rising =
     omega (arith, r, s, more)
 
 -- the level of what proposed boxes are worth is shown by their numbers
-pub choice_shown : (instance : PlainInstance) (taken places numbers : List ℕ) (level : ℕ) → IsChoice instance taken places
-    → level ≡ top_value instance - worth instance taken → numbers ≡ choice_numbers instance taken places → ShowsLevel instance level numbers
+pub choice_shown : (instance : PlainInstance) (taken places numbers : List ℕ) (level : ℕ)
+    → IsChoice instance taken places
+    → level ≡ top_value instance - worth instance taken → numbers ≡ choice_numbers instance taken places
+    → ShowsLevel instance level numbers
 choice_shown instance taken places numbers level is e written = record {
   taken = taken;
   places = places;

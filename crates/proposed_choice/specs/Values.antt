@@ -1,7 +1,9 @@
 -- Bounds of the greatest value, and what is answered for a value by proposals first.
 --
---     value    0           placed      refuted      top     A value is seen as the level that it lies below the top, which is one
---     level    top         placed      refuted       0      more than all boxes are worth: so the refuted level is the lower one
+-- value    0           placed      refuted      top     A value is seen as the level that it lies
+-- below the top, which is one
+-- level    top         placed      refuted       0      more than all boxes are worth: so the
+-- refuted level is the lower one
 use Rattle.std.specs.Prelude.{ℕ, suc, pred, ◌-◌, ◌<◌, ◌≤◌, ◌≡◌, Bool, List}
 use Rattle.packing_terms.specs.Packing.{PlainInstance, IsPacking}
 use Rattle.packing_terms.specs.Goals.{subset, IsBoxSet}
@@ -48,24 +50,29 @@ IsPastLevel instance settings level = settings.budget < value_count instance set
 
 -- the answer at a level
 abbrev pub IsLevelAnswer : PlainInstance → Settings → ℕ → PlainLevel → Type 0
-IsLevelAnswer instance settings = IsRightAnswer (ShowsLevel instance) (RefutesLevel instance) (IsPastLevel instance settings)
+IsLevelAnswer instance settings =
+    IsRightAnswer (ShowsLevel instance) (RefutesLevel instance) (IsPastLevel instance settings)
 
 -- bounds of the greatest value
 abbrev pub AreValueBounds : PlainInstance → Settings → PlainBounds → Type 0
-AreValueBounds instance settings = AreBounds (ShowsLevel instance) (RefutesLevel instance) (IsPastLevel instance settings) (top_value instance)
+AreValueBounds instance settings =
+    AreBounds (ShowsLevel instance) (RefutesLevel instance) (IsPastLevel instance settings) (top_value instance)
 
 -- the like where nothing is known of what was decided in vain
 abbrev pub AreFirstBounds : PlainInstance → PlainBounds → Type 0
-AreFirstBounds instance = AreBounds (ShowsLevel instance) (RefutesLevel instance) (λ level. Unit {0}) (top_value instance)
+AreFirstBounds instance = AreBounds (ShowsLevel instance) (RefutesLevel instance) (λ level. Unit {0})
+    (top_value instance)
 
 -- the answer tells these bounds
-pub record TellsGreatest (instance : PlainInstance) (b : PlainBounds) (value : ℕ) (numbers : List ℕ) (tokens : List PlainToken) : Type 0 where
+pub record TellsGreatest (instance : PlainInstance) (b : PlainBounds) (value : ℕ) (numbers : List ℕ)
+    (tokens : List PlainToken) : Type 0 where
   pub beside : suc b.refuted ≡ b.placed
   pub value_is : value ≡ value_at instance b.placed
   pub numbers_are : numbers ≡ b.numbers
   pub tokens_are : tokens ≡ b.tokens
 
-pub record TellsBetween (instance : PlainInstance) (b : PlainBounds) (placed : ℕ) (numbers : List ℕ) (refuted : ℕ) (tokens : List PlainToken) : Type 0 where
+pub record TellsBetween (instance : PlainInstance) (b : PlainBounds) (placed : ℕ) (numbers : List ℕ) (refuted : ℕ)
+    (tokens : List PlainToken) : Type 0 where
   pub apart : suc b.refuted < b.placed
   pub placed_is : placed ≡ value_at instance b.placed
   pub numbers_are : numbers ≡ b.numbers
@@ -73,8 +80,10 @@ pub record TellsBetween (instance : PlainInstance) (b : PlainBounds) (placed : �
   pub tokens_are : tokens ≡ b.tokens
 
 abbrev pub TellsValues : PlainInstance → PlainBounds → Choice → Type 0
-TellsValues instance b (Greatest value numbers tokens) = TellsGreatest instance b value numbers.items (plain_tokens tokens.items)
-TellsValues instance b (Between placed numbers refuted tokens) = TellsBetween instance b placed numbers.items refuted (plain_tokens tokens.items)
+TellsValues instance b (Greatest value numbers tokens) =
+    TellsGreatest instance b value numbers.items (plain_tokens tokens.items)
+TellsValues instance b (Between placed numbers refuted tokens) =
+    TellsBetween instance b placed numbers.items refuted (plain_tokens tokens.items)
 
 -- what is told as refuted is at most one more than all boxes are worth
 abbrev pub IsLimitedChoice : PlainInstance → Choice → Type 0

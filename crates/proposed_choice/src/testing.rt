@@ -84,7 +84,7 @@ pub fn is_choice(
 }
 
 /// The total value of some boxes.
-pub fn worth_of(instance: &Instance, taken: &[u32]) -> u128
+pub(crate) fn worth_of(instance: &Instance, taken: &[u32]) -> u128
     requires { IsBoxSet instance.now taken.now }
     ensures { result ≡ worth instance.now taken.now }
 {

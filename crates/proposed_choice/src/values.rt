@@ -14,7 +14,7 @@ use work_share::{Gate, Settings};
 
 /// The bounds after the answer at a level that may be asked: at the value that lies so far below the
 /// top.
-pub fn ask_level<R: Threads + Wait + Sync, G: Gate + Sync>(
+pub(crate) fn ask_level<R: Threads + Wait + Sync, G: Gate + Sync>(
     rt: &R,
     alloc: Global,
     search: &mut SetSearch<'_>,
@@ -44,7 +44,7 @@ pub fn ask_level<R: Threads + Wait + Sync, G: Gate + Sync>(
 
 /// Bounds of the greatest value, narrowed until both values beside them were decided in vain or the
 /// two are neighbours.
-pub fn narrow_values<R: Threads + Wait + Sync, G: Gate + Sync>(
+pub(crate) fn narrow_values<R: Threads + Wait + Sync, G: Gate + Sync>(
     rt: &R,
     alloc: Global,
     search: &mut SetSearch<'_>,

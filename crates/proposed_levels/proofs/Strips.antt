@@ -21,10 +21,12 @@ use Rattle.strip_solver.specs.declared.strip.Strip.TheVariants.{Least, Between, 
 use Rattle.strip_solver.specs.Strips.{IsAnswer, IsTrueStrip, IsCertifiedBetween}
 use Rattle.proposed_levels.specs.declared.effort.Effort.{Effort}
 use Rattle.proposed_levels.specs.declared.effort.Effort.TheVariants.{Rough, Whole}
-use Rattle.proposed_levels.specs.Heights.{IsPackedAt, IsRefutedAt, IsPastHeight, IsHeightAnswer, AreHeightBounds, TellsHeights, IsNamedStrip, IsLimitedStrip, IsPastBeside, height_count}
+use Rattle.proposed_levels.specs.Heights.{IsPackedAt, IsRefutedAt, IsPastHeight, IsHeightAnswer, AreHeightBounds}
+use Rattle.proposed_levels.specs.Heights.{TellsHeights, IsNamedStrip, IsLimitedStrip, IsPastBeside, height_count}
 
 -- a right outcome is the answer at a height
-pub height_answered : (instance : PlainInstance) (settings : Settings) (effort : Effort) (h : ℕ) (o : PlainOutcome) → IsRight (with_last_side instance h) [] o
+pub height_answered : (instance : PlainInstance) (settings : Settings) (effort : Effort) (h : ℕ) (o : PlainOutcome)
+    → IsRight (with_last_side instance h) [] o
     → (o ≡ Past → IsPastHeight instance settings effort h) → IsHeightAnswer instance settings effort h (level_by o)
 height_answered instance settings effort h (Decided (Yes numbers count)) right past = right
 height_answered instance settings effort h (Decided (No tokens count)) right past = right
@@ -39,7 +41,8 @@ module _ (instance : PlainInstance) (limits : IsInternalInstance instance) (budg
   run_named (NoneFits v i) a = a
 
   run_small : (height : ℕ) → (height_run instance budget scales).placed ≡ height → height ≤ most_height
-  run_small height e = let h = (height_end instance limits budget scales).high in let s = stack_small instance limits in omega (arith, e, h, s)
+  run_small height e = let h = (height_end instance limits budget scales).high in let s = stack_small instance limits in
+      omega (arith, e, h, s)
 
   pub run_limited : (s : Strip) → IsAnswer instance budget scales s → IsLimitedStrip s
   run_limited (Least height places tokens) a = run_small height (ap (λ (r : PlainReached). r.placed) a.1)
@@ -47,16 +50,21 @@ module _ (instance : PlainInstance) (limits : IsInternalInstance instance) (budg
   run_limited (NoneFits v i) a = tt
 
 -- bounds by two heights with both certificates
-pub between_bounds : (instance : PlainInstance) (settings : Settings) (refuted height : ℕ) (tokens : List PlainToken) (places : List ℕ)
-    → IsCertifiedBetween [] instance refuted tokens height places → height ≤ most_height → AreHeightBounds instance settings Rough (first_bounds refuted tokens height places)
+pub between_bounds : (instance : PlainInstance) (settings : Settings) (refuted height : ℕ) (tokens : List PlainToken)
+    (places : List ℕ)
+    → IsCertifiedBetween [] instance refuted tokens height places → height ≤ most_height
+    → AreHeightBounds instance settings Rough (first_bounds refuted tokens height places)
 between_bounds instance settings refuted height tokens places t most =
-    are_first (IsPackedAt instance) (IsRefutedAt instance) (IsPastHeight instance settings Rough) most_height refuted height tokens places t.order most t.refutes t.packed
+    are_first (IsPackedAt instance) (IsRefutedAt instance) (IsPastHeight instance settings Rough) most_height refuted
+    height tokens places t.order most t.refutes t.packed
 
 -- the same two heights, of which no other is known to be past the budget
-pub bounds_afresh : (instance : PlainInstance) (settings : Settings) (e f : Effort) (b : PlainBounds) → AreHeightBounds instance settings e b
+pub bounds_afresh : (instance : PlainInstance) (settings : Settings) (e f : Effort) (b : PlainBounds)
+    → AreHeightBounds instance settings e b
     → AreHeightBounds instance settings f (afresh b)
 bounds_afresh instance settings e f b h =
-    are_first (IsPackedAt instance) (IsRefutedAt instance) (IsPastHeight instance settings f) most_height b.refuted b.placed b.tokens b.numbers h.order h.within h.denied h.shown
+    are_first (IsPackedAt instance) (IsRefutedAt instance) (IsPastHeight instance settings f) most_height b.refuted
+    b.placed b.tokens b.numbers h.order h.within h.denied h.shown
 
 -- ---- what the bounds that were reached tell
 
@@ -67,7 +75,8 @@ module _ (instance : PlainInstance) (limits : IsInternalInstance instance) (sett
       let o = are.order in
       let w = are.within in
       let i = internal_at instance limits b.refuted (omega (arith, o, w)) in
-      none_fits excess_law (with_last_side instance b.refuted) (internal_sides (with_last_side instance b.refuted) i) b.tokens are.denied
+      none_fits excess_law (with_last_side instance b.refuted) (internal_sides (with_last_side instance b.refuted) i)
+      b.tokens are.denied
 
   pub bounds_true : (s : Strip) → TellsHeights b s → IsTrueStrip instance s
   bounds_true (Least height places tokens) t =
@@ -98,16 +107,19 @@ module _ (instance : PlainInstance) (limits : IsInternalInstance instance) (sett
 
   pub bounds_limited : (s : Strip) → TellsHeights b s → IsLimitedStrip s
   bounds_limited (Least height places tokens) t = let e = t.height_is in let w = are.within in omega (arith, e, w)
-  bounds_limited (Between refuted tokens height places) t = let e = t.height_is in let w = are.within in omega (arith, e, w)
+  bounds_limited (Between refuted tokens height places) t = let e = t.height_is in let w = are.within in
+      omega (arith, e, w)
   bounds_limited (NoneFits v i) t = absurd t
 
   pub bounds_past : (s : Strip) → TellsHeights b s → IsPastBeside instance settings.budget settings.scales s
   bounds_past (Least height places tokens) t = tt
   bounds_past (Between refuted tokens height places) t =
-      go (closed (IsPackedAt instance) (IsRefutedAt instance) (IsPastHeight instance settings Whole) most_height b are narrow)
+      go (closed (IsPackedAt instance) (IsRefutedAt instance) (IsPastHeight instance settings Whole) most_height
+      b are narrow)
     where
       go : IsClosed (IsPastHeight instance settings Whole) b
-          → (settings.budget < height_count instance settings.scales (suc refuted)) × (settings.budget < height_count instance settings.scales (pred height))
+          → (settings.budget < height_count instance settings.scales (suc refuted))
+          × (settings.budget < height_count instance settings.scales (pred height))
       go (inl n) = let a = t.apart in absurd (omega (arith, n, a))
       go (inr p) = (
         subst (λ (h : ℕ). settings.budget < height_count instance settings.scales (suc h)) (sym t.refuted_is) p.0,

@@ -55,7 +55,8 @@ pub record TellsLeast (b : PlainBounds) (height : ℕ) (places : List ℕ) (toke
   pub places_are : places ≡ b.numbers
   pub tokens_are : tokens ≡ b.tokens
 
-pub record TellsBetween (b : PlainBounds) (refuted : ℕ) (tokens : List PlainToken) (height : ℕ) (places : List ℕ) : Type 0 where
+pub record TellsBetween (b : PlainBounds) (refuted : ℕ) (tokens : List PlainToken) (height : ℕ) (places : List ℕ) :
+    Type 0 where
   pub apart : suc b.refuted < b.placed
   pub refuted_is : refuted ≡ b.refuted
   pub tokens_are : tokens ≡ b.tokens
@@ -64,7 +65,8 @@ pub record TellsBetween (b : PlainBounds) (refuted : ℕ) (tokens : List PlainTo
 
 abbrev pub TellsHeights : PlainBounds → Strip → Type 0
 TellsHeights b (Least height places tokens) = TellsLeast b height places.items (plain_tokens tokens.items)
-TellsHeights b (Between refuted tokens height places) = TellsBetween b refuted (plain_tokens tokens.items) height places.items
+TellsHeights b (Between refuted tokens height places) =
+    TellsBetween b refuted (plain_tokens tokens.items) height places.items
 TellsHeights b (NoneFits v i) = ⊥
 
 -- `NoneFits` exactly where a box is too wide, with the first one

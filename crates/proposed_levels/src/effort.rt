@@ -29,7 +29,7 @@ pub enum Effort {
 }
 
 /// The settings of a rough decision, by one worker with few branchings.
-pub fn rough(settings: &Settings) -> Settings
+pub(crate) fn rough(settings: &Settings) -> Settings
     ensures { result.scales ≡ settings.now.scales }
 {
     Settings {
@@ -40,7 +40,7 @@ pub fn rough(settings: &Settings) -> Settings
 }
 
 /// The splits of the first proposal with such an effort.
-pub fn first_splits(instance: &Instance, effort: Effort) -> u64 {
+pub(crate) fn first_splits(instance: &Instance, effort: Effort) -> u64 {
     match effort {
         Effort::Rough => 0,
         Effort::Light => most_splits(instance) / LIGHT_PART,
@@ -49,6 +49,6 @@ pub fn first_splits(instance: &Instance, effort: Effort) -> u64 {
 }
 
 /// The splits of the proposal behind a level: half as many where that was in vain.
-pub fn splits_behind(splits: u64, is_narrower: bool) -> u64 {
+pub(crate) fn splits_behind(splits: u64, is_narrower: bool) -> u64 {
     if is_narrower { splits } else { splits / 2 }
 }

@@ -96,7 +96,7 @@ fn decide_height<R: Threads + Wait + Sync, G: Gate + Sync>(
 
 /// Bounds of the least height, narrowed until both heights beside them were decided in vain or the
 /// two are neighbours.
-pub fn narrow_heights<R: Threads + Wait + Sync, G: Gate + Sync>(
+pub(crate) fn narrow_heights<R: Threads + Wait + Sync, G: Gate + Sync>(
     rt: &R,
     alloc: Global,
     instance: &Instance,

@@ -1,5 +1,6 @@
 -- The run of heights from exclusions that decide them.
-use Rattle.std.proofs.Common.{◌≡◌, ℕ, suc, ◌+◌, ◌-◌, ◌*◌, ◌/◌, ◌^◌, ◌<◌, ◌≤◌, ◌⊎◌, ◌↔◌, inl, inr, refl, sym, ap, subst, ◌∙◌, arith, Bool, true, false, if◌then◌else◌, ltb, List, [], IsTrue}
+use Rattle.std.proofs.Common.{◌≡◌, ℕ, suc, ◌+◌, ◌-◌, ◌*◌, ◌/◌, ◌^◌, ◌<◌, ◌≤◌, ◌⊎◌, ◌↔◌, inl, inr, refl, sym, ap, subst}
+use Rattle.std.proofs.Common.{◌∙◌, arith, Bool, true, false, if◌then◌else◌, ltb, List, [], IsTrue}
 use Rattle.std.proofs.lemmas.Bool.{cases_Bool, cases_lt}
 use Rattle.packing_terms.specs.declared.Exclusion.{Exclusion}
 use Rattle.packing_terms.specs.Packing.{PlainInstance, IsPacking, Fits, HasPositiveSides, dims, box_count}
@@ -18,7 +19,8 @@ use Rattle.symmetry_terms.proofs.Members.{facts_at_edges}
 use Rattle.tree_terms.specs.Trees.{Verdict, Yes, No, Decided, Past, outcome, told, count_of}
 use Rattle.tree_terms.specs.ClassTree.{class_tree}
 use Rattle.tree_terms.specs.Search.{IsRightUnder, IsYesVerdict}
-use Rattle.tree_terms.specs.Levels.{PlainLevel, SpentAt, PlainReached, level_by, IsLevelBetween, IsRightLevel, HasBothCertificates, first_heights}
+use Rattle.tree_terms.specs.Levels.{PlainLevel, SpentAt, PlainReached, level_by, IsLevelBetween, IsRightLevel}
+use Rattle.tree_terms.specs.Levels.{HasBothCertificates, first_heights}
 use Rattle.tree_terms.specs.RunEnds.{HasSpentDecision, IsRisingEnd}
 use Rattle.tree_terms.proofs.Told.{told_past, told_decided}
 use Rattle.tree_terms.proofs.Counts.{class_count}
@@ -43,28 +45,42 @@ module _ (instance : PlainInstance) (limits : IsInternalInstance instance) where
   pub facts_decide : DecideHeights instance (symmetry_facts instance)
   facts_decide = record {
     edges = λ h. subst (λ (es : List Exclusion). AreAtEdges (with_last_side instance h) es) (level_facts instance h)
-        (facts_at_edges (with_last_side instance h) (let e = same_dims instance h in let d = some_dimension instance limits in omega (arith, e, d)));
+        (facts_at_edges (with_last_side instance h)
+        (let e = same_dims instance h in let d = some_dimension instance limits in omega (arith, e, d)));
     refuted = λ h tokens refutes. none_fits_at instance h (sides_at h) (some_dimension instance limits) tokens refutes;
   }
 
 -- a height that is an instance
-module _ (instance : PlainInstance) (h : ℕ) (limits : IsInternalInstance (with_last_side instance h)) (scales : Bool) where
+module _ (instance : PlainInstance) (h : ℕ) (limits : IsInternalInstance (with_last_side instance h))
+    (scales : Bool) where
   some_dims : 1 ≤ dims instance
-  some_dims = let e = same_dims instance h in let d = some_dimension (with_last_side instance h) limits in omega (arith, e, d)
+  some_dims = let e = same_dims instance h in let d = some_dimension (with_last_side instance h) limits in
+      omega (arith, e, d)
 
-  pub reduced_right : IsRightUnder (with_last_side instance h) (symmetry_facts instance) (outcome (class_tree (with_last_side instance h) (symmetry_facts instance) scales))
+  pub reduced_right : IsRightUnder (with_last_side instance h) (symmetry_facts instance)
+      (outcome (class_tree (with_last_side instance h) (symmetry_facts instance) scales))
   reduced_right =
       class_tree_right (with_last_side instance h) limits (symmetry_facts instance)
-      (subst (λ (es : List Exclusion). AreAtEdges (with_last_side instance h) es) (level_facts instance h) (facts_at_edges (with_last_side instance h) (some_dimension (with_last_side instance h) limits))) scales
+      (subst (λ (es : List Exclusion). AreAtEdges (with_last_side instance h) es) (level_facts instance h)
+      (facts_at_edges (with_last_side instance h) (some_dimension (with_last_side instance h) limits))) scales
 
-  pub reduced_yes : Fits (with_last_side instance h) ↔ IsYesVerdict (outcome (class_tree (with_last_side instance h) (symmetry_facts instance) scales))
-  reduced_yes = (there (outcome (class_tree (with_last_side instance h) (symmetry_facts instance) scales)) reduced_right, back (outcome (class_tree (with_last_side instance h) (symmetry_facts instance) scales)) reduced_right)
+  pub reduced_yes : Fits (with_last_side instance h) ↔ IsYesVerdict
+      (outcome (class_tree (with_last_side instance h) (symmetry_facts instance) scales))
+  reduced_yes = (
+    there (outcome (class_tree (with_last_side instance h) (symmetry_facts instance) scales))
+        reduced_right,
+    back (outcome (class_tree (with_last_side instance h) (symmetry_facts instance) scales))
+        reduced_right,
+  )
     where
-      there : (v : Verdict) → IsRightUnder (with_last_side instance h) (symmetry_facts instance) v → Fits (with_last_side instance h) → IsYesVerdict v
+      there : (v : Verdict) → IsRightUnder (with_last_side instance h) (symmetry_facts instance) v
+          → Fits (with_last_side instance h) → IsYesVerdict v
       there (Yes places count) right fits = tt
-      there (No tokens count) right fits = none_fits_at instance h (internal_sides (with_last_side instance h) limits) some_dims tokens right fits
+      there (No tokens count) right fits =
+          none_fits_at instance h (internal_sides (with_last_side instance h) limits) some_dims tokens right fits
 
-      back : (v : Verdict) → IsRightUnder (with_last_side instance h) (symmetry_facts instance) v → IsYesVerdict v → Fits (with_last_side instance h)
+      back : (v : Verdict) → IsRightUnder (with_last_side instance h) (symmetry_facts instance) v → IsYesVerdict v
+          → Fits (with_last_side instance h)
       back (Yes places count) right is_yes = (places, right)
       back (No tokens count) right is_yes = absurd is_yes
 
@@ -87,33 +103,52 @@ module _ (instance : PlainInstance) (start : List Exclusion) (budget : ℕ) (sca
   abbrev answers : ℕ → PlainLevel
   answers = height_answer_from start instance budget scales
 
-  pub spent_from : IsTrue (height_run_from start instance budget scales).spent ↔ HasLargeHeightFrom start instance budget scales
-  spent_from = (λ h. there ((spent_exactly answers (first_heights instance) refl).0 h), λ h. (spent_exactly answers (first_heights instance) refl).1 (back h))
+  pub spent_from : IsTrue (height_run_from start instance budget scales).spent ↔ HasLargeHeightFrom start instance
+      budget scales
+  spent_from = (
+    λ h. there ((spent_exactly answers (first_heights instance) refl).0 h),
+    λ h. (spent_exactly answers (first_heights instance) refl).1 (back h),
+  )
     where
       there : HasSpentDecision answers (first_heights instance) → HasLargeHeightFrom start instance budget scales
-      there (level, d, e) = (level, d, (spent_level budget (outcome (class_tree (with_last_side instance level) start scales))).0 e)
+      there (level, d, e) = (
+        level,
+        d,
+        (spent_level budget (outcome (class_tree (with_last_side instance level) start scales))).0 e,
+      )
 
       back : HasLargeHeightFrom start instance budget scales → HasSpentDecision answers (first_heights instance)
-      back (level, d, l) = (level, d, (spent_level budget (outcome (class_tree (with_last_side instance level) start scales))).1 l)
+      back (level, d, l) = (
+        level,
+        d,
+        (spent_level budget (outcome (class_tree (with_last_side instance level) start scales))).1 l,
+      )
 
   module _ (limits : IsInternalInstance instance) where
     pub end_from : IsRisingEnd (first_heights instance) (height_run_from start instance budget scales)
-    end_from = rising_end answers (first_heights instance) (let e = height_end instance limits 0 false in let a = e.order in let b = e.low in let c = e.high in omega (arith, a, b, c))
+    end_from = rising_end answers (first_heights instance)
+        (let e = height_end instance limits 0 false in let a = e.order in let b = e.low in let c = e.high in
+        omega (arith, a, b, c))
 
-    few : (h : ℕ) → count_of (outcome (class_tree (with_last_side instance h) start scales)) < 3 ^ (dims instance * box_count instance * (box_count instance - 1) / 2)
+    few : (h : ℕ) → count_of (outcome (class_tree (with_last_side instance h) start scales)) < 3 ^
+        (dims instance * box_count instance * (box_count instance - 1) / 2)
     few h =
         let same = same_dims instance h in
         let d = some_dimension instance limits in
-        subst (λ (x : ℕ). count_of (outcome (class_tree (with_last_side instance h) start scales)) < 3 ^ (x * box_count instance * (box_count instance - 1) / 2)) same
+        subst (λ (x : ℕ). count_of (outcome (class_tree (with_last_side instance h) start scales)) < 3 ^
+        (x * box_count instance * (box_count instance - 1) / 2)) same
         (class_count (with_last_side instance h) (omega (arith, d, same)) start scales)
 
-    pub enough_from : 3 ^ (dims instance * box_count instance * (box_count instance - 1) / 2) ≤ budget + 1 → (height_run_from start instance budget scales).spent ≡ false
+    pub enough_from : 3 ^ (dims instance * box_count instance * (box_count instance - 1) / 2) ≤ budget + 1
+        → (height_run_from start instance budget scales).spent ≡ false
     enough_from bound = go (cases_Bool (height_run_from start instance budget scales).spent)
       where
         none : HasLargeHeightFrom start instance budget scales → ⊥
         none (level, d, l) = let f = few level in omega (arith, f, bound, l)
 
-        go : ((height_run_from start instance budget scales).spent ≡ true) ⊎ ((height_run_from start instance budget scales).spent ≡ false) → (height_run_from start instance budget scales).spent ≡ false
+        go : ((height_run_from start instance budget scales).spent ≡ true)
+            ⊎ ((height_run_from start instance budget scales).spent ≡ false)
+            → (height_run_from start instance budget scales).spent ≡ false
         go (inl k) = absurd (none (spent_from.0 k))
         go (inr k) = k
 
@@ -123,10 +158,12 @@ module _ (instance : PlainInstance) (limits : IsInternalInstance instance) (star
   pub zero_from : Refutes (with_last_side instance 0) start (first_heights instance).tokens
   zero_from = go (height_zero instance limits)
     where
-      go : Refutes (with_last_side instance 0) [] (first_heights instance).tokens → Refutes (with_last_side instance 0) start (first_heights instance).tokens
+      go : Refutes (with_last_side instance 0) [] (first_heights instance).tokens
+          → Refutes (with_last_side instance 0) start (first_heights instance).tokens
       go (by_side h) = by_side h
 
-module _ (instance : PlainInstance) (limits : IsInternalInstance instance) (start : List Exclusion) (decide : DecideHeights instance start) (narrow : ¬ HasTooWideBox instance)
+module _ (instance : PlainInstance) (limits : IsInternalInstance instance) (start : List Exclusion)
+    (decide : DecideHeights instance start) (narrow : ¬ HasTooWideBox instance)
     (budget : ℕ) (scales : Bool) where
   abbrev Shows : ℕ → List ℕ → Type 0
   Shows h ns = IsPacking (with_last_side instance h) ns
@@ -136,10 +173,12 @@ module _ (instance : PlainInstance) (limits : IsInternalInstance instance) (star
 
   right_at : (h : ℕ) → h ≤ most_height → IsRightLevel Shows Denies h (height_answer_from start instance budget scales h)
   right_at h l =
-      go (ltb budget (count_of (outcome (class_tree (with_last_side instance h) start scales)))) (outcome (class_tree (with_last_side instance h) start scales))
+      go (ltb budget (count_of (outcome (class_tree (with_last_side instance h) start scales))))
+      (outcome (class_tree (with_last_side instance h) start scales))
       (class_tree_right (with_last_side instance h) (internal_at instance limits h l) start (decide.edges h) scales)
     where
-      go : (b : Bool) (v : Verdict) → IsRightUnder (with_last_side instance h) start v → IsRightLevel Shows Denies h (level_by (if b then Past else Decided v))
+      go : (b : Bool) (v : Verdict) → IsRightUnder (with_last_side instance h) start v
+          → IsRightLevel Shows Denies h (level_by (if b then Past else Decided v))
       go true v k = tt
       go false (Yes ns c) k = k
       go false (No ts c) k = k
@@ -153,11 +192,16 @@ module _ (instance : PlainInstance) (limits : IsInternalInstance instance) (star
       below (inl (x, y)) = let s = stack_small instance limits in omega (arith, y, s)
       below (inr (x, y)) = absurd (omega (arith, y))
 
-  pub least_from : (height_run_from start instance budget scales).spent ≡ false → IsLeastHeight instance (height_run_from start instance budget scales).placed
-  least_from unspent = go (height_run_from start instance budget scales) (end_from instance start budget scales limits).beside keeps_from unspent
+  pub least_from : (height_run_from start instance budget scales).spent ≡ false
+      → IsLeastHeight instance (height_run_from start instance budget scales).placed
+  least_from unspent = go (height_run_from start instance budget scales)
+      (end_from instance start budget scales limits).beside keeps_from unspent
     where
-      go : (r : PlainReached) → (r.spent ≡ false → suc r.refuted ≡ r.placed) → HasBothCertificates Shows Denies r → r.spent ≡ false → IsLeastHeight instance r.placed
+      go : (r : PlainReached) → (r.spent ≡ false → suc r.refuted ≡ r.placed) → HasBothCertificates Shows Denies r
+          → r.spent ≡ false → IsLeastHeight instance r.placed
       go r beside keeps u =
           let e = beside u in
           subst (λ (h : ℕ). IsLeastHeight instance h) e
-          (least_height instance r.refuted (subst (λ (h : ℕ). Fits (with_last_side instance h)) (sym e) (r.numbers, keeps.1)) (decide.refuted r.refuted r.tokens keeps.0))
+          (least_height instance r.refuted
+          (subst (λ (h : ℕ). Fits (with_last_side instance h)) (sym e) (r.numbers, keeps.1))
+          (decide.refuted r.refuted r.tokens keeps.0))

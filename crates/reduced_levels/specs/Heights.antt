@@ -15,11 +15,13 @@ use Rattle.tree_terms.specs.RunEnds.{HasLargeTree}
 
 -- the answer at a height, under a budget
 abbrev pub height_answer_from : List Exclusion → PlainInstance → ℕ → Bool → ℕ → PlainLevel
-height_answer_from start instance budget scales h = level_by (told budget (outcome (class_tree (with_last_side instance h) start scales)))
+height_answer_from start instance budget scales h =
+    level_by (told budget (outcome (class_tree (with_last_side instance h) start scales)))
 
 -- the run from the first heights on; from no exclusion it is `height_run`
 abbrev pub height_run_from : List Exclusion → PlainInstance → ℕ → Bool → PlainReached
-height_run_from start instance budget scales = run_levels (height_answer_from start instance budget scales) (first_heights instance)
+height_run_from start instance budget scales =
+    run_levels (height_answer_from start instance budget scales) (first_heights instance)
 
 -- some height on the run has more branchings than the budget
 abbrev pub HasLargeHeightFrom : List Exclusion → PlainInstance → ℕ → Bool → Type 0
@@ -35,4 +37,5 @@ reduced_height_run instance budget scales = height_run_from (symmetry_facts inst
 -- under them, the boxes don't fit.
 pub record DecideHeights (instance : PlainInstance) (start : List Exclusion) : Type 0 where
   pub edges : (h : ℕ) → AreAtEdges (with_last_side instance h) start
-  pub refuted : (h : ℕ) (tokens : List PlainToken) → Refutes (with_last_side instance h) start tokens → ¬ Fits (with_last_side instance h)
+  pub refuted : (h : ℕ) (tokens : List PlainToken) → Refutes (with_last_side instance h) start tokens
+      → ¬ Fits (with_last_side instance h)

@@ -1,5 +1,6 @@
 -- A table without an empty mask leaves a relation for each pair, so a tree is only so deep.
-use Rattle.std.proofs.Common.{◌≡◌, ◌≢◌, ℕ, zero, suc, ◌+◌, ◌-◌, ◌*◌, ◌≤◌, ◌<◌, ◌⊎◌, inl, inr, refl, sym, ap, subst, ◌∙◌, arith, Bool, true, false, not, List, [], ◌∷◌, ◌++◌, length, map, if◌then◌else◌}
+use Rattle.std.proofs.Common.{◌≡◌, ◌≢◌, ℕ, zero, suc, ◌+◌, ◌-◌, ◌*◌, ◌≤◌, ◌<◌, ◌⊎◌, inl, inr, refl, sym, ap, subst, ◌∙◌}
+use Rattle.std.proofs.Common.{arith, Bool, true, false, not, List, [], ◌∷◌, ◌++◌, length, map, if◌then◌else◌}
 use Rattle.std.proofs.lemmas.List.{length-append}
 use Rattle.std.specs.List.{filter, flat_map, range_with_len}
 use Rattle.std.proofs.lemmas.Bool.{true≢false, cases_Bool, or_cases, and_parts, eqb-true, or_from}
@@ -23,15 +24,18 @@ use Rattle.refutation_check.specs.Nodes.{opens}
 
 -- ---- one exclusion more
 
-pub less_open : (instance : PlainInstance) (es : List Exclusion) (e : Exclusion) → IsEdge instance e.dim e.u e.v → excludes es e.dim e.u e.v e.rel ≡ false
+pub less_open : (instance : PlainInstance) (es : List Exclusion) (e : Exclusion) → IsEdge instance e.dim e.u e.v
+    → excludes es e.dim e.u e.v e.rel ≡ false
     → opens instance (with_exclusion es e) < opens instance es
-less_open instance es e edge none = rw (with_new es e none) (fewer_open (dims instance) (box_count instance) es e edge none)
+less_open instance es e edge none =
+    rw (with_new es e none) (fewer_open (dims instance) (box_count instance) es e edge none)
 
 pub no_more_open : (instance : PlainInstance) (es : List Exclusion) (e : Exclusion) → IsEdge instance e.dim e.u e.v
     → opens instance (with_exclusion es e) ≤ opens instance es
 no_more_open instance es e edge = go (cases_Bool (excludes es e.dim e.u e.v e.rel))
   where
-    go : (excludes es e.dim e.u e.v e.rel ≡ true) ⊎ (excludes es e.dim e.u e.v e.rel ≡ false) → opens instance (with_exclusion es e) ≤ opens instance es
+    go : (excludes es e.dim e.u e.v e.rel ≡ true) ⊎ (excludes es e.dim e.u e.v e.rel ≡ false)
+        → opens instance (with_exclusion es e) ≤ opens instance es
     go (inl h) = rw (with_old es e h) (omega arith)
     go (inr h) = let l = less_open instance es e edge h in omega (arith, l)
 
@@ -47,9 +51,12 @@ not_of e s distinct other = go (cases_Bool (is_of e e.dim e.u e.v s))
     go (inr k) = k
 
 -- where another relation is left at the pair, no mask gets empty
-pub still_full : (instance : PlainInstance) (es : List Exclusion) (e : Exclusion) (s : Rel) → e.u ≢ e.v → is_same_rel e.rel s ≡ false
-    → excludes es e.dim e.u e.v s ≡ false → HasNoEmptyMask instance (excludes es) → HasNoEmptyMask instance (excludes (e ∷ es))
-still_full instance es e s distinct other left full i u v edge = go (full i u v edge) (cases_Bool (is_of e i u v (full i u v edge).0))
+pub still_full : (instance : PlainInstance) (es : List Exclusion) (e : Exclusion) (s : Rel) → e.u ≢ e.v
+    → is_same_rel e.rel s ≡ false
+    → excludes es e.dim e.u e.v s ≡ false → HasNoEmptyMask instance (excludes es)
+    → HasNoEmptyMask instance (excludes (e ∷ es))
+still_full instance es e s distinct other left full i u v edge =
+    go (full i u v edge) (cases_Bool (is_of e i u v (full i u v edge).0))
   where
     Left : ℕ → ℕ → ℕ → Rel → Type 0
     Left j a b t = (q : Rel) × (excludes (e ∷ es) j a b q ≡ false)
@@ -57,7 +64,8 @@ still_full instance es e s distinct other left full i u v edge = go (full i u v 
     turned : (j a b : ℕ) (t : Rel) → Left j a b t → Left j b a (mirror t)
     turned j a b t h = (mirror h.0, open_mirrored (e ∷ es) j a b h.0 h.1)
 
-    go : (o : (r : Rel) × (excludes es i u v r ≡ false)) → (is_of e i u v o.0 ≡ true) ⊎ (is_of e i u v o.0 ≡ false) → (r : Rel) × (excludes (e ∷ es) i u v r ≡ false)
+    go : (o : (r : Rel) × (excludes es i u v r ≡ false)) → (is_of e i u v o.0 ≡ true) ⊎ (is_of e i u v o.0 ≡ false)
+        → (r : Rel) × (excludes (e ∷ es) i u v r ≡ false)
     go o (inl h) = of_own Left turned e i u v o.0 h (s, or_from _ _ (not_of e s distinct other) left)
     go o (inr h) = (o.0, or_from _ _ h o.1)
 
@@ -72,22 +80,27 @@ filter_joined p [] ys = refl
 filter_joined {X = X} p (x ∷ xs) ys = go (p x) (filter_joined p xs ys)
   where
     go : (b : Bool) → filter p (xs ++ ys) ≡ filter p xs ++ filter p ys
-        → (if b then x ∷ filter p (xs ++ ys) else filter p (xs ++ ys)) ≡ (if b then x ∷ filter p xs else filter p xs) ++ filter p ys
+        → (if b then x ∷ filter p (xs ++ ys) else filter p (xs ++ ys)) ≡ (if b then x ∷ filter p xs else filter p xs)
+        ++ filter p ys
     go true h = ap (λ (l : List X). x ∷ l) h
     go false h = h
 
-filter_count : {X : Type 0} (p : X → Bool) (xs ys : List X) → length (filter p (xs ++ ys)) ≡ length (filter p xs) + length (filter p ys)
+filter_count : {X : Type 0} (p : X → Bool) (xs ys : List X)
+    → length (filter p (xs ++ ys)) ≡ length (filter p xs) + length (filter p ys)
 filter_count p xs ys = ap length (filter_joined p xs ys) ∙ length-append (filter p xs) (filter p ys)
 
 -- so many in each part
-each_part : {X Y : Type 0} (p : Y → Bool) (f : X → List Y) (c k : ℕ) (xs : List X) → ((x : X) → IsIn x xs → k ≤ c * length (filter p (f x)))
+each_part : {X Y : Type 0} (p : Y → Bool) (f : X → List Y) (c k : ℕ) (xs : List X)
+    → ((x : X) → IsIn x xs → k ≤ c * length (filter p (f x)))
     → length xs * k ≤ c * length (filter p (flat_map f xs))
 each_part p f c k [] h = omega arith
 each_part p f c k (x ∷ xs) h =
     let rest = each_part p f c k xs (λ y i. h y (inr i)) in
     let here = h x (inl refl) in
-    let split : c * length (filter p (flat_map f (x ∷ xs))) ≡ c * length (filter p (f x)) + c * length (filter p (flat_map f xs))
-    = ap (λ n. c * n) (filter_count p (f x) (flat_map f xs)) ∙ mul-add c (length (filter p (f x))) (length (filter p (flat_map f xs))) in
+    let split : c * length (filter p (flat_map f (x ∷ xs)))
+    ≡ c * length (filter p (f x)) + c * length (filter p (flat_map f xs))
+    = ap (λ n. c * n) (filter_count p (f x) (flat_map f xs))
+    ∙ mul-add c (length (filter p (f x))) (length (filter p (flat_map f xs))) in
     let more : length (x ∷ xs) * k ≡ k + length xs * k = over (length xs) k in
     omega (arith, rest, here, split, more)
   where
@@ -95,7 +108,8 @@ each_part p f c k (x ∷ xs) h =
     over n k = grind arith
 
 -- part v has at least v
-rising_parts : {Y : Type 0} (p : Y → Bool) (f : ℕ → List Y) (a m : ℕ) → ((v : ℕ) → IsIn v (range_with_len a m) → v ≤ length (filter p (f v)))
+rising_parts : {Y : Type 0} (p : Y → Bool) (f : ℕ → List Y) (a m : ℕ)
+    → ((v : ℕ) → IsIn v (range_with_len a m) → v ≤ length (filter p (f v)))
     → m * m + 2 * a * m ≤ 2 * length (filter p (flat_map f (range_with_len a m))) + m
 rising_parts p f a zero h = omega arith
 rising_parts p f a (suc m) h =
@@ -109,13 +123,20 @@ module _ (instance : PlainInstance) (es : List Exclusion) (full : HasNoEmptyMask
   abbrev is_left : Exclusion → Bool
   is_left e = not (excludes es e.dim e.u e.v e.rel)
 
-  pair_left : (i u v : ℕ) → IsEdge instance i u v → 1 ≤ 1 * length (filter is_left (map (λ r. (let e : Exclusion = record { dim = i; u = u; v = v; rel = r } in e)) rels))
-  pair_left i u v edge = omega (arith, one_there (exclusion_at i u v o.0) (filter is_left (map (λ r. exclusion_at i u v r) rels)) (in_filter is_left (exclusion_at i u v o.0) (map (λ r. exclusion_at i u v r) rels) (there o.0) (open_ o.0 o.1)))
+  pair_left : (i u v : ℕ) → IsEdge instance i u v
+      → 1 ≤ 1 * length (filter is_left
+      (map (λ r. (let e : Exclusion = record { dim = i; u = u; v = v; rel = r } in e)) rels))
+  pair_left i u v edge = omega (
+    arith,
+    one_there (exclusion_at i u v o.0) (filter is_left (map (λ r. exclusion_at i u v r) rels))
+        (in_filter is_left (exclusion_at i u v o.0) (map (λ r. exclusion_at i u v r) rels) (there o.0) (open_ o.0 o.1)),
+  )
     where
       o : (r : Rel) × (excludes es i u v r ≡ false)
       o = full i u v edge
 
-      there : (r : Rel) → IsIn (let e : Exclusion = record { dim = i; u = u; v = v; rel = r } in e) (map (λ r. (let e : Exclusion = record { dim = i; u = u; v = v; rel = r } in e)) rels)
+      there : (r : Rel) → IsIn (let e : Exclusion = record { dim = i; u = u; v = v; rel = r } in e)
+          (map (λ r. (let e : Exclusion = record { dim = i; u = u; v = v; rel = r } in e)) rels)
       there Overlap = inl refl
       there Before = inr (inl refl)
       there After = inr (inr (inl refl))
@@ -124,12 +145,20 @@ module _ (instance : PlainInstance) (es : List Exclusion) (full : HasNoEmptyMask
       open_ r h = rw h refl
 
   abbrev parts : ℕ → ℕ → List Exclusion
-  parts i v = flat_map (λ u. map (λ r. (let e : Exclusion = record { dim = i; u = u; v = v; rel = r } in e)) rels) (below v)
+  parts i v = flat_map (λ u. map (λ r. (let e : Exclusion = record { dim = i; u = u; v = v; rel = r } in e))
+      rels) (below v)
 
   row_left : (i v : ℕ) → i < dims instance → v < box_count instance → v ≤ length (filter is_left (parts i v))
   row_left i v hi hv =
-      let h = each_part is_left (λ u. map (λ r. (let e : Exclusion = record { dim = i; u = u; v = v; rel = r } in e)) rels) 1 1 (below v)
-      (λ u a. let q = range_in 0 v u a in pair_left i u v (record { dim = hi; first = omega (arith, q.1, hv); second = hv; distinct = λ e. omega (arith, q.1, e) })) in
+      let h = each_part is_left (λ u. map (λ r. (let e : Exclusion = record { dim = i; u = u; v = v; rel = r } in e))
+      rels) 1 1 (below v)
+      (λ u a. let q = range_in 0 v u a in
+      pair_left i u v (record {
+        dim = hi;
+        first = omega (arith, q.1, hv);
+        second = hv;
+        distinct = λ e. omega (arith, q.1, e);
+      })) in
       omega (arith, h, length-range_with_len 0 v)
 
   square : (n l : ℕ) → n * n + 2 * 0 * n ≤ 2 * l + n → n * (n - 1) ≤ 2 * l
@@ -139,12 +168,17 @@ module _ (instance : PlainInstance) (es : List Exclusion) (full : HasNoEmptyMask
       let k : suc m * suc m ≡ suc m * m + suc m = grind arith in
       rw e (omega (arith, h, k))
 
-  dim_left : (i : ℕ) → i < dims instance → box_count instance * (box_count instance - 1) ≤ 2 * length (filter is_left (flat_map (parts i) (below (box_count instance))))
+  dim_left : (i : ℕ) → i < dims instance
+      → box_count instance * (box_count instance - 1) ≤ 2 * length
+      (filter is_left (flat_map (parts i) (below (box_count instance))))
   dim_left i hi = square (box_count instance) _
-      (rising_parts is_left (parts i) 0 (box_count instance) (λ v a. let q = range_in 0 (box_count instance) v a in row_left i v hi (omega (arith, q.1))))
+      (rising_parts is_left (parts i) 0 (box_count instance)
+      (λ v a. let q = range_in 0 (box_count instance) v a in row_left i v hi (omega (arith, q.1))))
 
   pub least_open : dims instance * (box_count instance * (box_count instance - 1)) ≤ 2 * opens instance es
   least_open =
-      let h = each_part is_left (λ i. flat_map (parts i) (below (box_count instance))) 2 (box_count instance * (box_count instance - 1)) (below (dims instance))
+      let h = each_part is_left (λ i. flat_map (parts i) (below (box_count instance))) 2
+      (box_count instance * (box_count instance - 1)) (below (dims instance))
       (λ i a. let q = range_in 0 (dims instance) i a in dim_left i (omega (arith, q.1))) in
-      subst (λ (d : ℕ). d * (box_count instance * (box_count instance - 1)) ≤ 2 * opens instance es) (length-range_with_len 0 (dims instance)) h
+      subst (λ (d : ℕ). d * (box_count instance * (box_count instance - 1)) ≤ 2 * opens instance es)
+      (length-range_with_len 0 (dims instance)) h

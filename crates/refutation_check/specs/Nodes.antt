@@ -2,7 +2,8 @@
 --
 --     list of the state, oldest first:   | closure of the parent | the node's own exclusions, and what follows ..
 --                                                       n.mark ^
-use Rattle.std.specs.Prelude.{ℕ, ◌+◌, ◌-◌, ◌*◌, ◌/◌, ◌≤◌, ◌≡◌, IsTrue, List, [], ◌∷◌, ◌++◌, length, drop, take, reverse, Bool, true, false, Option, Some, None}
+use Rattle.std.specs.Prelude.{ℕ, ◌+◌, ◌-◌, ◌*◌, ◌/◌, ◌≤◌, ◌≡◌, IsTrue, List, [], ◌∷◌, ◌++◌, length, drop, take, reverse}
+use Rattle.std.specs.Prelude.{Bool, true, false, Option, Some, None}
 use Rattle.packing_terms.specs.declared.Exclusion.{Exclusion}
 use Rattle.packing_terms.specs.declared.Rel.TheVariants.{Overlap, Before, After}
 use Rattle.packing_terms.specs.Packing.{PlainInstance, dims, box_count}
@@ -48,7 +49,8 @@ node_exclusions n above = some_of n.first ++ (some_of n.second ++ above)
 -- The list is what a node stands on: below a split the closure of its parent, which has no
 -- conflict, and at the root just what is given.
 abbrev pub Stands : PlainInstance → List Exclusion → Option Exclusion → List Exclusion → Type 0
-Stands instance above None es = Derives instance (excludes es) (excludes above) × Derives instance (excludes above) (excludes es)
+Stands instance above None es =
+    Derives instance (excludes es) (excludes above) × Derives instance (excludes above) (excludes es)
 Stands instance above (Some e) es = IsClosureOf instance (excludes above) es
 
 -- below a split the list is closed
@@ -77,7 +79,8 @@ abbrev pub above : List Exclusion → List Exclusion → OpenNode → List Exclu
 above start splits n = reverse (take n.splits splits) ++ start
 
 -- an open node, with so many others below it on the stack
-pub record IsHeldNode (instance : PlainInstance) (start splits trail : List Exclusion) (others : ℕ) (n : OpenNode) : Type 0 where
+pub record IsHeldNode (instance : PlainInstance) (start splits trail : List Exclusion) (others : ℕ) (n : OpenNode) :
+    Type 0 where
   pub stands : Stands instance (above start splits n) n.first (oldest n.mark trail)
   pub first_there : IsAtAmong (dims instance) (box_count instance) n.first
   pub second_there : IsAtAmong (dims instance) (box_count instance) n.second
@@ -88,7 +91,8 @@ pub record IsHeldNode (instance : PlainInstance) (start splits trail : List Excl
 abbrev pub AreHeld : PlainInstance → List Exclusion → List Exclusion → List Exclusion → ℕ → ℕ → List OpenNode → Type 0
 AreHeld instance start splits trail mark count [] = Unit {0}
 AreHeld instance start splits trail mark count (n ∷ ns) =
-    (n.mark ≤ mark) × (n.splits ≤ count) × IsHeldNode instance start splits trail (length ns) n × AreHeld instance start splits trail n.mark n.splits ns
+    (n.mark ≤ mark) × (n.splits ≤ count) × IsHeldNode instance start splits trail (length ns) n
+    × AreHeld instance start splits trail n.mark n.splits ns
 
 -- a token that splits a node
 abbrev pub is_split : PlainToken → Bool
@@ -108,7 +112,12 @@ splits_after splits n _ = splits
 -- the children, the next one last
 abbrev pub child_nodes : ℕ → ℕ → PlainToken → List OpenNode
 child_nodes mark count (Apart i u v) =
-    record { mark = mark; splits = count; first = Some (exclusion_of i u v Before); second = Some (exclusion_of i u v After) }
+    record {
+      mark = mark;
+      splits = count;
+      first = Some (exclusion_of i u v Before);
+      second = Some (exclusion_of i u v After);
+    }
     ∷ record { mark = mark; splits = count; first = Some (exclusion_of i u v Overlap); second = None } ∷ []
 child_nodes mark count (Order i u v) =
     record { mark = mark; splits = count; first = Some (exclusion_of i u v Before); second = None }
@@ -117,10 +126,13 @@ child_nodes mark count _ = []
 
 -- The token was judged at the node. The list up to the node's parent stayed; and where a split was
 -- accepted, the list is the closure of the node.
-pub record IsJudged (instance : PlainInstance) (n : OpenNode) (old new : List Exclusion) (answer : Option RefuseCode) (token : PlainToken) : Type 0 where
+pub record IsJudged (instance : PlainInstance) (n : OpenNode) (old new : List Exclusion) (answer : Option RefuseCode)
+    (token : PlainToken) : Type 0 where
   pub within : n.mark ≤ length new
   pub kept : (k : ℕ) → k ≤ n.mark → oldest k new ≡ oldest k old
-  pub value : (above : List Exclusion) → Stands instance above n.first (oldest n.mark old) → answer ≡ refusal instance (node_exclusions n above) token
-  pub no_conflict : answer ≡ None → IsTrue (is_split token) → (above : List Exclusion) → Stands instance above n.first (oldest n.mark old)
+  pub value : (above : List Exclusion) → Stands instance above n.first (oldest n.mark old)
+      → answer ≡ refusal instance (node_exclusions n above) token
+  pub no_conflict : answer ≡ None → IsTrue (is_split token) → (above : List Exclusion)
+      → Stands instance above n.first (oldest n.mark old)
       → IsClosureOf instance (excludes (node_exclusions n above)) new
   pub fewer : answer ≡ None → IsTrue (is_split token) → opens instance new ≤ opens instance (entered n old)

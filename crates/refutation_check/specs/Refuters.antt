@@ -32,7 +32,8 @@ nodes_of start splits held = map (λ n. node_exclusions n (above start splits n)
 
 -- what the type keeps: state and room have the sizes of the set's instance, and there is memory for
 -- the trees of the whole one
-pub record IsHeld (whole set : PlainInstance) (start splits : List Exclusion) (held : List OpenNode) (state : PlainEdges) (room : PlainRoom)
+pub record IsHeld (whole set : PlainInstance) (start splits : List Exclusion) (held : List OpenNode)
+    (state : PlainEdges) (room : PlainRoom)
     (split_capacity node_capacity : ℕ) : Type 0 where
   pub within : box_count set ≤ box_count whole
   pub same_dims : state.dims ≡ dims set

@@ -44,7 +44,7 @@ fn descend(splits: &mut Vec<Exclusion>, node: OpenNode)
 }
 
 /// Puts the children of a split in the place of a node that was taken away.
-pub fn replace(
+pub(crate) fn replace(
     splits: &mut Vec<Exclusion>,
     nodes: &mut Vec<OpenNode>,
     node: OpenNode,

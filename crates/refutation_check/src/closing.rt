@@ -14,7 +14,7 @@ use rule_passes::ClosingRoom;
 
 /// Excludes what follows from the exclusions of the state, from PAIR at all pairs on. True is a
 /// conflict.
-pub fn close_all(instance: &Instance, state: &mut EdgeState, room: &mut ClosingRoom) -> bool
+pub(crate) fn close_all(instance: &Instance, state: &mut EdgeState, room: &mut ClosingRoom) -> bool
     requires dims { state.old.dims ≡ dims instance.now }
     requires boxes { state.old.boxes ≡ box_count instance.now }
     requires room_dims { room.old.dims ≡ dims instance.now }
@@ -30,7 +30,7 @@ pub fn close_all(instance: &Instance, state: &mut EdgeState, room: &mut ClosingR
 }
 
 /// The same for a state that was closed, without an empty mask, at a position of its list.
-pub fn close_since(
+pub(crate) fn close_since(
     instance: &Instance,
     state: &mut EdgeState,
     room: &mut ClosingRoom,

@@ -220,7 +220,7 @@ pub fn judge_tuple(instance: &Instance, tuple: &[ScaleFn], copies: u32) -> Optio
 
 /// The first test that a token fails at a node. Where a split passes, the state is left at the
 /// closure of the node.
-pub fn judge(
+pub(crate) fn judge(
     instance: &Instance,
     state: &mut EdgeState,
     room: &mut ClosingRoom,

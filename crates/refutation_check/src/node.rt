@@ -49,7 +49,7 @@ fn exclude_some(state: &mut EdgeState, excluded: Option<Exclusion>)
 }
 
 /// Excludes these exclusions in a state with full masks, the last one first.
-pub fn exclude_each(state: &mut EdgeState, start: &[Exclusion])
+pub(crate) fn exclude_each(state: &mut EdgeState, start: &[Exclusion])
     requires places { All (λ e. IsEdgeAmong state.old.dims state.old.boxes e.dim e.u e.v)
         start.now }
     requires full { state.old.trail ≡ [] }
@@ -63,7 +63,7 @@ pub fn exclude_each(state: &mut EdgeState, start: &[Exclusion])
 
 /// Brings the state back to the parent of a node and on to the closure of the node. True is a
 /// conflict.
-pub fn enter(
+pub(crate) fn enter(
     instance: &Instance,
     state: &mut EdgeState,
     room: &mut ClosingRoom,

@@ -46,7 +46,7 @@ fn weights_of(alloc: Global, boxes: u32) -> Result<Vec<u64>, NoMemory>
 }
 
 /// Room for so many boxes.
-pub fn chain_room(alloc: Global, boxes: u32) -> Result<ChainRoom, NoMemory>
+pub(crate) fn chain_room(alloc: Global, boxes: u32) -> Result<ChainRoom, NoMemory>
     ensures { IfOk result (λ room. HasWeights boxes room.head.items room.tail.items) }
 {
     let head = weights_of(alloc, boxes)?;
@@ -207,7 +207,7 @@ fn take_chain(
 
 /// CHAIN at the place of the exclusion. Answers whether a mask is empty, so that weights of chains
 /// mean nothing.
-pub fn seek_chain(
+pub(crate) fn seek_chain(
     instance: &Instance,
     state: &mut EdgeState,
     lines: &mut Vec<Step>,

@@ -100,7 +100,7 @@ fn push_run(
 }
 
 /// The boxes of a heaviest chain that ends in a box, in place of those of the list.
-pub fn chain_to(
+pub(crate) fn chain_to(
     instance: &Instance,
     state: &EdgeState,
     dim: u32,
@@ -120,7 +120,7 @@ pub fn chain_to(
 }
 
 /// The boxes of a heaviest chain that starts in a box, in place of those of the list.
-pub fn chain_from(
+pub(crate) fn chain_from(
     instance: &Instance,
     state: &EdgeState,
     dim: u32,

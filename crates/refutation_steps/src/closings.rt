@@ -49,7 +49,7 @@ fn push_node(waiting: &mut Vec<Node>, node: Node) -> Result<(), NoMemory>
 }
 
 /// A walk before its first node.
-pub fn begin_closings(alloc: Global, instance: &Instance) -> Result<Closings, NoMemory>
+pub(crate) fn begin_closings(alloc: Global, instance: &Instance) -> Result<Closings, NoMemory>
     ensures { IfOk result (λ walk. IsTracked instance.now walk) }
 {
     let dims = instance.dims();
@@ -242,7 +242,7 @@ fn take_order(
 
 /// Takes a token at the next node. Answers whether it is right there; where it isn't, the walk has
 /// ended.
-pub fn trace_token(
+pub(crate) fn trace_token(
     instance: &Instance,
     walk: &mut Closings,
     token: &Token,

@@ -62,7 +62,7 @@ fn empty_in(state: &EdgeState, dim: u32) -> Option<Place>
 }
 
 /// The first place where all three relations are excluded, and none exactly where no mask is empty.
-pub fn empty_place(state: &EdgeState) -> Option<Place>
+pub(crate) fn empty_place(state: &EdgeState) -> Option<Place>
     ensures { MatchOption result ((i : ℕ) → i < state.now.dims → (v : ℕ) → v < state.now.boxes
         → (u : ℕ) → u < v → IsLeft (excludes state.now.trail) i u v) (IsEmptyPlace state.now) }
 {

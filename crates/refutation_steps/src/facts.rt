@@ -18,7 +18,7 @@ pub struct Facts {
 }
 
 /// An entry of a list of numbers, and 0 behind its end.
-pub fn number_at(list: &[u64], at: usize) -> u64 {
+pub(crate) fn number_at(list: &[u64], at: usize) -> u64 {
     match list.get(at) {
         Some(number) => *number,
         None => 0,
@@ -44,7 +44,7 @@ fn push_sides(list: &mut Vec<u64>, instance: &Instance, dim: u32) -> Result<(), 
 }
 
 /// The facts before any exclusion.
-pub fn first_facts(alloc: Global, instance: &Instance) -> Result<Facts, NoMemory> {
+pub(crate) fn first_facts(alloc: Global, instance: &Instance) -> Result<Facts, NoMemory> {
     let mut sides = Vec::new(alloc);
     let mut container = Vec::new(alloc);
     for dim in 0..instance.dims() {
@@ -61,39 +61,39 @@ pub fn first_facts(alloc: Global, instance: &Instance) -> Result<Facts, NoMemory
 }
 
 /// Where a box stands in a list by dimension.
-pub fn box_place(facts: &Facts, dim: u32, v: u32) -> usize {
+pub(crate) fn box_place(facts: &Facts, dim: u32, v: u32) -> usize {
     (dim as usize)
         .wrapping_mul(facts.boxes as usize)
         .wrapping_add(v as usize)
 }
 
 /// The side of a box.
-pub fn side_of(facts: &Facts, dim: u32, v: u32) -> u64 {
+pub(crate) fn side_of(facts: &Facts, dim: u32, v: u32) -> u64 {
     number_at(facts.sides.as_slice(), box_place(facts, dim, v))
 }
 
 /// The container's side.
-pub fn container_of(facts: &Facts, dim: u32) -> u64 {
+pub(crate) fn container_of(facts: &Facts, dim: u32) -> u64 {
     number_at(facts.container.as_slice(), dim as usize)
 }
 
 /// Whether two boxes are apart.
-pub fn are_apart(facts: &Facts, dim: u32, u: u32, v: u32) -> bool {
+pub(crate) fn are_apart(facts: &Facts, dim: u32, u: u32, v: u32) -> bool {
     facts.excluded.at(at_place(dim, u, v)) & OVERLAP != 0
 }
 
 /// Whether two boxes are joined.
-pub fn are_joined(facts: &Facts, dim: u32, u: u32, v: u32) -> bool {
+pub(crate) fn are_joined(facts: &Facts, dim: u32, u: u32, v: u32) -> bool {
     facts.excluded.at(at_place(dim, u, v)) & (BEFORE | AFTER) == BEFORE | AFTER
 }
 
 /// Whether a box is surely before another.
-pub fn is_sure(facts: &Facts, dim: u32, u: u32, v: u32) -> bool {
+pub(crate) fn is_sure(facts: &Facts, dim: u32, u: u32, v: u32) -> bool {
     facts.excluded.at(at_place(dim, u, v)) & (OVERLAP | AFTER) == OVERLAP | AFTER
 }
 
 /// What two sets of excluded relations exclude, composed.
-pub fn composed(first: u8, second: u8) -> u8 {
+pub(crate) fn composed(first: u8, second: u8) -> u8 {
     let a = !first;
     let b = !second;
     let mut left = a & b & (BEFORE | AFTER);
@@ -113,7 +113,7 @@ pub fn composed(first: u8, second: u8) -> u8 {
 }
 
 /// Whether the two sets of a box and the third one have what COMPOSE needs there.
-pub fn at_both(facts: &Facts, at: Spot, x: u32) -> u8 {
+pub(crate) fn at_both(facts: &Facts, at: Spot, x: u32) -> u8 {
     composed(
         facts.excluded.at(at_place(at.dim, at.u, x)),
         facts.excluded.at(at_place(at.dim, x, at.v)),

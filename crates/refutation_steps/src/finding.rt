@@ -175,7 +175,7 @@ fn find_of_four(facts: &Facts, sought: Sought) -> Option<Found> {
 
 /// An instance of a rule other than CHAIN for what is wanted. PAIR and APART come first; of TRIPLE
 /// and COMPOSE one is taken that needs least beside what is needed already.
-pub fn find_plain(facts: &Facts, needs: &Marks, sought: Sought) -> Option<Found> {
+pub(crate) fn find_plain(facts: &Facts, needs: &Marks, sought: Sought) -> Option<Found> {
     let at = sought.at;
     let ends = serves(sought, BEFORE | AFTER);
     if ends && is_long(facts, at, 0) {
@@ -201,7 +201,7 @@ pub fn find_plain(facts: &Facts, needs: &Marks, sought: Sought) -> Option<Found>
 }
 
 /// CHAIN for what is wanted; its boxes come behind those of the list.
-pub fn find_chains(
+pub(crate) fn find_chains(
     facts: &Facts,
     weights: &mut Weights,
     boxes: &mut Vec<u32>,

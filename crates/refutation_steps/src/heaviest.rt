@@ -32,7 +32,7 @@ fn no_weights(alloc: Global, facts: &Facts) -> Result<Vec<u64>, NoMemory> {
 }
 
 /// Weights before any weighing.
-pub fn first_weights(alloc: Global, facts: &Facts) -> Result<Weights, NoMemory> {
+pub(crate) fn first_weights(alloc: Global, facts: &Facts) -> Result<Weights, NoMemory> {
     Ok(Weights {
         heads: no_weights(alloc, facts)?,
         tails: no_weights(alloc, facts)?,
@@ -171,7 +171,7 @@ fn follow(
 }
 
 /// CHAIN at the place, by the weights that are there, or by new ones.
-pub fn find_chain(
+pub(crate) fn find_chain(
     facts: &Facts,
     weights: &mut Weights,
     boxes: &mut Vec<u32>,

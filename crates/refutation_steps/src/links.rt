@@ -173,7 +173,7 @@ fn link_any(
 }
 
 /// Makes surely before transitive in a dimension.
-pub fn link_through(
+pub(crate) fn link_through(
     instance: &Instance,
     state: &mut EdgeState,
     lines: &mut Vec<Step>,

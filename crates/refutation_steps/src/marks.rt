@@ -3,13 +3,13 @@ use box_instances::NoMemory;
 use edge_state::{Exclusion, Rel};
 use std::alloc::Global;
 
-pub const OVERLAP: u8 = 1;
+pub(crate) const OVERLAP: u8 = 1;
 
-pub const BEFORE: u8 = 2;
+pub(crate) const BEFORE: u8 = 2;
 
-pub const AFTER: u8 = 4;
+pub(crate) const AFTER: u8 = 4;
 
-pub const ALL: u8 = 7;
+pub(crate) const ALL: u8 = 7;
 
 /// A dimension and two boxes, counted from 0.
 #[derive(Clone, Copy, Debug, PartialEq, Eq)]
@@ -20,22 +20,22 @@ pub struct Spot {
 }
 
 /// The place of these numbers.
-pub fn at_place(dim: u32, u: u32, v: u32) -> Spot {
+pub(crate) fn at_place(dim: u32, u: u32, v: u32) -> Spot {
     Spot { dim, u, v }
 }
 
 /// The place, read from the other box.
-pub fn turned_spot(at: Spot) -> Spot {
+pub(crate) fn turned_spot(at: Spot) -> Spot {
     at_place(at.dim, at.v, at.u)
 }
 
 /// The relations, read from the other box.
-pub fn turned_bits(bits: u8) -> u8 {
+pub(crate) fn turned_bits(bits: u8) -> u8 {
     (bits & OVERLAP) | ((bits & BEFORE) << 1) | ((bits & AFTER) >> 1)
 }
 
 /// Whether the first set has all of the second.
-pub fn has_all(bits: u8, wanted: u8) -> bool {
+pub(crate) fn has_all(bits: u8, wanted: u8) -> bool {
     wanted & !bits == 0
 }
 
@@ -55,7 +55,7 @@ pub struct Marked {
 }
 
 /// An exclusion as such a set.
-pub fn as_marked(e: Exclusion) -> Marked {
+pub(crate) fn as_marked(e: Exclusion) -> Marked {
     Marked {
         at: at_place(e.dim, e.u, e.v),
         bits: bit_of(e.rel),
@@ -63,7 +63,7 @@ pub fn as_marked(e: Exclusion) -> Marked {
 }
 
 /// What the second has at the place of the first, read in its direction; nothing at another place.
-pub fn bits_there(at: Spot, other: Marked) -> u8 {
+pub(crate) fn bits_there(at: Spot, other: Marked) -> u8 {
     if at == other.at {
         return other.bits;
     }
@@ -125,7 +125,7 @@ impl Marks {
 }
 
 /// How many of these relations a list of sets doesn't have at their place.
-pub fn lacking(marks: &Marks, marked: Marked) -> u32 {
+pub(crate) fn lacking(marks: &Marks, marked: Marked) -> u32 {
     let bits = marked.bits & !marks.at(marked.at);
     (u32::from(bits & OVERLAP != 0))
         .wrapping_add(u32::from(bits & BEFORE != 0))

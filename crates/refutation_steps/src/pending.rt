@@ -29,7 +29,12 @@ fn exclude_some(state: &mut EdgeState, excluded: Option<Exclusion>)
 }
 
 /// Brings a state to a node, from a position of its list.
-pub fn enter(state: &mut EdgeState, mark: Mark, first: Option<Exclusion>, second: Option<Exclusion>)
+pub(crate) fn enter(
+    state: &mut EdgeState,
+    mark: Mark,
+    first: Option<Exclusion>,
+    second: Option<Exclusion>,
+)
     requires mark { mark ≤ length state.old.trail }
     requires first { IsAtAmong state.old.dims state.old.boxes first }
     requires second { IsAtAmong state.old.dims state.old.boxes second }
@@ -43,7 +48,7 @@ pub fn enter(state: &mut EdgeState, mark: Mark, first: Option<Exclusion>, second
 }
 
 /// A node more, which is the next one.
-pub fn push_pending(pending: &mut Vec<Pending>, node: Pending) -> Result<(), NoMemory>
+pub(crate) fn push_pending(pending: &mut Vec<Pending>, node: Pending) -> Result<(), NoMemory>
     ensures { OnOk result (reverse pending.new.items ≡ node ∷ reverse pending.old.items) }
 {
     let _closed = node.closed;

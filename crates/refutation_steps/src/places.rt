@@ -15,7 +15,7 @@ use line_proofs::Step;
 
 /// Whether the exclusion is there.
 #[inline]
-pub fn is_there(state: &EdgeState, e: Exclusion) -> bool
+pub(crate) fn is_there(state: &EdgeState, e: Exclusion) -> bool
     requires { IsEdgeAmong state.now.dims state.now.boxes e.dim e.u e.v }
     ensures { result ≡ excludes state.now.trail e.dim e.u e.v e.rel }
 {
@@ -25,7 +25,7 @@ pub fn is_there(state: &EdgeState, e: Exclusion) -> bool
 }
 
 /// Whether three boxes are distinct.
-pub fn are_three(u: u32, v: u32, x: u32) -> bool
+pub(crate) fn are_three(u: u32, v: u32, x: u32) -> bool
     ensures yes { IsTrue result → (n : ℕ) → u < n → v < n → x < n → AreBoxesAmong n (u ∷ v ∷ x ∷ []) }
     ensures no { (n : ℕ) → AreBoxesAmong n (u ∷ v ∷ x ∷ []) → IsTrue result }
 {
@@ -348,7 +348,7 @@ fn seek_order(
 }
 
 /// All rules but CHAIN there.
-pub fn seek_plain(
+pub(crate) fn seek_plain(
     instance: &Instance,
     state: &mut EdgeState,
     lines: &mut Vec<Step>,
@@ -378,7 +378,7 @@ fn turned(rel: Rel) -> Rel
 }
 
 /// The exclusion, read from its second box.
-pub fn turned_exclusion(e: Exclusion) -> Exclusion
+pub(crate) fn turned_exclusion(e: Exclusion) -> Exclusion
     ensures { result ≡ record { dim = e.dim; u = e.v; v = e.u; rel = mirror e.rel } }
 {
     Exclusion {

@@ -40,7 +40,7 @@ pub enum Reason {
 }
 
 /// A box of the list of boxes of chains.
-pub fn box_of(boxes: &[u32], at: usize) -> u32 {
+pub(crate) fn box_of(boxes: &[u32], at: usize) -> u32 {
     match boxes.get(at) {
         Some(v) => *v,
         None => 0,
@@ -80,7 +80,7 @@ fn needed_second(first: u8, second: u8, wanted: u8) -> u8 {
 
 /// What COMPOSE by way of a third box needs for what is wanted, at the first box and the third and
 /// at the third and the second.
-pub fn compose_needs(facts: &Facts, at: Spot, x: u32, wanted: u8) -> (Marked, Marked) {
+pub(crate) fn compose_needs(facts: &Facts, at: Spot, x: u32, wanted: u8) -> (Marked, Marked) {
     let left = at_place(at.dim, at.u, x);
     let right = at_place(at.dim, x, at.v);
     let all = facts.excluded.at(right);
@@ -132,7 +132,13 @@ fn need_run(needs: &mut Marks, boxes: &[u32], dim: u32, from: usize, count: u32,
 }
 
 /// Marks what an instance of a rule needs for what is wanted at its place.
-pub fn need_reason(facts: &Facts, needs: &mut Marks, boxes: &[u32], reason: Reason, wanted: u8) {
+pub(crate) fn need_reason(
+    facts: &Facts,
+    needs: &mut Marks,
+    boxes: &[u32],
+    reason: Reason,
+    wanted: u8,
+) {
     match reason {
         Reason::Pair { .. } => {}
         Reason::Apart { at } => need_apart(facts, needs, at),

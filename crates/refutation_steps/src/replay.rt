@@ -80,7 +80,7 @@ fn make(
 
 /// Steps to what a closed state has behind a position of its list, the oldest first. Answers
 /// whether a mask is empty before all of it is there.
-pub fn replay_on(
+pub(crate) fn replay_on(
     instance: &Instance,
     state: &mut EdgeState,
     lines: &mut Vec<Step>,

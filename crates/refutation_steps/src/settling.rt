@@ -16,7 +16,7 @@ use edge_state::{EdgeState, Mark};
 use rule_closure::{Closed, Closer};
 
 /// Closes a state, from the position up to which it is closed where one is named.
-pub fn close_known(
+pub(crate) fn close_known(
     instance: &Instance,
     closer: &mut Closer,
     state: &mut EdgeState,
@@ -39,7 +39,7 @@ pub fn close_known(
 
 /// Closes what is given, and takes the steps to it. Answers the position up to which it is closed
 /// then, and `None` where a mask is empty.
-pub fn settle(
+pub(crate) fn settle(
     instance: &Instance,
     walk: &mut Walk,
     closed: Option<Mark>,

@@ -40,7 +40,7 @@ fn is_accepted(alloc: Global, instance: &Instance, lines: &[Step]) -> Result<boo
 
 /// An explained refutation of the instance with these tokens, in which each step is needed, where
 /// an auditor accepts it.
-pub fn short_explanation(
+pub(crate) fn short_explanation(
     alloc: Global,
     instance: &Instance,
     tokens: &[Token],

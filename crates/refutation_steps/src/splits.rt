@@ -15,7 +15,7 @@ use line_proofs::Step;
 use proof_tree::Token;
 
 /// An exclusion at a place that is given by the numbers of the text.
-pub fn in_text(dim: u32, u: u32, v: u32, rel: Rel) -> Exclusion
+pub(crate) fn in_text(dim: u32, u: u32, v: u32, rel: Rel) -> Exclusion
     requires dim { 1 ≤ dim }
     requires u { 1 ≤ u }
     requires v { 1 ≤ v }
@@ -52,7 +52,13 @@ fn split(walk: &mut Walk, token: Token, near: Pending, far: Pending) -> Result<(
 }
 
 /// A split into apart and joined: the line, and the two children.
-pub fn split_apart(walk: &mut Walk, closed: Mark, dim: u32, u: u32, v: u32) -> Result<(), NoMemory>
+pub(crate) fn split_apart(
+    walk: &mut Walk,
+    closed: Mark,
+    dim: u32,
+    u: u32,
+    v: u32,
+) -> Result<(), NoMemory>
     requires dim { 1 ≤ dim }
     requires u { 1 ≤ u }
     requires v { 1 ≤ v }
@@ -67,7 +73,13 @@ pub fn split_apart(walk: &mut Walk, closed: Mark, dim: u32, u: u32, v: u32) -> R
 }
 
 /// A split of an ordered pair: the line, and the two children.
-pub fn split_order(walk: &mut Walk, closed: Mark, dim: u32, u: u32, v: u32) -> Result<(), NoMemory>
+pub(crate) fn split_order(
+    walk: &mut Walk,
+    closed: Mark,
+    dim: u32,
+    u: u32,
+    v: u32,
+) -> Result<(), NoMemory>
     requires dim { 1 ≤ dim }
     requires u { 1 ≤ u }
     requires v { 1 ≤ v }

@@ -12,7 +12,7 @@ use edge_state::EdgeState;
 use line_proofs::{Step, take_apart, take_compose, take_cycle, take_order, take_pair, take_triple};
 
 /// A line more.
-pub fn write_line(lines: &mut Vec<Step>, step: Step) -> Result<(), NoMemory>
+pub(crate) fn write_line(lines: &mut Vec<Step>, step: Step) -> Result<(), NoMemory>
     ensures { OnOk result (plain_steps lines.new.items
         ≡ plain_steps lines.old.items ++ plain_step step ∷ []) }
 {
@@ -34,7 +34,7 @@ fn write_taken(lines: &mut Vec<Step>, taken: bool, step: Step) -> Result<(), NoM
 }
 
 /// PAIR, written where it changes a mask.
-pub fn step_pair(
+pub(crate) fn step_pair(
     instance: &Instance,
     state: &mut EdgeState,
     lines: &mut Vec<Step>,
@@ -61,7 +61,7 @@ pub fn step_pair(
 }
 
 /// APART, written where it changes a mask.
-pub fn step_apart(
+pub(crate) fn step_apart(
     instance: &Instance,
     state: &mut EdgeState,
     lines: &mut Vec<Step>,
@@ -88,7 +88,7 @@ pub fn step_apart(
 }
 
 /// TRIPLE, written where it changes a mask.
-pub fn step_triple(
+pub(crate) fn step_triple(
     instance: &Instance,
     state: &mut EdgeState,
     lines: &mut Vec<Step>,
@@ -117,7 +117,7 @@ pub fn step_triple(
 }
 
 /// COMPOSE, written where it changes a mask.
-pub fn step_compose(
+pub(crate) fn step_compose(
     instance: &Instance,
     state: &mut EdgeState,
     lines: &mut Vec<Step>,
@@ -146,7 +146,7 @@ pub fn step_compose(
 }
 
 /// CYCLE, written where it changes a mask.
-pub fn step_cycle(
+pub(crate) fn step_cycle(
     instance: &Instance,
     state: &mut EdgeState,
     lines: &mut Vec<Step>,
@@ -177,7 +177,7 @@ pub fn step_cycle(
 }
 
 /// ORDER, written where it changes a mask.
-pub fn step_order(
+pub(crate) fn step_order(
     instance: &Instance,
     state: &mut EdgeState,
     lines: &mut Vec<Step>,

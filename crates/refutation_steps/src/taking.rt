@@ -86,7 +86,7 @@ fn take_leaf(alloc: Global, walk: &mut Walk, token: &Token) -> Result<(), NoMemo
 }
 
 /// The lines of a token at its node: the steps to what follows there, and the line of the token.
-pub fn take_token(
+pub(crate) fn take_token(
     alloc: Global,
     instance: &Instance,
     walk: &mut Walk,

@@ -21,7 +21,7 @@ fn copied(alloc: Global, functions: &[ScaleFn]) -> Result<ScaleTuple, NoMemory>
 }
 
 /// The same token.
-pub fn copy_of(alloc: Global, token: &Token) -> Result<Token, NoMemory>
+pub(crate) fn copy_of(alloc: Global, token: &Token) -> Result<Token, NoMemory>
     ensures { IfOk result (λ copy. plain_token copy ≡ plain_token token.now) }
 {
     match token {

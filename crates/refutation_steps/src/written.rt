@@ -213,7 +213,7 @@ fn write_token(
 }
 
 /// The lines of all tokens, with the reasons that were traced for them.
-pub fn written(alloc: Global, trace: &Trace, tokens: &[Token]) -> Result<Vec<Step>, NoMemory>
+pub(crate) fn written(alloc: Global, trace: &Trace, tokens: &[Token]) -> Result<Vec<Step>, NoMemory>
     ensures { IfOk result (λ lines. tokens_among (plain_steps lines.items)
         ≡ plain_tokens tokens.now) }
 {

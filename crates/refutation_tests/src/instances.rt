@@ -8,7 +8,7 @@ use std::alloc::Global;
 use std::test::Fail;
 
 /// The instance of these boxes, of which each stands so many times.
-pub fn instance_of(
+pub(crate) fn instance_of(
     alloc: Global,
     container: &[u32],
     boxes: &[(&[u32], u32)],
@@ -26,7 +26,7 @@ pub fn instance_of(
 }
 
 /// The next number of a linear congruence, from 1 to `most`.
-pub fn drawn(random: &mut u32, most: u32) -> u32 {
+pub(crate) fn drawn(random: &mut u32, most: u32) -> u32 {
     *random = random.wrapping_mul(1_664_525).wrapping_add(1_013_904_223);
     if most == 0 {
         return 1;
@@ -35,7 +35,7 @@ pub fn drawn(random: &mut u32, most: u32) -> u32 {
 }
 
 /// The instance of so many drawn boxes in a square or a cube.
-pub fn drawn_instance(
+pub(crate) fn drawn_instance(
     alloc: Global,
     random: &mut u32,
     dims: u32,
@@ -60,7 +60,7 @@ pub fn drawn_instance(
 
 /// Whether each token but the last is accepted with more to come, and the last makes the tree
 /// whole.
-pub fn is_refuted(refuter: &mut Refuter<'_>, tokens: &[Token]) -> bool
+pub(crate) fn is_refuted(refuter: &mut Refuter<'_>, tokens: &[Token]) -> bool
     ensures { refuter.new.instance ≡ refuter.old.instance }
 {
     let mut is_whole = false;

@@ -5,7 +5,9 @@ use Rattle.edge_state.specs.Edges.{is_other_box}
 use Rattle.closure_terms.proofs.Members.{both_on}
 use Rattle.closure_terms.proofs.Filters.{row_within}
 
-pub kept_overlap : (qo qb qa o b a t : Bool) → (((o || b) || a) && ((qo || qb) || qa)) ≡ true → ((t && (not ((o || (a && qb)) || (b && qa)))) && (not qo)) ≡ false → (t && (not (((((o || b) || a) && qo) || ((o || a) && qb)) || ((o || b) && qa)))) ≡ false
+pub kept_overlap : (qo qb qa o b a t : Bool) → (((o || b) || a) && ((qo || qb) || qa)) ≡ true
+    → ((t && (not ((o || (a && qb)) || (b && qa)))) && (not qo)) ≡ false
+    → (t && (not (((((o || b) || a) && qo) || ((o || a) && qb)) || ((o || b) && qa)))) ≡ false
 kept_overlap true qb qa true b a true h0 h1 = refl
 kept_overlap false true qa true b a true h0 h1 = refl
 kept_overlap false false true true b a true h0 h1 = refl
@@ -22,7 +24,9 @@ kept_overlap false false qa false false true true h0 h1 = absurd (true≢false h
 kept_overlap qo qb qa false false false true h0 h1 = absurd (true≢false (sym h0))
 kept_overlap qo qb qa o b a false h0 h1 = refl
 
-pub kept_before : (qo qb qa o b a t : Bool) → (((o || b) || a) && ((qo || qb) || qa)) ≡ true → ((t && (not ((o && qo) || b))) && (not qb)) ≡ false → (t && (not ((((o || b) && qo) || (((o || b) || a) && qb)) || (b && qa)))) ≡ false
+pub kept_before : (qo qb qa o b a t : Bool) → (((o || b) || a) && ((qo || qb) || qa)) ≡ true
+    → ((t && (not ((o && qo) || b))) && (not qb)) ≡ false
+    → (t && (not ((((o || b) && qo) || (((o || b) || a) && qb)) || (b && qa)))) ≡ false
 kept_before true qb qa true b a true h0 h1 = refl
 kept_before false true qa true b a true h0 h1 = refl
 kept_before false false true true true a true h0 h1 = refl
@@ -37,7 +41,9 @@ kept_before qo false qa false false true true h0 h1 = absurd (true≢false h1)
 kept_before qo qb qa false false false true h0 h1 = absurd (true≢false (sym h0))
 kept_before qo qb qa o b a false h0 h1 = refl
 
-pub kept_after : (qo qb qa o b a t : Bool) → (((o || b) || a) && ((qo || qb) || qa)) ≡ true → ((t && (not ((o && qo) || a))) && (not qa)) ≡ false → (t && (not ((((o || a) && qo) || (a && qb)) || (((o || b) || a) && qa)))) ≡ false
+pub kept_after : (qo qb qa o b a t : Bool) → (((o || b) || a) && ((qo || qb) || qa)) ≡ true
+    → ((t && (not ((o && qo) || a))) && (not qa)) ≡ false
+    → (t && (not ((((o || a) && qo) || (a && qb)) || (((o || b) || a) && qa)))) ≡ false
 kept_after true qb qa true b a true h0 h1 = refl
 kept_after false true qa true b true true h0 h1 = refl
 kept_after false false true true b true true h0 h1 = refl
@@ -65,8 +71,12 @@ not_off false h = absurd (true≢false h)
 
 -- where the rows of the cases have no box and its mask isn't empty, no relation is left out
 pub none_left_out : (qo qb qa o b a to tb ta al k : Bool) → al ≡ true
-    → (((((to && not ((o || (a && qb)) || (b && qa))) && not qo) || ((tb && not ((o && qo) || b)) && not qb)) || ((ta && not ((o && qo) || a)) && not qa)) || (al && not (((o || b) || a) && ((qo || qb) || qa)))) && not k ≡ false
-    → (((to && not (((((o || b) || a) && qo) || ((o || a) && qb)) || ((o || b) && qa))) || (tb && not ((((o || b) && qo) || (((o || b) || a) && qb)) || (b && qa)))) || (ta && not ((((o || a) && qo) || (a && qb)) || (((o || b) || a) && qa)))) && not k ≡ false
+    → (((((to && not ((o || (a && qb)) || (b && qa))) && not qo) || ((tb && not ((o && qo) || b)) && not qb))
+    || ((ta && not ((o && qo) || a)) && not qa)) || (al && not (((o || b) || a) && ((qo || qb) || qa))))
+    && not k ≡ false
+    → (((to && not (((((o || b) || a) && qo) || ((o || a) && qb)) || ((o || b) && qa)))
+    || (tb && not ((((o || b) && qo) || (((o || b) || a) && qb)) || (b && qa))))
+    || (ta && not ((((o || a) && qo) || (a && qb)) || (((o || b) || a) && qa)))) && not k ≡ false
 none_left_out qo qb qa o b a to tb ta al true on h = and_false _
 none_left_out qo qb qa o b a to tb ta false false on h = absurd (true≢false (sym on))
 none_left_out qo qb qa o b a to tb ta true false on h =
@@ -83,9 +93,11 @@ none_left_out qo qb qa o b a to tb ta true false on h =
 pub within_found : (n u x : ℕ) (to tb ta xo xb xa mo mb ma wo wb : Bool) (wa lo lb la : Bool)
     → to ≡ is_other_box n u x && xo → tb ≡ is_other_box n u x && xb → ta ≡ is_other_box n u x && xa
     → lo ≡ (to && not mo) && wo → lb ≡ (tb && not mb) && wb → la ≡ (ta && not ma) && wa
-    → (beyond all may lost found : Bool) → beyond ≡ (lo || lb) || la → all ≡ ltb x n → lost ≡ all && not may → found ≡ beyond || lost
+    → (beyond all may lost found : Bool) → beyond ≡ (lo || lb) || la → all ≡ ltb x n → lost ≡ all && not may
+    → found ≡ beyond || lost
     → found ≡ true → x < n
-within_found n u x to tb ta xo xb xa mo mb ma wo wb wa lo lb la ho hb ha eo eb ea beyond all may lost found e h k f on = go (or_cases _ _ (sym f ∙ on))
+within_found n u x to tb ta xo xb xa mo mb ma wo wb wa lo lb la ho hb ha eo eb ea beyond all may lost found e h k f on =
+    go (or_cases _ _ (sym f ∙ on))
   where
     from : (t y m w : Bool) → t ≡ is_other_box n u x && y → ((t && not m) && w) ≡ true → x < n
     from t y m w ht on = row_within n u x y t ht (and_parts _ _ (and_parts _ _ on).0).0

@@ -26,14 +26,16 @@ worked_unless instance a b lost R S f h = record {
   done = λ e rule s. covered_if instance (excludes a.trail) b.trail rule (λ is. go e rule is (f rule s));
 }
   where
-    go : lost ≡ false → (rule : Rule) → IsRuleInstance instance rule → R rule ⊎ (IsRuleInstance instance rule → Premises instance (excludes a.trail) rule → ⊥)
+    go : lost ≡ false → (rule : Rule) → IsRuleInstance instance rule
+        → R rule ⊎ (IsRuleInstance instance rule → Premises instance (excludes a.trail) rule → ⊥)
         → IsCovered instance (excludes a.trail) b.trail rule
     go e rule is (inl r) = h.done e rule r
     go e rule is (inr fails) = covered_not instance (excludes a.trail) b.trail rule (fails is)
 
 -- more instances, where those that come in had nothing to add before
 pub worked_beside : (instance : PlainInstance) (a b : PlainEdges) (lost : Bool) (R S : Rule → Type 0)
-    → ((rule : Rule) → S rule → R rule ⊎ IsCovered instance (excludes a.trail) a.trail rule) → IsWorked instance a b lost R → IsWorked instance a b lost S
+    → ((rule : Rule) → S rule → R rule ⊎ IsCovered instance (excludes a.trail) a.trail rule)
+    → IsWorked instance a b lost R → IsWorked instance a b lost S
 worked_beside instance a b lost R S f h = record {
   same_dims = h.same_dims;
   same_boxes = h.same_boxes;
@@ -43,7 +45,8 @@ worked_beside instance a b lost R S f h = record {
   done = λ e rule s. go e rule (f rule s);
 }
   where
-    go : lost ≡ false → (rule : Rule) → R rule ⊎ IsCovered instance (excludes a.trail) a.trail rule → IsCovered instance (excludes a.trail) b.trail rule
+    go : lost ≡ false → (rule : Rule) → R rule ⊎ IsCovered instance (excludes a.trail) a.trail rule
+        → IsCovered instance (excludes a.trail) b.trail rule
     go e rule (inl r) = h.done e rule r
     go e rule (inr k) = record { holds = λ i u v r add. h.extends.kept i u v r (k.holds i u v r add) }
 
@@ -61,7 +64,8 @@ abbrev Guarded : PlainInstance → ℕ → ℕ → ℕ → Bool → Bool → Boo
 Guarded instance j p q o b a rule =
     (((Composes instance j p q rule ⊎ ((o ≡ false) × IsReachedApart instance j p q rule))
     ⊎ (((b ≡ false) × (a ≡ false)) × IsReachedJoined instance j p q rule))
-    ⊎ (((o ≡ false) × (a ≡ false)) × IsReachedOrdered instance j p q rule)) ⊎ ((b ≡ false) × OrdersCrossed instance j p q rule)
+    ⊎ (((o ≡ false) × (a ≡ false)) × IsReachedOrdered instance j p q rule))
+    ⊎ ((b ≡ false) × OrdersCrossed instance j p q rule)
 
 module _ (instance : PlainInstance) (X : Exclusions) (j p q : ℕ) (o b a : Bool) (there : j < dims instance)
     (left_o : o ≡ not (X j p q Overlap)) (left_b : b ≡ not (X j p q Before)) (left_a : a ≡ not (X j p q After)) where
@@ -72,11 +76,13 @@ module _ (instance : PlainInstance) (X : Exclusions) (j p q : ℕ) (o b a : Bool
   apart_fails h rule (inl (v, l, e)) = subst Fails (sym e) (λ is k. clash o _ left_o h k.0)
   apart_fails h rule (inr (x, l, (d, m, e))) = subst Fails (sym e) (λ is k. clash o _ left_o h k.4)
 
-  joined_fails : ((X j p q Before ≡ true) × (X j p q After ≡ true) → ⊥) → (rule : Rule) → IsReachedJoined instance j p q rule → Fails rule
+  joined_fails : ((X j p q Before ≡ true) × (X j p q After ≡ true) → ⊥) → (rule : Rule)
+      → IsReachedJoined instance j p q rule → Fails rule
   joined_fails h rule (inl (i, l, (ne, e))) = subst Fails (sym e) (λ is k. h (k j there ne))
   joined_fails h rule (inr (c, l, (d, m, e))) = subst Fails (sym e) (λ is k. h k.0)
 
-  ordered_fails : ((X j p q Overlap ≡ true) × (X j p q After ≡ true) → ⊥) → (rule : Rule) → IsReachedOrdered instance j p q rule → Fails rule
+  ordered_fails : ((X j p q Overlap ≡ true) × (X j p q After ≡ true) → ⊥) → (rule : Rule)
+      → IsReachedOrdered instance j p q rule → Fails rule
   ordered_fails h rule (inl (d, l, (c, m, e))) = subst Fails (sym e) (λ is k. h k.0)
   ordered_fails h rule (inr (x, l, (y, m, e))) = subst Fails (sym e) (λ is k. h k.1)
 
@@ -111,7 +117,8 @@ module _ (instance : PlainInstance) (X : Exclusions) (j p q : ℕ) (o b a : Bool
 -- the instances of an edge in both orders of its boxes, in the order in which they are applied
 abbrev pub GuardedBoth : PlainInstance → ℕ → ℕ → ℕ → (o b a o2 b2 a2 : Bool) → Rule → Type 0
 GuardedBoth instance j u v o b a o2 b2 a2 rule =
-    (((Composes instance j u v rule ⊎ Composes instance j v u rule) ⊎ ((o ≡ false) × (IsReachedApart instance j u v rule ⊎ IsReachedApart instance j v u rule)))
+    (((Composes instance j u v rule ⊎ Composes instance j v u rule)
+    ⊎ ((o ≡ false) × (IsReachedApart instance j u v rule ⊎ IsReachedApart instance j v u rule)))
     ⊎ IsReachedFrom instance j u v o b a rule) ⊎ IsReachedFrom instance j v u o2 b2 a2 rule
 
 module _ (instance : PlainInstance) (j u v : ℕ) (o b a o2 b2 a2 : Bool) where
@@ -134,8 +141,12 @@ worked_applied_both : (instance : PlainInstance) (s t : PlainEdges) (lost : Bool
     → IsWorked instance s t lost (λ rule. AppliedAll instance j u v rule ⊎ AppliedAll instance j v u rule)
     → IsWorked instance s t lost (λ rule. IsAppliedAt j u v rule ⊎ IsAppliedAt j v u rule)
 worked_applied_both instance s t lost j u v h =
-    let one = worked_reached instance s t lost j u v (worked_as instance s t lost (λ rule. AppliedAll instance j u v rule ⊎ AppliedAll instance j v u rule) (AppliedAll instance j u v) (λ rule r. inl r) h) in
-    let two = worked_reached instance s t lost j v u (worked_as instance s t lost (λ rule. AppliedAll instance j u v rule ⊎ AppliedAll instance j v u rule) (AppliedAll instance j v u) (λ rule r. inr r) h) in
+    let one = worked_reached instance s t lost j u v
+    (worked_as instance s t lost (λ rule. AppliedAll instance j u v rule ⊎ AppliedAll instance j v u rule)
+    (AppliedAll instance j u v) (λ rule r. inl r) h) in
+    let two = worked_reached instance s t lost j v u
+    (worked_as instance s t lost (λ rule. AppliedAll instance j u v rule ⊎ AppliedAll instance j v u rule)
+    (AppliedAll instance j v u) (λ rule r. inr r) h) in
     record {
       same_dims = h.same_dims;
       same_boxes = h.same_boxes;
@@ -147,29 +158,42 @@ worked_applied_both instance s t lost j u v h =
   where
     go : ((rule : Rule) → IsAppliedAt j u v rule → IsCovered instance (excludes s.trail) t.trail rule)
         → ((rule : Rule) → IsAppliedAt j v u rule → IsCovered instance (excludes s.trail) t.trail rule)
-        → (rule : Rule) → IsAppliedAt j u v rule ⊎ IsAppliedAt j v u rule → IsCovered instance (excludes s.trail) t.trail rule
+        → (rule : Rule) → IsAppliedAt j u v rule ⊎ IsAppliedAt j v u rule
+        → IsCovered instance (excludes s.trail) t.trail rule
     go f k rule (inl r) = f rule r
     go f k rule (inr r) = k rule r
 
 -- each instance of an edge is among them, or has no premises
-pub worked_guarded : (instance : PlainInstance) (s t : PlainEdges) (lost : Bool) (j u v : ℕ) (o b a o2 b2 a2 : Bool) → j < dims instance
-    → o ≡ not (excludes s.trail j u v Overlap) → b ≡ not (excludes s.trail j u v Before) → a ≡ not (excludes s.trail j u v After)
-    → o2 ≡ not (excludes s.trail j v u Overlap) → b2 ≡ not (excludes s.trail j v u Before) → a2 ≡ not (excludes s.trail j v u After) → o2 ≡ o
+pub worked_guarded : (instance : PlainInstance) (s t : PlainEdges) (lost : Bool) (j u v : ℕ) (o b a o2 b2 a2 : Bool)
+    → j < dims instance
+    → o ≡ not (excludes s.trail j u v Overlap) → b ≡ not (excludes s.trail j u v Before)
+    → a ≡ not (excludes s.trail j u v After)
+    → o2 ≡ not (excludes s.trail j v u Overlap) → b2 ≡ not (excludes s.trail j v u Before)
+    → a2 ≡ not (excludes s.trail j v u After) → o2 ≡ o
     → IsWorked instance s t lost (GuardedBoth instance j u v o b a o2 b2 a2)
     → IsWorked instance s t lost (λ rule. IsAppliedAt j u v rule ⊎ IsAppliedAt j v u rule)
 worked_guarded instance s t lost j u v o b a o2 b2 a2 at ho hb ha ho2 hb2 ha2 e h =
-    worked_applied_both instance s t lost j u v (worked_unless instance s t lost (GuardedBoth instance j u v o b a o2 b2 a2)
+    worked_applied_both instance s t lost j u v
+    (worked_unless instance s t lost (GuardedBoth instance j u v o b a o2 b2 a2)
     (λ rule. AppliedAll instance j u v rule ⊎ AppliedAll instance j v u rule) (λ rule r. go rule r) h)
   where
-    first : (rule : Rule) → Guarded instance j u v o b a rule ⊎ (IsRuleInstance instance rule → Premises instance (excludes s.trail) rule → ⊥) → GuardedBoth instance j u v o b a o2 b2 a2 rule ⊎ (IsRuleInstance instance rule → Premises instance (excludes s.trail) rule → ⊥)
+    first : (rule : Rule) → Guarded instance j u v o b a rule
+        ⊎ (IsRuleInstance instance rule → Premises instance (excludes s.trail) rule → ⊥)
+        → GuardedBoth instance j u v o b a o2 b2 a2 rule
+        ⊎ (IsRuleInstance instance rule → Premises instance (excludes s.trail) rule → ⊥)
     first rule (inl r) = inl (there instance j u v o b a o2 b2 a2 rule r)
     first rule (inr f) = inr f
 
-    second : (rule : Rule) → Guarded instance j v u o2 b2 a2 rule ⊎ (IsRuleInstance instance rule → Premises instance (excludes s.trail) rule → ⊥) → GuardedBoth instance j u v o b a o2 b2 a2 rule ⊎ (IsRuleInstance instance rule → Premises instance (excludes s.trail) rule → ⊥)
+    second : (rule : Rule) → Guarded instance j v u o2 b2 a2 rule
+        ⊎ (IsRuleInstance instance rule → Premises instance (excludes s.trail) rule → ⊥)
+        → GuardedBoth instance j u v o b a o2 b2 a2 rule
+        ⊎ (IsRuleInstance instance rule → Premises instance (excludes s.trail) rule → ⊥)
     second rule (inl r) = inl (back instance j u v o b a o2 b2 a2 e rule r)
     second rule (inr f) = inr f
 
-    go : (rule : Rule) → AppliedAll instance j u v rule ⊎ AppliedAll instance j v u rule → GuardedBoth instance j u v o b a o2 b2 a2 rule ⊎ (IsRuleInstance instance rule → Premises instance (excludes s.trail) rule → ⊥)
+    go : (rule : Rule) → AppliedAll instance j u v rule ⊎ AppliedAll instance j v u rule
+        → GuardedBoth instance j u v o b a o2 b2 a2 rule
+        ⊎ (IsRuleInstance instance rule → Premises instance (excludes s.trail) rule → ⊥)
     go rule (inl r) = first rule (sorted instance (excludes s.trail) j u v o b a at ho hb ha rule r)
     go rule (inr r) = second rule (sorted instance (excludes s.trail) j v u o2 b2 a2 at ho2 hb2 ha2 rule r)
 
@@ -178,11 +202,13 @@ abbrev pub Among : ℕ → (ℕ → Bool) → (ℕ → Rule) → Rule → Type 0
 Among n row named rule = (x : ℕ) × (x < n) × ((row x ≡ true) × (rule ≡ named x))
 
 -- the same of all boxes, in two orders, where the others have nothing to add
-pub worked_rows : (instance : PlainInstance) (a b : PlainEdges) (lost : Bool) (n : ℕ) (row other : ℕ → Bool) (named also : ℕ → Rule)
+pub worked_rows : (instance : PlainInstance) (a b : PlainEdges) (lost : Bool) (n : ℕ) (row other : ℕ → Bool)
+    (named also : ℕ → Rule)
     → ((x : ℕ) → x < n → row x ≡ false → IsCovered instance (excludes a.trail) a.trail (named x))
     → ((x : ℕ) → x < n → other x ≡ false → IsCovered instance (excludes a.trail) a.trail (also x))
     → IsWorked instance a b lost (λ rule. Among n row named rule ⊎ Among n other also rule)
-    → IsWorked instance a b lost (λ rule. ((x : ℕ) × (x < n) × (rule ≡ named x)) ⊎ ((x : ℕ) × (x < n) × (rule ≡ also x)))
+    → IsWorked instance a b lost (λ rule. ((x : ℕ) × (x < n) × (rule ≡ named x))
+    ⊎ ((x : ℕ) × (x < n) × (rule ≡ also x)))
 worked_rows instance a b lost n row other named also f k h =
     worked_beside instance a b lost (λ rule. Among n row named rule ⊎ Among n other also rule)
     (λ rule. ((x : ℕ) × (x < n) × (rule ≡ named x)) ⊎ ((x : ℕ) × (x < n) × (rule ≡ also x))) (λ rule r. go rule r) h
@@ -207,10 +233,13 @@ pub worked_no_rows : (instance : PlainInstance) (s : PlainEdges) (n : ℕ) (row 
     → ((x : ℕ) → x < n → row x ≡ false → IsCovered instance (excludes s.trail) s.trail (named x))
     → ((x : ℕ) → x < n → other x ≡ false → IsCovered instance (excludes s.trail) s.trail (also x))
     → ((x : ℕ) → (row x ≡ false) × (other x ≡ false))
-    → IsWorked instance s s false (λ rule. ((x : ℕ) × (x < n) × (rule ≡ named x)) ⊎ ((x : ℕ) × (x < n) × (rule ≡ also x)))
+    → IsWorked instance s s false (λ rule. ((x : ℕ) × (x < n) × (rule ≡ named x))
+    ⊎ ((x : ℕ) × (x < n) × (rule ≡ also x)))
 worked_no_rows instance s n row other named also f k none =
-    worked_none instance s (λ rule. ((x : ℕ) × (x < n) × (rule ≡ named x)) ⊎ ((x : ℕ) × (x < n) × (rule ≡ also x))) (λ rule r. go rule r)
+    worked_none instance s (λ rule. ((x : ℕ) × (x < n) × (rule ≡ named x)) ⊎ ((x : ℕ) × (x < n) × (rule ≡ also x)))
+    (λ rule r. go rule r)
   where
-    go : (rule : Rule) → ((x : ℕ) × (x < n) × (rule ≡ named x)) ⊎ ((x : ℕ) × (x < n) × (rule ≡ also x)) → IsCovered instance (excludes s.trail) s.trail rule
+    go : (rule : Rule) → ((x : ℕ) × (x < n) × (rule ≡ named x)) ⊎ ((x : ℕ) × (x < n) × (rule ≡ also x))
+        → IsCovered instance (excludes s.trail) s.trail rule
     go rule (inl r) = covered_named instance s.trail rule (named r.0) r.2 (f r.0 r.1 (none r.0).0)
     go rule (inr r) = covered_named instance s.trail rule (also r.0) r.2 (k r.0 r.1 (none r.0).1)

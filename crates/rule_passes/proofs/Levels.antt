@@ -1,5 +1,6 @@
 -- Levels of kept weights, and what CHAIN at all pairs says of boxes that fit.
-use Rattle.std.proofs.Common.{◌≡◌, ◌≢◌, ℕ, zero, suc, ◌+◌, ◌<◌, ◌≤◌, ◌⊎◌, inl, inr, refl, sym, ap, ◌∙◌, arith, Bool, true, false, not, ◌&&◌, List, [], ◌∷◌, ◌++◌, length, slice_index, get_or}
+use Rattle.std.proofs.Common.{◌≡◌, ◌≢◌, ℕ, zero, suc, ◌+◌, ◌<◌, ◌≤◌, ◌⊎◌, inl, inr, refl, sym, ap, ◌∙◌, arith, Bool}
+use Rattle.std.proofs.Common.{true, false, not, ◌&&◌, List, [], ◌∷◌, ◌++◌, length, slice_index, get_or}
 use Rattle.std.proofs.Math.ListN.{set}
 use Rattle.std.proofs.lemmas.Bool.{true≢false, cases_lt, cases_eq}
 use Rattle.std.proofs.lemmas.List.{length-set, length-append, get_or-set_same, get_or-set_other}
@@ -22,7 +23,8 @@ set_same (x ∷ xs) zero a d l e = ap (λ z. z ∷ xs) e
 set_same (x ∷ xs) (suc i) a d l e = ap (λ zs. x ∷ zs) (set_same xs i a d (omega (arith, l)) e)
 
 -- what is known of the entries stays so where one is written of which it is known
-pub level_set : (P : PlainLevels → Type 0) (kept : List PlainLevels) (i : ℕ) (level : PlainLevels) (k : ℕ) (other : PlainLevels) → i < length kept → P level
+pub level_set : (P : PlainLevels → Type 0) (kept : List PlainLevels) (i : ℕ) (level : PlainLevels) (k : ℕ)
+    (other : PlainLevels) → i < length kept → P level
     → (k ≢ i → P (get_or kept k other)) → P (get_or (set kept i level) k other)
 level_set P kept i level k other there new old = go (cases_eq k i)
   where
@@ -31,39 +33,49 @@ level_set P kept i level k other there new old = go (cases_eq k i)
     go (inr ne) = rw (get_or-set_other kept i k level other ne) (old ne)
 
 -- levels with the same number are written
-pub each_set : (d m : ℕ) (f : PlainLevels → ℕ) (kept : List PlainLevels) (i : ℕ) (level : PlainLevels) → HaveEach d m f kept → i < d → f level ≡ m → HaveEach d m f (set kept i level)
+pub each_set : (d m : ℕ) (f : PlainLevels → ℕ) (kept : List PlainLevels) (i : ℕ) (level : PlainLevels)
+    → HaveEach d m f kept → i < d → f level ≡ m → HaveEach d m f (set kept i level)
 each_set d m f kept i level old small new = record {
   count = length-set kept i level ∙ old.count;
   each = λ k other l. level_set (λ z. f z ≡ m) kept i level k other (rw old.count small) new (λ ne. old.each k other l);
 }
 
 -- levels of one dimension more
-pub each_push : (d m : ℕ) (f : PlainLevels → ℕ) (kept : List PlainLevels) (level : PlainLevels) → HaveEach d m f kept → f level ≡ m → HaveEach (d + 1) m f (kept ++ level ∷ [])
+pub each_push : (d m : ℕ) (f : PlainLevels → ℕ) (kept : List PlainLevels) (level : PlainLevels) → HaveEach d m f kept
+    → f level ≡ m → HaveEach (d + 1) m f (kept ++ level ∷ [])
 each_push d m f kept level old new = record {
   count = let e = length-append kept (level ∷ []) in omega (arith, e, old.count);
-  each = λ k other l. each_more (λ (z : PlainLevels). f z ≡ m) kept level new (λ j e n. old.each j e (rw (← old.count) n)) k other
+  each = λ k other l. each_more (λ (z : PlainLevels). f z ≡ m) kept level new
+      (λ j e n. old.each j e (rw (← old.count) n)) k other
       (let e = length-append kept (level ∷ []) in omega (arith, e, old.count, l));
 }
 
 -- two boxes fit where CHAIN left the first before the second
-pub fits_shut : (instance : PlainInstance) (i limit : ℕ) (head tail : List ℕ) (u v : ℕ) (es : List Exclusion) → limit ≡ container_side instance i → IsShut instance i head tail u v es
+pub fits_shut : (instance : PlainInstance) (i limit : ℕ) (head tail : List ℕ) (u v : ℕ) (es : List Exclusion)
+    → limit ≡ container_side instance i → IsShut instance i head tail u v es
     → (u ≡ v → ⊥) → excludes es i u v Before ≡ false → slice_index head u + slice_index tail v ≤ limit
-fits_shut instance i limit head tail u v es e shut ne open_still = go (cases_lt (container_side instance i) (slice_index head u + slice_index tail v))
+fits_shut instance i limit head tail u v es e shut ne open_still =
+    go (cases_lt (container_side instance i) (slice_index head u + slice_index tail v))
   where
-    go : (container_side instance i < slice_index head u + slice_index tail v) ⊎ (slice_index head u + slice_index tail v ≤ container_side instance i)
+    go : (container_side instance i < slice_index head u + slice_index tail v)
+        ⊎ (slice_index head u + slice_index tail v ≤ container_side instance i)
         → slice_index head u + slice_index tail v ≤ limit
     go (inl l) = absurd (true≢false (sym (shut.shut ne l) ∙ open_still))
     go (inr l) = omega (arith, e, l)
 
 -- beside boxes that are known to fit, and those that aren't in the row, CHAIN excludes nothing
-pub shut_known : (instance : PlainInstance) (i : ℕ) (head tail : List ℕ) (u v : ℕ) (es : List Exclusion) (row known left : Bool) → left ≡ row && not known → left ≡ false
-    → (known ≡ true → slice_index head u + slice_index tail v ≤ container_side instance i) → (row ≡ false → IsShut instance i head tail u v es) → IsShut instance i head tail u v es
-shut_known instance i head tail u v es row true left e off fit none = record { shut = λ ne wide. (let h = fit refl in absurd (omega (arith, h, wide))) }
+pub shut_known : (instance : PlainInstance) (i : ℕ) (head tail : List ℕ) (u v : ℕ) (es : List Exclusion)
+    (row known left : Bool) → left ≡ row && not known → left ≡ false
+    → (known ≡ true → slice_index head u + slice_index tail v ≤ container_side instance i)
+    → (row ≡ false → IsShut instance i head tail u v es) → IsShut instance i head tail u v es
+shut_known instance i head tail u v es row true left e off fit none =
+    record { shut = λ ne wide. (let h = fit refl in absurd (omega (arith, h, wide))) }
 shut_known instance i head tail u v es false false left e off fit none = none refl
 shut_known instance i head tail u v es true false left e off fit none = absurd (true≢false (sym e ∙ off))
 
 -- a pass that ends at an empty mask says nothing of what is done
-pub pass_lost : (instance : PlainInstance) (a b c : PlainEdges) (lost : Bool) (P Q R : List Exclusion → Type 0) → lost ≡ true → IsPass instance a b P → IsPass instance b c Q
+pub pass_lost : (instance : PlainInstance) (a b c : PlainEdges) (lost : Bool) (P Q R : List Exclusion → Type 0)
+    → lost ≡ true → IsPass instance a b P → IsPass instance b c Q
     → IsPass instance a c (λ es. lost ≡ false → R es)
 pass_lost instance a b c lost P Q R e h k = record {
   same_dims = k.same_dims ∙ h.same_dims;
@@ -74,8 +86,11 @@ pass_lost instance a b c lost P Q R e h k = record {
 }
 
 -- the same of what is in the row of the boxes that u may be before, and not known to fit
-pub shut_unless : (instance : PlainInstance) (i n : ℕ) (head tail : List ℕ) (u v : ℕ) (es : List Exclusion) (row known left : Bool) → v < n
+pub shut_unless : (instance : PlainInstance) (i n : ℕ) (head tail : List ℕ) (u v : ℕ) (es : List Exclusion)
+    (row known left : Bool) → v < n
     → row ≡ is_other_box n u v && not (excludes es i u v Before) → left ≡ row && not known → left ≡ false
-    → (known ≡ true → slice_index head u + slice_index tail v ≤ container_side instance i) → IsShut instance i head tail u v es
+    → (known ≡ true → slice_index head u + slice_index tail v ≤ container_side instance i)
+    → IsShut instance i head tail u v es
 shut_unless instance i n head tail u v es row known left hv is e off fit =
-    shut_known instance i head tail u v es row known left e off fit (λ none. record { shut = λ ne wide. row_shut n i u v (excludes es) Before row hv ne is none })
+    shut_known instance i head tail u v es row known left e off fit
+    (λ none. record { shut = λ ne wide. row_shut n i u v (excludes es) Before row hv ne is none })

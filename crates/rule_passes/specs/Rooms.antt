@@ -24,7 +24,8 @@ AreMade d most kept = HaveEach d most (λ l. l.most) kept
 
 -- the row of all boxes, in one word where they fit, and the weights that are kept, with rows of as
 -- many words as hold all boxes that it was made for
-pub record HasRoom (d n most : ℕ) (one_word two_words : List ℕ) (narrow_kept wide_kept : List PlainLevels) : Type 0 where
+pub record HasRoom (d n most : ℕ) (one_word two_words : List ℕ) (narrow_kept wide_kept : List PlainLevels) :
+    Type 0 where
   pub few : n ≤ most
   pub narrow : (x : ℕ) → row_has one_word x ≡ nat_lt x (min n 64)
   pub wide : (x : ℕ) → row_has two_words x ≡ nat_lt x n

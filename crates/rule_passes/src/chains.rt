@@ -133,7 +133,7 @@ fn shut_all<const K: usize>(
 /// CHAIN in one dimension, at all pairs, with weights that are made from those that were kept and
 /// are kept then. Answers whether a mask is empty; it stops there. Surely before is transitive in
 /// this dimension, and no mask is empty at first.
-pub fn cover_chains<const K: usize>(
+pub(crate) fn cover_chains<const K: usize>(
     instance: &Instance,
     state: &mut EdgeState,
     dim: u32,

@@ -42,7 +42,7 @@ fn finish_each<const K: usize>(kept: &mut [KeptLevels<K>])
 /// Goes along what changed after a position of the list, then over CHAIN in the dimensions where
 /// two boxes became ordered, and again along what that changed, until nothing is left or a mask is
 /// empty, which the answer tells.
-pub fn close_with<const K: usize>(
+pub(crate) fn close_with<const K: usize>(
     instance: &Instance,
     state: &mut EdgeState,
     all: BitRow<K>,

@@ -242,7 +242,7 @@ fn spread_left<const K: usize>(
 ///
 /// The calls are the same and are inlined: in each copy it is known what is left, and what that
 /// tells off falls away.
-pub fn spread<const K: usize>(
+pub(crate) fn spread<const K: usize>(
     instance: &Instance,
     state: &mut EdgeState,
     all: BitRow<K>,

@@ -11,7 +11,7 @@ use edge_state::{EdgeState, Mask};
 
 /// Whether the mask of two boxes, which is given, is empty.
 #[inline]
-pub fn is_empty_left(
+pub(crate) fn is_empty_left(
     instance: &Instance,
     state: &EdgeState,
     dim: u32,
@@ -31,7 +31,7 @@ pub fn is_empty_left(
 
 /// The same, where the mask is read.
 #[inline(always)]
-pub fn is_empty_at(instance: &Instance, state: &EdgeState, dim: u32, u: u32, v: u32) -> bool
+pub(crate) fn is_empty_at(instance: &Instance, state: &EdgeState, dim: u32, u: u32, v: u32) -> bool
     requires sizes { IsSized instance.now state.now dim }
     requires u { u < box_count instance.now }
     requires v { v < box_count instance.now }

@@ -58,7 +58,7 @@ fn chain_of<const K: usize>(
 
 /// The first two boxes of a chain, which is told from its last box on, if it is one and longer than
 /// the container.
-pub fn long_pair<const K: usize>(
+pub(crate) fn long_pair<const K: usize>(
     instance: &Instance,
     state: &EdgeState,
     dim: u32,
@@ -93,7 +93,7 @@ pub fn long_pair<const K: usize>(
 }
 
 /// CHAIN at the first two boxes of a chain that is too long: it leaves their mask empty.
-pub fn shut_pair(instance: &Instance, state: &mut EdgeState, dim: u32, u: u32, v: u32)
+pub(crate) fn shut_pair(instance: &Instance, state: &mut EdgeState, dim: u32, u: u32, v: u32)
     requires sizes { IsSized instance.now state.old dim }
     requires long { IsTooLong instance.now (excludes state.old.trail) dim u v }
     ensures sizes { state.new ≡ record state.old { trail = state.new.trail } }

@@ -196,7 +196,7 @@ fn may_order_seconds<const K: usize>(
 }
 
 /// ORDER with the first pair given.
-pub fn orders_first<const K: usize>(
+pub(crate) fn orders_first<const K: usize>(
     instance: &Instance,
     state: &mut EdgeState,
     all: BitRow<K>,
@@ -230,7 +230,7 @@ pub fn orders_first<const K: usize>(
 
 /// ORDER with the second pair given.
 #[inline(always)]
-pub fn orders_second<const K: usize>(
+pub(crate) fn orders_second<const K: usize>(
     instance: &Instance,
     state: &mut EdgeState,
     all: BitRow<K>,
@@ -264,7 +264,7 @@ pub fn orders_second<const K: usize>(
 
 /// ORDER with the first and the last box given: it asks that the first isn't before the last.
 #[inline(always)]
-pub fn orders_crossed<const K: usize>(
+pub(crate) fn orders_crossed<const K: usize>(
     instance: &Instance,
     state: &mut EdgeState,
     all: BitRow<K>,

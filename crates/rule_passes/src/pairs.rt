@@ -64,7 +64,7 @@ fn pairs_in(instance: &Instance, state: &mut EdgeState, dim: u32) -> bool
 }
 
 /// PAIR in each dimension at all pairs, each once. Answers whether a mask is empty.
-pub fn pass_pairs(instance: &Instance, state: &mut EdgeState) -> bool
+pub(crate) fn pass_pairs(instance: &Instance, state: &mut EdgeState) -> bool
     requires dims { state.old.dims ≡ dims instance.now }
     requires boxes { state.old.boxes ≡ box_count instance.now }
     ensures { IsWorked instance.now state.old state.new result

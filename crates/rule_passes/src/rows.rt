@@ -26,7 +26,7 @@ fn pick<const K: usize>(row: BitRow<K>, wanted: bool) -> BitRow<K>
 
 /// Whether a row has no member.
 #[inline]
-pub fn is_empty<const K: usize>(row: BitRow<K>) -> bool
+pub(crate) fn is_empty<const K: usize>(row: BitRow<K>) -> bool
     requires { IsRowWidth K }
     ensures { result ≡ true → (x : ℕ) → row_has row.entry x ≡ false }
 {
@@ -38,7 +38,7 @@ pub fn is_empty<const K: usize>(row: BitRow<K>) -> bool
 
 /// Whether a row has at most one member.
 #[inline]
-pub fn has_no_two<const K: usize>(row: BitRow<K>) -> bool
+pub(crate) fn has_no_two<const K: usize>(row: BitRow<K>) -> bool
     requires { IsRowWidth K }
     ensures { result ≡ true → (x y : ℕ) → row_has row.entry x ≡ true → row_has row.entry y ≡ true
         → x ≡ y }
@@ -90,7 +90,7 @@ fn left_outside<const K: usize>(
 /// anything is. So a relation is looked at only where it is gone from the mask, and beside that the
 /// empty masks of `v`, x. A full mask asks for no row.
 #[inline(always)]
-pub fn beyond_compositions<const K: usize>(
+pub(crate) fn beyond_compositions<const K: usize>(
     instance: &Instance,
     state: &EdgeState,
     all: BitRow<K>,
@@ -133,7 +133,7 @@ pub fn beyond_compositions<const K: usize>(
 }
 
 /// The row of all boxes.
-pub fn all_boxes<const K: usize>(boxes: u32) -> BitRow<K>
+pub(crate) fn all_boxes<const K: usize>(boxes: u32) -> BitRow<K>
     requires words { HoldsBoxes K boxes }
     requires count { IsBoxCount boxes }
     ensures { (x : ℕ) → row_has result x ≡ nat_lt x boxes }
@@ -147,7 +147,7 @@ pub fn all_boxes<const K: usize>(boxes: u32) -> BitRow<K>
 
 // The boxes for which one of two relations to `u` isn't excluded.
 #[inline]
-pub fn either<const K: usize>(
+pub(crate) fn either<const K: usize>(
     instance: &Instance,
     state: &EdgeState,
     dim: u32,
@@ -173,7 +173,7 @@ pub fn either<const K: usize>(
 
 /// The other boxes for which both relations to `u` are excluded.
 #[inline]
-pub fn gone<const K: usize>(
+pub(crate) fn gone<const K: usize>(
     instance: &Instance,
     state: &EdgeState,
     all: BitRow<K>,
@@ -196,7 +196,7 @@ pub fn gone<const K: usize>(
 }
 
 /// The boxes v at which TRIPLE may exclude something at `u`, v with `x`.
-pub fn beyond_triples<const K: usize>(
+pub(crate) fn beyond_triples<const K: usize>(
     instance: &Instance,
     state: &EdgeState,
     dim: u32,
@@ -219,7 +219,7 @@ pub fn beyond_triples<const K: usize>(
 /// The boxes d at which CYCLE may exclude something at `b`, d, whatever the third box is: those that
 /// are joined with `a` and not with `b`.
 #[inline]
-pub fn cycle_fourths<const K: usize>(
+pub(crate) fn cycle_fourths<const K: usize>(
     instance: &Instance,
     state: &EdgeState,
     dim: u32,
@@ -239,7 +239,7 @@ pub fn cycle_fourths<const K: usize>(
 }
 
 /// The boxes d at which CYCLE may exclude something at `b`, d.
-pub fn beyond_cycles<const K: usize>(
+pub(crate) fn beyond_cycles<const K: usize>(
     instance: &Instance,
     state: &EdgeState,
     dim: u32,
@@ -263,7 +263,7 @@ pub fn beyond_cycles<const K: usize>(
 }
 
 /// The boxes c at which ORDER may exclude something at c, `b`, with the last box given.
-pub fn beyond_orders_from<const K: usize>(
+pub(crate) fn beyond_orders_from<const K: usize>(
     instance: &Instance,
     state: &EdgeState,
     dim: u32,
@@ -285,7 +285,7 @@ pub fn beyond_orders_from<const K: usize>(
 }
 
 /// The boxes b at which ORDER may exclude something at `c`, b, with the first box given.
-pub fn beyond_orders_to<const K: usize>(
+pub(crate) fn beyond_orders_to<const K: usize>(
     instance: &Instance,
     state: &EdgeState,
     dim: u32,
@@ -307,7 +307,7 @@ pub fn beyond_orders_to<const K: usize>(
 }
 
 /// The boxes that are joined with `b` and apart from `a`.
-pub fn cycle_thirds<const K: usize>(
+pub(crate) fn cycle_thirds<const K: usize>(
     instance: &Instance,
     state: &EdgeState,
     all: BitRow<K>,
@@ -332,7 +332,7 @@ pub fn cycle_thirds<const K: usize>(
 }
 
 /// The boxes that are joined with `a` and with `c`.
-pub fn cycle_seconds<const K: usize>(
+pub(crate) fn cycle_seconds<const K: usize>(
     instance: &Instance,
     state: &EdgeState,
     all: BitRow<K>,

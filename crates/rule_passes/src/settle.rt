@@ -69,7 +69,7 @@ fn dirtied(state: &EdgeState, dirty: BitRow<1>, change: Exclusion, left: Mask) -
 /// the answer; to those that were given come those in which two boxes became ordered. `None` comes
 /// where a mask is empty. `longest` has the greatest side of a box in each dimension, and `guess`
 /// the weights of chains as they are thought to be.
-pub fn settle<const K: usize>(
+pub(crate) fn settle<const K: usize>(
     instance: &Instance,
     state: &mut EdgeState,
     all: BitRow<K>,

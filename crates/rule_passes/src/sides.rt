@@ -18,7 +18,7 @@ fn longest_in(instance: &Instance, dim: u32) -> u32
 }
 
 /// The greatest side of a box in each dimension.
-pub fn longest_sides(instance: &Instance) -> [u32; 4]
+pub(crate) fn longest_sides(instance: &Instance) -> [u32; 4]
     ensures count { length result ≡ 4 }
     ensures each { (i : ℕ) → i < dims instance.now
         → HasNoLonger instance.now i (slice_index result i) }

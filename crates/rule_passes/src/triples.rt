@@ -110,7 +110,7 @@ fn triples_among<const K: usize>(
 /// TRIPLE with two boxes in both orders, for each third that is apart from the one that comes
 /// second, where there are such boxes, and one may be long enough: none is longer than `most`.
 #[inline(always)]
-pub fn triples<const K: usize>(
+pub(crate) fn triples<const K: usize>(
     instance: &Instance,
     state: &mut EdgeState,
     dim: u32,

@@ -44,7 +44,7 @@ fn apart_at(instance: &Instance, state: &mut EdgeState, dim: u32, i: u32, u: u32
 
 /// APART in each other dimension.
 #[inline]
-pub fn aparts(instance: &Instance, state: &mut EdgeState, dim: u32, u: u32, v: u32) -> bool
+pub(crate) fn aparts(instance: &Instance, state: &mut EdgeState, dim: u32, u: u32, v: u32) -> bool
     requires sizes { IsSized instance.now state.old dim }
     requires u { u < box_count instance.now }
     requires v { v < box_count instance.now }
@@ -80,7 +80,7 @@ fn compose_at(instance: &Instance, state: &mut EdgeState, dim: u32, u: u32, v: u
 
 /// COMPOSE at two boxes, for each third of a row.
 #[inline]
-pub fn composes<const K: usize>(
+pub(crate) fn composes<const K: usize>(
     instance: &Instance,
     state: &mut EdgeState,
     dim: u32,
@@ -192,7 +192,7 @@ fn cycles_from<const K: usize>(
 }
 
 /// CYCLE with the first two boxes given.
-pub fn cycles<const K: usize>(
+pub(crate) fn cycles<const K: usize>(
     instance: &Instance,
     state: &mut EdgeState,
     all: BitRow<K>,
@@ -253,7 +253,7 @@ fn chords_from<const K: usize>(
 /// CYCLE with the first and the third box given, in both orders, where two boxes are joined with
 /// both.
 #[inline(always)]
-pub fn chords<const K: usize>(
+pub(crate) fn chords<const K: usize>(
     instance: &Instance,
     state: &mut EdgeState,
     all: BitRow<K>,

@@ -1,5 +1,6 @@
 -- Tests of what differs, and lists of boxes that are drawn from others.
-use Rattle.std.proofs.Common.{◌≡◌, ◌≢◌, ℕ, zero, suc, ◌<◌, ◌≤◌, inl, inr, refl, sym, subst, ◌∙◌, arith, Bool, true, false, not, cond, ◌&&◌, ◌==◌, List, [], ◌∷◌, ◌++◌, map, length}
+use Rattle.std.proofs.Common.{◌≡◌, ◌≢◌, ℕ, zero, suc, ◌<◌, ◌≤◌, inl, inr, refl, sym, subst, ◌∙◌, arith, Bool, true}
+use Rattle.std.proofs.Common.{false, not, cond, ◌&&◌, ◌==◌, List, [], ◌∷◌, ◌++◌, map, length}
 use Rattle.std.specs.List.{filter, AllByRecursion}
 use Rattle.std.proofs.lemmas.Bool.{true≢false, and_parts, and_from, eqb-true, eq-eqb, not-true}
 use Rattle.packing_terms.specs.declared.Rel.{Rel}
@@ -9,7 +10,8 @@ use Rattle.packing_terms.specs.Rules.{AreBoxes}
 use Rattle.rule_terms.specs.Rounds.{chains, others}
 use Rattle.packing_terms.specs.Sums.{below}
 use Rattle.packing_terms.proofs.Sets.{same_rel, is_same_rel_refl}
-use Rattle.packing_terms.proofs.Members.{IsIn, in_map, map_in, in_flat_map, flat_map_in, in_filter, filter_in, in_range, range_in}
+use Rattle.packing_terms.proofs.Members.{IsIn, in_map, map_in, in_flat_map, flat_map_in, in_filter, filter_in, in_range}
+use Rattle.packing_terms.proofs.Members.{range_in}
 
 pub is_not : (b : Bool) → (b ≡ true → ⊥) → not b ≡ true
 is_not true h = absurd (h refl)
@@ -66,7 +68,8 @@ pub one_fewer : (v : ℕ) (vs : List ℕ) → IsIn v vs → length (filter (λ u
 one_fewer v [] i = absurd i
 one_fewer v (u ∷ us) (inl e) = go (not (u == v)) refl
   where
-    go : (b : Bool) → not (u == v) ≡ b → length (cond b (u ∷ filter (λ w. not (w == v)) us) (filter (λ w. not (w == v)) us)) < suc (length us)
+    go : (b : Bool) → not (u == v) ≡ b
+        → length (cond b (u ∷ filter (λ w. not (w == v)) us) (filter (λ w. not (w == v)) us)) < suc (length us)
     go true h = absurd (differ u v h (sym e))
     go false h = omega (arith, fewer v us)
 one_fewer v (u ∷ us) (inr i) = go (not (u == v)) (one_fewer v us i)
@@ -97,7 +100,8 @@ chains_in (suc k) vs c (inr i) =
 -- the boxes of a chain but its end, and all boxes of a chain but its start, are drawn from the others
 module _ (instance : PlainInstance) where
   -- each element of the list is in the other, where the list has distinct boxes
-  pub drawn : (c vs : List ℕ) → AreBoxes instance c → ((x : ℕ) → x < box_count instance → IsIn x c → IsIn x vs) → IsDrawn vs c
+  pub drawn : (c vs : List ℕ) → AreBoxes instance c → ((x : ℕ) → x < box_count instance → IsIn x c → IsIn x vs)
+      → IsDrawn vs c
   drawn [] vs b h = tt
   drawn (v ∷ c) vs b h = (
     h v b.0 (inl refl),
@@ -110,7 +114,8 @@ module _ (instance : PlainInstance) where
       away (y ∷ ys) x a (inl e) = λ f. a.0 (sym f ∙ e)
       away (y ∷ ys) x a (inr i) = away ys x a.1 i
 
-  pub boxes_drawn : (c vs : List ℕ) → ((x : ℕ) → IsIn x vs → x < box_count instance) → IsDrawn vs c → AreBoxes instance c
+  pub boxes_drawn : (c vs : List ℕ) → ((x : ℕ) → IsIn x vs → x < box_count instance) → IsDrawn vs c
+      → AreBoxes instance c
   boxes_drawn [] vs h d = tt
   boxes_drawn (v ∷ c) vs h d = (
     h v d.0,
@@ -118,10 +123,13 @@ module _ (instance : PlainInstance) where
     boxes_drawn c (filter (λ u. not (u == v)) vs) (λ x i. h x (filter_in (λ u. not (u == v)) x vs i).0) d.1,
   )
     where
-      away : (c' ws : List ℕ) → ((x : ℕ) → IsIn x ws → not (x == v) ≡ true) → IsDrawn ws c' → AllByRecursion (λ u. v ≢ u) c'
+      away : (c' ws : List ℕ) → ((x : ℕ) → IsIn x ws → not (x == v) ≡ true) → IsDrawn ws c'
+          → AllByRecursion (λ u. v ≢ u) c'
       away [] ws k e = tt
-      away (x ∷ xs) ws k e =
-          (λ f. differ x v (k x e.0) (sym f), away xs (filter (λ u. not (u == x)) ws) (λ y i. k y (filter_in (λ u. not (u == x)) y ws i).0) e.1)
+      away (x ∷ xs) ws k e = (
+        λ f. differ x v (k x e.0) (sym f),
+        away xs (filter (λ u. not (u == x)) ws) (λ y i. k y (filter_in (λ u. not (u == x)) y ws i).0) e.1,
+      )
 
   -- the boxes before the last, and the last
   pub record EndsIn (c : List ℕ) (u : ℕ) : Type 0 where
@@ -129,7 +137,8 @@ module _ (instance : PlainInstance) where
     pub last : u < box_count instance
     pub away : (x : ℕ) → IsIn x c → x ≢ u
 
-  later : (v : ℕ) (c : List ℕ) (u : ℕ) → v < box_count instance → AllByRecursion (λ w. v ≢ w) (c ++ u ∷ []) → EndsIn c u → EndsIn (v ∷ c) u
+  later : (v : ℕ) (c : List ℕ) (u : ℕ) → v < box_count instance → AllByRecursion (λ w. v ≢ w) (c ++ u ∷ []) → EndsIn c u
+      → EndsIn (v ∷ c) u
   later v c u h a e = record {
     front = (h, apart_front c a, e.front);
     last = e.last;
@@ -152,7 +161,8 @@ module _ (instance : PlainInstance) where
   ends_in [] u b = record { front = tt; last = b.0; away = λ x i. absurd i }
   ends_in (v ∷ c) u b = later v c u b.0 b.1 (ends_in c u b.2)
 
-  pub ended : (c : List ℕ) (u : ℕ) → AreBoxes instance c → u < box_count instance → ((x : ℕ) → IsIn x c → x ≢ u) → AreBoxes instance (c ++ u ∷ [])
+  pub ended : (c : List ℕ) (u : ℕ) → AreBoxes instance c → u < box_count instance → ((x : ℕ) → IsIn x c → x ≢ u)
+      → AreBoxes instance (c ++ u ∷ [])
   ended [] u b h away = (h, tt, tt)
   ended (v ∷ c) u b h away = (b.0, all_away c b.1, ended c u b.2 h (λ x i. away x (inr i)))
     where
@@ -173,7 +183,8 @@ module _ (instance : PlainInstance) where
       → u ≢ v → u ≢ x → v ≢ x → AreBoxes instance (u ∷ v ∷ x ∷ [])
   boxes3 u v x hu hv hx uv ux vx = (hu, (uv, (ux, tt)), (hv, (vx, tt), (hx, tt, tt)))
 
-  pub boxes4 : (a b c d : ℕ) → a < box_count instance → b < box_count instance → c < box_count instance → d < box_count instance
+  pub boxes4 : (a b c d : ℕ) → a < box_count instance → b < box_count instance → c < box_count instance
+      → d < box_count instance
       → a ≢ b → a ≢ c → a ≢ d → b ≢ c → b ≢ d → c ≢ d → AreBoxes instance (a ∷ b ∷ c ∷ d ∷ [])
   boxes4 a b c d ha hb hc hd ab ac ad bc bd cd =
       (ha, (ab, (ac, (ad, tt))), (hb, (bc, (bd, tt)), (hc, (cd, tt), (hd, tt, tt))))

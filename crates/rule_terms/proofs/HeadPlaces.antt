@@ -18,25 +18,34 @@ pub ends_from_heads : (instance : PlainInstance) (X : Exclusions) (places : List
     → (v : ℕ) → v < box_count instance → IsGreatestEnd instance X places i v
 ends_from_heads instance X places i apart trans one heads v hv = record { above = above v hv; reached = reached }
   where
-    run : (v : ℕ) → v < box_count instance → IsHeaviestRun (box_count instance) (Leads X i Backwards) (λ u. side instance u i) v (place instance places v i + side instance v i)
+    run : (v : ℕ) → v < box_count instance
+        → IsHeaviestRun (box_count instance) (Leads X i Backwards) (λ u. side instance u i) v
+        (place instance places v i + side instance v i)
     run v hv = run_of_heaviest X i instance v (place instance places v i + side instance v i) (heads v hv)
 
-    above : (v : ℕ) → v < box_count instance → (u : ℕ) → u < box_count instance → IsSurelyBefore X i u v → place instance places u i + side instance u i ≤ place instance places v i
+    above : (v : ℕ) → v < box_count instance → (u : ℕ) → u < box_count instance → IsSurelyBefore X i u v
+        → place instance places u i + side instance u i ≤ place instance places v i
     above v hv u hu uv =
-        let longer = run_more (box_count instance) (Leads X i Backwards) (λ x. side instance x i) trans one v u (place instance places u i + side instance u i) hv (λ e. apart u v uv (sym e)) uv (run u hu).some in
+        let longer = run_more (box_count instance) (Leads X i Backwards) (λ x. side instance x i) trans one v u
+        (place instance places u i + side instance u i) hv (λ e. apart u v uv (sym e)) uv (run u hu).some in
         let most = (run v hv).most longer.rest longer.boxes longer.run in
         omega (arith, longer.heavy)
 
     from_run : (rest : List ℕ) → AreBoxesAmong (box_count instance) (v ∷ rest) → IsRun (Leads X i Backwards) (v ∷ rest)
         → sum_by (λ u. side instance u i) (v ∷ rest) ≡ place instance places v i + side instance v i
-        → (place instance places v i ≡ 0) ⊎ ((u : ℕ) × (u < box_count instance) × IsSurelyBefore X i u v × (place instance places v i ≡ place instance places u i + side instance u i))
+        → (place instance places v i ≡ 0)
+        ⊎ ((u : ℕ) × (u < box_count instance) × IsSurelyBefore X i u v
+        × (place instance places v i ≡ place instance places u i + side instance u i))
     from_run [] b r e = inl (omega (arith, e, sum_by-cons (λ (u : ℕ). side instance u i) v []))
     from_run (u ∷ l) b r e =
         let hu : u < box_count instance = b.2.0 in
         let most = (run u hu).most l b.2 r.1 in
         let low = above v hv u hu r.0 in
-        let same : place instance places v i ≡ place instance places u i + side instance u i = omega (arith, e, sum_by-cons (λ (x : ℕ). side instance x i) v (u ∷ l)) in
+        let same : place instance places v i ≡ place instance places u i + side instance u i =
+        omega (arith, e, sum_by-cons (λ (x : ℕ). side instance x i) v (u ∷ l)) in
         inr (u, hu, r.0, same)
 
-    reached : (place instance places v i ≡ 0) ⊎ ((u : ℕ) × (u < box_count instance) × IsSurelyBefore X i u v × (place instance places v i ≡ place instance places u i + side instance u i))
+    reached : (place instance places v i ≡ 0)
+        ⊎ ((u : ℕ) × (u < box_count instance) × IsSurelyBefore X i u v
+        × (place instance places v i ≡ place instance places u i + side instance u i))
     reached = from_run (run v hv).some.rest (run v hv).some.boxes (run v hv).some.run (run v hv).some.heavy

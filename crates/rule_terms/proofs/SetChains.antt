@@ -10,12 +10,18 @@ use Rattle.rule_terms.specs.Runs.{IsHeaviestHead, IsHeaviestTail}
 use Rattle.rule_terms.specs.SetChains.{IsChainAmong, weight_among, IsHeaviestHeadAmong, IsHeaviestTailAmong}
 
 module _ (instance : PlainInstance) (keep : List ℕ) (kept : AreBoxes instance keep) (X : Exclusions) (i : ℕ) where
-  among : (vs : List ℕ) → AreBoxes (subset instance keep) vs → IsChain (restricted keep X) i vs → IsChainAmong instance keep X i vs
+  among : (vs : List ℕ) → AreBoxes (subset instance keep) vs → IsChain (restricted keep X) i vs
+      → IsChainAmong instance keep X i vs
   among vs boxes chain =
       let inside = boxes_in instance keep kept vs boxes in
-      record { inside = inside; boxes = boxes_to instance keep kept vs inside boxes; chain = chain_to instance keep kept X i vs inside chain }
+      record {
+        inside = inside;
+        boxes = boxes_to instance keep kept vs inside boxes;
+        chain = chain_to instance keep kept X i vs inside chain;
+      }
 
-  weigh : (vs : List ℕ) → AreBoxes (subset instance keep) vs → weight (subset instance keep) i vs ≡ weight_among instance keep i vs
+  weigh : (vs : List ℕ) → AreBoxes (subset instance keep) vs
+      → weight (subset instance keep) i vs ≡ weight_among instance keep i vs
   weigh vs boxes = weight_same instance keep kept i vs (boxes_in instance keep kept vs boxes)
 
   own_boxes : (vs : List ℕ) → IsChainAmong instance keep X i vs → AreBoxes (subset instance keep) vs
@@ -24,10 +30,12 @@ module _ (instance : PlainInstance) (keep : List ℕ) (kept : AreBoxes instance 
   own_chain : (vs : List ℕ) → IsChainAmong instance keep X i vs → IsChain (restricted keep X) i vs
   own_chain vs c = chain_from instance keep kept X i vs c.inside c.chain
 
-  pub heads_same : (v k : ℕ) → IsHeaviestHead (subset instance keep) (restricted keep X) i v k ↔ IsHeaviestHeadAmong instance keep X i v k
+  pub heads_same : (v k : ℕ) → IsHeaviestHead (subset instance keep) (restricted keep X) i v k ↔ IsHeaviestHeadAmong
+      instance keep X i v k
   heads_same v k = (there, back)
     where
-      there : IsHeaviestHead (subset instance keep) (restricted keep X) i v k → IsHeaviestHeadAmong instance keep X i v k
+      there : IsHeaviestHead (subset instance keep) (restricted keep X) i v k
+          → IsHeaviestHeadAmong instance keep X i v k
       there h = record {
         before = h.some.before;
         is_chain = among (h.some.before ++ v ∷ []) h.some.boxes h.some.chain;
@@ -48,10 +56,12 @@ module _ (instance : PlainInstance) (keep : List ℕ) (kept : AreBoxes instance 
             let e = weigh (others ++ v ∷ []) boxes in omega (arith, m, e)));
       }
 
-  pub tails_same : (v k : ℕ) → IsHeaviestTail (subset instance keep) (restricted keep X) i v k ↔ IsHeaviestTailAmong instance keep X i v k
+  pub tails_same : (v k : ℕ) → IsHeaviestTail (subset instance keep) (restricted keep X) i v k ↔ IsHeaviestTailAmong
+      instance keep X i v k
   tails_same v k = (there, back)
     where
-      there : IsHeaviestTail (subset instance keep) (restricted keep X) i v k → IsHeaviestTailAmong instance keep X i v k
+      there : IsHeaviestTail (subset instance keep) (restricted keep X) i v k
+          → IsHeaviestTailAmong instance keep X i v k
       there h = record {
         after = h.some.after;
         is_chain = among (v ∷ h.some.after) h.some.boxes h.some.chain;

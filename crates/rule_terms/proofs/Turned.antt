@@ -1,5 +1,6 @@
 -- Runs read backwards are chains.
-use Rattle.std.proofs.Common.{◌≡◌, ◌≢◌, ℕ, ◌<◌, ◌≤◌, ◌⊎◌, inl, inr, refl, sym, subst, ◌∙◌, arith, false, List, [], ◌∷◌, ◌++◌}
+use Rattle.std.proofs.Common.{◌≡◌, ◌≢◌, ℕ, ◌<◌, ◌≤◌, ◌⊎◌, inl, inr, refl, sym, subst, ◌∙◌, arith, false, List, [], ◌∷◌}
+use Rattle.std.proofs.Common.{◌++◌}
 use Rattle.std.specs.List.{sum_by}
 use Rattle.std.proofs.lemmas.Bool.{true≢false}
 use Rattle.std.proofs.lemmas.List.Sums.{sum_by-cons, sum_by_push}
@@ -12,7 +13,8 @@ use Rattle.packing_terms.specs.Closure.{IsSymmetric}
 use Rattle.packing_terms.specs.Rules.{AreBoxesAmong, IsChain}
 use Rattle.rule_terms.specs.declared.Direction.{Direction}
 use Rattle.rule_terms.specs.declared.Direction.TheVariants.{Forwards, Backwards}
-use Rattle.rule_terms.specs.Runs.{IsRun, HasRun, IsHeaviestRun, Leads, IsTransitive, IsOneWay, HasHead, HasTail, IsHeaviestHead, IsHeaviestTail}
+use Rattle.rule_terms.specs.Runs.{IsRun, HasRun, IsHeaviestRun, Leads, IsTransitive, IsOneWay, HasHead, HasTail}
+use Rattle.rule_terms.specs.Runs.{IsHeaviestHead, IsHeaviestTail}
 use Rattle.packing_terms.proofs.Members.{IsIn, append_in, in_append}
 use Rattle.packing_terms.proofs.Boxes.{each_in, each_from}
 
@@ -31,7 +33,8 @@ in_turned v (x ∷ l) i = go (append_in v (turned l) (x ∷ []) i) (in_turned v 
     go (inr (inr j)) rest = absurd j
 
 module _ (n : ℕ) where
-  boxes_push : (xs : List ℕ) (v : ℕ) → AreBoxesAmong n xs → v < n → ((x : ℕ) → IsIn x xs → x ≢ v) → AreBoxesAmong n (xs ++ v ∷ [])
+  boxes_push : (xs : List ℕ) (v : ℕ) → AreBoxesAmong n xs → v < n → ((x : ℕ) → IsIn x xs → x ≢ v)
+      → AreBoxesAmong n (xs ++ v ∷ [])
   boxes_push [] v b hv ne = (hv, tt, tt)
   boxes_push (x ∷ xs) v b hv ne = (
     b.0,
@@ -51,17 +54,24 @@ module _ (n : ℕ) where
       (λ z i e. each_in (λ y. v ≢ y) (x ∷ l) b.1 z (in_turned z (x ∷ l) i) (sym e))
 
   -- the last one of distinct boxes, and the others
-  boxes_pop : (xs : List ℕ) (v : ℕ) → AreBoxesAmong n (xs ++ v ∷ []) → AreBoxesAmong n xs × (v < n) × ((x : ℕ) → IsIn x xs → v ≢ x)
+  boxes_pop : (xs : List ℕ) (v : ℕ) → AreBoxesAmong n (xs ++ v ∷ []) → AreBoxesAmong n xs × (v < n)
+      × ((x : ℕ) → IsIn x xs → v ≢ x)
   boxes_pop [] v b = (tt, b.0, λ x i. absurd i)
   boxes_pop (x ∷ xs) v b =
       let rest = boxes_pop xs v b.2 in (
-        (b.0, each_from (λ z. x ≢ z) xs (λ z i. each_in (λ y. x ≢ y) (xs ++ v ∷ []) b.1 z (in_append z xs (v ∷ []) (inl i))), rest.0),
+        (
+          b.0,
+          each_from (λ z. x ≢ z) xs
+              (λ z i. each_in (λ y. x ≢ y) (xs ++ v ∷ []) b.1 z (in_append z xs (v ∷ []) (inl i))),
+          rest.0,
+        ),
         rest.1,
         λ z i. apart z i (rest.2),
       )
     where
       apart : (z : ℕ) → IsIn z (x ∷ xs) → ((y : ℕ) → IsIn y xs → v ≢ y) → v ≢ z
-      apart z (inl e) others = λ f. each_in (λ y. x ≢ y) (xs ++ v ∷ []) b.1 v (in_append v xs (v ∷ []) (inr (inl refl))) (sym e ∙ sym f)
+      apart z (inl e) others = λ f. each_in (λ y. x ≢ y) (xs ++ v ∷ []) b.1 v (in_append v xs (v ∷ []) (inr (inl refl)))
+          (sym e ∙ sym f)
       apart z (inr i) others = others z i
 
   boxes_back : (xs : List ℕ) → AreBoxesAmong n xs → AreBoxesAmong n (turned xs)
@@ -75,7 +85,8 @@ module _ (n : ℕ) where
 
   pub sum_turned : (w : ℕ → ℕ) (v : ℕ) (l : List ℕ) → sum_by w (turned l ++ v ∷ []) ≡ sum_by w (v ∷ l)
   sum_turned w v [] = refl
-  sum_turned w v (x ∷ l) = let rest = sum_turned w x l in omega (arith, sum_by_push w (turned (x ∷ l)) v, sum_by-cons w v (x ∷ l))
+  sum_turned w v (x ∷ l) = let rest = sum_turned w x l in
+      omega (arith, sum_by_push w (turned (x ∷ l)) v, sum_by-cons w v (x ∷ l))
 
   pub sum_run : (w : ℕ → ℕ) (v : ℕ) (before : List ℕ) → sum_by w (v ∷ turned before) ≡ sum_by w (before ++ v ∷ [])
   sum_run w v before = omega (arith, sum_by-cons w v (turned before), sum_by_push w before v, back before)
@@ -101,17 +112,21 @@ module _ (X : Exclusions) (i : ℕ) where
   run_chain (u ∷ []) h = tt
   run_chain (u ∷ v ∷ l) h = (h.0, run_chain (v ∷ l) h.1)
 
-  back_chain : (v : ℕ) (l : List ℕ) → IsRun (Leads X i Backwards) (v ∷ l) → IsRun (IsSurelyBefore X i) (turned l ++ v ∷ [])
+  back_chain : (v : ℕ) (l : List ℕ) → IsRun (Leads X i Backwards) (v ∷ l)
+      → IsRun (IsSurelyBefore X i) (turned l ++ v ∷ [])
   back_chain v [] h = tt
   back_chain v (x ∷ l) h = run_push (IsSurelyBefore X i) (turned l) x v (back_chain x l h.1) h.0
 
-  chain_back : (v : ℕ) (before : List ℕ) → IsRun (IsSurelyBefore X i) (before ++ v ∷ []) → IsRun (Leads X i Backwards) (v ∷ turned before)
+  chain_back : (v : ℕ) (before : List ℕ) → IsRun (IsSurelyBefore X i) (before ++ v ∷ [])
+      → IsRun (Leads X i Backwards) (v ∷ turned before)
   chain_back v [] h = tt
   chain_back v (x ∷ []) h = (h.0, tt)
-  chain_back v (x ∷ y ∷ before) h = run_push (Leads X i Backwards) (v ∷ turned before) y x (chain_back v (y ∷ before) h.1) h.0
+  chain_back v (x ∷ y ∷ before) h =
+      run_push (Leads X i Backwards) (v ∷ turned before) y x (chain_back v (y ∷ before) h.1) h.0
 
   module _ (instance : PlainInstance) where
-    pub head_of : (v k : ℕ) → IsHeaviestRun (box_count instance) (Leads X i Backwards) (λ u. side instance u i) v k → IsHeaviestHead instance X i v k
+    pub head_of : (v k : ℕ) → IsHeaviestRun (box_count instance) (Leads X i Backwards) (λ u. side instance u i) v k
+        → IsHeaviestHead instance X i v k
     head_of v k run = record {
       some = record {
         before = turned run.some.rest;
@@ -120,17 +135,25 @@ module _ (X : Exclusions) (i : ℕ) where
         heavy = sum_turned (box_count instance) (λ u. side instance u i) v run.some.rest ∙ run.some.heavy;
       };
       most = λ before b c. subst (λ (z : ℕ). z ≤ k) (sum_run (box_count instance) (λ u. side instance u i) v before)
-          (run.most (turned before) (boxes_run (box_count instance) v before b) (chain_back v before (chain_run (before ++ v ∷ []) c)));
+          (run.most (turned before) (boxes_run (box_count instance) v before b)
+          (chain_back v before (chain_run (before ++ v ∷ []) c)));
     }
 
-    pub tail_of : (v k : ℕ) → IsHeaviestRun (box_count instance) (Leads X i Forwards) (λ u. side instance u i) v k → IsHeaviestTail instance X i v k
+    pub tail_of : (v k : ℕ) → IsHeaviestRun (box_count instance) (Leads X i Forwards) (λ u. side instance u i) v k
+        → IsHeaviestTail instance X i v k
     tail_of v k run = record {
-      some = record { after = run.some.rest; boxes = run.some.boxes; chain = run_chain (v ∷ run.some.rest) run.some.run; heavy = run.some.heavy };
+      some = record {
+        after = run.some.rest;
+        boxes = run.some.boxes;
+        chain = run_chain (v ∷ run.some.rest) run.some.run;
+        heavy = run.some.heavy;
+      };
       most = λ after b c. run.most after b (chain_run (v ∷ after) c);
     }
 
     -- a head is a run, so it is small
-    pub run_of_head : (v k : ℕ) → HasHead instance X i v k → HasRun (box_count instance) (Leads X i Backwards) (λ u. side instance u i) v k
+    pub run_of_head : (v k : ℕ) → HasHead instance X i v k
+        → HasRun (box_count instance) (Leads X i Backwards) (λ u. side instance u i) v k
     run_of_head v k h = record {
       rest = turned h.before;
       boxes = boxes_run (box_count instance) v h.before h.boxes;
@@ -138,14 +161,22 @@ module _ (X : Exclusions) (i : ℕ) where
       heavy = sum_run (box_count instance) (λ u. side instance u i) v h.before ∙ h.heavy;
     }
 
-    pub run_of_tail : (v k : ℕ) → HasTail instance X i v k → HasRun (box_count instance) (Leads X i Forwards) (λ u. side instance u i) v k
-    run_of_tail v k h = record { rest = h.after; boxes = h.boxes; run = chain_run (v ∷ h.after) h.chain; heavy = h.heavy }
+    pub run_of_tail : (v k : ℕ) → HasTail instance X i v k
+        → HasRun (box_count instance) (Leads X i Forwards) (λ u. side instance u i) v k
+    run_of_tail v k h = record {
+      rest = h.after;
+      boxes = h.boxes;
+      run = chain_run (v ∷ h.after) h.chain;
+      heavy = h.heavy;
+    }
 
     -- surely before goes one way where no mask is empty, and backwards it is transitive too
-    pub one_way : i < dims instance → IsSymmetric X → HasNoEmptyMask instance X → (d : Direction) → IsOneWay (box_count instance) (Leads X i d)
+    pub one_way : i < dims instance → IsSymmetric X → HasNoEmptyMask instance X → (d : Direction)
+        → IsOneWay (box_count instance) (Leads X i d)
     one_way hi symmetric full d u v b = go d
       where
-        clash : (a c : ℕ) → IsEdgeAmong (dims instance) (box_count instance) i a c → IsSurelyBefore X i a c → IsSurelyBefore X i c a → ⊥
+        clash : (a c : ℕ) → IsEdgeAmong (dims instance) (box_count instance) i a c → IsSurelyBefore X i a c
+            → IsSurelyBefore X i c a → ⊥
         clash a c edge ac ca = pick (full i a c edge)
           where
             pick : (r : Rel) × (X i a c r ≡ false) → ⊥
@@ -160,14 +191,21 @@ module _ (X : Exclusions) (i : ℕ) where
         go Forwards h k = clash u v edge h k
         go Backwards h k = clash u v edge k h
 
-    pub transitive_back : IsTransitive (box_count instance) (IsSurelyBefore X i) → (d : Direction) → IsTransitive (box_count instance) (Leads X i d)
+    pub transitive_back : IsTransitive (box_count instance) (IsSurelyBefore X i) → (d : Direction)
+        → IsTransitive (box_count instance) (Leads X i d)
     transitive_back trans Backwards u v x b h k =
-        trans x v u (b.2.2.0, ((λ e. b.2.1.0 (sym e)), ((λ e. b.1.1.0 (sym e)), tt)), (b.2.0, ((λ e. b.1.0 (sym e)), tt), (b.0, tt, tt))) k h
+        trans x v u (
+          b.2.2.0,
+          ((λ e. b.2.1.0 (sym e)), ((λ e. b.1.1.0 (sym e)), tt)),
+          (b.2.0, ((λ e. b.1.0 (sym e)), tt), (b.0, tt, tt)),
+        ) k h
     transitive_back trans Forwards u v x b h k = trans u v x b h k
 
-    pub run_of_heaviest : (v k : ℕ) → IsHeaviestHead instance X i v k → IsHeaviestRun (box_count instance) (Leads X i Backwards) (λ u. side instance u i) v k
+    pub run_of_heaviest : (v k : ℕ) → IsHeaviestHead instance X i v k
+        → IsHeaviestRun (box_count instance) (Leads X i Backwards) (λ u. side instance u i) v k
     run_of_heaviest v k h = record {
       some = run_of_head v k h.some;
       most = λ rest b r. subst (λ (z : ℕ). z ≤ k) (sum_turned (box_count instance) (λ u. side instance u i) v rest)
-          (h.most (turned rest) (boxes_turned (box_count instance) v rest b) (run_chain (turned rest ++ v ∷ []) (back_chain v rest r)));
+          (h.most (turned rest) (boxes_turned (box_count instance) v rest b)
+          (run_chain (turned rest ++ v ∷ []) (back_chain v rest r)));
     }

@@ -1,5 +1,6 @@
 -- What one instance of a rule adds to a list of exclusions.
-use Rattle.std.specs.Prelude.{ℕ, ◌+◌, nat_lt, ◌≡◌, ◌<◌, ◌≤◌, ◌⊎◌, ◌↔◌, List, ◌++◌, Bool, false, not, ◌&&◌, ◌||◌, if◌then◌else◌, IsTrue}
+use Rattle.std.specs.Prelude.{ℕ, ◌+◌, nat_lt, ◌≡◌, ◌<◌, ◌≤◌, ◌⊎◌, ◌↔◌, List, ◌++◌, Bool, false, not, ◌&&◌, ◌||◌}
+use Rattle.std.specs.Prelude.{if◌then◌else◌, IsTrue}
 use Rattle.packing_terms.specs.declared.Rel.{Rel}
 use Rattle.packing_terms.specs.declared.Rel.TheVariants.{Overlap, Before, After}
 use Rattle.packing_terms.specs.declared.Exclusion.{Exclusion}
@@ -30,14 +31,16 @@ pub record Extends (instance : PlainInstance) (old new : List Exclusion) : Type 
 -- changed, and else none
 pub record IsRuleStep (instance : PlainInstance) (old new : List Exclusion) (changed : Bool) : Type 0 where
   pub extends : Extends instance old new
-  pub shrinks : IsTrue changed → open_count (dims instance) (box_count instance) new < open_count (dims instance) (box_count instance) old
+  pub shrinks : IsTrue changed → open_count (dims instance) (box_count instance) new < open_count (dims instance)
+      (box_count instance) old
   pub same : changed ≡ false → new ≡ old
 
 -- the instance of the rule was applied: exactly what was excluded before, or is added by it, is
 -- excluded afterwards
 pub record IsApplied (instance : PlainInstance) (rule : Rule) (old new : List Exclusion) (changed : Bool) : Type 0 where
   pub step : IsRuleStep instance old new changed
-  pub exact : (i u v : ℕ) (r : Rel) → IsTrue (excludes new i u v r) ↔ (IsTrue (excludes old i u v r) ⊎ Adds instance (excludes old) rule i u v r)
+  pub exact : (i u v : ℕ) (r : Rel)
+      → IsTrue (excludes new i u v r) ↔ (IsTrue (excludes old i u v r) ⊎ Adds instance (excludes old) rule i u v r)
 
 -- the same in every instance with so many dimensions and boxes, whatever their sides are
 abbrev pub IsAppliedAmong : ℕ → ℕ → Rule → List Exclusion → List Exclusion → Bool → Type 0
@@ -47,7 +50,8 @@ IsAppliedAmong d n rule old new changed =
 -- every packing of the instance that respects the exclusions before respects those after
 abbrev pub KeepsPackings : PlainInstance → List Exclusion → List Exclusion → Type 0
 KeepsPackings instance old new =
-    (places : List ℕ) → HasPositiveSides instance → IsPacking instance places → Respects instance places (excludes old) → Respects instance places (excludes new)
+    (places : List ℕ) → HasPositiveSides instance → IsPacking instance places → Respects instance places (excludes old)
+    → Respects instance places (excludes new)
 
 -- the same of every instance with so many dimensions and boxes
 abbrev pub KeepsPackingsAmong : ℕ → ℕ → List Exclusion → List Exclusion → Type 0
@@ -64,7 +68,8 @@ narrows es i u v keep r = not (keep r) && not (excludes es i u v r)
 
 -- only the relations to be kept are left at a pair
 abbrev pub narrowed : List Exclusion → ℕ → ℕ → ℕ → (Rel → Bool) → List Exclusion
-narrowed es i u v keep = narrowed_by (narrowed_by (narrowed_by es i u v keep Overlap) i u v keep Before) i u v keep After
+narrowed es i u v keep = narrowed_by (narrowed_by (narrowed_by es i u v keep Overlap) i u v keep Before) i u
+    v keep After
 
 abbrev pub is_narrowed : List Exclusion → ℕ → ℕ → ℕ → (Rel → Bool) → Bool
 is_narrowed es i u v keep =

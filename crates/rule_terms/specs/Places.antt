@@ -19,5 +19,8 @@ HasNoEmptyMask instance X = (i u v : ℕ) → IsEdge instance i u v → (r : Rel
 
 -- p is the greatest end of a box that is surely before v, and 0 where there is none
 pub record IsGreatestEnd (instance : PlainInstance) (X : Exclusions) (places : List ℕ) (i v : ℕ) : Type 0 where
-  pub above : (u : ℕ) → u < box_count instance → IsSurelyBefore X i u v → place instance places u i + side instance u i ≤ place instance places v i
-  pub reached : (place instance places v i ≡ 0) ⊎ ((u : ℕ) × (u < box_count instance) × IsSurelyBefore X i u v × (place instance places v i ≡ place instance places u i + side instance u i))
+  pub above : (u : ℕ) → u < box_count instance → IsSurelyBefore X i u v
+      → place instance places u i + side instance u i ≤ place instance places v i
+  pub reached : (place instance places v i ≡ 0)
+      ⊎ ((u : ℕ) × (u < box_count instance) × IsSurelyBefore X i u v
+      × (place instance places v i ≡ place instance places u i + side instance u i))

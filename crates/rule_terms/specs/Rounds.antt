@@ -46,20 +46,24 @@ module _ (instance : PlainInstance) (X : Exclusions) (i u v : ℕ) (r : Rel) whe
   abbrev pub by_triple : Bool
   by_triple = not (is_same_rel r Overlap)
       && list_any (λ x. X i u x Overlap && X i v x Overlap
-      && nat_lt (container_side instance i) (side instance u i + side instance v i + side instance x i)) (others (box_count instance) u v)
+      && nat_lt (container_side instance i) (side instance u i + side instance v i + side instance x i))
+      (others (box_count instance) u v)
 
   abbrev pub by_compose : Bool
-  by_compose = list_any (λ x. list_all (λ q. list_all (λ s. X i u x q || X i x v s || not (allows q s r)) rels) rels) (others (box_count instance) u v)
+  by_compose = list_any (λ x. list_all (λ q. list_all (λ s. X i u x q || X i x v s || not (allows q s r)) rels) rels)
+      (others (box_count instance) u v)
 
   abbrev pub by_cycle : Bool
   by_cycle = not (is_same_rel r Overlap)
-      && list_any (λ a. list_any (λ c. not (a == c) && is_joined X i a u && is_joined X i u c && is_joined X i c v && is_joined X i v a && X i a c Overlap)
+      && list_any (λ a. list_any (λ c. not (a == c) && is_joined X i a u && is_joined X i u c && is_joined X i c v
+      && is_joined X i v a && X i a c Overlap)
       (others (box_count instance) u v)) (others (box_count instance) u v)
 
   -- here u is c and v is b
   abbrev pub by_order : Bool
   by_order = not (is_same_rel r Before)
-      && list_any (λ a. list_any (λ d. not (a == d) && is_surely_before X i a v && is_surely_before X i u d && X i a d Before)
+      && list_any (λ a. list_any (λ d. not (a == d) && is_surely_before X i a v && is_surely_before X i u d
+      && X i a d Before)
       (others (box_count instance) u v)) (others (box_count instance) u v)
 
   abbrev pub by_chain : Bool
@@ -76,14 +80,16 @@ module _ (instance : PlainInstance) (X : Exclusions) (i u v : ℕ) (r : Rel) whe
 -- each relation in each dimension, at each pair
 abbrev pub all_exclusions : ℕ → ℕ → List Exclusion
 all_exclusions d n =
-    flat_map (λ i. flat_map (λ v. flat_map (λ u. map (λ r. record { dim = i; u = u; v = v; rel = r }) rels) (below v)) (below n)) (below d)
+    flat_map (λ i. flat_map (λ v. flat_map (λ u. map (λ r. record { dim = i; u = u; v = v; rel = r }) rels) (below v))
+    (below n)) (below d)
 
 -- what one round adds: every relation that isn't excluded yet, and that some rule excludes at its
 -- pair or at the pair turned round
 abbrev pub additions : PlainInstance → List Exclusion → List Exclusion
 additions instance es =
     filter (λ e. not (excludes es e.dim e.u e.v e.rel)
-    && (follows instance (excludes es) e.dim e.u e.v e.rel || follows instance (excludes es) e.dim e.v e.u (mirror e.rel)))
+    && (follows instance (excludes es) e.dim e.u e.v e.rel
+    || follows instance (excludes es) e.dim e.v e.u (mirror e.rel)))
     (all_exclusions (dims instance) (box_count instance))
 
 -- so many rounds, or until one adds nothing
@@ -98,4 +104,5 @@ closure instance es = rounds instance (relation_count (dims instance) (box_count
 -- whether all three relations are excluded in one dimension, at one pair
 abbrev pub has_empty_mask : Exclusions → ℕ → ℕ → Bool
 has_empty_mask X d n =
-    list_any (λ i. list_any (λ v. list_any (λ u. X i u v Overlap && X i u v Before && X i u v After) (below v)) (below n)) (below d)
+    list_any (λ i. list_any (λ v. list_any (λ u. X i u v Overlap && X i u v Before && X i u v After) (below v))
+    (below n)) (below d)

@@ -22,11 +22,13 @@ pub record IsHeaviestHeadAmong (instance : PlainInstance) (keep : List ℕ) (X :
   pub before : List ℕ
   pub is_chain : IsChainAmong instance keep X i (before ++ v ∷ [])
   pub heavy : weight_among instance keep i (before ++ v ∷ []) ≡ k
-  pub most : (others : List ℕ) → IsChainAmong instance keep X i (others ++ v ∷ []) → weight_among instance keep i (others ++ v ∷ []) ≤ k
+  pub most : (others : List ℕ) → IsChainAmong instance keep X i (others ++ v ∷ [])
+      → weight_among instance keep i (others ++ v ∷ []) ≤ k
 
 -- the like for chains that start there
 pub record IsHeaviestTailAmong (instance : PlainInstance) (keep : List ℕ) (X : Exclusions) (i v k : ℕ) : Type 0 where
   pub after : List ℕ
   pub is_chain : IsChainAmong instance keep X i (v ∷ after)
   pub heavy : weight_among instance keep i (v ∷ after) ≡ k
-  pub most : (others : List ℕ) → IsChainAmong instance keep X i (v ∷ others) → weight_among instance keep i (v ∷ others) ≤ k
+  pub most : (others : List ℕ) → IsChainAmong instance keep X i (v ∷ others)
+      → weight_among instance keep i (v ∷ others) ≤ k

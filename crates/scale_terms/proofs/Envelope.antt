@@ -1,5 +1,6 @@
 -- Any dual feasible function is dominated: by the most that a list of numbers with a given sum can have as images.
-use Rattle.std.proofs.Common.{◌≡◌, ℕ, zero, suc, ◌+◌, ◌-◌, ◌<◌, ◌≤◌, ◌⊎◌, inl, inr, refl, arith, List, [], ◌∷◌, map, max}
+use Rattle.std.proofs.Common.{◌≡◌, ℕ, zero, suc, ◌+◌, ◌-◌, ◌<◌, ◌≤◌, ◌⊎◌, inl, inr, refl, arith, List, [], ◌∷◌, map}
+use Rattle.std.proofs.Common.{max}
 use Rattle.std.specs.List.{sum}
 use Rattle.std.proofs.lemmas.Bool.{cases_lt}
 use Rattle.std.proofs.lemmas.List.Sums.{sum_by-cons}
@@ -60,7 +61,8 @@ most_more k f x y l = at_most_greatest x (λ z. f z + most k f (x - z)) y l
 most_rises : (k : ℕ) (f : ℕ → ℕ) (x y : ℕ) → x ≤ y → most k f x ≤ most k f y
 unfolding most
 most_rises zero f x y l = omega arith
-most_rises (suc k) f x y l = go (greatest_is x (λ z. f z + most k f (x - z))) (λ z. most_rises k f (x - z) (y - z) (omega arith))
+most_rises (suc k) f x y l = go (greatest_is x (λ z. f z + most k f (x - z)))
+    (λ z. most_rises k f (x - z) (y - z) (omega arith))
   where
     go : (z : ℕ) × (z ≤ x) × (greatest x (λ w. f w + most k f (x - w)) ≡ f z + most k f (x - z))
         → ((z : ℕ) → most k f (x - z) ≤ most k f (y - z)) → most (suc k) f x ≤ most (suc k) f y
@@ -78,12 +80,14 @@ most_adds zero m f x y =
 most_adds (suc k) m f x y = go (greatest_is x (λ z. f z + most k f (x - z))) (λ z. most_adds k m f (x - z) y)
   where
     go : (z : ℕ) × (z ≤ x) × (greatest x (λ w. f w + most k f (x - w)) ≡ f z + most k f (x - z))
-        → ((z : ℕ) → most k f (x - z) + most m f y ≤ most (k + m) f (x - z + y)) → most (suc k) f x + most m f y ≤ most (suc k + m) f (x + y)
+        → ((z : ℕ) → most k f (x - z) + most m f y ≤ most (k + m) f (x - z + y))
+        → most (suc k) f x + most m f y ≤ most (suc k + m) f (x + y)
     go (z, l, e) rest =
         let i = rest z in
         let g : x - z + y ≡ x + y - z = omega (arith, l) in
         let n : suc k + m ≡ suc (k + m) = omega arith in
-        let j : f z + most (k + m) f (x + y - z) ≤ most (suc (k + m)) f (x + y) = most_more (k + m) f (x + y) z (omega (arith, l)) in
+        let j : f z + most (k + m) f (x + y - z) ≤ most (suc (k + m)) f (x + y) =
+        most_more (k + m) f (x + y) z (omega (arith, l)) in
         let i2 : most k f (x - z) + most m f y ≤ most (k + m) f (x + y - z) = rw g at i in
         rw n (omega (arith, e, i2, j))
 
@@ -99,7 +103,8 @@ sum_zeros (suc n) = let s = sum_by-cons (λ (z : ℕ). z) 0 (zeros n) in let i =
 images_zeros : (n : ℕ) (f : ℕ → ℕ) → 1 ≤ f 0 → n ≤ sum (map f (zeros n))
 unfolding zeros
 images_zeros zero f h = omega arith
-images_zeros (suc n) f h = let s = sum_by-cons (λ (z : ℕ). z) (f 0) (map f (zeros n)) in let i = images_zeros n f h in omega (arith, s, i)
+images_zeros (suc n) f h = let s = sum_by-cons (λ (z : ℕ). z) (f 0) (map f (zeros n)) in let i = images_zeros n f h in
+    omega (arith, s, i)
 
 feasible_zero : (W F : ℕ) (f : ℕ → ℕ) → IsDualFeasible W F f → f 0 ≡ 0
 feasible_zero W F f h = go (cases_lt 0 (f 0))

@@ -4,4 +4,7 @@ use Rattle.scale_terms.proofs.Packings.{none_fits, none_shared}
 use Rattle.scale_terms.proofs.InBins.{bins_share}
 
 pub excess_law : ExcessLaw
-excess_law = record { one = none_fits; bins = λ instance fs k x p. none_shared instance fs k x (bins_share instance k p) }
+excess_law = record {
+  one = none_fits;
+  bins = λ instance fs k x p. none_shared instance fs k x (bins_share instance k p);
+}

@@ -1,5 +1,6 @@
 -- Each legal scale function is dominated by a superadditive one.
-use Rattle.std.proofs.Common.{◌≡◌, ℕ, ◌+◌, ◌-◌, ◌*◌, ◌/◌, ◌%◌, ◌<◌, ◌≤◌, ◌⊎◌, inl, inr, ap, subst, ◌∙◌, arith, cond, leb}
+use Rattle.std.proofs.Common.{◌≡◌, ℕ, ◌+◌, ◌-◌, ◌*◌, ◌/◌, ◌%◌, ◌<◌, ◌≤◌, ◌⊎◌, inl, inr, ap, subst, ◌∙◌, arith, cond}
+use Rattle.std.proofs.Common.{leb}
 use Rattle.std.proofs.lemmas.Bool.{cases_lt, cases_eq}
 use Rattle.std.proofs.lemmas.Bool.Decides.{nat_tests}
 use Rattle.std.proofs.lemmas.Nat.{div-add-mod', mod_below}
@@ -16,7 +17,8 @@ CutCase W e x y = ((x < e) × (y ≡ 0)) ⊎ (((e ≤ x) × (x ≤ W - e) × (y 
 cut_case : (W e x : ℕ) → CutCase W e x (scale_image (Cut e) W x)
 cut_case W e x = grind (arith, nat_tests)
 
-cut_sum : (W e x y a b c : ℕ) → 1 ≤ e → 2 * e ≤ W → x + y ≤ W → CutCase W e x a → CutCase W e y b → CutCase W e (x + y) c → a + b ≤ c
+cut_sum : (W e x y a b c : ℕ) → 1 ≤ e → 2 * e ≤ W → x + y ≤ W → CutCase W e x a → CutCase W e y b
+    → CutCase W e (x + y) c → a + b ≤ c
 cut_sum W e x y a b c p q l i j k = omega arith
 
 cut_dominated : (W e : ℕ) → 1 ≤ e → 2 * e ≤ W → IsDominated W W (scale_image (Cut e) W)
@@ -53,7 +55,8 @@ CountCase W e x y = ((2 * x ≤ W) × (y ≡ x / e)) ⊎ ((W < 2 * x) × (y ≡ 
 count_case : (W e x : ℕ) → CountCase W e x (full_count W e x)
 count_case W e x = grind (arith, nat_tests)
 
-one_large : (W e x y a b c : ℕ) → 1 ≤ e → x + y ≤ W → (2 * x ≤ W) × (a ≡ x / e) → (W < 2 * y) × (b ≡ W / e - (W - y) / e)
+one_large : (W e x y a b c : ℕ) → 1 ≤ e → x + y ≤ W → (2 * x ≤ W) × (a ≡ x / e)
+    → (W < 2 * y) × (b ≡ W / e - (W - y) / e)
     → CountCase W e (x + y) c → a + b ≤ c
 one_large W e x y a b c p l i j (inl k) = omega arith
 one_large W e x y a b c p l i j (inr k) =
@@ -63,7 +66,8 @@ one_large W e x y a b c p l i j (inr k) =
     let r : (W - y) / e ≤ W / e = div_rises (W - y) W e p (omega arith) in
     omega (arith, u, r)
 
-count_sum : (W e x y a b c : ℕ) → 1 ≤ e → x + y ≤ W → CountCase W e x a → CountCase W e y b → CountCase W e (x + y) c → a + b ≤ c
+count_sum : (W e x y a b c : ℕ) → 1 ≤ e → x + y ≤ W → CountCase W e x a → CountCase W e y b
+    → CountCase W e (x + y) c → a + b ≤ c
 count_sum W e x y a b c p l (inl i) (inl j) (inl k) = let s = div_sum x y e p in omega (arith, s)
 count_sum W e x y a b c p l (inl i) (inl j) (inr k) =
     let s = div_sum x y e p in
@@ -114,7 +118,8 @@ step_case W k x p = record {
     spread k x = grind arith
 
     go : ((k + 1) * x % W ≡ 0) ⊎ ((k + 1) * x % W ≡ 0 → ⊥)
-        → (((k + 1) * x % W ≡ 0) × (scale_image (Step k) W x ≡ k * x)) ⊎ ((0 < (k + 1) * x % W) × (scale_image (Step k) W x ≡ (k + 1) * x / W * W))
+        → (((k + 1) * x % W ≡ 0) × (scale_image (Step k) W x ≡ k * x))
+        ⊎ ((0 < (k + 1) * x % W) × (scale_image (Step k) W x ≡ (k + 1) * x / W * W))
     go (inl e) = inl (e, grind (arith, nat_tests, e))
     go (inr e) = inr (omega arith, grind (arith, nat_tests, e))
 
@@ -165,7 +170,11 @@ step_dominated W k p = record {
 }
 
 pub dominated : (f : ScaleFn) (W : ℕ) → IsLegalScale f W → IsDominated W (scale_whole f W) (scale_image f W)
-dominated Id W h = record { above = λ x. x; adds = record { adds = λ x y l. omega arith; top = omega arith }; at_most = λ x l. omega arith }
+dominated Id W h = record {
+  above = λ x. x;
+  adds = record { adds = λ x y l. omega arith; top = omega arith };
+  at_most = λ x l. omega arith;
+}
 dominated (Step k) W h = step_dominated W k h.2
 dominated (Cut e) W h = cut_dominated W e h.0 h.1
 dominated (Count e) W h = count_dominated W e h.0

@@ -1,4 +1,5 @@
--- Where the boxes of each bin are a packing, each box lies within its container, and the boxes of one container are disjoint.
+-- Where the boxes of each bin are a packing, each box lies within its container, and the boxes of
+-- one container are disjoint.
 use Rattle.std.proofs.Common.{ℕ, arith}
 use Rattle.packing_terms.specs.Packing.{PlainInstance}
 use Rattle.packing_terms.specs.Goals.{FitsInBins}

@@ -1,5 +1,6 @@
 -- What lies apart in some dimension: the products of images are together at most the product of the wholes.
-use Rattle.std.proofs.Common.{◌≡◌, ℕ, zero, suc, ◌+◌, ◌*◌, ◌<◌, ◌≤◌, ◌⊎◌, inl, inr, refl, subst, ◌∙◌, arith, Bool, true, false, cond, ◌&&◌}
+use Rattle.std.proofs.Common.{◌≡◌, ℕ, zero, suc, ◌+◌, ◌*◌, ◌<◌, ◌≤◌, ◌⊎◌, inl, inr, refl, subst, ◌∙◌, arith, Bool, true}
+use Rattle.std.proofs.Common.{false, cond, ◌&&◌}
 use Rattle.std.proofs.lemmas.Bool.{cases_lt, cases_Bool, and_parts}
 use Rattle.std.proofs.lemmas.Bool.Decides.{nat_tests}
 use Rattle.packing_terms.specs.Sums.{sum_below, product_below}
@@ -19,7 +20,8 @@ pub record Layout : Type 0 where
 
 -- in some dimension below d one ends before the other
 abbrev pub LieApart : Layout → ℕ → ℕ → ℕ → Type 0
-LieApart y d u v = (i : ℕ) × (i < d) × ((y.start u i + y.len u i ≤ y.start v i) ⊎ (y.start v i + y.len v i ≤ y.start u i))
+LieApart y d u v = (i : ℕ) × (i < d)
+    × ((y.start u i + y.len u i ≤ y.start v i) ⊎ (y.start v i + y.len v i ≤ y.start u i))
 
 -- each two of the boxes that are kept
 abbrev pub AreSpread : Layout → ℕ → (ℕ → Bool) → Type 0
@@ -42,9 +44,11 @@ at_most_one (suc n) keep h = go (cases_Bool (keep n)) (at_most_one n keep (λ u 
     none e v l true f = absurd (h v n l (omega arith) f e)
     none e v l false f = refl
 
-    go : (keep n ≡ true) ⊎ (keep n ≡ false) → sum_below n (λ v. cond (keep v) 1 0) ≤ 1 → sum_below (suc n) (λ v. cond (keep v) 1 0) ≤ 1
+    go : (keep n ≡ true) ⊎ (keep n ≡ false) → sum_below n (λ v. cond (keep v) 1 0) ≤ 1
+        → sum_below (suc n) (λ v. cond (keep v) 1 0) ≤ 1
     go (inl e) i =
-        let z : sum_below n (λ v. cond (keep v) 1 0) ≡ 0 = sum-same n _ (λ v. 0) (λ v l. none e v l (keep v) refl) ∙ sum-zero n in
+        let z : sum_below n (λ v. cond (keep v) 1 0) ≡ 0 =
+        sum-same n _ (λ v. 0) (λ v l. none e v l (keep v) refl) ∙ sum-zero n in
         rw e (omega arith)
     go (inr e) i = rw e (omega arith)
 
@@ -67,7 +71,8 @@ slice y d t keep s u v l m hu hv =
     let pv = and_parts _ _ hv in
     go (s u v l m pu.1 pv.1) (covers_parts _ _ _ pu.0) (covers_parts _ _ _ pv.0)
   where
-    go : LieApart y (suc d) u v → (y.start u d ≤ t) × (t < y.start u d + y.len u d) → (y.start v d ≤ t) × (t < y.start v d + y.len v d) → LieApart y d u v
+    go : LieApart y (suc d) u v → (y.start u d ≤ t) × (t < y.start u d + y.len u d)
+        → (y.start v d ≤ t) × (t < y.start v d + y.len v d) → LieApart y d u v
     go w cu cv = at (cases_lt w.0 d)
       where
         at : (w.0 < d) ⊎ (d ≤ w.0) → LieApart y d u v
@@ -75,21 +80,27 @@ slice y d t keep s u v l m hu hv =
         at (inr e) =
             let g : w.0 ≡ d = (let k = w.1 in omega (arith, k)) in
             let here : (y.start u d + y.len u d ≤ y.start v d) ⊎ (y.start v d + y.len v d ≤ y.start u d)
-            = subst (λ (i : ℕ). (y.start u i + y.len u i ≤ y.start v i) ⊎ (y.start v i + y.len v i ≤ y.start u i)) g w.2 in
+            = subst (λ (i : ℕ). (y.start u i + y.len u i ≤ y.start v i)
+            ⊎ (y.start v i + y.len v i ≤ y.start u i)) g w.2 in
             absurd (omega arith)
 
 pub bounded : (y : Layout) (d : ℕ) → IsWellMade y d → (keep : ℕ → Bool) → AreSpread y d keep
     → sum_below y.boxes (λ v. cond (keep v) (images y d v) 0) ≤ product_below d y.top
 bounded y zero m keep s = at_most_one y.boxes keep (λ u v l e hu hv. let w = s u v l e hu hv in omega arith)
 bounded y (suc d) m keep s =
-    let before : IsWellMade y d = record { inside = λ v i l e. m.inside v i l (omega arith); scaled = λ i e. m.scaled i (omega arith) } in
-    let within : IsWithin y.boxes (y.side d) (product_below d y.top) (λ v. y.start v d) (λ v. y.len v d) (λ v. cond (keep v) (images y d v) 0)
+    let before : IsWellMade y d = record {
+      inside = λ v i l e. m.inside v i l (omega arith);
+      scaled = λ i e. m.scaled i (omega arith);
+    } in
+    let within : IsWithin y.boxes (y.side d) (product_below d y.top) (λ v. y.start v d) (λ v. y.len v d)
+    (λ v. cond (keep v) (images y d v) 0)
     = λ t e.
     let same : sum_below y.boxes (λ v. cond (covers (y.start v d) (y.len v d) t) (cond (keep v) (images y d v) 0) 0)
     ≡ sum_below y.boxes (λ v. cond (covers (y.start v d) (y.len v d) t && keep v) (images y d v) 0)
     = sum-same y.boxes _ _ (λ v _. both (covers (y.start v d) (y.len v d) t) (keep v) (images y d v)) in
     rw same (bounded y d before (λ v. covers (y.start v d) (y.len v d) t && keep v) (slice y d t keep s)) in
-    let h = weighted y.boxes (y.side d) (y.top d) (product_below d y.top) (y.scale d) (λ v. y.start v d) (λ v. y.len v d)
+    let h = weighted y.boxes (y.side d) (y.top d) (product_below d y.top) (y.scale d) (λ v. y.start v d)
+    (λ v. y.len v d)
     (λ v. cond (keep v) (images y d v) 0) (m.scaled d (omega arith)) (λ v e. m.inside v d e (omega arith)) within in
     let times : sum_below y.boxes (λ v. cond (keep v) (images y (suc d) v) 0)
     ≡ sum_below y.boxes (λ v. cond (keep v) (images y d v) 0 * y.scale d (y.len v d))

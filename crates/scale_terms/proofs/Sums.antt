@@ -26,7 +26,8 @@ sum-times (suc n) c f =
     let i : sum_below n (λ v. f v * c) ≡ sum_below n f * c = sum-times n c f in
     ap (λ s. s + f n * c) i ∙ spread (sum_below n f) (f n) c
 
-pub sum-turn : (n m : ℕ) (f : ℕ → ℕ → ℕ) → sum_below n (λ v. sum_below m (λ t. f v t)) ≡ sum_below m (λ t. sum_below n (λ v. f v t))
+pub sum-turn : (n m : ℕ) (f : ℕ → ℕ → ℕ)
+    → sum_below n (λ v. sum_below m (λ t. f v t)) ≡ sum_below m (λ t. sum_below n (λ v. f v t))
 sum-turn zero m f = sym (sum-zero m)
 sum-turn (suc n) m f =
     ap (λ s. s + sum_below m (λ t. f n t)) (sum-turn n m f)

@@ -1,5 +1,6 @@
 -- Weighted intervals: a superadditive function measures each unit step, and an interval by the steps that it covers.
-use Rattle.std.proofs.Common.{◌≡◌, ℕ, zero, suc, ◌+◌, ◌-◌, ◌*◌, ◌<◌, ◌≤◌, ◌⊎◌, inl, inr, refl, sym, ap, ◌∙◌, arith, Bool, true, false, cond}
+use Rattle.std.proofs.Common.{◌≡◌, ℕ, zero, suc, ◌+◌, ◌-◌, ◌*◌, ◌<◌, ◌≤◌, ◌⊎◌, inl, inr, refl, sym, ap, ◌∙◌, arith}
+use Rattle.std.proofs.Common.{Bool, true, false, cond}
 use Rattle.std.proofs.lemmas.Bool.{cases_lt}
 use Rattle.std.proofs.lemmas.Bool.Decides.{nat_tests}
 use Rattle.std.proofs.Math.Nat.{mul-le-mul_left, mul-le-mul_right}
@@ -20,7 +21,8 @@ last_covered : (a l n m : ℕ) → n ≡ a + l → cond (covers a (suc l) n) m 0
 last_covered a l n m e = grind (arith, nat_tests)
 
 -- an interval within the first n steps has a measure of at least the rise over it
-pub covered : (n : ℕ) (h : ℕ → ℕ) (a l : ℕ) → a + l ≤ n → h (a + l) ≤ h a + sum_below n (λ t. cond (covers a l t) (rise h t) 0)
+pub covered : (n : ℕ) (h : ℕ → ℕ) (a l : ℕ) → a + l ≤ n
+    → h (a + l) ≤ h a + sum_below n (λ t. cond (covers a l t) (rise h t) 0)
 covered zero h a l e = let z : a + l ≡ a = omega arith in rw z (omega arith)
 covered (suc n) h a zero e = let z : a + 0 ≡ a = omega arith in rw z (omega arith)
 covered (suc n) h a (suc m) e = go (cases_lt n (a + suc m)) (covered n h a)
@@ -68,7 +70,8 @@ IsWithin n W P a l g = (t : ℕ) → t < W → sum_below n (λ v. cond (covers (
 pub weighted : (n W F P : ℕ) (f : ℕ → ℕ) (a l g : ℕ → ℕ) → IsDominated W F f → ((v : ℕ) → v < n → a v + l v ≤ W)
     → IsWithin n W P a l g → sum_below n (λ v. g v * f (l v)) ≤ P * F
 weighted n W F P f a l g d inside within =
-    let one : sum_below n (λ v. g v * f (l v)) ≤ sum_below n (λ v. g v * sum_below W (λ t. cond (covers (a v) (l v) t) (rise d.above t) 0))
+    let one : sum_below n (λ v. g v * f (l v)) ≤ sum_below n
+    (λ v. g v * sum_below W (λ t. cond (covers (a v) (l v) t) (rise d.above t) 0))
     = sum_less_eq _ _ n (λ v e. mul-le-mul_left (g v) (image_covered W F f d (a v) (l v) (inside v e))) in
     let two : sum_below n (λ v. g v * sum_below W (λ t. cond (covers (a v) (l v) t) (rise d.above t) 0))
     ≡ sum_below n (λ v. sum_below W (λ t. cond (covers (a v) (l v) t) (g v) 0 * rise d.above t))
@@ -78,9 +81,11 @@ weighted n W F P f a l g d inside within =
     ≡ sum_below W (λ t. sum_below n (λ v. cond (covers (a v) (l v) t) (g v) 0) * rise d.above t)
     = sum-turn n W (λ v t. cond (covers (a v) (l v) t) (g v) 0 * rise d.above t)
     ∙ sum-same W _ _ (λ t _. sum-times n (rise d.above t) (λ v. cond (covers (a v) (l v) t) (g v) 0)) in
-    let four : sum_below W (λ t. sum_below n (λ v. cond (covers (a v) (l v) t) (g v) 0) * rise d.above t) ≤ sum_below W (λ t. P * rise d.above t)
+    let four : sum_below W (λ t. sum_below n (λ v. cond (covers (a v) (l v) t) (g v) 0) * rise d.above t) ≤ sum_below W
+    (λ t. P * rise d.above t)
     = sum_less_eq _ _ W (λ t e. mul-le-mul_right (rise d.above t) (within t e)) in
-    let five : sum_below W (λ t. P * rise d.above t) ≡ P * sum_below W (rise d.above) = sum-times_left W P (rise d.above) in
+    let five : sum_below W (λ t. P * rise d.above t) ≡ P * sum_below W (rise d.above) =
+    sum-times_left W P (rise d.above) in
     let whole : sum_below W (rise d.above) + d.above 0 ≡ d.above W = rise_total W F d.above d.adds W (omega arith) in
     let top : d.above W ≤ F = d.adds.top in
     let six : P * sum_below W (rise d.above) ≤ P * F = mul-le-mul_left P (omega arith) in

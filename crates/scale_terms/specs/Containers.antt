@@ -7,7 +7,8 @@ pub record IsSharedPacking (instance : PlainInstance) (c : ℕ) (bins places : L
   pub numbers : (v : ℕ) → v < box_count instance → slice_index bins v < c
   pub inside : (v i : ℕ) → v < box_count instance → i < dims instance
       → place instance places v i + side instance v i ≤ container_side instance i
-  pub disjoint : (u v : ℕ) → u < v → v < box_count instance → slice_index bins u ≡ slice_index bins v → AreDisjoint instance places u v
+  pub disjoint : (u v : ℕ) → u < v → v < box_count instance → slice_index bins u ≡ slice_index bins v
+      → AreDisjoint instance places u v
 
 abbrev pub FitsIn : PlainInstance → ℕ → Type 0
 FitsIn instance c = (bins : List ℕ) × (places : List ℕ) × IsSharedPacking instance c bins places

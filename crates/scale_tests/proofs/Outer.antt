@@ -18,7 +18,8 @@ outer_named instance h = record { there = (λ k d l. there k d l); rising = (λ 
     rising (suc k) l = absurd (omega (arith, l))
 
 -- their sides are within the container's, where all boxes' are
-pub outer_fit : (instance : PlainInstance) → 3 ≤ box_count instance → SidesFit instance → SidesFit (subset instance (0 ∷ 2 ∷ []))
+pub outer_fit : (instance : PlainInstance) → 3 ≤ box_count instance → SidesFit instance
+    → SidesFit (subset instance (0 ∷ 2 ∷ []))
 outer_fit instance h fit k i l m = go k l
   where
     go : (k : ℕ) → k < 2 → side (subset instance (0 ∷ 2 ∷ [])) k i ≤ container_side instance i

@@ -1,5 +1,6 @@
 -- The memory of decided sets.
-use Rattle.std.proofs.Common.{◌≡◌, ℕ, suc, ◌+◌, ◌<◌, ◌≤◌, ◌⊎◌, inl, inr, refl, sym, ap, subst, ◌∙◌, arith, Bool, true, false, ◌||◌, eqb, ltb, List, [], ◌∷◌, ◌++◌, length, get_or, cond}
+use Rattle.std.proofs.Common.{◌≡◌, ℕ, suc, ◌+◌, ◌<◌, ◌≤◌, ◌⊎◌, inl, inr, refl, sym, ap, subst, ◌∙◌, arith, Bool, true}
+use Rattle.std.proofs.Common.{false, ◌||◌, eqb, ltb, List, [], ◌∷◌, ◌++◌, length, get_or, cond}
 use Rattle.std.specs.List.{All}
 use Rattle.std.specs.List.Sorted.{IsStrictlyIncreasing}
 use Rattle.std.proofs.lemmas.List.Elements.{All-contains, All-contains_itself, All-push, All-set}
@@ -14,7 +15,8 @@ use Rattle.tree_terms.proofs.Decisions.{class_tree_right}
 use Rattle.box_instances.proofs.Subsets.{subset_within}
 use Rattle.class_search.specs.Right.{IsRight}
 use Rattle.set_search.proofs.Verdicts.{told_same}
-use Rattle.set_search.specs.Memories.{has_box, HasBoxes, PlainEntry, plain_count, retold, IsRecalled, IsPut, IsVerdict, AreVerdicts}
+use Rattle.set_search.specs.Memories.{has_box, HasBoxes, PlainEntry, plain_count, retold, IsRecalled, IsPut, IsVerdict}
+use Rattle.set_search.specs.Memories.{AreVerdicts}
 
 -- one box more
 pub has_push : (vs : List ℕ) (v x : ℕ) → has_box (vs ++ v ∷ []) x ≡ has_box vs x || eqb x v
@@ -41,7 +43,8 @@ above_first : (v : ℕ) (vs : List ℕ) → IsStrictlyIncreasing (v ∷ vs) → 
 above_first v [] r x l = refl
 above_first v (u ∷ us) r x l =
     let m : v < u = r 0 (omega arith) in
-    rw (ne_eqb x u (λ e. absurd (omega (arith, m, l, e)))) (above_first u us (rising_tail v (u ∷ us) r) x (omega (arith, m, l)))
+    rw (ne_eqb x u (λ e. absurd (omega (arith, m, l, e))))
+    (above_first u us (rising_tail v (u ∷ us) r) x (omega (arith, m, l)))
 
 own_first : (v : ℕ) (vs : List ℕ) → has_box (v ∷ vs) v ≡ true
 own_first v vs = or_left (eqb v v) (has_box vs v) (eq-eqb v v refl)
@@ -62,30 +65,38 @@ same_first : (x y : ℕ) (xs ys : List ℕ) → IsStrictlyIncreasing (x ∷ xs) 
     → ((z : ℕ) → has_box (x ∷ xs) z ≡ has_box (y ∷ ys) z) → (x < y) ⊎ (y ≤ x) → (y < x) ⊎ (x ≤ y)
     → (((z : ℕ) → has_box xs z ≡ has_box ys z) → xs ≡ ys) → x ∷ xs ≡ y ∷ ys
 same_first x y xs ys r s h (inl l) _ rest = absurd (true≢false (sym (own_first x xs) ∙ (h x ∙ below_first x y ys s l)))
-same_first x y xs ys r s h (inr _) (inl l) rest = absurd (true≢false (sym (own_first y ys) ∙ (sym (h y) ∙ below_first y x xs r l)))
+same_first x y xs ys r s h (inr _) (inl l) rest =
+    absurd (true≢false (sym (own_first y ys) ∙ (sym (h y) ∙ below_first y x xs r l)))
 same_first x y xs ys r s h (inr l) (inr m) rest =
     let e : x ≡ y = omega (arith, l, m) in
     let others : xs ≡ ys = rest (λ z. same_later x y xs ys r s e h z (cases_lt x z)) in
     cc
 
 -- rising numbers that are the same set are the same list
-pub one_set : (xs ys : List ℕ) → IsStrictlyIncreasing xs → IsStrictlyIncreasing ys → ((x : ℕ) → has_box xs x ≡ has_box ys x) → xs ≡ ys
+pub one_set : (xs ys : List ℕ) → IsStrictlyIncreasing xs → IsStrictlyIncreasing ys
+    → ((x : ℕ) → has_box xs x ≡ has_box ys x) → xs ≡ ys
 one_set [] [] r s h = refl
 one_set [] (y ∷ ys) r s h = absurd (true≢false (sym (own_first y ys) ∙ sym (h y)))
 one_set (x ∷ xs) [] r s h = absurd (true≢false (sym (own_first x xs) ∙ h x))
-one_set (x ∷ xs) (y ∷ ys) r s h = same_first x y xs ys r s h (cases_lt x y) (cases_lt y x) (one_set xs ys (rising_tail x xs r) (rising_tail y ys s))
+one_set (x ∷ xs) (y ∷ ys) r s h =
+    same_first x y xs ys r s h (cases_lt x y) (cases_lt y x) (one_set xs ys (rising_tail x xs r) (rising_tail y ys s))
 
 -- an entry with the verdict on a set that has its boxes is right
-pub verdict_made : (instance : PlainInstance) (scales : Bool) (boxes keep : List ℕ) (outcome : PlainOutcome) → HasBoxes boxes keep → IsBoxSet instance keep
-    → outcome ≡ Decided (set_verdict instance scales keep) → IsVerdict instance scales (record { boxes = boxes; outcome = outcome })
+pub verdict_made : (instance : PlainInstance) (scales : Bool) (boxes keep : List ℕ) (outcome : PlainOutcome)
+    → HasBoxes boxes keep → IsBoxSet instance keep
+    → outcome ≡ Decided (set_verdict instance scales keep)
+    → IsVerdict instance scales (record { boxes = boxes; outcome = outcome })
 verdict_made instance scales boxes keep outcome has set e = record {
   is = λ other other_set other_has.
-      e ∙ ap (λ us. Decided (set_verdict instance scales us)) (one_set keep other set.rising other_set.rising (λ x. sym (has x) ∙ other_has x));
+      e ∙ ap (λ us. Decided (set_verdict instance scales us))
+      (one_set keep other set.rising other_set.rising (λ x. sym (has x) ∙ other_has x));
 }
 
 -- entries are right where one that is right was put
-pub verdicts_put : (instance : PlainInstance) (scales : Bool) (old new : List PlainEntry) (boxes : List ℕ) (outcome : PlainOutcome)
-    → AreVerdicts instance scales old → IsVerdict instance scales (record { boxes = boxes; outcome = outcome }) → All (IsPut old boxes outcome) new
+pub verdicts_put : (instance : PlainInstance) (scales : Bool) (old new : List PlainEntry) (boxes : List ℕ)
+    (outcome : PlainOutcome)
+    → AreVerdicts instance scales old → IsVerdict instance scales (record { boxes = boxes; outcome = outcome })
+    → All (IsPut old boxes outcome) new
     → AreVerdicts instance scales new
 verdicts_put instance scales old new boxes outcome right made put k d l = go (get_or new k d) (put k d l)
   where
@@ -94,17 +105,22 @@ verdicts_put instance scales old new boxes outcome right made put k d l = go (ge
     go e (inr there) = All-contains (IsVerdict instance scales) old e right there
 
 -- what is recalled of a set is its verdict, told under the budget
-pub recalled : (instance : PlainInstance) (scales : Bool) (entries : List PlainEntry) (boxes keep : List ℕ) (budget : ℕ) (r : PlainOutcome)
-    → AreVerdicts instance scales entries → HasBoxes boxes keep → IsBoxSet instance keep → IsRecalled entries boxes budget r
+pub recalled : (instance : PlainInstance) (scales : Bool) (entries : List PlainEntry) (boxes keep : List ℕ) (budget : ℕ)
+    (r : PlainOutcome)
+    → AreVerdicts instance scales entries → HasBoxes boxes keep → IsBoxSet instance keep
+    → IsRecalled entries boxes budget r
     → r ≡ told budget (set_verdict instance scales keep)
 recalled instance scales entries boxes keep budget r right has set found =
     let v = All-contains (IsVerdict instance scales) entries found.entry right found.there in
     found.told ∙ ap (retold budget) (v.is keep set (subst (λ (b : List ℕ). HasBoxes b keep) (sym found.same) has))
 
 -- a verdict that is told is right
-pub told_right : (instance : PlainInstance) (scales : Bool) (keep : List ℕ) (budget : ℕ) (r : PlainOutcome) → IsInternalInstance instance → IsBoxSet instance keep
+pub told_right : (instance : PlainInstance) (scales : Bool) (keep : List ℕ) (budget : ℕ) (r : PlainOutcome)
+    → IsInternalInstance instance → IsBoxSet instance keep
     → 1 ≤ length keep → r ≡ told budget (set_verdict instance scales keep) → IsRight (subset instance keep) [] r
-told_right instance scales keep budget r limits set some e = subst (λ (x : PlainOutcome). IsRight (subset instance keep) [] x) (sym e) (go (ltb budget (count_of (set_verdict instance scales keep))))
+told_right instance scales keep budget r limits set some e =
+    subst (λ (x : PlainOutcome). IsRight (subset instance keep) [] x) (sym e)
+    (go (ltb budget (count_of (set_verdict instance scales keep))))
   where
     go : (b : Bool) → IsRight (subset instance keep) [] (cond b Past (Decided (set_verdict instance scales keep)))
     go true = tt
@@ -125,9 +141,12 @@ retold_same budget r l = sym (ap (λ b. cond b Past r) (le-ltb budget (plain_cou
 kept_all : (es : List PlainEntry) (boxes : List ℕ) (outcome : PlainOutcome) → All (IsPut es boxes outcome) es
 kept_all es boxes outcome k d l = inr (All-contains_itself es k d l)
 
-pub put_behind : (es : List PlainEntry) (boxes : List ℕ) (outcome : PlainOutcome) → All (IsPut es boxes outcome) (es ++ record { boxes = boxes; outcome = outcome } ∷ [])
-put_behind es boxes outcome = All-push (IsPut es boxes outcome) es (record { boxes = boxes; outcome = outcome }) (kept_all es boxes outcome) (inl refl)
+pub put_behind : (es : List PlainEntry) (boxes : List ℕ) (outcome : PlainOutcome)
+    → All (IsPut es boxes outcome) (es ++ record { boxes = boxes; outcome = outcome } ∷ [])
+put_behind es boxes outcome = All-push (IsPut es boxes outcome) es (record { boxes = boxes; outcome = outcome })
+    (kept_all es boxes outcome) (inl refl)
 
 pub put_at : (es : List PlainEntry) (k : ℕ) (boxes : List ℕ) (outcome : PlainOutcome)
     → All (IsPut es boxes outcome) (set es k (record { boxes = boxes; outcome = outcome }))
-put_at es k boxes outcome = All-set (IsPut es boxes outcome) es k (record { boxes = boxes; outcome = outcome }) (inl refl) (kept_all es boxes outcome)
+put_at es k boxes outcome = All-set (IsPut es boxes outcome) es k (record { boxes = boxes; outcome = outcome })
+    (inl refl) (kept_all es boxes outcome)

@@ -11,5 +11,7 @@ pub box_set : (instance : PlainInstance) (vs : List ℕ) → AreBoxes instance v
 box_set instance vs b r = record { there = below_at (box_count instance) vs b; rising = rising_index vs r }
 
 -- as many coordinates as the boxes of a set have
-pub places_count : (instance : PlainInstance) (keep numbers : List ℕ) → IsPacking (subset instance keep) numbers → length numbers ≡ length keep * dims instance
-places_count instance keep numbers p = p.count ∙ ap (λ n. n * dims instance) (length-map keep (λ v. get_or instance.boxes v no_box))
+pub places_count : (instance : PlainInstance) (keep numbers : List ℕ) → IsPacking (subset instance keep) numbers
+    → length numbers ≡ length keep * dims instance
+places_count instance keep numbers p =
+    p.count ∙ ap (λ n. n * dims instance) (length-map keep (λ v. get_or instance.boxes v no_box))

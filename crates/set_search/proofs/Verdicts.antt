@@ -1,5 +1,6 @@
 -- Verdicts that are joined, and what is told of them.
-use Rattle.std.proofs.Common.{◌≡◌, ℕ, ◌+◌, ◌<◌, ◌≤◌, ◌⊎◌, inl, inr, refl, sym, ap, subst, ◌∙◌, Bool, true, false, ltb, if◌then◌else◌, List, [], ◌++◌, append-nil}
+use Rattle.std.proofs.Common.{◌≡◌, ℕ, ◌+◌, ◌<◌, ◌≤◌, ◌⊎◌, inl, inr, refl, sym, ap, subst, ◌∙◌, Bool, true, false, ltb}
+use Rattle.std.proofs.Common.{if◌then◌else◌, List, [], ◌++◌, append-nil}
 use Rattle.std.proofs.lemmas.Bool.{lt-ltb, true≢false, cases_lt}
 use Rattle.packing_terms.specs.Tokens.{PlainToken}
 use Rattle.tree_terms.specs.Trees.{Verdict, No, join, count_of, PlainOutcome, Decided, Past, told}
@@ -7,13 +8,17 @@ use Rattle.tree_terms.proofs.Told.{told_decided}
 use Rattle.tree_terms.proofs.Joins.{join_assoc}
 
 -- tokens and counts move from the right to the left
-pub advance : (ts us : List PlainToken) (c d : ℕ) (v w : Verdict) → join (No ts c) (join (join (No us d) v) w) ≡ join (No (ts ++ us) (c + d)) (join v w)
-advance ts us c d v w = ap (λ x. join (No ts c) x) (join_assoc (No us d) v w) ∙ sym (join_assoc (No ts c) (No us d) (join v w))
+pub advance : (ts us : List PlainToken) (c d : ℕ) (v w : Verdict)
+    → join (No ts c) (join (join (No us d) v) w) ≡ join (No (ts ++ us) (c + d)) (join v w)
+advance ts us c d v w = ap (λ x. join (No ts c) x) (join_assoc (No us d) v w)
+    ∙ sym (join_assoc (No ts c) (No us d) (join v w))
 
-pub advance_count : (ts : List PlainToken) (c d : ℕ) (v w : Verdict) → join (No ts c) (join (join (No [] d) v) w) ≡ join (No ts (c + d)) (join v w)
+pub advance_count : (ts : List PlainToken) (c d : ℕ) (v w : Verdict)
+    → join (No ts c) (join (join (No [] d) v) w) ≡ join (No ts (c + d)) (join v w)
 advance_count ts c d v w = advance ts [] c d v w ∙ ap (λ us. join (No us (c + d)) (join v w)) (append-nil ts)
 
-pub advance_leaf : (ts us : List PlainToken) (c d : ℕ) (w : Verdict) → join (No ts c) (join (No us d) w) ≡ join (No (ts ++ us) (c + d)) w
+pub advance_leaf : (ts us : List PlainToken) (c d : ℕ) (w : Verdict)
+    → join (No ts c) (join (No us d) w) ≡ join (No (ts ++ us) (c + d)) w
 advance_leaf ts us c d w = sym (join_assoc (No ts c) (No us d) w)
 
 -- a verdict that is told is within the budget, and past it is greater

@@ -19,7 +19,8 @@ pub record IsRefuted (verdict : Verdict) (left : ℕ) (tokens : List PlainToken)
   pub within : own ≤ left
 
 -- the set fits by these numbers, with the same count
-pub record DoesFit (instance : PlainInstance) (verdict : Verdict) (left : ℕ) (set keep numbers : List ℕ) (own : ℕ) : Type 0 where
+pub record DoesFit (instance : PlainInstance) (verdict : Verdict) (left : ℕ) (set keep numbers : List ℕ) (own : ℕ) :
+    Type 0 where
   pub same : keep ≡ set
   pub cost : ℕ
   pub is : verdict ≡ Yes numbers cost
@@ -29,8 +30,10 @@ pub record DoesFit (instance : PlainInstance) (verdict : Verdict) (left : ℕ) (
 
 abbrev pub IsChild : PlainInstance → Bool → ℕ → List ℕ → Child → Type 0
 IsChild instance scales left set Past = left ≤ count_of (set_verdict instance scales set)
-IsChild instance scales left set (Refuted tokens own) = IsRefuted (set_verdict instance scales set) left (map plain_token tokens.items) own
-IsChild instance scales left set (Fits keep numbers own) = DoesFit instance (set_verdict instance scales set) left set keep.items numbers.items own
+IsChild instance scales left set (Refuted tokens own) =
+    IsRefuted (set_verdict instance scales set) left (map plain_token tokens.items) own
+IsChild instance scales left set (Fits keep numbers own) =
+    DoesFit instance (set_verdict instance scales set) left set keep.items numbers.items own
 
 -- yes, with a count within the greatest budget
 abbrev pub IsFound : Verdict → Type 0

@@ -42,7 +42,8 @@ IsPut old boxes outcome e = (e ≡ record { boxes = boxes; outcome = outcome }) 
 
 -- the outcome of an entry is the verdict on each set that has its boxes
 pub record IsVerdict (instance : PlainInstance) (scales : Bool) (e : PlainEntry) : Type 0 where
-  pub is : (keep : List ℕ) → IsBoxSet instance keep → HasBoxes e.boxes keep → e.outcome ≡ Decided (set_verdict instance scales keep)
+  pub is : (keep : List ℕ) → IsBoxSet instance keep → HasBoxes e.boxes keep
+      → e.outcome ≡ Decided (set_verdict instance scales keep)
 
 -- each entry is right
 abbrev pub AreVerdicts : PlainInstance → Bool → List PlainEntry → Type 0

@@ -15,7 +15,8 @@ no_closer = record { dims = 0; boxes = 0 }
 
 -- one after another the room of a closing for each number of boxes, from 1 on
 abbrev pub AreClosers : ℕ → List PlainCloser → Type 0
-AreClosers d closers = (k : ℕ) → k < length closers → slice_index_or closers k no_closer ≡ record { dims = d; boxes = k + 1 }
+AreClosers d closers = (k : ℕ) → k < length closers
+    → slice_index_or closers k no_closer ≡ record { dims = d; boxes = k + 1 }
 
 -- the set, the state and the rooms are for the boxes of the instance
 pub record HasRoom (instance whole : PlainInstance) (state : PlainEdges) (closers : List PlainCloser) : Type 0 where

@@ -67,7 +67,7 @@ fn copy_tokens(alloc: Global, tokens: &[Token]) -> Result<Vec<Token>, NoMemory>
 }
 
 /// An outcome once more.
-pub fn copy_outcome(alloc: Global, outcome: &Outcome) -> Result<Outcome, NoMemory>
+pub(crate) fn copy_outcome(alloc: Global, outcome: &Outcome) -> Result<Outcome, NoMemory>
     ensures { IfOk result (λ r. plain_outcome r ≡ plain_outcome outcome.now) }
 {
     match outcome {
@@ -92,7 +92,7 @@ pub fn copy_outcome(alloc: Global, outcome: &Outcome) -> Result<Outcome, NoMemor
 }
 
 /// The count of an outcome, and 0 of one that is past.
-pub fn count_of(outcome: &Outcome) -> u64
+pub(crate) fn count_of(outcome: &Outcome) -> u64
     ensures { result ≡ plain_count (plain_outcome outcome.now) }
 {
     match outcome {
@@ -103,7 +103,7 @@ pub fn count_of(outcome: &Outcome) -> u64
 }
 
 /// How many numbers and tokens an outcome holds.
-pub fn size_of(outcome: &Outcome) -> usize {
+pub(crate) fn size_of(outcome: &Outcome) -> usize {
     match outcome {
         Outcome::Yes { numbers, count: _ } => numbers.len(),
         Outcome::No { tokens, count: _ } => tokens.len(),

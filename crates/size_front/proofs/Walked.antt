@@ -1,11 +1,14 @@
 -- A walk round by round, and what its end says.
-use Rattle.std.proofs.Common.{◌≡◌, ℕ, zero, suc, ◌+◌, ◌-◌, ◌*◌, ◌/◌, ◌^◌, ◌≤◌, ◌↔◌, refl, sym, ap, ◌∙◌, subst, arith, Bool, true, false, List, [], ◌∷◌, ◌++◌, map, Option, Some, None, Result, Ok, Err, IfOk, append_assoc}
+use Rattle.std.proofs.Common.{◌≡◌, ℕ, zero, suc, ◌+◌, ◌-◌, ◌*◌, ◌/◌, ◌^◌, ◌≤◌, ◌↔◌, refl, sym, ap, ◌∙◌, subst, arith}
+use Rattle.std.proofs.Common.{Bool, true, false, List, [], ◌∷◌, ◌++◌, map, Option, Some, None, Result, Ok, Err, IfOk}
+use Rattle.std.proofs.Common.{append_assoc}
 use Rattle.std.specs.Prelude.{if◌then◌else◌}
 use Rattle.packing_terms.specs.Packing.{PlainInstance, dims, box_count, written_container}
 use Rattle.packing_terms.specs.Limits.{IsInternalInstance}
 use Rattle.packing_terms.specs.Tokens.{PlainToken}
 use Rattle.front_terms.specs.Fronts.{IsClaimed}
-use Rattle.front_walks.specs.Walks.{PlainCorner, PlainPoint, PlainFront, front_after, whole_front, sizes, walk_on, size_answer, front_walk}
+use Rattle.front_walks.specs.Walks.{PlainCorner, PlainPoint, PlainFront, front_after, whole_front, sizes, walk_on}
+use Rattle.front_walks.specs.Walks.{size_answer, front_walk}
 use Rattle.front_walks.specs.Asked.{HasLargeSize}
 use Rattle.front_walks.proofs.Decided.{walks_are_fronts}
 use Rattle.front_walks.proofs.Spent.{spent_exactly, enough}
@@ -28,20 +31,25 @@ pub joined_end : (cs0 cs x : List PlainCorner) (ps0 ps y : List PlainPoint) → 
     → front_after cs0 ps0 (front_after cs ps whole_front) ≡ record { complete = true; corners = x; points = y }
 joined_end cs0 cs x ps0 ps y e f = rw (append_none cs, append_none ps, e, f) refl
 
-pub joined_next : (cs0 cs x : List PlainCorner) (ps0 ps y : List PlainPoint) (rest : PlainFront) → x ≡ cs0 ++ cs → y ≡ ps0 ++ ps
+pub joined_next : (cs0 cs x : List PlainCorner) (ps0 ps y : List PlainPoint) (rest : PlainFront) → x ≡ cs0 ++ cs
+    → y ≡ ps0 ++ ps
     → front_after cs0 ps0 (front_after cs ps rest) ≡ front_after x y rest
-joined_next cs0 cs x ps0 ps y rest e f = rw (e, f, append_assoc cs0 cs rest.corners, append_assoc ps0 ps rest.points) refl
+joined_next cs0 cs x ps0 ps y rest e f =
+    rw (e, f, append_assoc cs0 cs rest.corners, append_assoc ps0 ps rest.points) refl
 
-pub tokens_if : (b : Bool) (xs ys : List Token) → plain_tokens (if b then xs else ys) ≡ (if b then plain_tokens xs else plain_tokens ys)
+pub tokens_if : (b : Bool) (xs ys : List Token)
+    → plain_tokens (if b then xs else ys) ≡ (if b then plain_tokens xs else plain_tokens ys)
 tokens_if true xs ys = refl
 tokens_if false xs ys = refl
 
-begun : (front : ℕ → ℕ → List PlainToken → PlainFront) (cs : List PlainCorner) (ps : List PlainPoint) (h r : ℕ) (ts : List PlainToken) (highest : ℕ)
+begun : (front : ℕ → ℕ → List PlainToken → PlainFront) (cs : List PlainCorner) (ps : List PlainPoint) (h r : ℕ)
+    (ts : List PlainToken) (highest : ℕ)
     → cs ≡ [] → ps ≡ [] → h ≡ highest → r ≡ 0 → ts ≡ [] → front_after cs ps (front h r ts) ≡ front highest 0 []
 begun front cs ps h r ts highest e f g k t = rw (e, f, g, k, t) refl
 
 module _ (instance : PlainInstance) (budget : ℕ) (scales : Bool) where
-  pub started : (f : Front) (s : Stand) → f.corners.items ≡ [] → f.points.items ≡ [] → s.height ≡ written_container instance 1 → s.refuted ≡ 0 → s.tokens.items ≡ []
+  pub started : (f : Front) (s : Stand) → f.corners.items ≡ [] → f.points.items ≡ []
+      → s.height ≡ written_container instance 1 → s.refuted ≡ 0 → s.tokens.items ≡ []
       → IsUnderWay instance budget scales f (Some s)
   started f s e f2 h r t = (
     omega (arith, h),
@@ -49,13 +57,16 @@ module _ (instance : PlainInstance) (budget : ℕ) (scales : Bool) where
     (
       suc (written_container instance 1),
       omega (arith, h),
-      begun (walk_on (size_answer instance budget scales) (written_container instance 0) (suc (written_container instance 1)))
-          (map plain_corner f.corners.items) (map plain_point f.points.items) s.height s.refuted (plain_tokens s.tokens.items) (written_container instance 1)
+      begun (walk_on (size_answer instance budget scales) (written_container instance 0)
+          (suc (written_container instance 1)))
+          (map plain_corner f.corners.items) (map plain_point f.points.items) s.height s.refuted
+          (plain_tokens s.tokens.items) (written_container instance 1)
           (ap (λ xs. map plain_corner xs) e) (ap (λ xs. map plain_point xs) f2) h r (ap plain_tokens t),
     ),
   )
 
-  pub under_way_next : (old new : Front) (s : Stand) (next : Option Stand) → IsUnderWay instance budget scales old (Some s) → IsRound instance budget scales old s new next
+  pub under_way_next : (old new : Front) (s : Stand) (next : Option Stand)
+      → IsUnderWay instance budget scales old (Some s) → IsRound instance budget scales old s new next
       → IsUnderWay instance budget scales new next
   under_way_next old new s next (l, m, (zero, less, e)) round = absurd (omega (arith, less))
   under_way_next old new s None (l, m, (suc more, less, e)) round = sym (round more) ∙ e
@@ -63,12 +74,16 @@ module _ (instance : PlainInstance) (budget : ℕ) (scales : Bool) where
       let lower = round.0 in
       (omega (arith, lower, l), round.1, (more, omega (arith, lower, less), sym (round.2 more) ∙ e))
 
-  module _ (limits : IsInternalInstance instance) (plane : dims instance ≡ 2) (f : Front) (walked : plain_front f ≡ front_walk instance budget scales) where
+  module _ (limits : IsInternalInstance instance) (plane : dims instance ≡ 2) (f : Front)
+      (walked : plain_front f ≡ front_walk instance budget scales) where
     pub front_claims : IsClaimed instance f.complete (sizes (map plain_point f.points.items))
-    front_claims = subst (λ (x : PlainFront). IsClaimed instance x.complete (sizes x.points)) (sym walked) (walks_are_fronts instance budget scales limits plane)
+    front_claims = subst (λ (x : PlainFront). IsClaimed instance x.complete (sizes x.points)) (sym walked)
+        (walks_are_fronts instance budget scales limits plane)
 
     pub front_spent : (f.complete ≡ false) ↔ HasLargeSize instance budget scales
-    front_spent = subst (λ (x : PlainFront). (x.complete ≡ false) ↔ HasLargeSize instance budget scales) (sym walked) (spent_exactly instance budget scales)
+    front_spent = subst (λ (x : PlainFront). (x.complete ≡ false) ↔ HasLargeSize instance budget scales) (sym walked)
+        (spent_exactly instance budget scales)
 
-    pub front_enough : 3 ^ (dims instance * box_count instance * (box_count instance - 1) / 2) ≤ budget + 1 → f.complete ≡ true
+    pub front_enough : 3 ^ (dims instance * box_count instance * (box_count instance - 1) / 2) ≤ budget + 1
+        → f.complete ≡ true
     front_enough l = ap (λ (x : PlainFront). x.complete) walked ∙ enough instance budget scales limits plane l

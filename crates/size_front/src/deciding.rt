@@ -20,7 +20,7 @@ use work_share::{Gate, Settings};
 
 // What one worker decides all containers with, in the same memory, since their boxes are the same.
 // Several share the tree of each.
-pub fn decider_for(
+pub(crate) fn decider_for(
     alloc: Global,
     instance: &Instance,
     workers: u32,
@@ -54,7 +54,7 @@ fn decide_sized<R: Threads + Wait + Sync, G: Gate + Sync>(
 }
 
 // The answer for a container of these written sides.
-pub fn decide_size<R: Threads + Wait + Sync, G: Gate + Sync>(
+pub(crate) fn decide_size<R: Threads + Wait + Sync, G: Gate + Sync>(
     rt: &R,
     alloc: Global,
     instance: &Instance,

@@ -15,7 +15,7 @@ use std::thread::Threads;
 use work_share::{Gate, Settings};
 
 // The run of heights at a width, from 0 and a height in which these are the places.
-pub fn run_heights<R: Threads + Wait + Sync, G: Gate + Sync>(
+pub(crate) fn run_heights<R: Threads + Wait + Sync, G: Gate + Sync>(
     rt: &R,
     alloc: Global,
     instance: &Instance,

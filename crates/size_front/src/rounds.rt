@@ -215,7 +215,7 @@ fn narrow<R: Threads + Wait + Sync, G: Gate + Sync>(
 }
 
 // One round of a walk: it ends, or goes on from another place.
-pub fn one_round<R: Threads + Wait + Sync, G: Gate + Sync>(
+pub(crate) fn one_round<R: Threads + Wait + Sync, G: Gate + Sync>(
     rt: &R,
     alloc: Global,
     instance: &Instance,

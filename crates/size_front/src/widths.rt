@@ -16,7 +16,7 @@ use work_share::{Gate, Settings};
 
 // The run of widths at a height, from a refuted one, whose tokens aren't looked at, and the
 // container's own, in which these are the places.
-pub fn run_widths<R: Threads + Wait + Sync, G: Gate + Sync>(
+pub(crate) fn run_widths<R: Threads + Wait + Sync, G: Gate + Sync>(
     rt: &R,
     alloc: Global,
     instance: &Instance,

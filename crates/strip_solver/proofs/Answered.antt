@@ -1,5 +1,6 @@
 -- What the answer for a strip says, from where the run of heights ended.
-use Rattle.std.proofs.Common.{◌≡◌, ℕ, ◌+◌, ◌-◌, ◌*◌, ◌/◌, ◌^◌, ◌≤◌, refl, sym, ap, subst, ◌∙◌, arith, Bool, true, false, List}
+use Rattle.std.proofs.Common.{◌≡◌, ℕ, ◌+◌, ◌-◌, ◌*◌, ◌/◌, ◌^◌, ◌≤◌, refl, sym, ap, subst, ◌∙◌, arith, Bool, true, false}
+use Rattle.std.proofs.Common.{List}
 use Rattle.std.proofs.lemmas.Bool.{true≢false}
 use Rattle.packing_terms.specs.declared.Exclusion.{Exclusion}
 use Rattle.packing_terms.specs.Packing.{PlainInstance, IsPacking, Fits, dims, box_count}
@@ -21,12 +22,20 @@ use Rattle.strip_solver.specs.Strips.{Tells, IsAnswerFrom, IsTrueStripFrom, IsSp
 
 -- the first box that is too wide is one
 has_wide : (instance : PlainInstance) (v i : ℕ) → IsFirstTooWide instance v i → HasTooWideBox instance
-has_wide instance v i h = record { box_no = v; dim = i; there = h.there; not_last = (let r = h.in_range in omega (arith, r)); large = h.large }
+has_wide instance v i h = record {
+  box_no = v;
+  dim = i;
+  there = h.there;
+  not_last = (let r = h.in_range in omega (arith, r));
+  large = h.large;
+}
 
-pub none_at_all : (instance : PlainInstance) (v i : ℕ) → IsFirstTooWide instance v i → (h : ℕ) → ¬ Fits (with_last_side instance h)
+pub none_at_all : (instance : PlainInstance) (v i : ℕ) → IsFirstTooWide instance v i → (h : ℕ)
+    → ¬ Fits (with_last_side instance h)
 none_at_all instance v i w h = too_wide instance h (has_wide instance v i w)
 
-module _ (start : List Exclusion) (instance : PlainInstance) (limits : IsInternalInstance instance) (decide : DecideHeights instance start) (narrow : ¬ HasTooWideBox instance)
+module _ (start : List Exclusion) (instance : PlainInstance) (limits : IsInternalInstance instance)
+    (decide : DecideHeights instance start) (narrow : ¬ HasTooWideBox instance)
     (budget : ℕ) (scales : Bool) (r : PlainReached) (run : r ≡ height_run_from start instance budget scales) where
   pub answer_told : (s : Strip) → Tells r s → IsAnswerFrom start instance budget scales s
   answer_told (Least height places tokens) t = (narrow, sym run ∙ t)
@@ -34,10 +43,12 @@ module _ (start : List Exclusion) (instance : PlainInstance) (limits : IsInterna
   answer_told (NoneFits v i) t = absurd t
 
   abbrev Both : PlainReached → Type 0
-  Both x = HasBothCertificates (λ h ns. IsPacking (with_last_side instance h) ns) (λ h ts. Refutes (with_last_side instance h) start ts) x
+  Both x = HasBothCertificates (λ h ns. IsPacking (with_last_side instance h) ns)
+      (λ h ts. Refutes (with_last_side instance h) start ts) x
 
   both : (x : PlainReached) → r ≡ x → Both x
-  both x e = subst (λ (y : PlainReached). Both y) (sym run ∙ e) (keeps_from instance limits start decide narrow budget scales)
+  both x e = subst (λ (y : PlainReached). Both y) (sym run ∙ e)
+      (keeps_from instance limits start decide narrow budget scales)
 
   least_at : (x : PlainReached) → r ≡ x → x.spent ≡ false → IsLeastHeight instance x.placed
   least_at x e u =
@@ -47,7 +58,8 @@ module _ (start : List Exclusion) (instance : PlainInstance) (limits : IsInterna
 
   -- where the run ends
   pub ended : IsRisingEnd (first_heights instance) r
-  ended = subst (λ (y : PlainReached). IsRisingEnd (first_heights instance) y) (sym run) (end_from instance start budget scales limits)
+  ended = subst (λ (y : PlainReached). IsRisingEnd (first_heights instance) y) (sym run)
+      (end_from instance start budget scales limits)
 
   pub placed_small : r.placed ≤ most_height
   placed_small = let a = ended.high in let b = stack_small instance limits in omega (arith, a, b)
@@ -63,7 +75,8 @@ module _ (start : List Exclusion) (instance : PlainInstance) (limits : IsInterna
       let b : r.placed ≡ height = ap (λ (y : PlainReached). y.placed) t in
       record {
         order = omega (arith, a, b, order);
-        none_fits = (λ h l f. decide.refuted refuted (plain_tokens tokens.items) k.0 (fits_higher instance h refuted l f));
+        none_fits = (λ h l f. decide.refuted refuted (plain_tokens tokens.items) k.0
+            (fits_higher instance h refuted l f));
         packed = k.1;
         refutes = k.0;
       }
@@ -74,12 +87,16 @@ module _ (start : List Exclusion) (instance : PlainInstance) (limits : IsInterna
 
   pub spent_told : (s : Strip) → Tells r s → IsSpentExactlyFrom start instance budget scales s
   spent_told (Least height places tokens) t =
-      (λ large. true≢false (sym ((spent_from instance start budget scales).1 large) ∙ spent_run false (ap (λ (y : PlainReached). y.spent) t)))
-  spent_told (Between refuted tokens height places) t = (spent_from instance start budget scales).0 (spent_run true (ap (λ (y : PlainReached). y.spent) t))
+      (λ large. true≢false (sym ((spent_from instance start budget scales).1 large)
+      ∙ spent_run false (ap (λ (y : PlainReached). y.spent) t)))
+  spent_told (Between refuted tokens height places) t =
+      (spent_from instance start budget scales).0 (spent_run true (ap (λ (y : PlainReached). y.spent) t))
   spent_told (NoneFits v i) t = tt
 
-  pub final_told : 3 ^ (dims instance * box_count instance * (box_count instance - 1) / 2) ≤ budget + 1 → (s : Strip) → Tells r s → IsFinal s
+  pub final_told : 3 ^ (dims instance * box_count instance * (box_count instance - 1) / 2) ≤ budget + 1 → (s : Strip)
+      → Tells r s → IsFinal s
   final_told l (Least height places tokens) t = tt
   final_told l (Between refuted tokens height places) t =
-      true≢false (sym (spent_run true (ap (λ (y : PlainReached). y.spent) t)) ∙ enough_from instance start budget scales limits l)
+      true≢false (sym (spent_run true (ap (λ (y : PlainReached). y.spent) t))
+      ∙ enough_from instance start budget scales limits l)
   final_told l (NoneFits v i) t = tt

@@ -10,5 +10,6 @@ use Rattle.class_search.specs.Deciders.{decider_of}
 pub same_decider : (instance : PlainInstance) (h : ℕ) → decider_of (with_last_side instance h) ≡ decider_of instance
 same_decider instance h =
     let d = same_dims instance h in
-    let r : ranked_pairs (with_last_side instance h) ≡ ranked_pairs instance = ap (λ (vs : List ℕ). pairs_after [] vs) (same_rank instance h) in
+    let r : ranked_pairs (with_last_side instance h) ≡ ranked_pairs instance =
+    ap (λ (vs : List ℕ). pairs_after [] vs) (same_rank instance h) in
     rw (d, r) refl

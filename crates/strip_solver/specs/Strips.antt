@@ -15,9 +15,21 @@ use Rattle.strip_solver.specs.declared.strip.Strip.TheVariants.{Least, Between, 
 -- the answer tells where a run of heights ended
 abbrev pub Tells : PlainReached → Strip → Type 0
 Tells r (Least height places tokens) =
-    r ≡ record { refuted = height - 1; tokens = plain_tokens tokens.items; placed = height; numbers = places.items; spent = false }
+    r ≡ record {
+      refuted = height - 1;
+      tokens = plain_tokens tokens.items;
+      placed = height;
+      numbers = places.items;
+      spent = false;
+    }
 Tells r (Between refuted tokens height places) =
-    r ≡ record { refuted = refuted; tokens = plain_tokens tokens.items; placed = height; numbers = places.items; spent = true }
+    r ≡ record {
+      refuted = refuted;
+      tokens = plain_tokens tokens.items;
+      placed = height;
+      numbers = places.items;
+      spent = true;
+    }
 Tells r (NoneFits v i) = ⊥
 
 -- The answer is that of the definition, with trees that begin with these exclusions: the first box
@@ -27,16 +39,19 @@ IsAnswerFrom start instance budget scales (NoneFits v i) = IsFirstTooWide instan
 IsAnswerFrom start instance budget scales (Least height places tokens) =
     (¬ HasTooWideBox instance) × Tells (height_run_from start instance budget scales) (Least height places tokens)
 IsAnswerFrom start instance budget scales (Between refuted tokens height places) =
-    (¬ HasTooWideBox instance) × Tells (height_run_from start instance budget scales) (Between refuted tokens height places)
+    (¬ HasTooWideBox instance) × Tells (height_run_from start instance budget scales)
+    (Between refuted tokens height places)
 
 -- the least height, with both certificates
-pub record IsCertifiedLeast (start : List Exclusion) (instance : PlainInstance) (height : ℕ) (places : List ℕ) (tokens : List PlainToken) : Type 0 where
+pub record IsCertifiedLeast (start : List Exclusion) (instance : PlainInstance) (height : ℕ) (places : List ℕ)
+    (tokens : List PlainToken) : Type 0 where
   pub least : IsLeastHeight instance height
   pub packed : IsPacking (with_last_side instance height) places
   pub refuted : Refutes (with_last_side instance (height - 1)) start tokens
 
 -- no height up to the refuted one holds the boxes, and the placed one does, with both certificates
-pub record IsCertifiedBetween (start : List Exclusion) (instance : PlainInstance) (refuted : ℕ) (tokens : List PlainToken) (height : ℕ) (places : List ℕ) : Type 0 where
+pub record IsCertifiedBetween (start : List Exclusion) (instance : PlainInstance) (refuted : ℕ)
+    (tokens : List PlainToken) (height : ℕ) (places : List ℕ) : Type 0 where
   pub order : refuted < height
   pub none_fits : (h : ℕ) → h ≤ refuted → ¬ Fits (with_last_side instance h)
   pub packed : IsPacking (with_last_side instance height) places
@@ -44,14 +59,18 @@ pub record IsCertifiedBetween (start : List Exclusion) (instance : PlainInstance
 
 -- what the answer says is true, and its refutation is one under these exclusions
 abbrev pub IsTrueStripFrom : List Exclusion → PlainInstance → Strip → Type 0
-IsTrueStripFrom start instance (Least height places tokens) = IsCertifiedLeast start instance height places.items (plain_tokens tokens.items)
-IsTrueStripFrom start instance (Between refuted tokens height places) = IsCertifiedBetween start instance refuted (plain_tokens tokens.items) height places.items
+IsTrueStripFrom start instance (Least height places tokens) =
+    IsCertifiedLeast start instance height places.items (plain_tokens tokens.items)
+IsTrueStripFrom start instance (Between refuted tokens height places) =
+    IsCertifiedBetween start instance refuted (plain_tokens tokens.items) height places.items
 IsTrueStripFrom start instance (NoneFits v i) = (h : ℕ) → ¬ Fits (with_last_side instance h)
 
 -- `Between` exactly where some height on the run has more branchings than the budget
 abbrev pub IsSpentExactlyFrom : List Exclusion → PlainInstance → ℕ → Bool → Strip → Type 0
-IsSpentExactlyFrom start instance budget scales (Least height places tokens) = ¬ HasLargeHeightFrom start instance budget scales
-IsSpentExactlyFrom start instance budget scales (Between refuted tokens height places) = HasLargeHeightFrom start instance budget scales
+IsSpentExactlyFrom start instance budget scales (Least height places tokens) =
+    ¬ HasLargeHeightFrom start instance budget scales
+IsSpentExactlyFrom start instance budget scales (Between refuted tokens height places) =
+    HasLargeHeightFrom start instance budget scales
 IsSpentExactlyFrom start instance budget scales (NoneFits v i) = Unit {0}
 
 -- the same from no exclusion: the run is `height_run`

@@ -22,7 +22,7 @@ use work_share::{Gate, Settings};
 // What one worker decides all heights with, in the same memory, since their boxes are the same.
 // Several share the tree of each. It begins with no exclusion, so trees that begin with some have
 // memory of their own.
-pub fn decider_for(
+pub(crate) fn decider_for(
     alloc: Global,
     instance: &Instance,
     start: &[Exclusion],
@@ -65,7 +65,7 @@ fn decide_tall<R: Threads + Wait + Sync, G: Gate + Sync>(
 }
 
 /// The answer at a height below the stack of all boxes, whose tree begins with these exclusions.
-pub fn decide_height<R: Threads + Wait + Sync, G: Gate + Sync>(
+pub(crate) fn decide_height<R: Threads + Wait + Sync, G: Gate + Sync>(
     rt: &R,
     alloc: Global,
     instance: &Instance,

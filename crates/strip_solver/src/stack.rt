@@ -45,7 +45,7 @@ fn push_stacked(places: &mut Vec<u32>, dims: u32, height: u32) -> Result<(), NoM
 }
 
 // The stack of all boxes, each on the boxes of lower numbers.
-pub fn stack_all(alloc: Global, instance: &Instance) -> Result<Stack, NoMemory>
+pub(crate) fn stack_all(alloc: Global, instance: &Instance) -> Result<Stack, NoMemory>
     ensures places { IfOk result (λ s. s.places.items ≡ (first_heights instance.now).numbers) }
     ensures height { IfOk result (λ s. s.height ≡ (first_heights instance.now).placed) }
     ensures to { IfOk result (λ s. s.height ≤ most_height) }

@@ -22,7 +22,7 @@ fn wide_dim(instance: &Instance, v: u32) -> Option<u32>
 }
 
 // The first box that is too wide, and its first such dimension.
-pub fn first_too_wide(instance: &Instance) -> Option<(u32, u32)>
+pub(crate) fn first_too_wide(instance: &Instance) -> Option<(u32, u32)>
     ensures { MatchOption result (¬ HasTooWideBox instance.now)
         (λ p. IsFirstTooWide instance.now p.0 p.1) }
 {

@@ -1,5 +1,7 @@
 -- Lists of numbers, one number more, and tests over them.
-use Rattle.std.proofs.Common.{◌≡◌, ℕ, ◌+◌, ◌-◌, ◌<◌, ◌≤◌, ◌⊎◌, inl, inr, refl, sym, ap, ◌∙◌, arith, Bool, true, false, cond, List, [], ◌∷◌, ◌++◌, length, get_or, map, take, append_assoc, append-nil, Some, None}
+use Rattle.std.proofs.Common.{◌≡◌, ℕ, ◌+◌, ◌-◌, ◌<◌, ◌≤◌, ◌⊎◌, inl, inr, refl, sym, ap, ◌∙◌, arith, Bool, true, false}
+use Rattle.std.proofs.Common.{cond, List, [], ◌∷◌, ◌++◌, length, get_or, map, take, append_assoc, append-nil, Some}
+use Rattle.std.proofs.Common.{None}
 use Rattle.std.specs.List.{list_any, list_all, filter, range_with_len}
 use Rattle.std.proofs.lemmas.Bool.{true≢false, cases_Bool, lt-ltb, le-ltb}
 use Rattle.std.proofs.lemmas.List.{take_more}
@@ -18,7 +20,8 @@ pub below_not_all : (t : ℕ → Bool) (d k : ℕ) → k < d → t k ≡ false �
 below_not_all t d k l e = go (cases_Bool (list_all t (below d)))
   where
     go : (list_all t (below d) ≡ true) ⊎ (list_all t (below d) ≡ false) → list_all t (below d) ≡ false
-    go (inl f) = absurd (true≢false (sym (all_at t k (below d) f (in_range 0 d k (omega arith) (omega (arith, l)))) ∙ e))
+    go (inl f) = absurd (true≢false
+        (sym (all_at t k (below d) f (in_range 0 d k (omega arith) (omega (arith, l)))) ∙ e))
     go (inr f) = f
 
 pub below_some : (t : ℕ → Bool) (d k : ℕ) → k < d → t k ≡ true → list_any t (below d) ≡ true
@@ -45,7 +48,8 @@ filter_last t [] x = go (t x)
 filter_last t (y ∷ ys) x = go (t y) (filter_last t ys x)
   where
     go : (b : Bool) → filter t (ys ++ x ∷ []) ≡ filter t ys ++ cond (t x) (x ∷ []) []
-        → cond b (y ∷ filter t (ys ++ x ∷ [])) (filter t (ys ++ x ∷ [])) ≡ cond b (y ∷ filter t ys) (filter t ys) ++ cond (t x) (x ∷ []) []
+        → cond b (y ∷ filter t (ys ++ x ∷ [])) (filter t (ys ++ x ∷ [])) ≡ cond b (y ∷ filter t ys) (filter t ys)
+        ++ cond (t x) (x ∷ []) []
     go true e = ap (λ l. y ∷ l) e
     go false e = e
 
@@ -55,7 +59,8 @@ filter_take_on t xs k l e = rw (take_more xs k 0 l, filter_last t (take k xs) (g
 
 pub filter_take_off : (t : ℕ → Bool) (xs : List ℕ) (k : ℕ) → k < length xs → t (get_or xs k 0) ≡ false
     → filter t (take (k + 1) xs) ≡ filter t (take k xs)
-filter_take_off t xs k l e = rw (take_more xs k 0 l, filter_last t (take k xs) (get_or xs k 0), e) (append-nil (filter t (take k xs)))
+filter_take_off t xs k l e = rw (take_more xs k 0 l, filter_last t (take k xs) (get_or xs k 0), e)
+    (append-nil (filter t (take k xs)))
 
 -- the numbers from a on up to one more than k
 pub range_more : (a k : ℕ) → a ≤ k → range_with_len a (k + 1 - a) ≡ range_with_len a (k - a) ++ k ∷ []
@@ -70,19 +75,33 @@ map_last f (y ∷ ys) x = ap (λ l. f y ∷ l) (map_last f ys x)
 
 module _ {A : Type 0} (f : ℕ → A) (t : ℕ → Bool) (front : List A) (a k : ℕ) (l : a ≤ k) where
   pub twins_on : t k ≡ true
-      → (front ++ map f (filter t (range_with_len a (k - a)))) ++ f k ∷ [] ≡ front ++ map f (filter t (range_with_len a (k + 1 - a)))
+      → (front ++ map f (filter t (range_with_len a (k - a)))) ++ f k ∷ [] ≡ front
+      ++ map f (filter t (range_with_len a (k + 1 - a)))
   twins_on e =
-      rw (range_more a k l, filter_last t (range_with_len a (k - a)) k, e, map_last f (filter t (range_with_len a (k - a))) k)
+      rw (
+        range_more a k l,
+        filter_last t (range_with_len a (k - a)) k,
+        e,
+        map_last f (filter t (range_with_len a (k - a))) k,
+      )
       (append_assoc front (map f (filter t (range_with_len a (k - a)))) (f k ∷ []))
 
-  pub twins_off : t k ≡ false → front ++ map f (filter t (range_with_len a (k - a))) ≡ front ++ map f (filter t (range_with_len a (k + 1 - a)))
+  pub twins_off : t k ≡ false → front ++ map f (filter t (range_with_len a (k - a))) ≡ front
+      ++ map f (filter t (range_with_len a (k + 1 - a)))
   twins_off e =
-      rw (range_more a k l, filter_last t (range_with_len a (k - a)) k, e, append-nil (filter t (range_with_len a (k - a)))) refl
+      rw (
+        range_more a k l,
+        filter_last t (range_with_len a (k - a)) k,
+        e,
+        append-nil (filter t (range_with_len a (k - a))),
+      ) refl
 
   pub all_on : (front ++ map f (range_with_len a (k - a))) ++ f k ∷ [] ≡ front ++ map f (range_with_len a (k + 1 - a))
-  all_on = rw (range_more a k l, map_last f (range_with_len a (k - a)) k) (append_assoc front (map f (range_with_len a (k - a))) (f k ∷ []))
+  all_on = rw (range_more a k l, map_last f (range_with_len a (k - a)) k)
+      (append_assoc front (map f (range_with_len a (k - a))) (f k ∷ []))
 
-  pub twins_pushed : (items new : List A) (x : A) → items ≡ front ++ map f (filter t (range_with_len a (k - a))) → x ≡ f k → new ≡ items ++ x ∷ [] → t k ≡ true
+  pub twins_pushed : (items new : List A) (x : A) → items ≡ front ++ map f (filter t (range_with_len a (k - a)))
+      → x ≡ f k → new ≡ items ++ x ∷ [] → t k ≡ true
       → new ≡ front ++ map f (filter t (range_with_len a (k + 1 - a)))
   twins_pushed items new x h e g y = g ∙ (rw (h, e) (twins_on y))
 
@@ -90,7 +109,8 @@ module _ {A : Type 0} (f : ℕ → A) (t : ℕ → Bool) (front : List A) (a k :
       → items ≡ front ++ map f (filter t (range_with_len a (k + 1 - a)))
   twins_kept items h y = h ∙ twins_off y
 
-  pub all_pushed : (items new : List A) (x : A) → items ≡ front ++ map f (range_with_len a (k - a)) → x ≡ f k → new ≡ items ++ x ∷ []
+  pub all_pushed : (items new : List A) (x : A) → items ≡ front ++ map f (range_with_len a (k - a)) → x ≡ f k
+      → new ≡ items ++ x ∷ []
       → new ≡ front ++ map f (range_with_len a (k + 1 - a))
   all_pushed items new x h e g = g ∙ (rw (h, e) all_on)
 

@@ -25,11 +25,17 @@ two_facts = refl
 
 -- four twins
 abbrev pub row_of_four : PlainInstance
-row_of_four = record { container = 10 ∷ 10 ∷ []; kerfs = 0 ∷ 0 ∷ []; boxes = box 3 6 ∷ box 3 6 ∷ box 3 6 ∷ box 3 6 ∷ [] }
+row_of_four = record {
+  container = 10 ∷ 10 ∷ [];
+  kerfs = 0 ∷ 0 ∷ [];
+  boxes = box 3 6 ∷ box 3 6 ∷ box 3 6
+      ∷ box 3 6 ∷ [];
+}
 
 abbrev four_facts : List Exclusion
 four_facts =
-    exclusion_at 0 0 1 After ∷ exclusion_at 0 0 2 After ∷ exclusion_at 0 0 3 After ∷ exclusion_at 0 1 2 After ∷ exclusion_at 0 1 3 After ∷ exclusion_at 0 2 3 After
+    exclusion_at 0 0 1 After ∷ exclusion_at 0 0 2 After ∷ exclusion_at 0 0 3 After ∷ exclusion_at 0 1 2 After
+    ∷ exclusion_at 0 1 3 After ∷ exclusion_at 0 2 3 After
     ∷ exclusion_at 1 0 1 After ∷ []
 
 four_has_these : symmetry_facts row_of_four ≡ four_facts
@@ -47,8 +53,10 @@ abbrev turned : PlainInstance
 turned = record {
   container = 4 ∷ 4 ∷ 4 ∷ [];
   kerfs = 0 ∷ 0 ∷ 0 ∷ [];
-  boxes = record { sides = 1 ∷ 2 ∷ 3 ∷ []; value = 1 } ∷ record { sides = 3 ∷ 2 ∷ 1 ∷ []; value = 7 } ∷ record { sides = 3 ∷ 2 ∷ 1 ∷ []; value = 1 } ∷ [];
+  boxes = record { sides = 1 ∷ 2 ∷ 3 ∷ []; value = 1 } ∷ record { sides = 3 ∷ 2 ∷ 1 ∷ []; value = 7 }
+      ∷ record { sides = 3 ∷ 2 ∷ 1 ∷ []; value = 1 } ∷ [];
 }
 
-turned_facts : symmetry_facts turned ≡ exclusion_at 0 1 2 After ∷ exclusion_at 1 0 1 After ∷ exclusion_at 2 0 1 After ∷ []
+turned_facts : symmetry_facts turned ≡ exclusion_at 0 1 2 After ∷ exclusion_at 1 0 1 After
+    ∷ exclusion_at 2 0 1 After ∷ []
 turned_facts = refl

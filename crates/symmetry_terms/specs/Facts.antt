@@ -18,7 +18,8 @@ use Rattle.packing_terms.specs.Rank.{ranked, in_order}
 
 -- two boxes have equal written sides
 abbrev pub have_equal_sides : PlainInstance → ℕ → ℕ → Bool
-have_equal_sides instance u v = list_all (λ i. written_side instance u i == written_side instance v i) (below (dims instance))
+have_equal_sides instance u v =
+    list_all (λ i. written_side instance u i == written_side instance v i) (below (dims instance))
 
 -- another box has equal written sides: it is a twin
 abbrev pub is_twin_of : PlainInstance → ℕ → ℕ → Bool
@@ -49,7 +50,8 @@ not_after_in is (Some p) = map (λ i. not_after i p) is
 -- box u and each of its twins of a greater number, in the first dimension
 abbrev pub twin_facts : PlainInstance → ℕ → List Exclusion
 twin_facts instance u =
-    map (λ v. not_after 0 (u, v)) (filter (λ v. have_equal_sides instance u v) (range_with_len (suc u) (box_count instance - suc u)))
+    map (λ v. not_after 0 (u, v)) (filter (λ v. have_equal_sides instance u v)
+    (range_with_len (suc u) (box_count instance - suc u)))
 
 -- In this order: all twins, in the first dimension; the first two boxes by rank that have no twin,
 -- in the first dimension; the first two boxes by rank, in each other dimension.

@@ -16,7 +16,8 @@ use Rattle.tree_terms.proofs.Nodes.{excluded_edge, closure_edges}
 use Rattle.rule_terms.proofs.Conflicts.{stormy, full_masks}
 use Rattle.tree_terms.proofs.SettledPlaces.{settled_ends, settled_pack}
 
-module _ (instance : PlainInstance) (es : List Exclusion) (sides : HasPositiveSides instance) (fit : SidesFit instance) (placed : AreAtEdges instance es)
+module _ (instance : PlainInstance) (es : List Exclusion) (sides : HasPositiveSides instance) (fit : SidesFit instance)
+    (placed : AreAtEdges instance es)
     (calm : ¬ HasConflict instance (excludes es)) where
   no_conflict : has_empty_mask (excludes (closure instance es)) (dims instance) (box_count instance) ≡ false
   no_conflict = go (cases_Bool (has_empty_mask (excludes (closure instance es)) (dims instance) (box_count instance)))
@@ -28,11 +29,17 @@ module _ (instance : PlainInstance) (es : List Exclusion) (sides : HasPositiveSi
       go (inr k) = k
 
   pub closed_ends : (v i : ℕ) → v < box_count instance → i < dims instance
-      → IsGreatestEnd instance (excludes (closure instance es)) (settled_places instance (excludes (closure instance es))) i v
-  closed_ends = settled_ends instance (excludes (closure instance es)) (closure_stable instance es) (excludes_symmetric (closure instance es))
-      (full_masks instance es no_conflict) sides fit (λ i u v h. excluded_edge instance (closure instance es) (closure_edges instance es placed) i u v Overlap h)
+      → IsGreatestEnd instance (excludes (closure instance es))
+      (settled_places instance (excludes (closure instance es))) i v
+  closed_ends = settled_ends instance (excludes (closure instance es)) (closure_stable instance es)
+      (excludes_symmetric (closure instance es))
+      (full_masks instance es no_conflict) sides fit
+      (λ i u v h. excluded_edge instance (closure instance es) (closure_edges instance es placed) i u v Overlap h)
 
-  pub closed_pack : ((u v : ℕ) → u < v → v < box_count instance → IsOrdered instance (excludes (closure instance es)) u v)
+  pub closed_pack : ((u v : ℕ) → u < v → v < box_count instance
+      → IsOrdered instance (excludes (closure instance es)) u v)
       → IsPacking instance (settled_places instance (excludes (closure instance es)))
-  closed_pack = settled_pack instance (excludes (closure instance es)) (closure_stable instance es) (excludes_symmetric (closure instance es))
-      (full_masks instance es no_conflict) sides fit (λ i u v h. excluded_edge instance (closure instance es) (closure_edges instance es placed) i u v Overlap h)
+  closed_pack = settled_pack instance (excludes (closure instance es)) (closure_stable instance es)
+      (excludes_symmetric (closure instance es))
+      (full_masks instance es no_conflict) sides fit
+      (λ i u v h. excluded_edge instance (closure instance es) (closure_edges instance es placed) i u v Overlap h)

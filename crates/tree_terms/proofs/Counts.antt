@@ -1,8 +1,11 @@
 -- The count of an inner tree is below 3 to the number of pairs in all dimensions.
 --
--- The measure of a node is the product, over all pairs in all dimensions, of the number of relations that are open there (at least 1). A split has
+-- The measure of a node is the product, over all pairs in all dimensions, of the number of
+-- relations that are open there (at least 1). A split has
 -- the measures of its two children together in its own.
-use Rattle.std.proofs.Common.{◌≡◌, ℕ, zero, suc, ◌+◌, ◌-◌, ◌*◌, ◌/◌, ◌^◌, ◌<◌, ◌≤◌, ◌⊎◌, inl, inr, refl, sym, ap, subst, ◌∙◌, arith, max, Bool, true, false, not, List, [], ◌∷◌, ◌++◌, map, length, Option, Some, None, IsTrue}
+use Rattle.std.proofs.Common.{◌≡◌, ℕ, zero, suc, ◌+◌, ◌-◌, ◌*◌, ◌/◌, ◌^◌, ◌<◌, ◌≤◌, ◌⊎◌, inl, inr, refl, sym, ap, subst}
+use Rattle.std.proofs.Common.{◌∙◌, arith, max, Bool, true, false, not, List, [], ◌∷◌, ◌++◌, map, length, Option, Some}
+use Rattle.std.proofs.Common.{None, IsTrue}
 use Rattle.std.specs.List.{find, flat_map, range_with_len}
 use Rattle.std.proofs.Math.Nat.{le_trans, mul-le-mul_left, pow-le-pow_right, pow-succ', mul-le-mul}
 use Rattle.std.proofs.lemmas.Bool.{true≢false, and_parts, or_cases, not-true}
@@ -25,7 +28,8 @@ use Rattle.packing_terms.specs.Sums.{below}
 use Rattle.rule_terms.proofs.RoundsLemmas.{closure_keeps, excludes_own}
 use Rattle.tree_terms.specs.Trees.{SearchTree, Verdict, Yes, No, no_tokens, join, outcome, count_of}
 use Rattle.packing_terms.specs.Rank.{ranked_pairs}
-use Rattle.tree_terms.specs.InnerTree.{is_settled, is_unsettled, is_apart_somewhere, exclusion_at_pair, has_order_mask, has_apart_mask, chosen_split, split_tree, node_of, node_tree, tree_below}
+use Rattle.tree_terms.specs.InnerTree.{is_settled, is_unsettled, is_apart_somewhere, exclusion_at_pair, has_order_mask}
+use Rattle.tree_terms.specs.InnerTree.{has_apart_mask, chosen_split, split_tree, node_of, node_tree, tree_below}
 use Rattle.tree_terms.specs.ClassTree.{first_too_large_box, closes_in_conflict, scales_after, root_of, class_tree}
 use Rattle.packing_terms.proofs.RankLemmas.{ranked_rise}
 use Rattle.tree_terms.proofs.Splits.{order_there, apart_there}
@@ -48,10 +52,12 @@ module _ {X : Type 0} where
   product_some : (f : X → ℕ) (xs : List X) → ((x : X) → 1 ≤ f x) → 1 ≤ product f xs
   unfolding product
   product_some f [] h = omega arith
-  product_some f (x ∷ xs) h = let m : 1 * 1 ≤ f x * product f xs = times_le 1 1 (f x) (product f xs) (h x) (product_some f xs h) in m
+  product_some f (x ∷ xs) h = let m : 1 * 1 ≤ f x * product f xs =
+      times_le 1 1 (f x) (product f xs) (h x) (product_some f xs h) in m
 
   -- two smaller functions that share one element
-  product_split : (f g h : X → ℕ) (p : X) (xs : List X) → IsIn p xs → ((x : X) → g x ≤ f x) → ((x : X) → h x ≤ f x) → g p + h p ≤ f p
+  product_split : (f g h : X → ℕ) (p : X) (xs : List X) → IsIn p xs → ((x : X) → g x ≤ f x) → ((x : X) → h x ≤ f x)
+      → g p + h p ≤ f p
       → product g xs + product h xs ≤ product f xs
   unfolding product
   product_split f g h p [] i a b c = absurd i
@@ -97,7 +103,8 @@ one_if_open false = 1
 
 -- how many relations are open at an edge, and at least 1
 mask_size : Exclusions → Edge → ℕ
-mask_size X p = one_if_open (X p.0 p.1 p.2 Overlap) + (one_if_open (X p.0 p.1 p.2 Before) + one_if_open (X p.0 p.1 p.2 After))
+mask_size X p = one_if_open (X p.0 p.1 p.2 Overlap)
+    + (one_if_open (X p.0 p.1 p.2 Before) + one_if_open (X p.0 p.1 p.2 After))
 
 size_at : Exclusions → Edge → ℕ
 size_at X p = max 1 (mask_size X p)
@@ -139,8 +146,10 @@ unfolding size_at
 size_some X p = omega arith
 
 -- the sizes of two children at the edge of their split
-order_sizes : (X Y Z : Exclusions) (p : Edge) → IsSubset X Y → IsSubset X Z → X p.0 p.1 p.2 Overlap ≡ true → X p.0 p.1 p.2 Before ≡ false
-    → X p.0 p.1 p.2 After ≡ false → Y p.0 p.1 p.2 After ≡ true → Z p.0 p.1 p.2 Before ≡ true → size_at Y p + size_at Z p ≤ size_at X p
+order_sizes : (X Y Z : Exclusions) (p : Edge) → IsSubset X Y → IsSubset X Z → X p.0 p.1 p.2 Overlap ≡ true
+    → X p.0 p.1 p.2 Before ≡ false
+    → X p.0 p.1 p.2 After ≡ false → Y p.0 p.1 p.2 After ≡ true → Z p.0 p.1 p.2 Before ≡ true
+    → size_at Y p + size_at Z p ≤ size_at X p
 unfolding size_at mask_size one_if_open
 order_sizes X Y Z p xy xz o b a ya zb =
     rw (o, b, a, ya, zb, xy p.0 p.1 p.2 Overlap o, xz p.0 p.1 p.2 Overlap o)
@@ -159,7 +168,12 @@ apart_sizes X Y Z p xy o (inr a) yo zb za =
     (let c = open_most (Z p.0 p.1 p.2 Overlap) in let d = open_most (Y p.0 p.1 p.2 After) in
     let e = open_less (X p.0 p.1 p.2 Before) (Y p.0 p.1 p.2 Before) (xy p.0 p.1 p.2 Before) in omega (arith, c, d, e))
 
-pub count_two : (a b : Verdict) → count_of (elim a [ Yes ns c ↦ Yes ns c | No ts c ↦ join (No ts c) (elim b [ Yes ns d ↦ Yes ns d | No us d ↦ join (No us d) no_tokens ]) ])
+pub count_two : (a b : Verdict)
+    → count_of (elim a [
+      | Yes ns c ↦ Yes ns c
+      | No ts c ↦
+          join (No ts c) (elim b [ Yes ns d ↦ Yes ns d | No us d ↦ join (No us d) no_tokens ])
+    ])
     ≤ count_of a + count_of b
 count_two (Yes ns c) b = omega arith
 count_two (No ts c) (Yes ns d) = omega arith
@@ -174,17 +188,21 @@ module _ (instance : PlainInstance) where
 
   measure_some : (es : List Exclusion) → 1 ≤ measure es
   unfolding measure
-  measure_some es = product_some (size_at (closed es)) (all_edges (dims instance) (box_count instance)) (size_some (closed es))
+  measure_some es = product_some (size_at (closed es)) (all_edges (dims instance) (box_count instance))
+      (size_some (closed es))
 
-  in_edges : (i u v : ℕ) → i < dims instance → u < v → v < box_count instance → IsIn (i, u, v) (all_edges (dims instance) (box_count instance))
+  in_edges : (i u v : ℕ) → i < dims instance → u < v → v < box_count instance
+      → IsIn (i, u, v) (all_edges (dims instance) (box_count instance))
   in_edges i u v hi huv hv =
       in_flat_map (λ j. flat_map (λ y. pair_edges j y) (below (box_count instance))) i (i, u, v) (below (dims instance))
       (in_range 0 (dims instance) i (omega arith) (omega arith))
-      (in_flat_map (λ y. pair_edges i y) v (i, u, v) (below (box_count instance)) (in_range 0 (box_count instance) v (omega arith) (omega arith))
+      (in_flat_map (λ y. pair_edges i y) v (i, u, v) (below (box_count instance))
+      (in_range 0 (box_count instance) v (omega arith) (omega arith))
       (in_map (λ x. (i, x, v)) u (below v) (in_range 0 v u (omega arith) (omega arith))))
 
   -- a child excludes what its parent's closure does, and what it adds
-  child_more : (add es : List Exclusion) → ((i u v : ℕ) (r : Rel) → IsTrue (closed es i u v r) → IsTrue (excludes (add ++ closure instance es) i u v r))
+  child_more : (add es : List Exclusion)
+      → ((i u v : ℕ) (r : Rel) → IsTrue (closed es i u v r) → IsTrue (excludes (add ++ closure instance es) i u v r))
       → IsSubset (closed es) (closed (add ++ closure instance es))
   child_more add es h i u v r k = closure_keeps instance (add ++ closure instance es) i u v r (h i u v r k)
 
@@ -200,19 +218,32 @@ module _ (instance : PlainInstance) where
   -- a split whose children's measures are together in its own
   split_count : (t : PlainToken) (a b : Verdict) (m k l : ℕ) → suc (count_of a) ≤ k → suc (count_of b) ≤ l → k + l ≤ m
       → suc (count_of (join (No (t ∷ []) 1)
-      (elim a [ Yes ns c ↦ Yes ns c | No ts c ↦ join (No ts c) (elim b [ Yes ns d ↦ Yes ns d | No us d ↦ join (No us d) no_tokens ]) ]))) ≤ m
+      (elim a [
+        | Yes ns c ↦ Yes ns c
+        | No ts c ↦
+            join (No ts c) (elim b [ Yes ns d ↦ Yes ns d | No us d ↦ join (No us d) no_tokens ])
+      ]))) ≤ m
   split_count t a b m k l ha hb h =
       let two = count_two a b in
-      let one = count_join_no (t ∷ []) 1 (elim a [ Yes ns c ↦ Yes ns c | No ts c ↦ join (No ts c) (elim b [ Yes ns d ↦ Yes ns d | No us d ↦ join (No us d) no_tokens ]) ]) in
+      let one = count_join_no (t ∷ []) 1
+      (elim a [
+        | Yes ns c ↦ Yes ns c
+        | No ts c ↦
+            join (No ts c) (elim b [ Yes ns d ↦ Yes ns d | No us d ↦ join (No us d) no_tokens ])
+      ]) in
       omega (arith, two, one, ha, hb, h)
 
   module _ (some_dim : 1 ≤ dims instance) where
-    chosen_count : (es : List Exclusion) (p : ℕ × ℕ) (tree : List Exclusion → SearchTree) → p.0 < p.1 → p.1 < box_count instance
-        → has_empty_mask (closed es) (dims instance) (box_count instance) ≡ false → is_settled (closed es) (dims instance) p ≡ false
+    chosen_count : (es : List Exclusion) (p : ℕ × ℕ) (tree : List Exclusion → SearchTree) → p.0 < p.1
+        → p.1 < box_count instance
+        → has_empty_mask (closed es) (dims instance) (box_count instance) ≡ false
+        → is_settled (closed es) (dims instance) p ≡ false
         → ((fs : List Exclusion) → suc (count_of (outcome (tree fs))) ≤ measure fs)
         → (b : Bool) (i j : Option ℕ) → is_apart_somewhere (closed es) (dims instance) p ≡ b
-        → find (has_order_mask (closed es) p) (below (dims instance)) ≡ i → find (has_apart_mask (closed es) p) (below (dims instance)) ≡ j
-        → suc (count_of (outcome (split_tree (chosen_split p b i j) (λ add. tree (add ++ closure instance es))))) ≤ measure es
+        → find (has_order_mask (closed es) p) (below (dims instance)) ≡ i
+        → find (has_apart_mask (closed es) p) (below (dims instance)) ≡ j
+        → suc (count_of (outcome (split_tree (chosen_split p b i j) (λ add. tree (add ++ closure instance es)))))
+        ≤ measure es
     unfolding measure
     chosen_count es p tree huv hv calm open_pair counts true (Some i) j e f g =
         let h = find_some (has_order_mask (closed es) p) (below (dims instance)) i f in
@@ -222,21 +253,31 @@ module _ (instance : PlainInstance) where
         let q' = and_parts _ _ q.0 in
         let k : List Exclusion = exclusion_at_pair i p After ∷ closure instance es in
         let l : List Exclusion = exclusion_at_pair i p Before ∷ closure instance es in
-        split_count _ (outcome (tree (exclusion_at_pair i p After ∷ closure instance es))) (outcome (tree (exclusion_at_pair i p Before ∷ closure instance es)))
+        split_count _ (outcome (tree (exclusion_at_pair i p After ∷ closure instance es)))
+        (outcome (tree (exclusion_at_pair i p Before ∷ closure instance es)))
         (product (size_at (closed es)) (all_edges (dims instance) (box_count instance)))
-        (product (size_at (closed (exclusion_at_pair i p After ∷ closure instance es))) (all_edges (dims instance) (box_count instance)))
-        (product (size_at (closed (exclusion_at_pair i p Before ∷ closure instance es))) (all_edges (dims instance) (box_count instance)))
-        (counts (exclusion_at_pair i p After ∷ closure instance es)) (counts (exclusion_at_pair i p Before ∷ closure instance es))
+        (product (size_at (closed (exclusion_at_pair i p After ∷ closure instance es)))
+        (all_edges (dims instance) (box_count instance)))
+        (product (size_at (closed (exclusion_at_pair i p Before ∷ closure instance es)))
+        (all_edges (dims instance) (box_count instance)))
+        (counts (exclusion_at_pair i p After ∷ closure instance es))
+        (counts (exclusion_at_pair i p Before ∷ closure instance es))
         (product_split (size_at (closed es)) (size_at (closed (exclusion_at_pair i p After ∷ closure instance es)))
-        (size_at (closed (exclusion_at_pair i p Before ∷ closure instance es))) (i, p.0, p.1) (all_edges (dims instance) (box_count instance))
+        (size_at (closed (exclusion_at_pair i p Before ∷ closure instance es))) (i, p.0, p.1)
+        (all_edges (dims instance) (box_count instance))
         (in_edges i p.0 p.1 hi huv hv)
-        (size_less (closed es) (closed (exclusion_at_pair i p After ∷ closure instance es)) (one_more (exclusion_at_pair i p After) es))
-        (size_less (closed es) (closed (exclusion_at_pair i p Before ∷ closure instance es)) (one_more (exclusion_at_pair i p Before) es))
-        (order_sizes (closed es) (closed (exclusion_at_pair i p After ∷ closure instance es)) (closed (exclusion_at_pair i p Before ∷ closure instance es)) (i, p.0, p.1)
-        (one_more (exclusion_at_pair i p After) es) (one_more (exclusion_at_pair i p Before) es) q'.0 (not-true _ q'.1) (not-true _ q.1)
+        (size_less (closed es) (closed (exclusion_at_pair i p After ∷ closure instance es))
+        (one_more (exclusion_at_pair i p After) es))
+        (size_less (closed es) (closed (exclusion_at_pair i p Before ∷ closure instance es))
+        (one_more (exclusion_at_pair i p Before) es))
+        (order_sizes (closed es) (closed (exclusion_at_pair i p After ∷ closure instance es))
+        (closed (exclusion_at_pair i p Before ∷ closure instance es)) (i, p.0, p.1)
+        (one_more (exclusion_at_pair i p After) es) (one_more (exclusion_at_pair i p Before) es) q'.0 (not-true _ q'.1)
+        (not-true _ q.1)
         (own_closed (exclusion_at_pair i p After ∷ closure instance es) (exclusion_at_pair i p After) (inl refl))
         (own_closed (exclusion_at_pair i p Before ∷ closure instance es) (exclusion_at_pair i p Before) (inl refl))))
-    chosen_count es p tree huv hv calm open_pair counts true None j e f g = absurd (order_there instance es p huv hv calm open_pair e f)
+    chosen_count es p tree huv hv calm open_pair counts true None j e f g =
+        absurd (order_there instance es p huv hv calm open_pair e f)
     chosen_count es p tree huv hv calm open_pair counts false i (Some j) e f g =
         let h = find_some (has_apart_mask (closed es) p) (below (dims instance)) j g in
         let r = range_in 0 (dims instance) j h.0 in
@@ -245,37 +286,49 @@ module _ (instance : PlainInstance) where
         split_count _ (outcome (tree (exclusion_at_pair j p Overlap ∷ closure instance es)))
         (outcome (tree (exclusion_at_pair j p Before ∷ exclusion_at_pair j p After ∷ closure instance es)))
         (product (size_at (closed es)) (all_edges (dims instance) (box_count instance)))
-        (product (size_at (closed (exclusion_at_pair j p Overlap ∷ closure instance es))) (all_edges (dims instance) (box_count instance)))
-        (product (size_at (closed (exclusion_at_pair j p Before ∷ exclusion_at_pair j p After ∷ closure instance es))) (all_edges (dims instance) (box_count instance)))
-        (counts (exclusion_at_pair j p Overlap ∷ closure instance es)) (counts (exclusion_at_pair j p Before ∷ exclusion_at_pair j p After ∷ closure instance es))
+        (product (size_at (closed (exclusion_at_pair j p Overlap ∷ closure instance es)))
+        (all_edges (dims instance) (box_count instance)))
+        (product (size_at (closed (exclusion_at_pair j p Before ∷ exclusion_at_pair j p After ∷ closure instance es)))
+        (all_edges (dims instance) (box_count instance)))
+        (counts (exclusion_at_pair j p Overlap ∷ closure instance es))
+        (counts (exclusion_at_pair j p Before ∷ exclusion_at_pair j p After ∷ closure instance es))
         (product_split (size_at (closed es)) (size_at (closed (exclusion_at_pair j p Overlap ∷ closure instance es)))
-        (size_at (closed (exclusion_at_pair j p Before ∷ exclusion_at_pair j p After ∷ closure instance es))) (j, p.0, p.1) (all_edges (dims instance) (box_count instance))
+        (size_at (closed (exclusion_at_pair j p Before ∷ exclusion_at_pair j p After ∷ closure instance es)))
+        (j, p.0, p.1) (all_edges (dims instance) (box_count instance))
         (in_edges j p.0 p.1 hj huv hv)
-        (size_less (closed es) (closed (exclusion_at_pair j p Overlap ∷ closure instance es)) (one_more (exclusion_at_pair j p Overlap) es))
-        (size_less (closed es) (closed (exclusion_at_pair j p Before ∷ exclusion_at_pair j p After ∷ closure instance es)) (two_more (exclusion_at_pair j p Before) (exclusion_at_pair j p After) es))
+        (size_less (closed es) (closed (exclusion_at_pair j p Overlap ∷ closure instance es))
+        (one_more (exclusion_at_pair j p Overlap) es))
+        (size_less (closed es) (closed
+        (exclusion_at_pair j p Before ∷ exclusion_at_pair j p After ∷ closure instance es))
+        (two_more (exclusion_at_pair j p Before) (exclusion_at_pair j p After) es))
         (apart_sizes (closed es) (closed (exclusion_at_pair j p Overlap ∷ closure instance es))
         (closed (exclusion_at_pair j p Before ∷ exclusion_at_pair j p After ∷ closure instance es)) (j, p.0, p.1)
         (one_more (exclusion_at_pair j p Overlap) es) (not-true _ q.0) (one_side (or_cases _ _ q.1))
         (own_closed (exclusion_at_pair j p Overlap ∷ closure instance es) (exclusion_at_pair j p Overlap) (inl refl))
-        (own_closed (exclusion_at_pair j p Before ∷ exclusion_at_pair j p After ∷ closure instance es) (exclusion_at_pair j p Before) (inl refl))
-        (own_closed (exclusion_at_pair j p Before ∷ exclusion_at_pair j p After ∷ closure instance es) (exclusion_at_pair j p After) (inr (inl refl)))))
+        (own_closed (exclusion_at_pair j p Before ∷ exclusion_at_pair j p After ∷ closure instance es)
+        (exclusion_at_pair j p Before) (inl refl))
+        (own_closed (exclusion_at_pair j p Before ∷ exclusion_at_pair j p After ∷ closure instance es)
+        (exclusion_at_pair j p After) (inr (inl refl)))))
       where
         one_side : (not (closed es j p.0 p.1 Before) ≡ true) ⊎ (not (closed es j p.0 p.1 After) ≡ true)
             → (closed es j p.0 p.1 Before ≡ false) ⊎ (closed es j p.0 p.1 After ≡ false)
         one_side (inl k) = inl (not-true _ k)
         one_side (inr k) = inr (not-true _ k)
-    chosen_count es p tree huv hv calm open_pair counts false i None e f g = absurd (apart_there instance some_dim es p huv hv e g)
+    chosen_count es p tree huv hv calm open_pair counts false i None e f g =
+        absurd (apart_there instance some_dim es p huv hv e g)
 
     node_count : (depth : ℕ) (es : List Exclusion) → suc (count_of (outcome (node_tree instance depth es))) ≤ measure es
     node_count zero es = measure_some es
     node_count (suc depth) es =
-        go (has_empty_mask (closed es) (dims instance) (box_count instance)) refl (find (is_unsettled instance (closed es)) (ranked_pairs instance)) refl
+        go (has_empty_mask (closed es) (dims instance) (box_count instance)) refl
+        (find (is_unsettled instance (closed es)) (ranked_pairs instance)) refl
         (λ fs. node_count depth fs)
       where
         go : (b : Bool) → has_empty_mask (closed es) (dims instance) (box_count instance) ≡ b
             → (o : Option (ℕ × ℕ)) → find (is_unsettled instance (closed es)) (ranked_pairs instance) ≡ o
             → ((fs : List Exclusion) → suc (count_of (outcome (node_tree instance depth fs))) ≤ measure fs)
-            → suc (count_of (outcome (node_of instance (closed es) b o (λ add. node_tree instance depth (add ++ closure instance es))))) ≤ measure es
+            → suc (count_of (outcome (node_of instance (closed es) b o
+            (λ add. node_tree instance depth (add ++ closure instance es))))) ≤ measure es
         go true e o f rest = measure_some es
         go false e None f rest = measure_some es
         go false e (Some p) f rest =
@@ -288,7 +341,8 @@ module _ (instance : PlainInstance) where
   unfolding product
   product_power f [] h = omega arith
   product_power f (x ∷ xs) h =
-      let m : f x * product f xs ≤ 3 * 3 ^ length xs = times_le (f x) (product f xs) 3 (3 ^ length xs) (h x) (product_power f xs h) in
+      let m : f x * product f xs ≤ 3 * 3 ^ length xs =
+      times_le (f x) (product f xs) 3 (3 ^ length xs) (h x) (product_power f xs h) in
       subst (λ (y : ℕ). f x * product f xs ≤ y) (sym (pow-succ' 3 (length xs))) m
 
   triangle : (i a m : ℕ) → 2 * length (flat_map (λ v. pair_edges i v) (range_with_len a m)) + m ≡ m * m + 2 * a * m
@@ -303,8 +357,10 @@ module _ (instance : PlainInstance) where
   few_edges d n =
       let row = λ (i : ℕ). flat_map (λ v. pair_edges i v) (below n) in
       let same : (i : ℕ) → length (row i) ≡ length (row 0) = λ i. omega (arith, triangle i 0 n, triangle 0 0 n) in
-      let whole : length (all_edges d n) ≡ length (below d) * length (row 0) = length_parts row (length (row 0)) same (below d) in
-      let count : length (below d) * length (row 0) ≡ d * length (row 0) = ap (λ x. x * length (row 0)) (length-range_with_len 0 d) in
+      let whole : length (all_edges d n) ≡ length (below d) * length (row 0) =
+      length_parts row (length (row 0)) same (below d) in
+      let count : length (below d) * length (row 0) ≡ d * length (row 0) =
+      ap (λ x. x * length (row 0)) (length-range_with_len 0 d) in
       let few : d * length (row 0) ≤ d * n * (n - 1) / 2 = half d n (length (row 0)) (triangle 0 0 n) in
       omega (arith, whole, count, few)
     where
@@ -320,21 +376,27 @@ module _ (instance : PlainInstance) where
           let c : d * (2 * t + suc m) ≡ d * (suc m * suc m + 2 * 0 * suc m) = ap (λ x. d * x) h in
           rw e (omega (arith, a, b, c))
 
-  measure_most : (es : List Exclusion) → measure es ≤ 3 ^ (dims instance * box_count instance * (box_count instance - 1) / 2)
+  measure_most : (es : List Exclusion)
+      → measure es ≤ 3 ^ (dims instance * box_count instance * (box_count instance - 1) / 2)
   unfolding measure
   measure_most es =
-      le_trans (product_power (size_at (closed es)) (all_edges (dims instance) (box_count instance)) (size_most (closed es)))
+      le_trans (product_power (size_at (closed es)) (all_edges (dims instance) (box_count instance))
+      (size_most (closed es)))
       (pow-le-pow_right (omega arith) (few_edges (dims instance) (box_count instance)))
 
   pub class_count : 1 ≤ dims instance → (es : List Exclusion) (scales : Bool)
-      → count_of (outcome (class_tree instance es scales)) < 3 ^ (dims instance * box_count instance * (box_count instance - 1) / 2)
-  class_count some_dim es scales = go (first_too_large_box instance) (closes_in_conflict instance es) (scales_after instance scales (closes_in_conflict instance es))
+      → count_of (outcome (class_tree instance es scales)) < 3 ^
+      (dims instance * box_count instance * (box_count instance - 1) / 2)
+  class_count some_dim es scales =
+      go (first_too_large_box instance) (closes_in_conflict instance es)
+      (scales_after instance scales (closes_in_conflict instance es))
     where
       some : 1 ≤ 3 ^ (dims instance * box_count instance * (box_count instance - 1) / 2)
       some = le_trans (measure_some es) (measure_most es)
 
       go : (l : Option (ℕ × ℕ)) (b : Bool) (o : Option (List ScaleFn))
-          → count_of (outcome (root_of l b o (tree_below instance es))) < 3 ^ (dims instance * box_count instance * (box_count instance - 1) / 2)
+          → count_of (outcome (root_of l b o (tree_below instance es))) < 3 ^
+          (dims instance * box_count instance * (box_count instance - 1) / 2)
       go (Some p) b o = some
       go None true o = some
       go None false (Some fs) = some

@@ -1,5 +1,6 @@
 -- Verdicts are a monoid under joining, and the outcome of a split joins those of its children.
-use Rattle.std.proofs.Common.{◌≡◌, ℕ, zero, suc, ◌+◌, ◌≤◌, refl, ap, ap₂, ◌∙◌, arith, List, [], ◌∷◌, map, append_assoc, append-nil, add_assoc, add-zero}
+use Rattle.std.proofs.Common.{◌≡◌, ℕ, zero, suc, ◌+◌, ◌≤◌, refl, ap, ap₂, ◌∙◌, arith, List, [], ◌∷◌, map, append_assoc}
+use Rattle.std.proofs.Common.{append-nil, add_assoc, add-zero}
 use Rattle.std.specs.List.{range_with_len}
 use Rattle.packing_terms.specs.Tokens.{PlainToken}
 use Rattle.tree_terms.specs.Trees.{SearchTree, Split, Verdict, Yes, No, no_tokens, join, join_from, outcome, count_of}
@@ -23,7 +24,8 @@ nothing_join (No ts c) = ap (λ k. No ts k) (omega arith)
 pub join_next : (k more : ℕ) (f : ℕ → Verdict) → join_from k (suc more) f ≡ join (f k) (join_from (k + 1) more f)
 join_next k more f = go (f k)
   where
-    go : (v : Verdict) → elim v [ Yes ns c ↦ Yes ns c | No ts c ↦ join (No ts c) (join_from (k + 1) more f) ] ≡ join v (join_from (k + 1) more f)
+    go : (v : Verdict) → elim v [ Yes ns c ↦ Yes ns c | No ts c ↦ join (No ts c) (join_from (k + 1) more f) ]
+        ≡ join v (join_from (k + 1) more f)
     go (Yes ns c) = refl
     go (No ts c) = refl
 
@@ -32,7 +34,8 @@ join_from_all k zero f = refl
 join_from_all k (suc more) f = join_next k more f ∙ ap (join (f k)) (join_from_all (k + 1) more f)
 
 pub split_joins : (token : PlainToken) (own n : ℕ) (child : ℕ → SearchTree)
-    → outcome (Split token own n child) ≡ join (No (token ∷ []) own) (join_all (map (λ k. outcome (child k)) (range_with_len 0 n)))
+    → outcome (Split token own n child)
+    ≡ join (No (token ∷ []) own) (join_all (map (λ k. outcome (child k)) (range_with_len 0 n)))
 split_joins token own n child = ap (join (No (token ∷ []) own)) (join_from_all 0 n (λ k. outcome (child k)))
 
 -- joining counts, and never less than its left side

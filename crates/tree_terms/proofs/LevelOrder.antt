@@ -1,10 +1,14 @@
--- Where a run of levels ends: its two levels keep their order and stay within the first two, end as neighbours where no decision was spent, and each
+-- Where a run of levels ends: its two levels keep their order and stay within the first two, end as
+-- neighbours where no decision was spent, and each
 -- is the first one or what a decision on the run gave.
-use Rattle.std.proofs.Common.{◌≡◌, ℕ, zero, suc, ◌<◌, ◌≤◌, ◌⊎◌, ◌↔◌, inl, inr, refl, sym, subst, ◌∙◌, arith, Bool, true, false, if◌then◌else◌, nat_lt, IsTrue}
+use Rattle.std.proofs.Common.{◌≡◌, ℕ, zero, suc, ◌<◌, ◌≤◌, ◌⊎◌, ◌↔◌, inl, inr, refl, sym, subst, ◌∙◌, arith, Bool, true}
+use Rattle.std.proofs.Common.{false, if◌then◌else◌, nat_lt, IsTrue}
 use Rattle.std.proofs.lemmas.Bool.{true≢false, ltb-true}
-use Rattle.tree_terms.specs.Levels.{PlainLevel, PlacedBy, RefutedBy, SpentAt, PlainReached, distance, halfway, moved, is_run_over, run_on, run_levels, IsLevelBetween}
+use Rattle.tree_terms.specs.Levels.{PlainLevel, PlacedBy, RefutedBy, SpentAt, PlainReached, distance, halfway, moved}
+use Rattle.tree_terms.specs.Levels.{is_run_over, run_on, run_levels, IsLevelBetween}
 use Rattle.tree_terms.specs.RunEnds.{IsLevelAsked, here, later, HasSpentDecision, IsFromRun, IsRisingEnd, IsFallingEnd}
-use Rattle.tree_terms.proofs.Runs.{not_over, halfway_between, wider_placed, wider_refuted, run_over, run_ends, run_goes_on}
+use Rattle.tree_terms.proofs.Runs.{not_over, halfway_between, wider_placed, wider_refuted, run_over, run_ends}
+use Rattle.tree_terms.proofs.Runs.{run_goes_on}
 
 pub near_each_other : (r : PlainReached) → is_run_over r ≡ true → r.spent ≡ false → distance r < 2
 near_each_other r h e = go r.spent e h
@@ -27,8 +31,10 @@ module _ (answer : ℕ → PlainLevel) (first : PlainReached) where
     where
       next : (a : PlainLevel) → 2 ≤ distance r → ((s : PlainReached) → Rises first s → Rises first (run_on answer k s))
           → Rises first (run_on answer k (moved r (halfway r) a))
-      next (PlacedBy ns) far rest = rest (moved r (halfway r) (PlacedBy ns)) (omega (arith, far, l.0), l.1, omega (arith, far, l.0, l.2))
-      next (RefutedBy ts) far rest = rest (moved r (halfway r) (RefutedBy ts)) (omega (arith, far, l.0), omega (arith, far, l.0, l.1), l.2)
+      next (PlacedBy ns) far rest = rest (moved r (halfway r) (PlacedBy ns))
+          (omega (arith, far, l.0), l.1, omega (arith, far, l.0, l.2))
+      next (RefutedBy ts) far rest =
+          rest (moved r (halfway r) (RefutedBy ts)) (omega (arith, far, l.0), omega (arith, far, l.0, l.1), l.2)
       next SpentAt far rest = rest (moved r (halfway r) SpentAt) l
 
       go : (b : Bool) → is_run_over r ≡ b → ((s : PlainReached) → Rises first s → Rises first (run_on answer k s))
@@ -42,8 +48,10 @@ module _ (answer : ℕ → PlainLevel) (first : PlainReached) where
     where
       next : (a : PlainLevel) → 2 ≤ distance r → ((s : PlainReached) → Falls first s → Falls first (run_on answer k s))
           → Falls first (run_on answer k (moved r (halfway r) a))
-      next (PlacedBy ns) far rest = rest (moved r (halfway r) (PlacedBy ns)) (omega (arith, far, l.0), omega (arith, far, l.0, l.1), l.2)
-      next (RefutedBy ts) far rest = rest (moved r (halfway r) (RefutedBy ts)) (omega (arith, far, l.0), l.1, omega (arith, far, l.0, l.2))
+      next (PlacedBy ns) far rest = rest (moved r (halfway r) (PlacedBy ns))
+          (omega (arith, far, l.0), omega (arith, far, l.0, l.1), l.2)
+      next (RefutedBy ts) far rest =
+          rest (moved r (halfway r) (RefutedBy ts)) (omega (arith, far, l.0), l.1, omega (arith, far, l.0, l.2))
       next SpentAt far rest = rest (moved r (halfway r) SpentAt) l
 
       go : (b : Bool) → is_run_over r ≡ b → ((s : PlainReached) → Falls first s → Falls first (run_on answer k s))
@@ -59,7 +67,8 @@ module _ (answer : ℕ → PlainLevel) where
         order = order.0;
         low = order.1;
         high = order.2;
-        beside = (λ e. (let near = near_each_other (run_levels answer r) (run_over answer r) e in let o = order.0 in omega (arith, near, o)));
+        beside = (λ e. (let near = near_each_other (run_levels answer r) (run_over answer r) e in let o = order.0 in
+            omega (arith, near, o)));
       }
 
   pub falling_end : (r : PlainReached) → r.placed < r.refuted → IsFallingEnd r (run_levels answer r)
@@ -69,7 +78,8 @@ module _ (answer : ℕ → PlainLevel) where
         order = order.0;
         low = order.1;
         high = order.2;
-        beside = (λ e. (let near = near_each_other (run_levels answer r) (run_over answer r) e in let o = order.0 in omega (arith, near, o)));
+        beside = (λ e. (let near = near_each_other (run_levels answer r) (run_over answer r) e in let o = order.0 in
+            omega (arith, near, o)));
       }
 
   -- each level that is decided lies strictly between the two
@@ -83,15 +93,23 @@ module _ (answer : ℕ → PlainLevel) where
       go SpentAt b = b
 
   -- a step further on the run
-  from_next : (r s : PlainReached) → is_run_over r ≡ false → IsFromRun answer (moved r (halfway r) (answer (halfway r))) s → IsFromRun answer r s
-  from_next r s o h = record { refuted = first_refuted (answer (halfway r)) refl h.refuted; placed = first_placed (answer (halfway r)) refl h.placed }
+  from_next : (r s : PlainReached) → is_run_over r ≡ false
+      → IsFromRun answer (moved r (halfway r) (answer (halfway r))) s → IsFromRun answer r s
+  from_next r s o h = record {
+    refuted = first_refuted (answer (halfway r)) refl h.refuted;
+    placed = first_placed (answer (halfway r)) refl h.placed;
+  }
     where
-      deeper : (a : PlainLevel) (level : ℕ) → answer (halfway r) ≡ a → IsLevelAsked answer (moved r (halfway r) a) level → IsLevelAsked answer r level
-      deeper a level is d = later o (subst (λ (x : PlainLevel). IsLevelAsked answer (moved r (halfway r) x) level) (sym is) d)
+      deeper : (a : PlainLevel) (level : ℕ) → answer (halfway r) ≡ a → IsLevelAsked answer (moved r (halfway r) a) level
+          → IsLevelAsked answer r level
+      deeper a level is d = later o (subst
+          (λ (x : PlainLevel). IsLevelAsked answer (moved r (halfway r) x) level) (sym is) d)
 
       first_refuted : (a : PlainLevel) → answer (halfway r) ≡ a
-          → ((s.refuted ≡ (moved r (halfway r) a).refuted) × (s.tokens ≡ (moved r (halfway r) a).tokens)) ⊎ (IsLevelAsked answer (moved r (halfway r) a) s.refuted × (answer s.refuted ≡ RefutedBy s.tokens))
-          → ((s.refuted ≡ r.refuted) × (s.tokens ≡ r.tokens)) ⊎ (IsLevelAsked answer r s.refuted × (answer s.refuted ≡ RefutedBy s.tokens))
+          → ((s.refuted ≡ (moved r (halfway r) a).refuted) × (s.tokens ≡ (moved r (halfway r) a).tokens))
+          ⊎ (IsLevelAsked answer (moved r (halfway r) a) s.refuted × (answer s.refuted ≡ RefutedBy s.tokens))
+          → ((s.refuted ≡ r.refuted) × (s.tokens ≡ r.tokens))
+          ⊎ (IsLevelAsked answer r s.refuted × (answer s.refuted ≡ RefutedBy s.tokens))
       first_refuted a is (inr (d, e)) = inr (deeper a s.refuted is d, e)
       first_refuted (PlacedBy ns) is (inl (e, f)) = inl (e, f)
       first_refuted (RefutedBy ts) is (inl (e, f)) =
@@ -99,8 +117,10 @@ module _ (answer : ℕ → PlainLevel) where
       first_refuted SpentAt is (inl (e, f)) = inl (e, f)
 
       first_placed : (a : PlainLevel) → answer (halfway r) ≡ a
-          → ((s.placed ≡ (moved r (halfway r) a).placed) × (s.numbers ≡ (moved r (halfway r) a).numbers)) ⊎ (IsLevelAsked answer (moved r (halfway r) a) s.placed × (answer s.placed ≡ PlacedBy s.numbers))
-          → ((s.placed ≡ r.placed) × (s.numbers ≡ r.numbers)) ⊎ (IsLevelAsked answer r s.placed × (answer s.placed ≡ PlacedBy s.numbers))
+          → ((s.placed ≡ (moved r (halfway r) a).placed) × (s.numbers ≡ (moved r (halfway r) a).numbers))
+          ⊎ (IsLevelAsked answer (moved r (halfway r) a) s.placed × (answer s.placed ≡ PlacedBy s.numbers))
+          → ((s.placed ≡ r.placed) × (s.numbers ≡ r.numbers))
+          ⊎ (IsLevelAsked answer r s.placed × (answer s.placed ≡ PlacedBy s.numbers))
       first_placed a is (inr (d, e)) = inr (deeper a s.placed is d, e)
       first_placed (PlacedBy ns) is (inl (e, f)) =
           inr (subst (λ (m : ℕ). IsLevelAsked answer r m) (sym e) (here o), rw (e, f) is)
@@ -112,9 +132,14 @@ module _ (answer : ℕ → PlainLevel) where
   from_run_on (suc k) r = go (is_run_over r) refl (λ s. from_run_on k s)
     where
       go : (b : Bool) → is_run_over r ≡ b → ((s : PlainReached) → IsFromRun answer s (run_on answer k s))
-          → IsFromRun answer r (elim b [ true ↦ r | false ↦ run_on answer k (moved r (halfway r) (answer (halfway r))) ])
+          → IsFromRun answer r (elim b [
+            | true ↦ r
+            | false ↦
+                run_on answer k (moved r (halfway r) (answer (halfway r)))
+          ])
       go true e rest = record { refuted = inl (refl, refl); placed = inl (refl, refl) }
-      go false e rest = from_next r (run_on answer k (moved r (halfway r) (answer (halfway r)))) e (rest (moved r (halfway r) (answer (halfway r))))
+      go false e rest = from_next r (run_on answer k (moved r (halfway r) (answer (halfway r)))) e
+          (rest (moved r (halfway r) (answer (halfway r))))
 
   pub from_run : (r : PlainReached) → IsFromRun answer r (run_levels answer r)
   from_run r = from_run_on (distance r) r
@@ -124,23 +149,36 @@ module _ (answer : ℕ → PlainLevel) where
   spent_on zero r e h = absurd (true≢false (sym h ∙ e))
   spent_on (suc k) r e h = go (is_run_over r) refl h (λ s f g. spent_on k s f g)
     where
-      deeper : (a : PlainLevel) → answer (halfway r) ≡ a → is_run_over r ≡ false → HasSpentDecision answer (moved r (halfway r) a) → HasSpentDecision answer r
-      deeper a is o (level, d, f) = (level, later o (subst (λ (x : PlainLevel). IsLevelAsked answer (moved r (halfway r) x) level) (sym is) d), f)
+      deeper : (a : PlainLevel) → answer (halfway r) ≡ a → is_run_over r ≡ false
+          → HasSpentDecision answer (moved r (halfway r) a) → HasSpentDecision answer r
+      deeper a is o (level, d, f) = (
+        level,
+        later o (subst (λ (x : PlainLevel). IsLevelAsked answer (moved r (halfway r) x) level) (sym is) d),
+        f,
+      )
 
-      next : (a : PlainLevel) → answer (halfway r) ≡ a → is_run_over r ≡ false → (run_on answer k (moved r (halfway r) a)).spent ≡ true
-          → ((s : PlainReached) → s.spent ≡ false → (run_on answer k s).spent ≡ true → HasSpentDecision answer s) → HasSpentDecision answer r
+      next : (a : PlainLevel) → answer (halfway r) ≡ a → is_run_over r ≡ false
+          → (run_on answer k (moved r (halfway r) a)).spent ≡ true
+          → ((s : PlainReached) → s.spent ≡ false → (run_on answer k s).spent ≡ true → HasSpentDecision answer s)
+          → HasSpentDecision answer r
       next SpentAt is o g rest = (halfway r, here o, is)
       next (PlacedBy ns) is o g rest = deeper (PlacedBy ns) is o (rest (moved r (halfway r) (PlacedBy ns)) e g)
       next (RefutedBy ts) is o g rest = deeper (RefutedBy ts) is o (rest (moved r (halfway r) (RefutedBy ts)) e g)
 
-      go : (b : Bool) → is_run_over r ≡ b → (elim b as (λ x. PlainReached) [ true ↦ r | false ↦ run_on answer k (moved r (halfway r) (answer (halfway r))) ]).spent ≡ true
-          → ((s : PlainReached) → s.spent ≡ false → (run_on answer k s).spent ≡ true → HasSpentDecision answer s) → HasSpentDecision answer r
+      go : (b : Bool) → is_run_over r ≡ b
+          → (elim b as (λ x. PlainReached)
+          [ true ↦ r | false ↦ run_on answer k (moved r (halfway r) (answer (halfway r))) ]).spent ≡ true
+          → ((s : PlainReached) → s.spent ≡ false → (run_on answer k s).spent ≡ true → HasSpentDecision answer s)
+          → HasSpentDecision answer r
       go true o g rest = absurd (true≢false (sym g ∙ e))
       go false o g rest = next (answer (halfway r)) refl o g rest
 
-  decided_spends : (r : PlainReached) (level : ℕ) → IsLevelAsked answer r level → answer level ≡ SpentAt → (run_levels answer r).spent ≡ true
-  decided_spends r level (here o) e = rw (run_goes_on answer r o, e, run_ends answer (moved r (halfway r) SpentAt) refl) refl
+  decided_spends : (r : PlainReached) (level : ℕ) → IsLevelAsked answer r level → answer level ≡ SpentAt
+      → (run_levels answer r).spent ≡ true
+  decided_spends r level (here o) e =
+      rw (run_goes_on answer r o, e, run_ends answer (moved r (halfway r) SpentAt) refl) refl
   decided_spends r level (later o d) e = rw (run_goes_on answer r o) (decided_spends _ level d e)
 
-  pub spent_exactly : (r : PlainReached) → r.spent ≡ false → IsTrue (run_levels answer r).spent ↔ HasSpentDecision answer r
+  pub spent_exactly : (r : PlainReached) → r.spent ≡ false
+      → IsTrue (run_levels answer r).spent ↔ HasSpentDecision answer r
   spent_exactly r e = (λ h. spent_on (distance r) r e h, λ (level, d, f). decided_spends r level d f)

@@ -1,15 +1,18 @@
 -- Paths: their parts, the outcome at a path, what is told there, and which paths are come to.
-use Rattle.std.proofs.Common.{◌≡◌, ℕ, suc, ◌<◌, ◌≤◌, ◌⊎◌, ◌↔◌, inl, inr, refl, sym, ◌∙◌, subst, ap, arith, Bool, true, false, List, [], ◌∷◌, ◌++◌, ltb, if◌then◌else◌, Option, Some, None, IsSome, append_assoc}
+use Rattle.std.proofs.Common.{◌≡◌, ℕ, suc, ◌<◌, ◌≤◌, ◌⊎◌, ◌↔◌, inl, inr, refl, sym, ◌∙◌, subst, ap, arith, Bool, true}
+use Rattle.std.proofs.Common.{false, List, [], ◌∷◌, ◌++◌, ltb, if◌then◌else◌, Option, Some, None, IsSome, append_assoc}
 use Rattle.std.proofs.lemmas.Bool.{true≢false, cases_Bool, ltb-true, lt-ltb, cases_lt}
 use Rattle.packing_terms.specs.Tokens.{PlainToken}
-use Rattle.tree_terms.specs.Trees.{SearchTree, Settled, Refuted, Split, join_from, outcome, count_of, told, Past, child_at, node_at}
+use Rattle.tree_terms.specs.Trees.{SearchTree, Settled, Refuted, Split, join_from, outcome, count_of, told, Past}
+use Rattle.tree_terms.specs.Trees.{child_at, node_at}
 use Rattle.tree_terms.specs.Paths.{most_budget, own_of, PlainNode, Leaf, Splits, node_told, IsReachable, LeadsTo}
 use Rattle.tree_terms.proofs.Joins.{count_join_no}
 use Rattle.tree_terms.proofs.Told.{told_past}
 use Rattle.tree_terms.proofs.PathNodes.{none_there, some_node}
 
 -- a path in two parts
-pub node_parts : (node : Option SearchTree) (front rest : List ℕ) → node_at node (front ++ rest) ≡ node_at (node_at node front) rest
+pub node_parts : (node : Option SearchTree) (front rest : List ℕ)
+    → node_at node (front ++ rest) ≡ node_at (node_at node front) rest
 node_parts None [] rest = refl
 node_parts None (k ∷ front) rest = sym (none_there rest)
 node_parts (Some t) [] rest = refl
@@ -19,10 +22,12 @@ node_parts (Some t) (k ∷ front) rest = node_parts (child_at t k) front rest
 own_least : (tree : SearchTree) → own_of tree ≤ count_of (outcome tree)
 own_least (Settled ns own) = omega arith
 own_least (Refuted ts own) = omega arith
-own_least (Split token own n child) = let e = count_join_no (token ∷ []) own (join_from 0 n (λ k. outcome (child k))) in omega (arith, e)
+own_least (Split token own n child) = let e = count_join_no (token ∷ []) own (join_from 0 n (λ k. outcome (child k))) in
+    omega (arith, e)
 
 -- a node whose own count is past every budget is past under each
-pub past_own : (tree : SearchTree) (budget : ℕ) → budget ≤ most_budget → most_budget < own_of tree → told budget (outcome tree) ≡ Past
+pub past_own : (tree : SearchTree) (budget : ℕ) → budget ≤ most_budget → most_budget < own_of tree
+    → told budget (outcome tree) ≡ Past
 past_own tree budget l m = let h = own_least tree in told_past budget (outcome tree) (omega (arith, l, m, h))
 
 -- what is told of a split
@@ -49,7 +54,8 @@ pub told_split : (tree : SearchTree) (token : PlainToken) (own n : ℕ) → node
     ↔ ((child : ℕ → SearchTree) × (tree ≡ Split token own n child) × (own ≤ most_budget))
 told_split tree token own n = (there tree, λ h. back h.0 h.1 h.2)
   where
-    there : (t : SearchTree) → node_told t ≡ Splits token own n → (child : ℕ → SearchTree) × (t ≡ Split token own n child) × (own ≤ most_budget)
+    there : (t : SearchTree) → node_told t ≡ Splits token own n → (child : ℕ → SearchTree)
+        × (t ≡ Split token own n child) × (own ≤ most_budget)
     there (Settled ns o) e = leaf_is_none token own n e
     there (Refuted ts o) e = leaf_is_none token own n e
     there (Split t o m child) e = go (ltb most_budget o) refl e
@@ -60,17 +66,23 @@ told_split tree token own n = (there tree, λ h. back h.0 h.1 h.2)
         go false f h =
             let et = ap (token_told token) h in
             let eo = ap own_told h in
-            let en = ap children_told h in
-            (child, ap (λ x. Split x o m child) et ∙ (ap (λ x. Split token x m child) eo ∙ ap (λ x. Split token own x child) en), small (cases_lt most_budget o) eo)
+            let en = ap children_told h in (
+              child,
+              ap (λ x. Split x o m child) et
+                  ∙ (ap (λ x. Split token x m child) eo ∙ ap (λ x. Split token own x child) en),
+              small (cases_lt most_budget o) eo,
+            )
           where
             small : (most_budget < o) ⊎ (o ≤ most_budget) → o ≡ own → own ≤ most_budget
             small (inl l) q = absurd (true≢false (sym (lt-ltb most_budget o l) ∙ f))
             small (inr l) q = omega (arith, l, q)
 
-    back : (child : ℕ → SearchTree) → tree ≡ Split token own n child → own ≤ most_budget → node_told tree ≡ Splits token own n
+    back : (child : ℕ → SearchTree) → tree ≡ Split token own n child → own ≤ most_budget
+        → node_told tree ≡ Splits token own n
     back child e l = ap node_told e ∙ go (cases_Bool (ltb most_budget own))
       where
-        go : (ltb most_budget own ≡ true) ⊎ (ltb most_budget own ≡ false) → (if ltb most_budget own then Leaf else Splits token own n) ≡ Splits token own n
+        go : (ltb most_budget own ≡ true) ⊎ (ltb most_budget own ≡ false)
+            → (if ltb most_budget own then Leaf else Splits token own n) ≡ Splits token own n
         go (inl k) = absurd (let m = ltb-true most_budget own k in omega (arith, l, m))
         go (inr k) = rw k refl
 
@@ -82,7 +94,8 @@ root_reached tree = record { there = refl; within = λ front rest k e node f. ab
     empty (x ∷ front) rest k e = cc
 
 -- where a path with one step more is cut
-cut : (path front rest : List ℕ) (k j : ℕ) → path ++ k ∷ [] ≡ front ++ j ∷ rest → (front ≡ path) ⊎ ((more : List ℕ) × (path ≡ front ++ j ∷ more))
+cut : (path front rest : List ℕ) (k j : ℕ) → path ++ k ∷ [] ≡ front ++ j ∷ rest
+    → (front ≡ path) ⊎ ((more : List ℕ) × (path ≡ front ++ j ∷ more))
 cut [] [] rest k j e = inl refl
 cut [] (x ∷ front) rest k j e = absurd (empty front (tail e))
   where
@@ -104,12 +117,14 @@ cut (p ∷ path) (x ∷ front) rest k j e = go (cut path front rest k j (tail e)
     head : p ∷ (path ++ k ∷ []) ≡ x ∷ (front ++ j ∷ rest) → p ≡ x
     head h = cc
 
-    go : (front ≡ path) ⊎ ((more : List ℕ) × (path ≡ front ++ j ∷ more)) → (x ∷ front ≡ p ∷ path) ⊎ ((more : List ℕ) × (p ∷ path ≡ x ∷ (front ++ j ∷ more)))
+    go : (front ≡ path) ⊎ ((more : List ℕ) × (path ≡ front ++ j ∷ more)) → (x ∷ front ≡ p ∷ path)
+        ⊎ ((more : List ℕ) × (p ∷ path ≡ x ∷ (front ++ j ∷ more)))
     go (inl f) = inl (let h = head e in cc)
     go (inr (more, f)) = inr (more, (let h = head e in cc))
 
 module _ (tree : SearchTree) (path : List ℕ) (k : ℕ) where
-  next_node : (node : SearchTree) → node_at (Some tree) path ≡ Some node → node_at (Some tree) (path ++ k ∷ []) ≡ child_at node k
+  next_node : (node : SearchTree) → node_at (Some tree) path ≡ Some node
+      → node_at (Some tree) (path ++ k ∷ []) ≡ child_at node k
   next_node node e = node_parts (Some tree) path (k ∷ []) ∙ (ap (λ o. node_at o (k ∷ [])) e ∙ one (child_at node k))
     where
       one : (o : Option SearchTree) → node_at o [] ≡ o
@@ -117,7 +132,8 @@ module _ (tree : SearchTree) (path : List ℕ) (k : ℕ) where
       one (Some t) = refl
 
   -- the child of a split at a path, and none past its children
-  pub child_there : (token : PlainToken) (own n : ℕ) (child : ℕ → SearchTree) → node_at (Some tree) path ≡ Some (Split token own n child) → k < n
+  pub child_there : (token : PlainToken) (own n : ℕ) (child : ℕ → SearchTree)
+      → node_at (Some tree) path ≡ Some (Split token own n child) → k < n
       → node_at (Some tree) (path ++ k ∷ []) ≡ Some (child k)
   child_there token own n child e l = next_node (Split token own n child) e ∙ pick (ltb k n) (lt-ltb k n l)
     where
@@ -126,7 +142,8 @@ module _ (tree : SearchTree) (path : List ℕ) (k : ℕ) where
       pick false h = absurd (true≢false (sym h))
 
   -- what leads on is a split that is told
-  leads : (node : SearchTree) → node_at (Some tree) path ≡ Some node → IsSome (child_at node k) → own_of node ≤ most_budget → LeadsTo tree path k
+  leads : (node : SearchTree) → node_at (Some tree) path ≡ Some node → IsSome (child_at node k)
+      → own_of node ≤ most_budget → LeadsTo tree path k
   leads (Settled ns own) e h l = absurd (true≢false (sym h))
   leads (Refuted ts own) e h l = absurd (true≢false (sym h))
   leads (Split token own n child) e h l = record {
@@ -149,25 +166,32 @@ module _ (tree : SearchTree) (path : List ℕ) (k : ℕ) where
       there : IsReachable tree (path ++ k ∷ []) → IsReachable tree path × LeadsTo tree path k
       there r = go (node_at (Some tree) path) refl
         where
-          longer : (front rest : List ℕ) (j : ℕ) → path ≡ front ++ j ∷ rest → path ++ k ∷ [] ≡ front ++ j ∷ (rest ++ k ∷ [])
+          longer : (front rest : List ℕ) (j : ℕ) → path ≡ front ++ j ∷ rest
+              → path ++ k ∷ [] ≡ front ++ j ∷ (rest ++ k ∷ [])
           longer front rest j f = ap (λ l. l ++ k ∷ []) f ∙ append_assoc front (j ∷ rest) (k ∷ [])
 
           go : (o : Option SearchTree) → node_at (Some tree) path ≡ o → IsReachable tree path × LeadsTo tree path k
-          go None e = absurd (true≢false (sym (subst (λ (o : Option SearchTree). IsSome o) (node_parts (Some tree) path (k ∷ []) ∙ ap (λ o. node_at o (k ∷ [])) e) r.there)))
+          go None e = absurd (true≢false
+              (sym (subst (λ (o : Option SearchTree). IsSome o)
+              (node_parts (Some tree) path (k ∷ []) ∙ ap (λ o. node_at o (k ∷ [])) e) r.there)))
           go (Some node) e = (
             record {
               there = subst (λ (o : Option SearchTree). IsSome o) (sym e) refl;
               within = λ front rest j f t g. r.within front (rest ++ k ∷ []) j (longer front rest j f) t g;
             },
-            leads node e (subst (λ (o : Option SearchTree). IsSome o) (next_node node e) r.there) (r.within path [] k refl node e),
+            leads node e (subst (λ (o : Option SearchTree). IsSome o) (next_node node e) r.there)
+                (r.within path [] k refl node e),
           )
 
       back : IsReachable tree path → LeadsTo tree path k → IsReachable tree (path ++ k ∷ [])
       back r l = go ((told_split l.node l.token l.own l.children).0 l.told)
         where
-          go : (child : ℕ → SearchTree) × (l.node ≡ Split l.token l.own l.children child) × (l.own ≤ most_budget) → IsReachable tree (path ++ k ∷ [])
+          go : (child : ℕ → SearchTree) × (l.node ≡ Split l.token l.own l.children child) × (l.own ≤ most_budget)
+              → IsReachable tree (path ++ k ∷ [])
           go (child, e, small) = record {
-            there = subst (λ (o : Option SearchTree). IsSome o) (sym (child_there l.token l.own l.children child (l.there ∙ ap (λ (t : SearchTree). Some t) e) l.child)) refl;
+            there = subst (λ (o : Option SearchTree). IsSome o)
+                (sym (child_there l.token l.own l.children child (l.there ∙ ap (λ (t : SearchTree). Some t) e)
+                l.child)) refl;
             within = λ front rest j f t g. pick front rest j t g (cut path front rest k j f);
           }
             where
@@ -181,8 +205,10 @@ module _ (tree : SearchTree) (path : List ℕ) (k : ℕ) where
 
 -- the node at a path, and beyond a leaf or past the last child there is none
 pub none_past : (tree : SearchTree) (path : List ℕ) (token : PlainToken) (own n : ℕ) (child : ℕ → SearchTree)
-    → node_at (Some tree) path ≡ Some (Split token own n child) → (k : ℕ) → n ≤ k → node_at (Some tree) (path ++ k ∷ []) ≡ None
-none_past tree path token own n child e k l = next_node tree path k (Split token own n child) e ∙ pick (cases_Bool (ltb k n))
+    → node_at (Some tree) path ≡ Some (Split token own n child) → (k : ℕ) → n ≤ k
+    → node_at (Some tree) (path ++ k ∷ []) ≡ None
+none_past tree path token own n child e k l =
+    next_node tree path k (Split token own n child) e ∙ pick (cases_Bool (ltb k n))
   where
     pick : (ltb k n ≡ true) ⊎ (ltb k n ≡ false) → (if ltb k n then Some (child k) else None) ≡ None
     pick (inl h) = absurd (let m = ltb-true k n h in omega (arith, l, m))

@@ -1,13 +1,17 @@
--- The run of levels: it ends where the levels are neighbours or a decision was spent, and else it goes on with the level halfway.
-use Rattle.std.proofs.Common.{◌≡◌, ℕ, zero, suc, ◌<◌, ◌≤◌, ◌⊎◌, inl, inr, refl, sym, ap, ◌∙◌, arith, Bool, true, false, if◌then◌else◌, nat_lt, List}
+-- The run of levels: it ends where the levels are neighbours or a decision was spent, and else it
+-- goes on with the level halfway.
+use Rattle.std.proofs.Common.{◌≡◌, ℕ, zero, suc, ◌<◌, ◌≤◌, ◌⊎◌, inl, inr, refl, sym, ap, ◌∙◌, arith, Bool, true, false}
+use Rattle.std.proofs.Common.{if◌then◌else◌, nat_lt, List}
 use Rattle.std.proofs.lemmas.Bool.{true≢false, cases_lt, lt-ltb}
 use Rattle.packing_terms.specs.Tokens.{PlainToken}
-use Rattle.tree_terms.specs.Levels.{PlainLevel, PlacedBy, RefutedBy, SpentAt, PlainReached, distance, halfway, moved, is_run_over, run_on, run_levels, IsLevelBetween, IsRightLevel, HasBothCertificates}
+use Rattle.tree_terms.specs.Levels.{PlainLevel, PlacedBy, RefutedBy, SpentAt, PlainReached, distance, halfway, moved}
+use Rattle.tree_terms.specs.Levels.{is_run_over, run_on, run_levels, IsLevelBetween, IsRightLevel, HasBothCertificates}
 
 pub not_over : (r : PlainReached) → is_run_over r ≡ false → (r.spent ≡ false) × (2 ≤ distance r)
 not_over r h = go r.spent refl h
   where
-    go : (s : Bool) → r.spent ≡ s → (if s then true else nat_lt (distance r) 2) ≡ false → (r.spent ≡ false) × (2 ≤ distance r)
+    go : (s : Bool) → r.spent ≡ s → (if s then true else nat_lt (distance r) 2) ≡ false
+        → (r.spent ≡ false) × (2 ≤ distance r)
     go true e k = absurd (true≢false k)
     go false e k = (e, far (cases_lt (distance r) 2))
       where
@@ -16,7 +20,8 @@ not_over r h = go r.spent refl h
         far (inr l) = l
 
 -- an answer at the level halfway brings the levels closer, or is spent
-closer : (r : PlainReached) (a : PlainLevel) → 2 ≤ distance r → (distance (moved r (halfway r) a) < distance r) ⊎ ((moved r (halfway r) a).spent ≡ true)
+closer : (r : PlainReached) (a : PlainLevel) → 2 ≤ distance r → (distance (moved r (halfway r) a) < distance r)
+    ⊎ ((moved r (halfway r) a).spent ≡ true)
 closer r (PlacedBy ns) l = inl (omega arith)
 closer r (RefutedBy ts) l = inl (omega arith)
 closer r SpentAt l = inr refl
@@ -29,7 +34,8 @@ halfway_between r l = pick (cases_lt r.refuted r.placed)
     pick (inl x) = inl (omega (arith, x, l), omega (arith, x, l))
     pick (inr x) = inr (omega (arith, x, l), omega (arith, x, l))
 
-pub wider_placed : (r : PlainReached) (ns : List ℕ) → 2 ≤ distance r → (m : ℕ) → IsLevelBetween (moved r (halfway r) (PlacedBy ns)) m → IsLevelBetween r m
+pub wider_placed : (r : PlainReached) (ns : List ℕ) → 2 ≤ distance r → (m : ℕ)
+    → IsLevelBetween (moved r (halfway r) (PlacedBy ns)) m → IsLevelBetween r m
 wider_placed r ns l m b = from b (halfway_between r l)
   where
     from : IsLevelBetween (moved r (halfway r) (PlacedBy ns)) m → IsLevelBetween r (halfway r) → IsLevelBetween r m
@@ -38,7 +44,8 @@ wider_placed r ns l m b = from b (halfway_between r l)
     from (inr (x, y)) (inl (u, v)) = absurd (omega (arith, x, y, u))
     from (inr (x, y)) (inr (u, v)) = inr (omega (arith, x, u), y)
 
-pub wider_refuted : (r : PlainReached) (ts : List PlainToken) → 2 ≤ distance r → (m : ℕ) → IsLevelBetween (moved r (halfway r) (RefutedBy ts)) m → IsLevelBetween r m
+pub wider_refuted : (r : PlainReached) (ts : List PlainToken) → 2 ≤ distance r → (m : ℕ)
+    → IsLevelBetween (moved r (halfway r) (RefutedBy ts)) m → IsLevelBetween r m
 wider_refuted r ts l m b = from b (halfway_between r l)
   where
     from : IsLevelBetween (moved r (halfway r) (RefutedBy ts)) m → IsLevelBetween r (halfway r) → IsLevelBetween r m
@@ -52,7 +59,8 @@ module _ (answer : ℕ → PlainLevel) where
   over_stays zero r h = refl
   over_stays (suc k) r h = go (is_run_over r) h
     where
-      go : (b : Bool) → b ≡ true → elim b [ true ↦ r | false ↦ run_on answer k (moved r (halfway r) (answer (halfway r))) ] ≡ r
+      go : (b : Bool) → b ≡ true → elim b
+          [ true ↦ r | false ↦ run_on answer k (moved r (halfway r) (answer (halfway r))) ] ≡ r
       go true e = refl
       go false e = absurd (true≢false (sym e))
 
@@ -72,14 +80,22 @@ module _ (answer : ℕ → PlainLevel) where
   same_run (suc j) zero r l m = over_stays (suc j) r (near_over r (omega (arith, m)))
   same_run (suc j) (suc k) r l m = go (is_run_over r) refl (λ s x y. same_run j k s x y)
     where
-      later : is_run_over r ≡ false → ((s : PlainReached) → distance s ≤ j → distance s ≤ k → run_on answer j s ≡ run_on answer k s)
-          → (distance (moved r (halfway r) (answer (halfway r))) < distance r) ⊎ ((moved r (halfway r) (answer (halfway r))).spent ≡ true)
-          → run_on answer j (moved r (halfway r) (answer (halfway r))) ≡ run_on answer k (moved r (halfway r) (answer (halfway r)))
+      later : is_run_over r ≡ false → ((s : PlainReached) → distance s ≤ j → distance s ≤ k
+          → run_on answer j s ≡ run_on answer k s)
+          → (distance (moved r (halfway r) (answer (halfway r))) < distance r)
+          ⊎ ((moved r (halfway r) (answer (halfway r))).spent ≡ true)
+          → run_on answer j (moved r (halfway r) (answer (halfway r)))
+          ≡ run_on answer k (moved r (halfway r) (answer (halfway r)))
       later h rest (inl c) = rest (moved r (halfway r) (answer (halfway r))) (omega (arith, c, l)) (omega (arith, c, m))
-      later h rest (inr s) = over_stays j (moved r (halfway r) (answer (halfway r))) (spent_over (moved r (halfway r) (answer (halfway r))) s) ∙ sym (over_stays k (moved r (halfway r) (answer (halfway r))) (spent_over (moved r (halfway r) (answer (halfway r))) s))
+      later h rest (inr s) = over_stays j (moved r (halfway r) (answer (halfway r)))
+          (spent_over (moved r (halfway r) (answer (halfway r))) s)
+          ∙ sym (over_stays k (moved r (halfway r) (answer (halfway r)))
+          (spent_over (moved r (halfway r) (answer (halfway r))) s))
 
-      go : (b : Bool) → is_run_over r ≡ b → ((s : PlainReached) → distance s ≤ j → distance s ≤ k → run_on answer j s ≡ run_on answer k s)
-          → ◌≡◌ {A = PlainReached} (elim b [ true ↦ r | false ↦ run_on answer j (moved r (halfway r) (answer (halfway r))) ])
+      go : (b : Bool) → is_run_over r ≡ b
+          → ((s : PlainReached) → distance s ≤ j → distance s ≤ k → run_on answer j s ≡ run_on answer k s)
+          → ◌≡◌ {A = PlainReached} (elim b
+          [ true ↦ r | false ↦ run_on answer j (moved r (halfway r) (answer (halfway r))) ])
           (elim b [ true ↦ r | false ↦ run_on answer k (moved r (halfway r) (answer (halfway r))) ])
       go true h rest = refl
       go false h rest = later h rest (closer r (answer (halfway r)) (not_over r h).1)
@@ -87,14 +103,21 @@ module _ (answer : ℕ → PlainLevel) where
   pub run_ends : (r : PlainReached) → is_run_over r ≡ true → run_levels answer r ≡ r
   run_ends r h = over_stays (distance r) r h
 
-  pub run_goes_on : (r : PlainReached) → is_run_over r ≡ false → run_levels answer r ≡ run_levels answer (moved r (halfway r) (answer (halfway r)))
+  pub run_goes_on : (r : PlainReached) → is_run_over r ≡ false
+      → run_levels answer r ≡ run_levels answer (moved r (halfway r) (answer (halfway r)))
   run_goes_on r h =
       same_run (distance r) (suc (distance r)) r (omega arith) (omega arith) ∙ go (is_run_over r) h
     where
-      enough : (distance (moved r (halfway r) (answer (halfway r))) < distance r) ⊎ ((moved r (halfway r) (answer (halfway r))).spent ≡ true)
-          → run_on answer (distance r) (moved r (halfway r) (answer (halfway r))) ≡ run_levels answer (moved r (halfway r) (answer (halfway r)))
-      enough (inl c) = same_run (distance r) (distance (moved r (halfway r) (answer (halfway r)))) (moved r (halfway r) (answer (halfway r))) (omega (arith, c)) (omega arith)
-      enough (inr s) = over_stays (distance r) (moved r (halfway r) (answer (halfway r))) (spent_over (moved r (halfway r) (answer (halfway r))) s) ∙ sym (over_stays (distance (moved r (halfway r) (answer (halfway r)))) (moved r (halfway r) (answer (halfway r))) (spent_over (moved r (halfway r) (answer (halfway r))) s))
+      enough : (distance (moved r (halfway r) (answer (halfway r))) < distance r)
+          ⊎ ((moved r (halfway r) (answer (halfway r))).spent ≡ true)
+          → run_on answer (distance r) (moved r (halfway r) (answer (halfway r)))
+          ≡ run_levels answer (moved r (halfway r) (answer (halfway r)))
+      enough (inl c) = same_run (distance r) (distance (moved r (halfway r) (answer (halfway r))))
+          (moved r (halfway r) (answer (halfway r))) (omega (arith, c)) (omega arith)
+      enough (inr s) = over_stays (distance r) (moved r (halfway r) (answer (halfway r)))
+          (spent_over (moved r (halfway r) (answer (halfway r))) s)
+          ∙ sym (over_stays (distance (moved r (halfway r) (answer (halfway r))))
+          (moved r (halfway r) (answer (halfway r))) (spent_over (moved r (halfway r) (answer (halfway r))) s))
 
       go : (b : Bool) → b ≡ false
           → elim b [ true ↦ r | false ↦ run_on answer (distance r) (moved r (halfway r) (answer (halfway r))) ]
@@ -102,46 +125,60 @@ module _ (answer : ℕ → PlainLevel) where
       go true e = absurd (true≢false e)
       go false e = enough (closer r (answer (halfway r)) (not_over r h).1)
 
--- Where the answers between the two levels are right, the run keeps a refuted level with its tokens and a placed one with its numbers.
+-- Where the answers between the two levels are right, the run keeps a refuted level with its tokens
+-- and a placed one with its numbers.
 module _ (Shows : ℕ → List ℕ → Type 0) (Denies : ℕ → List PlainToken → Type 0) (answer : ℕ → PlainLevel) where
   run_on_right : (k : ℕ) (r : PlainReached) → ((m : ℕ) → IsLevelBetween r m → IsRightLevel Shows Denies m (answer m))
       → Denies r.refuted r.tokens → Shows r.placed r.numbers
-      → Denies (run_on answer k r).refuted (run_on answer k r).tokens × Shows (run_on answer k r).placed (run_on answer k r).numbers
+      → Denies (run_on answer k r).refuted (run_on answer k r).tokens
+      × Shows (run_on answer k r).placed (run_on answer k r).numbers
   run_on_right zero r right no_low yes_high = (no_low, yes_high)
   run_on_right (suc k) r right no_low yes_high = go (is_run_over r) refl (λ s. run_on_right k s)
     where
       next : (a : PlainLevel) → 2 ≤ distance r → IsRightLevel Shows Denies (halfway r) a
-          → ((s : PlainReached) → ((m : ℕ) → IsLevelBetween s m → IsRightLevel Shows Denies m (answer m)) → Denies s.refuted s.tokens → Shows s.placed s.numbers
-          → Denies (run_on answer k s).refuted (run_on answer k s).tokens × Shows (run_on answer k s).placed (run_on answer k s).numbers)
+          → ((s : PlainReached) → ((m : ℕ) → IsLevelBetween s m → IsRightLevel Shows Denies m (answer m))
+          → Denies s.refuted s.tokens → Shows s.placed s.numbers
+          → Denies (run_on answer k s).refuted (run_on answer k s).tokens
+          × Shows (run_on answer k s).placed (run_on answer k s).numbers)
           → Denies (run_on answer k (moved r (halfway r) a)).refuted (run_on answer k (moved r (halfway r) a)).tokens
           × Shows (run_on answer k (moved r (halfway r) a)).placed (run_on answer k (moved r (halfway r) a)).numbers
-      next (PlacedBy ns) l h rest = rest (moved r (halfway r) (PlacedBy ns)) (λ m b. right m (wider_placed r ns l m b)) no_low h
-      next (RefutedBy ts) l h rest = rest (moved r (halfway r) (RefutedBy ts)) (λ m b. right m (wider_refuted r ts l m b)) h yes_high
+      next (PlacedBy ns) l h rest = rest (moved r (halfway r) (PlacedBy ns))
+          (λ m b. right m (wider_placed r ns l m b)) no_low h
+      next (RefutedBy ts) l h rest =
+          rest (moved r (halfway r) (RefutedBy ts)) (λ m b. right m (wider_refuted r ts l m b)) h yes_high
       next SpentAt l h rest = rest (moved r (halfway r) SpentAt) right no_low yes_high
 
       go : (b : Bool) → is_run_over r ≡ b
-          → ((s : PlainReached) → ((m : ℕ) → IsLevelBetween s m → IsRightLevel Shows Denies m (answer m)) → Denies s.refuted s.tokens → Shows s.placed s.numbers
-          → Denies (run_on answer k s).refuted (run_on answer k s).tokens × Shows (run_on answer k s).placed (run_on answer k s).numbers)
-          → HasBothCertificates Shows Denies (elim b [ true ↦ r | false ↦ run_on answer k (moved r (halfway r) (answer (halfway r))) ])
+          → ((s : PlainReached) → ((m : ℕ) → IsLevelBetween s m → IsRightLevel Shows Denies m (answer m))
+          → Denies s.refuted s.tokens → Shows s.placed s.numbers
+          → Denies (run_on answer k s).refuted (run_on answer k s).tokens
+          × Shows (run_on answer k s).placed (run_on answer k s).numbers)
+          → HasBothCertificates Shows Denies
+          (elim b [ true ↦ r | false ↦ run_on answer k (moved r (halfway r) (answer (halfway r))) ])
       go true e rest = (no_low, yes_high)
-      go false e rest = let l = (not_over r e).1 in next (answer (halfway r)) l (right (halfway r) (halfway_between r l)) rest
+      go false e rest = let l = (not_over r e).1 in
+          next (answer (halfway r)) l (right (halfway r) (halfway_between r l)) rest
 
   pub run_right : (r : PlainReached) → ((m : ℕ) → IsLevelBetween r m → IsRightLevel Shows Denies m (answer m))
       → Denies r.refuted r.tokens → Shows r.placed r.numbers
-      → Denies (run_levels answer r).refuted (run_levels answer r).tokens × Shows (run_levels answer r).placed (run_levels answer r).numbers
+      → Denies (run_levels answer r).refuted (run_levels answer r).tokens
+      × Shows (run_levels answer r).placed (run_levels answer r).numbers
   run_right r right no_low yes_high = run_on_right (distance r) r right no_low yes_high
 
 -- the run ends where the levels are neighbours, or a decision was spent
-run_on_over : (answer : ℕ → PlainLevel) (k : ℕ) (r : PlainReached) → distance r ≤ k → is_run_over (run_on answer k r) ≡ true
+run_on_over : (answer : ℕ → PlainLevel) (k : ℕ) (r : PlainReached) → distance r ≤ k
+    → is_run_over (run_on answer k r) ≡ true
 run_on_over answer zero r l = near_over answer r (omega (arith, l))
 run_on_over answer (suc k) r l = go (is_run_over r) refl (λ s m. run_on_over answer k s m)
   where
     later : is_run_over r ≡ false → ((s : PlainReached) → distance s ≤ k → is_run_over (run_on answer k s) ≡ true)
-        → (distance (moved r (halfway r) (answer (halfway r))) < distance r) ⊎ ((moved r (halfway r) (answer (halfway r))).spent ≡ true)
+        → (distance (moved r (halfway r) (answer (halfway r))) < distance r)
+        ⊎ ((moved r (halfway r) (answer (halfway r))).spent ≡ true)
         → is_run_over (run_on answer k (moved r (halfway r) (answer (halfway r)))) ≡ true
     later h rest (inl c) = rest (moved r (halfway r) (answer (halfway r))) (omega (arith, c, l))
     later h rest (inr s) =
-        let e = over_stays answer k (moved r (halfway r) (answer (halfway r))) (spent_over answer (moved r (halfway r) (answer (halfway r))) s) in
+        let e = over_stays answer k (moved r (halfway r) (answer (halfway r)))
+        (spent_over answer (moved r (halfway r) (answer (halfway r))) s) in
         ap is_run_over e ∙ spent_over answer (moved r (halfway r) (answer (halfway r))) s
 
     go : (b : Bool) → is_run_over r ≡ b → ((s : PlainReached) → distance s ≤ k → is_run_over (run_on answer k s) ≡ true)

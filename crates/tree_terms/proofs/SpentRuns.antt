@@ -1,6 +1,8 @@
--- A run is spent exactly where it decides a level whose tree has a count past the budget; so a budget that bounds the counts is always enough, and
+-- A run is spent exactly where it decides a level whose tree has a count past the budget; so a
+-- budget that bounds the counts is always enough, and
 -- there is a least height and a least number of bins exactly where no box is too large.
-use Rattle.std.proofs.Common.{◌≡◌, ℕ, zero, suc, ◌+◌, ◌-◌, ◌*◌, ◌/◌, ◌^◌, ◌<◌, ◌≤◌, ◌⊎◌, ◌↔◌, inl, inr, refl, sym, ap, subst, ◌∙◌, arith, Bool, true, false, IsTrue, []}
+use Rattle.std.proofs.Common.{◌≡◌, ℕ, zero, suc, ◌+◌, ◌-◌, ◌*◌, ◌/◌, ◌^◌, ◌<◌, ◌≤◌, ◌⊎◌, ◌↔◌, inl, inr, refl, sym, ap}
+use Rattle.std.proofs.Common.{subst, ◌∙◌, arith, Bool, true, false, IsTrue, []}
 use Rattle.std.proofs.Math.ListN.{length-set}
 use Rattle.std.proofs.Math.Nat.{pow-le-pow_left}
 use Rattle.std.proofs.lemmas.Bool.{cases_Bool, cases_lt}
@@ -14,8 +16,10 @@ use Rattle.packing_terms.proofs.TooLarge.{too_wide, too_large}
 use Rattle.tree_terms.specs.Trees.{Verdict, Yes, No, Decided, outcome, told, count_of}
 use Rattle.tree_terms.specs.ClassTree.{class_tree}
 use Rattle.tree_terms.specs.OuterTrees.{bin_tree, choice_tree}
-use Rattle.tree_terms.specs.Levels.{PlainLevel, SpentAt, PlainReached, run_levels, level_by, last_side, first_heights, height_run, first_bins, bin_run, first_values, value_run, IsLevelBetween}
-use Rattle.tree_terms.specs.RunEnds.{HasSpentDecision, IsRisingEnd, IsFallingEnd, height_answer, bin_answer, value_answer, HasLargeTree}
+use Rattle.tree_terms.specs.Levels.{PlainLevel, SpentAt, PlainReached, run_levels, level_by, last_side, first_heights}
+use Rattle.tree_terms.specs.Levels.{height_run, first_bins, bin_run, first_values, value_run, IsLevelBetween}
+use Rattle.tree_terms.specs.RunEnds.{HasSpentDecision, IsRisingEnd, IsFallingEnd, height_answer, bin_answer}
+use Rattle.tree_terms.specs.RunEnds.{value_answer, HasLargeTree}
 use Rattle.tree_terms.proofs.Told.{told_past, told_decided}
 use Rattle.tree_terms.proofs.Counts.{class_count, times_le}
 use Rattle.tree_terms.proofs.OuterCounts.{bin_count}
@@ -43,8 +47,12 @@ module _ (tree : ℕ → Verdict) (budget : ℕ) (first : PlainReached) (fresh :
   abbrev answers : ℕ → PlainLevel
   answers level = level_by (told budget (tree level))
 
-  spent_large : IsTrue (run_levels answers first).spent ↔ HasLargeTree answers first budget (λ level. count_of (tree level))
-  spent_large = (λ h. there ((spent_exactly answers first fresh).0 h), λ h. (spent_exactly answers first fresh).1 (back h))
+  spent_large : IsTrue (run_levels answers first).spent ↔ HasLargeTree answers first budget
+      (λ level. count_of (tree level))
+  spent_large = (
+    λ h. there ((spent_exactly answers first fresh).0 h),
+    λ h. (spent_exactly answers first fresh).1 (back h),
+  )
     where
       there : HasSpentDecision answers first → HasLargeTree answers first budget (λ level. count_of (tree level))
       there (level, d, e) = (level, d, (spent_level budget (tree level)).0 e)
@@ -53,13 +61,15 @@ module _ (tree : ℕ → Verdict) (budget : ℕ) (first : PlainReached) (fresh :
       back (level, d, l) = (level, d, (spent_level budget (tree level)).1 l)
 
   -- a budget that bounds the counts of all levels between is enough
-  enough : ((level : ℕ) → IsLevelBetween first level → count_of (tree level) ≤ budget) → (run_levels answers first).spent ≡ false
+  enough : ((level : ℕ) → IsLevelBetween first level → count_of (tree level) ≤ budget)
+      → (run_levels answers first).spent ≡ false
   enough bound = go (cases_Bool (run_levels answers first).spent)
     where
       none : HasLargeTree answers first budget (λ level. count_of (tree level)) → ⊥
       none (level, d, l) = let b = bound level (asked_between answers d) in omega (arith, b, l)
 
-      go : ((run_levels answers first).spent ≡ true) ⊎ ((run_levels answers first).spent ≡ false) → (run_levels answers first).spent ≡ false
+      go : ((run_levels answers first).spent ≡ true) ⊎ ((run_levels answers first).spent ≡ false)
+          → (run_levels answers first).spent ≡ false
       go (inl k) = absurd (none (spent_large.0 k))
       go (inr k) = k
 
@@ -75,15 +85,19 @@ some_sum f (suc n) l h = let e : suc n - 1 ≡ n = omega arith in let g = ap f e
 
 module _ (instance : PlainInstance) (budget : ℕ) (scales : Bool) where
   pub height_spent : IsTrue (height_run instance budget scales).spent
-      ↔ HasLargeTree (height_answer instance budget scales) (first_heights instance) budget (λ h. count_of (outcome (class_tree (with_last_side instance h) [] scales)))
-  height_spent = spent_large (λ h. outcome (class_tree (with_last_side instance h) [] scales)) budget (first_heights instance) refl
+      ↔ HasLargeTree (height_answer instance budget scales) (first_heights instance) budget
+      (λ h. count_of (outcome (class_tree (with_last_side instance h) [] scales)))
+  height_spent = spent_large (λ h. outcome (class_tree (with_last_side instance h) [] scales)) budget
+      (first_heights instance) refl
 
   pub bins_spent : IsTrue (bin_run instance budget scales).spent
-      ↔ HasLargeTree (bin_answer instance budget scales) (first_bins instance scales) budget (λ k. count_of (outcome (bin_tree instance k scales)))
+      ↔ HasLargeTree (bin_answer instance budget scales) (first_bins instance scales) budget
+      (λ k. count_of (outcome (bin_tree instance k scales)))
   bins_spent = spent_large (λ k. outcome (bin_tree instance k scales)) budget (first_bins instance scales) refl
 
   pub value_spent : IsTrue (value_run instance budget scales).spent
-      ↔ HasLargeTree (value_answer instance budget scales) (first_values instance) budget (λ t. count_of (outcome (choice_tree instance t scales)))
+      ↔ HasLargeTree (value_answer instance budget scales) (first_values instance) budget
+      (λ t. count_of (outcome (choice_tree instance t scales)))
   value_spent = spent_large (λ t. outcome (choice_tree instance t scales)) budget (first_values instance) refl
 
   pub value_end : IsFallingEnd (first_values instance) (value_run instance budget scales)
@@ -95,23 +109,28 @@ module _ (instance : PlainInstance) (limits : IsInternalInstance instance) (budg
 
   height_few : (h : ℕ) → count_of (outcome (class_tree (with_last_side instance h) [] scales)) < class_bound
   height_few h =
-      let same : dims (with_last_side instance h) ≡ dims instance = length-set instance.container (dims instance - 1) h in
+      let same : dims (with_last_side instance h) ≡ dims instance =
+      length-set instance.container (dims instance - 1) h in
       let d = some_dimension instance limits in
-      subst (λ (x : ℕ). count_of (outcome (class_tree (with_last_side instance h) [] scales)) < 3 ^ (x * box_count instance * (box_count instance - 1) / 2)) same
+      subst (λ (x : ℕ). count_of (outcome (class_tree (with_last_side instance h) [] scales)) < 3 ^
+      (x * box_count instance * (box_count instance - 1) / 2)) same
       (class_count (with_last_side instance h) (omega (arith, d, same)) [] scales)
 
   pub height_enough : class_bound ≤ budget + 1 → (height_run instance budget scales).spent ≡ false
-  height_enough l = enough (λ h. outcome (class_tree (with_last_side instance h) [] scales)) budget (first_heights instance) refl
+  height_enough l = enough (λ h. outcome (class_tree (with_last_side instance h) [] scales)) budget
+      (first_heights instance) refl
       (λ h b. let f = height_few h in omega (arith, f, l))
 
   pub bins_enough : class_bound * sum_below (box_count instance) (λ j. (box_count instance - 1) ^ (j + 1)) ≤ budget
       → (bin_run instance budget scales).spent ≡ false
   bins_enough l = enough (λ k. outcome (bin_tree instance k scales)) budget (first_bins instance scales) refl bound
     where
-      bound : (k : ℕ) → IsLevelBetween (first_bins instance scales) k → count_of (outcome (bin_tree instance k scales)) ≤ budget
+      bound : (k : ℕ) → IsLevelBetween (first_bins instance scales) k
+          → count_of (outcome (bin_tree instance k scales)) ≤ budget
       bound k b =
           let c = bin_count instance (internal_sides instance limits) (some_dimension instance limits) scales k in
-          let m = times_le class_bound (sum_below (box_count instance) (λ j. k ^ (j + 1))) class_bound (sum_below (box_count instance) (λ j. (box_count instance - 1) ^ (j + 1)))
+          let m = times_le class_bound (sum_below (box_count instance) (λ j. k ^ (j + 1))) class_bound
+          (sum_below (box_count instance) (λ j. (box_count instance - 1) ^ (j + 1)))
           (omega arith) (more_powers k (box_count instance - 1) (box_count instance) (within b)) in
           omega (arith, c, m, l)
         where
@@ -119,16 +138,19 @@ module _ (instance : PlainInstance) (limits : IsInternalInstance instance) (budg
           within (inl (x, y)) = omega (arith, y)
           within (inr (x, y)) = absurd (omega (arith, y))
 
-  pub value_enough : class_bound * (2 ^ (box_count instance + 1) - 2) ≤ budget → (value_run instance budget scales).spent ≡ false
+  pub value_enough : class_bound * (2 ^ (box_count instance + 1) - 2) ≤ budget
+      → (value_run instance budget scales).spent ≡ false
   value_enough l = enough (λ t. outcome (choice_tree instance t scales)) budget (first_values instance) refl
-      (λ t b. let c = choice_count instance (internal_sides instance limits) (some_dimension instance limits) scales t in omega (arith, c, l))
+      (λ t b. let c = choice_count instance (internal_sides instance limits) (some_dimension instance limits) scales
+      t in omega (arith, c, l))
 
   -- where the runs end
   pub height_end : IsRisingEnd (first_heights instance) (height_run instance budget scales)
   height_end = rising_end (height_answer instance budget scales) (first_heights instance)
       (some_sum (λ v. last_side instance v) (box_count instance) (some_box instance limits)
       (let n = some_box instance limits in let d = some_dimension instance limits in
-      let s = internal_sides instance limits (box_count instance - 1) (dims instance - 1) (omega (arith, n)) (omega (arith, d)) in omega (arith, s)))
+      let s = internal_sides instance limits (box_count instance - 1) (dims instance - 1) (omega (arith, n))
+      (omega (arith, d)) in omega (arith, s)))
 
   pub bins_end : IsRisingEnd (first_bins instance scales) (bin_run instance budget scales)
   bins_end = rising_end (bin_answer instance budget scales) (first_bins instance scales) (some_box instance limits)
@@ -136,14 +158,19 @@ module _ (instance : PlainInstance) (limits : IsInternalInstance instance) (budg
 module _ (instance : PlainInstance) (limits : IsInternalInstance instance) (law : ExcessLaw) where
   some_height : ¬ HasTooWideBox instance → (h : ℕ) × IsLeastHeight instance h
   some_height narrow =
-      let budget : ℕ = 3 ^ (dims instance * box_count instance * (box_count instance - 1) / 2) in
-      ((height_run instance budget true).placed, height_optimum instance limits law narrow budget true (height_enough instance limits budget true (omega arith)))
+      let budget : ℕ = 3 ^ (dims instance * box_count instance * (box_count instance - 1) / 2) in (
+        (height_run instance budget true).placed,
+        height_optimum instance limits law narrow budget true
+            (height_enough instance limits budget true (omega arith)),
+      )
 
   some_bins : ¬ HasTooLargeBox instance → (k : ℕ) × IsLeastBins instance k
   some_bins small =
       let budget : ℕ = 3 ^ (dims instance * box_count instance * (box_count instance - 1) / 2)
-      * sum_below (box_count instance) (λ j. (box_count instance - 1) ^ (j + 1)) in
-      ((bin_run instance budget true).placed, bins_optimum instance limits law small budget true (bins_enough instance limits budget true (omega arith)))
+      * sum_below (box_count instance) (λ j. (box_count instance - 1) ^ (j + 1)) in (
+        (bin_run instance budget true).placed,
+        bins_optimum instance limits law small budget true (bins_enough instance limits budget true (omega arith)),
+      )
 
   pub height_exactly : ((h : ℕ) × IsLeastHeight instance h) ↔ (¬ HasTooWideBox instance)
   height_exactly = ((λ (h, least) wide. too_wide instance h wide least.fits), some_height)
@@ -154,13 +181,15 @@ module _ (instance : PlainInstance) (limits : IsInternalInstance instance) (law 
   pub no_height_exactly : (¬ ((h : ℕ) × IsLeastHeight instance h)) ↔ HasTooWideBox instance
   no_height_exactly = (λ none. go none (some_wide instance), λ wide some. height_exactly.0 some wide)
     where
-      go : (¬ ((h : ℕ) × IsLeastHeight instance h)) → HasTooWideBox instance ⊎ (¬ HasTooWideBox instance) → HasTooWideBox instance
+      go : (¬ ((h : ℕ) × IsLeastHeight instance h)) → HasTooWideBox instance ⊎ (¬ HasTooWideBox instance)
+          → HasTooWideBox instance
       go none (inl h) = h
       go none (inr h) = absurd (none (some_height h))
 
   pub no_bins_exactly : (¬ ((k : ℕ) × IsLeastBins instance k)) ↔ HasTooLargeBox instance
   no_bins_exactly = (λ none. go none (some_large instance), λ large some. bins_exactly.0 some large)
     where
-      go : (¬ ((k : ℕ) × IsLeastBins instance k)) → HasTooLargeBox instance ⊎ (¬ HasTooLargeBox instance) → HasTooLargeBox instance
+      go : (¬ ((k : ℕ) × IsLeastBins instance k)) → HasTooLargeBox instance ⊎ (¬ HasTooLargeBox instance)
+          → HasTooLargeBox instance
       go none (inl h) = h
       go none (inr h) = absurd (none (some_bins h))

@@ -20,29 +20,36 @@ use Rattle.tree_terms.proofs.Nodes.{excluded_edge}
 use Rattle.tree_terms.proofs.SettledPlaces.{settled_ends}
 
 -- a trail is of dimensions and boxes that are there
-pub trail_edges : (instance : PlainInstance) (d n : ℕ) (es : List Exclusion) → d ≡ dims instance → n ≡ box_count instance → IsTrail d n es → AreAtEdges instance es
+pub trail_edges : (instance : PlainInstance) (d n : ℕ) (es : List Exclusion) → d ≡ dims instance
+    → n ≡ box_count instance → IsTrail d n es → AreAtEdges instance es
 trail_edges instance d n [] e f t = tt
 trail_edges instance d n (x ∷ es) e f t = (rw (e, f) at t.0, trail_edges instance d n es e f t.2)
 
-pub length_settled : (instance : PlainInstance) (X : Exclusions) → length (settled_places instance X) ≡ box_count instance * dims instance
+pub length_settled : (instance : PlainInstance) (X : Exclusions)
+    → length (settled_places instance X) ≡ box_count instance * dims instance
 length_settled instance X =
     length_parts (λ u. map (λ j. place_by instance X j (box_count instance) u) (below (dims instance))) (dims instance)
-    (λ u. length-map-range_with_len (λ j. place_by instance X j (box_count instance) u) 0 (dims instance)) (below (box_count instance))
+    (λ u. length-map-range_with_len (λ j. place_by instance X j (box_count instance) u) 0 (dims instance))
+    (below (box_count instance))
     ∙ ap (λ n. n * dims instance) (length-range_with_len 0 (box_count instance))
 
-module _ (instance : PlainInstance) (es : List Exclusion) (limits : IsInternalInstance instance) (placed : AreAtEdges instance es)
-    (stable : IsStable instance (excludes es)) (full : HasNoEmptyMask instance (excludes es)) (fit : SidesFit instance) where
+module _ (instance : PlainInstance) (es : List Exclusion) (limits : IsInternalInstance instance)
+    (placed : AreAtEdges instance es)
+    (stable : IsStable instance (excludes es)) (full : HasNoEmptyMask instance (excludes es))
+    (fit : SidesFit instance) where
   pub settled_only : (places : List ℕ) → length places ≡ box_count instance * dims instance
       → ((v i : ℕ) → v < box_count instance → i < dims instance → IsGreatestEnd instance (excludes es) places i v)
       → places ≡ settled_places instance (excludes es)
   settled_only places count ends =
-      same_ends instance (internal_sides instance limits) (excludes es) (some_dimension instance limits) places (settled_places instance (excludes es))
+      same_ends instance (internal_sides instance limits) (excludes es) (some_dimension instance limits) places
+      (settled_places instance (excludes es))
       count (length_settled instance (excludes es)) ends
       (settled_ends instance (excludes es) stable (excludes_symmetric es) full (internal_sides instance limits) fit
       (λ i u v h. excluded_edge instance es placed i u v Overlap h))
 
 -- the same of a state whose trail this is
-pub places_are : (instance : PlainInstance) (d n : ℕ) (es : List Exclusion) (places : List ℕ) → IsInternalInstance instance → d ≡ dims instance → n ≡ box_count instance
+pub places_are : (instance : PlainInstance) (d n : ℕ) (es : List Exclusion) (places : List ℕ)
+    → IsInternalInstance instance → d ≡ dims instance → n ≡ box_count instance
     → IsTrail d n es → IsStable instance (excludes es) → HasNoEmptyMask instance (excludes es) → SidesFit instance
     → length places ≡ box_count instance * dims instance
     → ((v i : ℕ) → v < box_count instance → i < dims instance → IsGreatestEnd instance (excludes es) places i v)

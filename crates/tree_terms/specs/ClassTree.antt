@@ -20,7 +20,8 @@ box_sides instance = flat_map (λ v. map (λ i. (v, i)) (below (dims instance)))
 
 -- the first box that is longer than the container, and its first such dimension
 abbrev pub first_too_large_box : PlainInstance → Option (ℕ × ℕ)
-first_too_large_box instance = find (λ p. nat_lt (container_side instance p.1) (side instance p.0 p.1)) (box_sides instance)
+first_too_large_box instance =
+    find (λ p. nat_lt (container_side instance p.1) (side instance p.0 p.1)) (box_sides instance)
 
 -- the first box that is longer than the container in a dimension other than the last, and its first
 -- such dimension
@@ -59,5 +60,6 @@ closes_in_conflict instance es = has_empty_mask (excludes (closure instance es))
 -- the tree of an instance whose root holds the given exclusions, with or without scales
 abbrev pub class_tree : PlainInstance → List Exclusion → Bool → SearchTree
 class_tree instance es scales =
-    root_of (first_too_large_box instance) (closes_in_conflict instance es) (scales_after instance scales (closes_in_conflict instance es))
+    root_of (first_too_large_box instance) (closes_in_conflict instance es)
+    (scales_after instance scales (closes_in_conflict instance es))
     (tree_below instance es)

@@ -3,11 +3,13 @@
 --
 --     closure has a conflict?  yes: refuted by x
 --     every pair is settled?   yes: settled, with the places of its orders
---     else                     split the first unsettled pair by rank: apart or joined, or (once it is apart) in one order or the other
+-- else                     split the first unsettled pair by rank: apart or joined, or (once it is
+-- apart) in one order or the other
 --
 -- Source: the search over packing classes of Fekete, Schepers and van der Veen (2007), with the
 -- orders of the pairs as further choices.
-use Rattle.std.specs.Prelude.{ℕ, zero, suc, ◌+◌, ◌&&◌, ◌||◌, not, List, [], ◌∷◌, ◌++◌, Bool, true, false, map, Option, Some, None, max}
+use Rattle.std.specs.Prelude.{ℕ, zero, suc, ◌+◌, ◌&&◌, ◌||◌, not, List, [], ◌∷◌, ◌++◌, Bool, true, false, map, Option}
+use Rattle.std.specs.Prelude.{Some, None, max}
 use Rattle.std.specs.List.{list_any, filter, flat_map, find, fold}
 use Rattle.packing_terms.specs.declared.Rel.{Rel}
 use Rattle.packing_terms.specs.declared.Rel.TheVariants.{Overlap, Before, After}
@@ -47,7 +49,8 @@ place_by instance X i (suc k) v =
 -- the places of a settled node: those of box 0 in all dimensions, then those of box 1, and so on
 abbrev pub settled_places : PlainInstance → Exclusions → List ℕ
 settled_places instance X =
-    flat_map (λ v. map (λ i. place_by instance X i (box_count instance) v) (below (dims instance))) (below (box_count instance))
+    flat_map (λ v. map (λ i. place_by instance X i (box_count instance) v) (below (dims instance)))
+    (below (box_count instance))
 
 -- the exclusion of a relation in dimension i, at a pair
 abbrev pub exclusion_at_pair : ℕ → ℕ × ℕ → Rel → Exclusion
@@ -106,7 +109,8 @@ apart_dim X d p = find (has_apart_mask X p) (below d)
 -- the split of a pair in a node with this closure
 abbrev pub split_at : PlainInstance → Exclusions → ℕ × ℕ → SplitNode
 split_at instance X p =
-    chosen_split p (is_apart_somewhere X (dims instance) p) (order_dim X (dims instance) p) (apart_dim X (dims instance) p)
+    chosen_split p (is_apart_somewhere X (dims instance) p) (order_dim X (dims instance) p)
+    (apart_dim X (dims instance) p)
 
 -- the split as a tree, where `tree` is the tree of this node with some exclusions more
 abbrev pub split_tree : SplitNode → (List Exclusion → SearchTree) → SearchTree
@@ -121,14 +125,16 @@ node_of instance X false (Some p) tree = split_tree (split_at instance X p) tree
 -- the node with this closure
 abbrev pub closed_node : PlainInstance → Exclusions → (List Exclusion → SearchTree) → SearchTree
 closed_node instance X tree =
-    node_of instance X (has_empty_mask X (dims instance) (box_count instance)) (find (is_unsettled instance X) (ranked_pairs instance)) tree
+    node_of instance X (has_empty_mask X (dims instance) (box_count instance))
+    (find (is_unsettled instance X) (ranked_pairs instance)) tree
 
 -- The tree below a node, of at most this depth. A child has fewer open relations than its parent,
 -- so the number of all relations is deep enough.
 abbrev pub node_tree : PlainInstance → ℕ → List Exclusion → SearchTree
 node_tree instance zero es = Refuted (Rules ∷ []) 0
 node_tree instance (suc depth) es =
-    let closed = closure instance es in closed_node instance (excludes closed) (λ add. node_tree instance depth (add ++ closed))
+    let closed = closure instance es in
+    closed_node instance (excludes closed) (λ add. node_tree instance depth (add ++ closed))
 
 -- the number of relations of all pairs in all dimensions, and one more
 abbrev pub full_depth : PlainInstance → ℕ

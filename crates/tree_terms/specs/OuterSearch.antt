@@ -5,7 +5,8 @@ use Rattle.std.specs.List.{flat_map}
 use Rattle.packing_terms.specs.Packing.{PlainInstance, IsPacking, dims, box_count}
 use Rattle.packing_terms.specs.Goals.{subset, worth, IsBinPacking, IsBoxSet}
 use Rattle.packing_terms.specs.Tokens.PlainToken.{Assign, Choose}
-use Rattle.packing_terms.specs.OuterRefutation.{Bins, IsUnplaced, placements, RefutesBins, Choice, IsOpenBox, with_taken, with_left, RefutesValue}
+use Rattle.packing_terms.specs.OuterRefutation.{Bins, IsUnplaced, placements, RefutesBins, Choice, IsOpenBox}
+use Rattle.packing_terms.specs.OuterRefutation.{with_taken, with_left, RefutesValue}
 use Rattle.packing_terms.specs.Sums.{below}
 use Rattle.tree_terms.specs.Trees.{SearchTree, Settled, Refuted, Split, Verdict, Yes, No}
 use Rattle.tree_terms.specs.OuterTrees.{choice_numbers}
@@ -17,7 +18,8 @@ bins_in instance numbers = map (λ v. slice_index numbers (v * (dims instance + 
 -- the coordinates of each box in such an answer
 abbrev pub places_in : PlainInstance → List ℕ → List ℕ
 places_in instance numbers =
-    flat_map (λ v. map (λ i. slice_index numbers (v * (dims instance + 1) + (1 + i))) (below (dims instance))) (below (box_count instance))
+    flat_map (λ v. map (λ i. slice_index numbers (v * (dims instance + 1) + (1 + i))) (below (dims instance)))
+    (below (box_count instance))
 
 -- the numbers give each box a bin below k and coordinates, such that the boxes of each bin are a
 -- packing
@@ -55,7 +57,8 @@ IsChoiceSearch instance goal c (Settled numbers own) = AreTakenNumbers instance 
 IsChoiceSearch instance goal c (Refuted tokens own) = RefutesValue instance goal (c ∷ []) tokens
 IsChoiceSearch instance goal c (Split token own n child) =
     (v : ℕ) × (token ≡ Choose v) × IsOpenBox instance c v × (n ≡ 2)
-    × IsChoiceSearch instance goal (with_taken c (pred v)) (child 0) × IsChoiceSearch instance goal (with_left c (pred v)) (child 1)
+    × IsChoiceSearch instance goal (with_taken c (pred v)) (child 0)
+    × IsChoiceSearch instance goal (with_left c (pred v)) (child 1)
 
 -- a yes has a set of the value that fits, and a no refutes the node
 abbrev pub IsChoiceRight : PlainInstance → ℕ → Choice → Verdict → Type 0

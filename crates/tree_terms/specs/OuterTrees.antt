@@ -8,7 +8,8 @@
 --           b 2                      `-- out
 --           |-- {1, 2}
 --           `-- {1} {2}
-use Rattle.std.specs.Prelude.{ℕ, zero, suc, ◌+◌, ◌*◌, ◌==◌, List, [], ◌∷◌, length, map, Option, Some, None, Bool, true, false, nat_lt, nat_le, slice_index, slice_index_or}
+use Rattle.std.specs.Prelude.{ℕ, zero, suc, ◌+◌, ◌*◌, ◌==◌, List, [], ◌∷◌, length, map, Option, Some, None, Bool, true}
+use Rattle.std.specs.Prelude.{false, nat_lt, nat_le, slice_index, slice_index_or}
 use Rattle.std.specs.List.{flat_map, position_or_len}
 use Rattle.packing_terms.specs.declared.ScaleFn.{ScaleFn}
 use Rattle.packing_terms.specs.Packing.{PlainInstance, dims, box_count}
@@ -39,7 +40,8 @@ coordinates_at d numbers k = map (λ i. slice_index numbers (k * d + i)) (below 
 abbrev pub bin_numbers : PlainInstance → Bins → List (List ℕ) → List ℕ
 bin_numbers instance bins answers =
     flat_map (λ v. let b = position_or_len (has_box v) bins in
-    b ∷ coordinates_at (dims instance) (slice_index_or answers b []) (position_or_len (λ u. u == v) (slice_index_or bins b [])))
+    b ∷ coordinates_at (dims instance) (slice_index_or answers b [])
+    (position_or_len (λ u. u == v) (slice_index_or bins b [])))
     (below (box_count instance))
 
 -- a child by the verdict on its changed bin: `rest` is the child with that bin's answer and its own
@@ -65,7 +67,8 @@ bin_root None tree = tree
 
 -- the bin tree for k bins
 abbrev pub bin_tree : PlainInstance → ℕ → Bool → SearchTree
-bin_tree instance k scales = bin_root (first_exceeding instance k scales) (bin_node instance scales k (ranked instance) [] [] 0)
+bin_tree instance k scales = bin_root (first_exceeding instance k scales)
+    (bin_node instance scales k (ranked instance) [] [] 0)
 
 -- The answer of the choice tree: of each box that is in, by rising number, that number, counted
 -- from 0, and its coordinates.
@@ -97,9 +100,11 @@ is_short instance goal taken rest = nat_lt (worth instance taken + worth instanc
 -- this own count. Its children are in, then out.
 abbrev pub choice_node : PlainInstance → Bool → ℕ → List ℕ → List ℕ → List ℕ → ℕ → SearchTree
 choice_node instance scales goal [] taken numbers own =
-    choice_of (is_reached instance goal taken) true (choice_numbers instance taken numbers) own (Refuted (ValueShort ∷ []) own)
+    choice_of (is_reached instance goal taken) true (choice_numbers instance taken numbers) own
+    (Refuted (ValueShort ∷ []) own)
 choice_node instance scales goal (v ∷ vs) taken numbers own =
-    choice_of (is_reached instance goal taken) (is_short instance goal taken (v ∷ vs)) (choice_numbers instance taken numbers) own
+    choice_of (is_reached instance goal taken) (is_short instance goal taken (v ∷ vs))
+    (choice_numbers instance taken numbers) own
     (Split (Choose (suc v)) own 2 (λ k. elim k [
       | zero ↦ taken_child (set_verdict instance scales (insert_box v taken))
           (λ ns count. choice_node instance scales goal vs (insert_box v taken) ns count)
@@ -118,7 +123,8 @@ yes_numbers (No tokens count) = []
 -- The answer for bins, read off the bins: the coordinates of a box are those in the answer of the
 -- inner tree of its bin's set.
 abbrev pub bin_answer_of : PlainInstance → Bool → Bins → List ℕ
-bin_answer_of instance scales bins = bin_numbers instance bins (map (λ set. yes_numbers (set_verdict instance scales set)) bins)
+bin_answer_of instance scales bins =
+    bin_numbers instance bins (map (λ set. yes_numbers (set_verdict instance scales set)) bins)
 
 -- the answer for a value, read off the boxes that are in: their coordinates are those in the answer
 -- of their set's inner tree

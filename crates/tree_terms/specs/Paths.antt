@@ -1,6 +1,7 @@
 -- Nodes by their paths: what a node at a path stands for, what is told of it, and which paths a
 -- search may come to.
-use Rattle.std.specs.Prelude.{ℕ, zero, suc, pred, ◌≤◌, ◌≡◌, List, [], ◌∷◌, ◌++◌, Option, Some, None, IsSome, nat_lt, if◌then◌else◌, slice_index_or}
+use Rattle.std.specs.Prelude.{ℕ, zero, suc, pred, ◌≤◌, ◌≡◌, List, [], ◌∷◌, ◌++◌, Option, Some, None, IsSome, nat_lt}
+use Rattle.std.specs.Prelude.{if◌then◌else◌, slice_index_or}
 use Rattle.packing_terms.specs.declared.Exclusion.{Exclusion}
 use Rattle.packing_terms.specs.Tokens.{PlainToken}
 use Rattle.packing_terms.specs.Tokens.PlainToken.{Assign, Choose}
@@ -14,7 +15,8 @@ abbrev pub exclusions_at : List Exclusion → SearchTree → List ℕ → List E
 exclusions_at es tree [] = es
 exclusions_at es (Settled numbers own) (k ∷ path) = es
 exclusions_at es (Refuted tokens own) (k ∷ path) = es
-exclusions_at es (Split token own n child) (k ∷ path) = exclusions_at (slice_index_or (children es token) k []) (child k) path
+exclusions_at es (Split token own n child) (k ∷ path) =
+    exclusions_at (slice_index_or (children es token) k []) (child k) path
 
 -- the bins of a child of a bin tree: those with the box of the token in the place of this number
 abbrev pub bins_below : ℕ → Bins → PlainToken → ℕ → Bins
@@ -68,7 +70,8 @@ node_told (Split token own n child) = if nat_lt most_budget own then Leaf else S
 -- the path names a node, and no node above that one has an own count past every budget
 pub record IsReachable (tree : SearchTree) (path : List ℕ) : Type 0 where
   pub there : IsSome (node_at (Some tree) path)
-  pub within : (front rest : List ℕ) (k : ℕ) → path ≡ front ++ k ∷ rest → (node : SearchTree) → node_at (Some tree) front ≡ Some node
+  pub within : (front rest : List ℕ) (k : ℕ) → path ≡ front ++ k ∷ rest → (node : SearchTree)
+      → node_at (Some tree) front ≡ Some node
       → own_of node ≤ most_budget
 
 -- the path leads on to this child: its node is told as a split with more children

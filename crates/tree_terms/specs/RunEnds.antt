@@ -5,12 +5,14 @@ use Rattle.packing_terms.specs.Goals.{with_last_side}
 use Rattle.tree_terms.specs.Trees.{outcome, told, count_of}
 use Rattle.tree_terms.specs.ClassTree.{class_tree}
 use Rattle.tree_terms.specs.OuterTrees.{bin_tree, choice_tree}
-use Rattle.tree_terms.specs.Levels.{PlainLevel, PlacedBy, RefutedBy, SpentAt, PlainReached, halfway, moved, is_run_over, level_by, first_heights, first_bins, first_values}
+use Rattle.tree_terms.specs.Levels.{PlainLevel, PlacedBy, RefutedBy, SpentAt, PlainReached, halfway, moved, is_run_over}
+use Rattle.tree_terms.specs.Levels.{level_by, first_heights, first_bins, first_values}
 
 -- the level is decided on the run from these two levels
 pub data IsLevelAsked (answer : ℕ → PlainLevel) : PlainReached → ℕ → Type 0 where
   here : {r : PlainReached} → is_run_over r ≡ false → IsLevelAsked answer r (halfway r)
-  later : {r : PlainReached} {level : ℕ} → is_run_over r ≡ false → IsLevelAsked answer (moved r (halfway r) (answer (halfway r))) level → IsLevelAsked answer r level
+  later : {r : PlainReached} {level : ℕ} → is_run_over r ≡ false
+      → IsLevelAsked answer (moved r (halfway r) (answer (halfway r))) level → IsLevelAsked answer r level
 
 -- a decision on the run was spent
 abbrev pub HasSpentDecision : (ℕ → PlainLevel) → PlainReached → Type 0
@@ -18,8 +20,10 @@ HasSpentDecision answer r = (level : ℕ) × IsLevelAsked answer r level × (ans
 
 -- each of the two levels is the first one, or was decided on the run and has what its decision gave
 pub record IsFromRun (answer : ℕ → PlainLevel) (first r : PlainReached) : Type 0 where
-  pub refuted : ((r.refuted ≡ first.refuted) × (r.tokens ≡ first.tokens)) ⊎ (IsLevelAsked answer first r.refuted × (answer r.refuted ≡ RefutedBy r.tokens))
-  pub placed : ((r.placed ≡ first.placed) × (r.numbers ≡ first.numbers)) ⊎ (IsLevelAsked answer first r.placed × (answer r.placed ≡ PlacedBy r.numbers))
+  pub refuted : ((r.refuted ≡ first.refuted) × (r.tokens ≡ first.tokens))
+      ⊎ (IsLevelAsked answer first r.refuted × (answer r.refuted ≡ RefutedBy r.tokens))
+  pub placed : ((r.placed ≡ first.placed) × (r.numbers ≡ first.numbers))
+      ⊎ (IsLevelAsked answer first r.placed × (answer r.placed ≡ PlacedBy r.numbers))
 
 -- The end of a run whose refuted level is below the placed one. The order stays, both stay within
 -- the first two, and where no decision was spent they are neighbours.
@@ -38,7 +42,8 @@ pub record IsFallingEnd (first r : PlainReached) : Type 0 where
 
 -- the answer at a height, under a budget
 abbrev pub height_answer : PlainInstance → ℕ → Bool → ℕ → PlainLevel
-height_answer instance budget scales h = level_by (told budget (outcome (class_tree (with_last_side instance h) [] scales)))
+height_answer instance budget scales h =
+    level_by (told budget (outcome (class_tree (with_last_side instance h) [] scales)))
 
 -- the answer for a number of bins, under a budget
 abbrev pub bin_answer : PlainInstance → ℕ → Bool → ℕ → PlainLevel
@@ -61,9 +66,11 @@ HasLargeHeight instance budget scales =
 -- some number of bins that is decided has more branchings than the budget
 abbrev pub HasLargeCount : PlainInstance → ℕ → Bool → Type 0
 HasLargeCount instance budget scales =
-    HasLargeTree (bin_answer instance budget scales) (first_bins instance scales) budget (λ k. count_of (outcome (bin_tree instance k scales)))
+    HasLargeTree (bin_answer instance budget scales) (first_bins instance scales) budget
+    (λ k. count_of (outcome (bin_tree instance k scales)))
 
 -- some value that a knapsack decides has more branchings than the budget
 abbrev pub HasLargeWorth : PlainInstance → ℕ → Bool → Type 0
 HasLargeWorth instance budget scales =
-    HasLargeTree (value_answer instance budget scales) (first_values instance) budget (λ t. count_of (outcome (choice_tree instance t scales)))
+    HasLargeTree (value_answer instance budget scales) (first_values instance) budget
+    (λ t. count_of (outcome (choice_tree instance t scales)))

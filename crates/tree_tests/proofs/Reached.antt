@@ -5,7 +5,8 @@ use Rattle.tree_terms.specs.Trees.{SearchTree}
 use Rattle.tree_terms.specs.Paths.{Splits, node_told, IsReachable}
 use Rattle.tree_terms.proofs.Reached.{root_reached, reached_next}
 
-pub child_reached : (tree : SearchTree) (token : PlainToken) (own children : ℕ) → node_told tree ≡ Splits token own children → (k : ℕ) → k < children
+pub child_reached : (tree : SearchTree) (token : PlainToken) (own children : ℕ)
+    → node_told tree ≡ Splits token own children → (k : ℕ) → k < children
     → IsReachable tree (k ∷ [])
 child_reached tree token own children e k l = (reached_next tree [] k).1 (
   root_reached tree,

@@ -23,7 +23,7 @@ pub enum Wanted {
 }
 
 /// The instance of a case.
-pub fn instance_of(alloc: Global, case: &Case) -> Result<Instance, Fail> {
+pub(crate) fn instance_of(alloc: Global, case: &Case) -> Result<Instance, Fail> {
     let mut boxes = Vec::new(alloc);
     for (sides, value) in case.boxes {
         boxes.push(BoxItem {
@@ -65,7 +65,7 @@ fn are_kinds(tokens: &[Token], kinds: &[[u32; 2]]) -> bool {
 }
 
 /// Whether the outcome is the one that is wanted.
-pub fn is_wanted(outcome: &Outcome, wanted: &Wanted) -> bool {
+pub(crate) fn is_wanted(outcome: &Outcome, wanted: &Wanted) -> bool {
     match (outcome, wanted) {
         (Outcome::Yes { numbers, count }, Wanted::Yes(answer, branchings)) => {
             *count == *branchings && numbers.as_slice() == *answer
@@ -79,7 +79,7 @@ pub fn is_wanted(outcome: &Outcome, wanted: &Wanted) -> bool {
 }
 
 /// Whether a node is told as a split of this kind with this own count and so many children.
-pub fn is_split(node: &Node, kind: [u32; 2], count: u64, width: u32) -> bool {
+pub(crate) fn is_split(node: &Node, kind: [u32; 2], count: u64, width: u32) -> bool {
     match node {
         Node::Split {
             token,
@@ -91,28 +91,28 @@ pub fn is_split(node: &Node, kind: [u32; 2], count: u64, width: u32) -> bool {
 }
 
 /// Three boxes of which the two large ones have no room together.
-pub const THREE: Case = Case {
+pub(crate) const THREE: Case = Case {
     container: &[10, 10],
     kerf: &[0, 0],
     boxes: &[(&[6, 6], 5), (&[6, 6], 4), (&[4, 4], 3)],
 };
 
 /// Three planks, of which two fill a container.
-pub const PLANKS: Case = Case {
+pub(crate) const PLANKS: Case = Case {
     container: &[10, 10],
     kerf: &[0, 0],
     boxes: &[(&[10, 5], 0), (&[10, 5], 0), (&[10, 5], 0)],
 };
 
 /// Three boards between which a saw takes 1: two stand on one another.
-pub const BOARDS: Case = Case {
+pub(crate) const BOARDS: Case = Case {
     container: &[9, 9],
     kerf: &[1, 1],
     boxes: &[(&[9, 4], 0), (&[9, 4], 2), (&[4, 9], 1)],
 };
 
 /// Four blocks in three dimensions, of which the last is worth nothing.
-pub const BLOCKS: Case = Case {
+pub(crate) const BLOCKS: Case = Case {
     container: &[4, 4, 4],
     kerf: &[0, 0, 0],
     boxes: &[

@@ -1,36 +1,45 @@
 -- What stands behind the result line, up to `end`, backs its claim.
-use Rattle.std.proofs.Common.{◌≡◌, ℕ, suc, pred, ◌+◌, ◌*◌, ◌≤◌, refl, sym, ap, ap₂, subst, ◌∙◌, arith, Bool, true, false, cond, ◌&&◌, ◌-◌, inl, List, [], ◌∷◌, ◌++◌, length, append_assoc, Some, None, Ok, codes}
+use Rattle.std.proofs.Common.{◌≡◌, ℕ, suc, pred, ◌+◌, ◌*◌, ◌≤◌, refl, sym, ap, ap₂, subst, ◌∙◌, arith, Bool, true}
+use Rattle.std.proofs.Common.{false, cond, ◌&&◌, ◌-◌, inl, List, [], ◌∷◌, ◌++◌, length, append_assoc, Some, None, Ok}
+use Rattle.std.proofs.Common.{codes}
 use Rattle.std.specs.Prelude.{nat_le, nat_lt}
 use Rattle.std.proofs.lemmas.Bool.{and_parts, leb-true, ltb-true}
 use Rattle.std.proofs.lemmas.List.{length-append, length-map}
 use Rattle.packing_terms.specs.Packing.{PlainInstance, dims, box_count, container_side, side}
 use Rattle.packing_terms.specs.Goals.{with_last_side, subset, worth}
 use Rattle.packing_terms.specs.Tokens.{PlainToken}
-use Rattle.packing_terms.specs.Tokens.PlainToken.{Apart, Order, Rules, TooLarge, Scales, Assign, Choose, SetRefuted, ValueShort, GlobalScales}
+use Rattle.packing_terms.specs.Tokens.PlainToken.{Apart, Order, Rules, TooLarge, Scales, Assign, Choose, SetRefuted}
+use Rattle.packing_terms.specs.Tokens.PlainToken.{ValueShort, GlobalScales}
 use Rattle.check_terms.specs.declared.answers.PlaceVerdict.TheVariants.{Good}
 use Rattle.check_terms.specs.Placing.{place_verdict}
 use Rattle.check_terms.specs.Judging.{names_box}
 use Rattle.check_terms.proofs.Places.{places_tested}
 use Rattle.document_terms.specs.declared.claim.Claim.{Claim}
-use Rattle.document_terms.specs.declared.claim.Claim.TheVariants.{Fitting, NotFitting, LeastHeight, HeightBetween, NoHeight, LeastBins, BinsBetween, NoBins, GreatestValue, ValueBetween}
+use Rattle.document_terms.specs.declared.claim.Claim.TheVariants.{Fitting, NotFitting, LeastHeight, HeightBetween}
+use Rattle.document_terms.specs.declared.claim.Claim.TheVariants.{NoHeight, LeastBins, BinsBetween, NoBins}
+use Rattle.document_terms.specs.declared.claim.Claim.TheVariants.{GreatestValue, ValueBetween}
 use Rattle.verdict_terms.specs.declared.heading.Heading.{Heading}
 use Rattle.verdict_terms.specs.declared.heading.Heading.TheVariants.{Answer}
 use Rattle.verdict_terms.specs.Reasons.{form, range}
 use Rattle.verdict_terms.specs.declared.reason.Reason.TheVariants.{TooLittle}
 use Rattle.document_terms.specs.TokenLines.{token_of}
 use Rattle.verdict_terms.specs.Trees.{Refuted, ToFit, ToFitIn, ToReach, begun}
-use Rattle.verdict_terms.specs.Stages.{Stage, groups_reason, start_exclusions, claimed, placed, to_refute, is_word, tree_token, exceeding_token, exceeding_line, words_line}
+use Rattle.verdict_terms.specs.Stages.{Stage, groups_reason, start_exclusions, claimed, placed, to_refute, is_word}
+use Rattle.verdict_terms.specs.Stages.{tree_token, exceeding_token, exceeding_line, words_line}
 use Rattle.verdict_terms.specs.Stages.Stage.{Placing, Sharing, Taking, Proving, Refuting, Exceeding, Ending}
-use Rattle.verdict_terms.specs.Form.{AreNumberedLines, ArePlaced, AreShared, AreTaken, AreRefuting, IsExceedingLine, AreProved, BacksUnder}
+use Rattle.verdict_terms.specs.Form.{AreNumberedLines, ArePlaced, AreShared, AreTaken, AreRefuting, IsExceedingLine}
+use Rattle.verdict_terms.specs.Form.{AreProved, BacksUnder}
 use Rattle.verdict_terms.proofs.Passed.{require_ok, is_word_ok, ok_is}
 use Rattle.verdict_terms.proofs.Walk.{read_words}
 use Rattle.verdict_terms.proofs.BinsGood.{bins_good}
 use Rattle.verdict_terms.proofs.TreesTold.{end_told, token_ok, refuting_told}
-use Rattle.verdict_terms.proofs.PlacesTold.{group_good, places_good, places_told, shares_told, takes_told, numbered_count, no_first}
+use Rattle.verdict_terms.proofs.PlacesTold.{group_good, places_good, places_told, shares_told, takes_told}
+use Rattle.verdict_terms.proofs.PlacesTold.{numbered_count, no_first}
 use Rattle.text_terms.proofs.Good.{bind_ok}
 
 -- lines up to `end` that back the claim
-pub record BackedTold (heading : Heading) (instance : PlainInstance) (claim told : Claim) (lines : List (List (List ℕ))) : Type 0 where
+pub record BackedTold (heading : Heading) (instance : PlainInstance) (claim told : Claim)
+    (lines : List (List (List ℕ))) : Type 0 where
   pub backing : List (List (List ℕ))
   pub are : lines ≡ backing ++ (codes "end" ∷ []) ∷ []
   pub backs : BacksUnder heading instance claim backing
@@ -43,18 +52,27 @@ pub record ProofTold (claim told : Claim) (refuted : Refuted) (lines : List (Lis
   pub refuting : AreRefuting refuted body
   pub same : claim ≡ told
 
-proof_told : (claim told : Claim) (refuted : Refuted) (lines : List (List (List ℕ))) → read_words (Proving claim refuted) lines ≡ Ok told → ProofTold claim told refuted lines
+proof_told : (claim told : Claim) (refuted : Refuted) (lines : List (List (List ℕ)))
+    → read_words (Proving claim refuted) lines ≡ Ok told → ProofTold claim told refuted lines
 proof_told claim told refuted [] e = absurd (cc (e))
 proof_told claim told refuted (words ∷ lines) e =
     let b = bind_ok (words_line (Proving claim refuted) words) (λ next. read_words next lines) told e in
     let r = require_ok (is_word (codes "proof") words) form (Ok (Refuting claim (begun refuted))) b.0 b.1 in
-    let t = refuting_told claim told refuted lines (subst (λ s. read_words s lines ≡ Ok told) (sym (ok_is (Refuting claim (begun refuted)) b.0 r.1)) b.2) in
-    record { body = t.body; are = ap₂ (λ w ls. w ∷ ls) (is_word_ok (codes "proof") words r.0) t.are; refuting = t.refuting; same = t.same }
+    let t = refuting_told claim told refuted lines
+    (subst (λ s. read_words s lines ≡ Ok told) (sym (ok_is (Refuting claim (begun refuted)) b.0 r.1)) b.2) in
+    record {
+      body = t.body;
+      are = ap₂ (λ w ls. w ∷ ls) (is_word_ok (codes "proof") words r.0) t.are;
+      refuting = t.refuting;
+      same = t.same;
+    }
 
 -- lines of one kind, and a proof behind them
-proved : (First : List (List (List ℕ)) → Type 0) (claim told : Claim) (refuted : Refuted) (lines front back : List (List (List ℕ))) → lines ≡ front ++ back → First front
+proved : (First : List (List (List ℕ)) → Type 0) (claim told : Claim) (refuted : Refuted)
+    (lines front back : List (List (List ℕ))) → lines ≡ front ++ back → First front
     → ProofTold claim told refuted back
-    → (backing : List (List (List ℕ))) × (lines ≡ backing ++ (codes "end" ∷ []) ∷ []) × AreProved First (AreRefuting refuted) backing × (claim ≡ told)
+    → (backing : List (List (List ℕ))) × (lines ≡ backing ++ (codes "end" ∷ []) ∷ [])
+    × AreProved First (AreRefuting refuted) backing × (claim ≡ told)
 proved First claim told refuted lines front back e first p = (
   front ++ (codes "proof" ∷ []) ∷ p.body,
   e ∙ ap (λ ls. front ++ ls) p.are ∙ sym (append_assoc front ((codes "proof" ∷ []) ∷ p.body) ((codes "end" ∷ []) ∷ [])),
@@ -64,14 +82,26 @@ proved First claim told refuted lines front back e first p = (
 
 -- ---- places
 
-places_backed : (instance : PlainInstance) (claim told : Claim) (refuted : Refuted) (lines : List (List (List ℕ))) → read_words (Placing instance claim refuted []) lines ≡ Ok told
-    → (front : List (List (List ℕ))) × (back : List (List (List ℕ))) × (lines ≡ front ++ back) × ArePlaced instance front × (read_words (placed claim refuted) back ≡ Ok told)
+places_backed : (instance : PlainInstance) (claim told : Claim) (refuted : Refuted) (lines : List (List (List ℕ)))
+    → read_words (Placing instance claim refuted []) lines ≡ Ok told
+    → (front : List (List (List ℕ))) × (back : List (List (List ℕ))) × (lines ≡ front ++ back)
+    × ArePlaced instance front × (read_words (placed claim refuted) back ≡ Ok told)
 places_backed instance claim told refuted lines e =
-    let t = places_told instance claim told refuted [] lines e in
-    (t.front, t.back, t.are, record { places = t.more; are_lines = t.are_lines; packing = places_good instance t.more t.count t.good }, t.rest)
+    let t = places_told instance claim told refuted [] lines e in (
+      t.front,
+      t.back,
+      t.are,
+      record {
+        places = t.more;
+        are_lines = t.are_lines;
+        packing = places_good instance t.more t.count t.good;
+      },
+      t.rest,
+    )
 
 -- as many coordinates as lines have
-numbered_length : (key : List ℕ) (most d : ℕ) (lines : List (List (List ℕ))) (ns places : List ℕ) → AreNumberedLines key most d lines ns places → length places ≡ length ns * d
+numbered_length : (key : List ℕ) (most d : ℕ) (lines : List (List (List ℕ))) (ns places : List ℕ)
+    → AreNumberedLines key most d lines ns places → length places ≡ length ns * d
 numbered_length key most d [] [] places are = ap length are ∙ (let z : 0 ≡ 0 * d = omega arith in z)
 numbered_length key most d [] (n ∷ ns) places are = absurd are
 numbered_length key most d (words ∷ lines) [] places are = absurd are
@@ -82,8 +112,10 @@ numbered_length key most d (words ∷ lines) (n ∷ ns) places (xs, more, e, lin
     let r : suc (length ns) * d ≡ d + length ns * d = grind arith in
     ap length e ∙ omega (arith, a, b, c, r)
 
-shares_backed : (instance : PlainInstance) (claim told : Claim) (k : ℕ) (lines : List (List (List ℕ))) → read_words (Sharing instance claim k [] []) lines ≡ Ok told
-    → (front : List (List (List ℕ))) × (back : List (List (List ℕ))) × (lines ≡ front ++ back) × AreShared instance k front × (read_words (placed claim (to_refute Answer instance claim)) back ≡ Ok told)
+shares_backed : (instance : PlainInstance) (claim told : Claim) (k : ℕ) (lines : List (List (List ℕ)))
+    → read_words (Sharing instance claim k [] []) lines ≡ Ok told
+    → (front : List (List (List ℕ))) × (back : List (List (List ℕ))) × (lines ≡ front ++ back)
+    × AreShared instance k front × (read_words (placed claim (to_refute Answer instance claim)) back ≡ Ok told)
 shares_backed instance claim told k lines e =
     let t = shares_told instance claim told k [] [] lines e in (
       t.front,
@@ -93,7 +125,8 @@ shares_backed instance claim told k lines e =
         bins = t.more_bins;
         places = t.more;
         are_lines = t.are_lines;
-        packing = bins_good instance k t.more_bins t.more t.count (numbered_length (codes "place") k (dims instance) t.front t.more_bins t.more t.are_lines) t.below t.good;
+        packing = bins_good instance k t.more_bins t.more t.count
+            (numbered_length (codes "place") k (dims instance) t.front t.more_bins t.more t.are_lines) t.below t.good;
       },
       t.rest,
     )
@@ -102,12 +135,16 @@ worth_enough : (b : Bool) → cond b None (Some TooLittle) ≡ None → b ≡ tr
 worth_enough true e = refl
 worth_enough false e = absurd (cc (e))
 
-takes_backed : (instance : PlainInstance) (claim told : Claim) (value : ℕ) (lines : List (List (List ℕ))) → read_words (Taking instance claim value [] []) lines ≡ Ok told
-    → (front : List (List (List ℕ))) × (back : List (List (List ℕ))) × (lines ≡ front ++ (codes "proof" ∷ []) ∷ back) × AreTaken instance value front
+takes_backed : (instance : PlainInstance) (claim told : Claim) (value : ℕ) (lines : List (List (List ℕ)))
+    → read_words (Taking instance claim value [] []) lines ≡ Ok told
+    → (front : List (List (List ℕ))) × (back : List (List (List ℕ))) × (lines ≡ front ++ (codes "proof" ∷ []) ∷ back)
+    × AreTaken instance value front
     × (read_words (Refuting claim (begun (to_refute Answer instance claim))) back ≡ Ok told)
 takes_backed instance claim told value lines e =
-    let t = takes_told instance claim told value [] [] lines (record { there = λ k d h. absurd (omega arith); rising = λ k h. absurd (omega arith) }) e in
-    let r = no_first (groups_reason ((t.more_taken, place_verdict (subset instance t.more_taken) t.more) ∷ [])) (cond (nat_le value (worth instance t.more_taken)) None (Some TooLittle)) t.good in
+    let t = takes_told instance claim told value [] [] lines
+    (record { there = λ k d h. absurd (omega arith); rising = λ k h. absurd (omega arith) }) e in
+    let r = no_first (groups_reason ((t.more_taken, place_verdict (subset instance t.more_taken) t.more) ∷ []))
+    (cond (nat_le value (worth instance t.more_taken)) None (Some TooLittle)) t.good in
     let count : length t.more ≡ box_count (subset instance t.more_taken) * dims (subset instance t.more_taken) =
     numbered_length (codes "take") (box_count instance) (dims instance) t.front t.more_taken t.more t.are_lines
     ∙ ap (λ n. n * dims instance) (sym (length-map t.more_taken _)) in (
@@ -120,7 +157,8 @@ takes_backed instance claim told value lines e =
         are_lines = t.are_lines;
         set = t.set;
         packing = (places_tested (subset instance t.more_taken) t.more Good count).0
-            (group_good ((t.more_taken, place_verdict (subset instance t.more_taken) t.more) ∷ []) r.0 (t.more_taken, place_verdict (subset instance t.more_taken) t.more) (inl refl));
+            (group_good ((t.more_taken, place_verdict (subset instance t.more_taken) t.more) ∷ []) r.0
+            (t.more_taken, place_verdict (subset instance t.more_taken) t.more) (inl refl));
         enough = leb-true value (worth instance t.more_taken) (worth_enough _ r.1);
       },
       t.rest,
@@ -128,24 +166,32 @@ takes_backed instance claim told value lines e =
 
 -- ---- the `t` line of `none`
 
-exceeding_told : (instance : PlainInstance) (claim told : Claim) (m : ℕ) (lines : List (List (List ℕ))) → m ≤ dims instance → read_words (Exceeding instance claim m) lines ≡ Ok told
-    → (words : List (List ℕ)) × (lines ≡ words ∷ (codes "end" ∷ []) ∷ []) × IsExceedingLine instance m (words ∷ []) × (claim ≡ told)
+exceeding_told : (instance : PlainInstance) (claim told : Claim) (m : ℕ) (lines : List (List (List ℕ)))
+    → m ≤ dims instance → read_words (Exceeding instance claim m) lines ≡ Ok told
+    → (words : List (List ℕ)) × (lines ≡ words ∷ (codes "end" ∷ []) ∷ []) × IsExceedingLine instance m (words ∷ [])
+    × (claim ≡ told)
 exceeding_told instance claim told m [] few e = absurd (cc (e))
 exceeding_told instance claim told m (words ∷ lines) few e =
     let b = bind_ok (exceeding_line instance claim m words) (λ next. read_words next lines) told e in
-    let t = bind_ok (tree_token (is_word (codes "end") words) (token_of (dims instance) words)) (λ t. exceeding_token instance claim m t) b.0 b.1 in
+    let t = bind_ok (tree_token (is_word (codes "end") words) (token_of (dims instance) words))
+    (λ t. exceeding_token instance claim m t) b.0 b.1 in
     by_token t.0 (token_ok _ _ t.0 t.1) b.0 t.2 b.2
   where
-    by_token : (t : PlainToken) → token_of (dims instance) words ≡ Some t → (next : Stage) → exceeding_token instance claim m t ≡ Ok next → read_words next lines ≡ Ok told
-        → (words' : List (List ℕ)) × (words ∷ lines ≡ words' ∷ (codes "end" ∷ []) ∷ []) × IsExceedingLine instance m (words' ∷ []) × (claim ≡ told)
+    by_token : (t : PlainToken) → token_of (dims instance) words ≡ Some t → (next : Stage)
+        → exceeding_token instance claim m t ≡ Ok next → read_words next lines ≡ Ok told
+        → (words' : List (List ℕ)) × (words ∷ lines ≡ words' ∷ (codes "end" ∷ []) ∷ [])
+        × IsExceedingLine instance m (words' ∷ []) × (claim ≡ told)
     by_token (TooLarge v i) is next f r =
         let q = require_ok (names_box instance v && (nat_le 1 i && nat_le i m)) range _ next f in
-        let w = require_ok (nat_lt (container_side instance (pred i)) (side instance (pred v) (pred i))) _ (Ok (Ending claim (Some (dims instance)))) next q.1 in
+        let w = require_ok (nat_lt (container_side instance (pred i)) (side instance (pred v) (pred i))) _
+        (Ok (Ending claim (Some (dims instance)))) next q.1 in
         let p = and_parts _ _ q.0 in
         let box = and_parts _ _ p.0 in
         let dim = and_parts _ _ p.1 in
         let last = leb-true i m dim.1 in
-        let d = end_told claim told (Some (dims instance)) lines (subst (λ s. read_words s lines ≡ Ok told) (sym (ok_is (Ending claim (Some (dims instance))) next w.1)) r) in (
+        let d = end_told claim told (Some (dims instance)) lines
+        (subst (λ s. read_words s lines ≡ Ok told)
+        (sym (ok_is (Ending claim (Some (dims instance))) next w.1)) r) in (
           words,
           ap (λ ls. words ∷ ls) d.are,
           record {
@@ -177,7 +223,8 @@ exceeding_told instance claim told m (words ∷ lines) few e =
 
 -- ---- each claim
 
-pub backed_told : (heading : Heading) (instance : PlainInstance) (claim told : Claim) (lines : List (List (List ℕ))) → read_words (claimed heading instance claim) lines ≡ Ok told → BackedTold heading instance claim told lines
+pub backed_told : (heading : Heading) (instance : PlainInstance) (claim told : Claim) (lines : List (List (List ℕ)))
+    → read_words (claimed heading instance claim) lines ≡ Ok told → BackedTold heading instance claim told lines
 backed_told heading instance Fitting told lines e =
     let p = places_backed instance Fitting told (to_refute heading instance Fitting) lines e in
     let d = end_told Fitting told None p.1 p.4 in
@@ -186,23 +233,33 @@ backed_told heading instance NotFitting told lines e =
     let t = refuting_told NotFitting told (ToFit instance (start_exclusions heading instance)) lines e in
     record { backing = t.body; are = t.are; backs = t.refuting; same = t.same }
 backed_told heading instance (LeastHeight h) told lines e =
-    let p = places_backed (with_last_side instance h) (LeastHeight h) told (to_refute heading instance (LeastHeight h)) lines e in
-    let q = proved (ArePlaced (with_last_side instance h)) (LeastHeight h) told (ToFit (with_last_side instance (pred h)) (start_exclusions heading instance)) lines p.0 p.1 p.2 p.3 (proof_told (LeastHeight h) told (ToFit (with_last_side instance (pred h)) (start_exclusions heading instance)) p.1 p.4) in
+    let p = places_backed (with_last_side instance h) (LeastHeight h) told
+    (to_refute heading instance (LeastHeight h)) lines e in
+    let q = proved (ArePlaced (with_last_side instance h)) (LeastHeight h) told
+    (ToFit (with_last_side instance (pred h)) (start_exclusions heading instance)) lines p.0 p.1 p.2 p.3
+    (proof_told (LeastHeight h) told
+    (ToFit (with_last_side instance (pred h)) (start_exclusions heading instance)) p.1 p.4) in
     record { backing = q.0; are = q.1; backs = q.2; same = q.3 }
 backed_told heading instance (HeightBetween a b) told lines e =
-    let p = places_backed (with_last_side instance b) (HeightBetween a b) told (to_refute heading instance (HeightBetween a b)) lines e in
-    let q = proved (ArePlaced (with_last_side instance b)) (HeightBetween a b) told (ToFit (with_last_side instance a) (start_exclusions heading instance)) lines p.0 p.1 p.2 p.3 (proof_told (HeightBetween a b) told (ToFit (with_last_side instance a) (start_exclusions heading instance)) p.1 p.4) in
+    let p = places_backed (with_last_side instance b) (HeightBetween a b) told
+    (to_refute heading instance (HeightBetween a b)) lines e in
+    let q = proved (ArePlaced (with_last_side instance b)) (HeightBetween a b) told
+    (ToFit (with_last_side instance a) (start_exclusions heading instance)) lines p.0 p.1 p.2 p.3
+    (proof_told (HeightBetween a b) told
+    (ToFit (with_last_side instance a) (start_exclusions heading instance)) p.1 p.4) in
     record { backing = q.0; are = q.1; backs = q.2; same = q.3 }
 backed_told heading instance NoHeight told lines e =
     let t = exceeding_told instance NoHeight told (dims instance - 1) lines (omega arith) e in
     record { backing = t.0 ∷ []; are = t.1; backs = t.2; same = t.3 }
 backed_told heading instance (LeastBins k) told lines e =
     let p = shares_backed instance (LeastBins k) told k lines e in
-    let q = proved (AreShared instance k) (LeastBins k) told (ToFitIn instance (pred k)) lines p.0 p.1 p.2 p.3 (proof_told (LeastBins k) told (ToFitIn instance (pred k)) p.1 p.4) in
+    let q = proved (AreShared instance k) (LeastBins k) told (ToFitIn instance (pred k)) lines p.0 p.1 p.2 p.3
+    (proof_told (LeastBins k) told (ToFitIn instance (pred k)) p.1 p.4) in
     record { backing = q.0; are = q.1; backs = q.2; same = q.3 }
 backed_told heading instance (BinsBetween a b) told lines e =
     let p = shares_backed instance (BinsBetween a b) told b lines e in
-    let q = proved (AreShared instance b) (BinsBetween a b) told (ToFitIn instance a) lines p.0 p.1 p.2 p.3 (proof_told (BinsBetween a b) told (ToFitIn instance a) p.1 p.4) in
+    let q = proved (AreShared instance b) (BinsBetween a b) told (ToFitIn instance a) lines p.0 p.1 p.2 p.3
+    (proof_told (BinsBetween a b) told (ToFitIn instance a) p.1 p.4) in
     record { backing = q.0; are = q.1; backs = q.2; same = q.3 }
 backed_told heading instance NoBins told lines e =
     let t = exceeding_told instance NoBins told (dims instance) lines (omega arith) e in
@@ -210,12 +267,24 @@ backed_told heading instance NoBins told lines e =
 backed_told heading instance (GreatestValue v) told lines e =
     let p = takes_backed instance (GreatestValue v) told v lines e in
     let t = refuting_told (GreatestValue v) told (ToReach instance (suc v)) p.1 p.4 in
-    let q = proved (AreTaken instance v) (GreatestValue v) told (ToReach instance (suc v)) lines p.0 ((codes "proof" ∷ []) ∷ p.1) p.2 p.3
-    (record { body = t.body; are = ap (λ ls. (codes "proof" ∷ []) ∷ ls) t.are; refuting = t.refuting; same = t.same }) in
+    let q = proved (AreTaken instance v) (GreatestValue v) told (ToReach instance (suc v)) lines p.0
+    ((codes "proof" ∷ []) ∷ p.1) p.2 p.3
+    (record {
+      body = t.body;
+      are = ap (λ ls. (codes "proof" ∷ []) ∷ ls) t.are;
+      refuting = t.refuting;
+      same = t.same;
+    }) in
     record { backing = q.0; are = q.1; backs = q.2; same = q.3 }
 backed_told heading instance (ValueBetween a b) told lines e =
     let p = takes_backed instance (ValueBetween a b) told a lines e in
     let t = refuting_told (ValueBetween a b) told (ToReach instance b) p.1 p.4 in
-    let q = proved (AreTaken instance a) (ValueBetween a b) told (ToReach instance b) lines p.0 ((codes "proof" ∷ []) ∷ p.1) p.2 p.3
-    (record { body = t.body; are = ap (λ ls. (codes "proof" ∷ []) ∷ ls) t.are; refuting = t.refuting; same = t.same }) in
+    let q = proved (AreTaken instance a) (ValueBetween a b) told (ToReach instance b) lines p.0
+    ((codes "proof" ∷ []) ∷ p.1) p.2 p.3
+    (record {
+      body = t.body;
+      are = ap (λ ls. (codes "proof" ∷ []) ∷ ls) t.are;
+      refuting = t.refuting;
+      same = t.same;
+    }) in
     record { backing = q.0; are = q.1; backs = q.2; same = q.3 }

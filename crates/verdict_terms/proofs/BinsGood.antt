@@ -14,22 +14,33 @@ use Rattle.verdict_terms.specs.Stages.{bins_reason}
 use Rattle.verdict_terms.proofs.PlacesTold.{group_good}
 
 -- as many coordinates as a set has
-pub set_places : (instance : PlainInstance) (places keep : List ℕ) → length (places_of instance places keep) ≡ box_count (subset instance keep) * dims (subset instance keep)
+pub set_places : (instance : PlainInstance) (places keep : List ℕ)
+    → length (places_of instance places keep) ≡ box_count (subset instance keep) * dims (subset instance keep)
 set_places instance places keep =
     length_parts (λ v. map (λ i. place instance places v i) (range_with_len 0 (dims instance))) (dims instance)
     (λ v. length-map-range_with_len (λ i. place instance places v i) 0 (dims instance)) keep
     ∙ ap (λ n. n * dims instance) (sym (length-map keep _))
 
-pub bins_good : (instance : PlainInstance) (k : ℕ) (bins places : List ℕ) → length bins ≡ box_count instance → length places ≡ length bins * dims instance → All (λ b. b < k) bins
+pub bins_good : (instance : PlainInstance) (k : ℕ) (bins places : List ℕ) → length bins ≡ box_count instance
+    → length places ≡ length bins * dims instance → All (λ b. b < k) bins
     → bins_reason instance k bins places ≡ None → IsBinPacking instance k bins places
 bins_good instance k bins places count enough below good = record {
   count = count;
   placed = enough ∙ ap (λ n. n * dims instance) count;
   numbers = below;
   packed = λ b h.
-      (places_tested (subset instance (in_bin bins b)) (places_of instance places (in_bin bins b)) Good (set_places instance places (in_bin bins b))).0
-      (group_good (map (λ b. (in_bin bins b, place_verdict (subset instance (in_bin bins b)) (places_of instance places (in_bin bins b)))) (range_with_len 0 k)) good
+      (places_tested (subset instance (in_bin bins b)) (places_of instance places (in_bin bins b)) Good
+      (set_places instance places (in_bin bins b))).0
+      (group_good (map (λ b. (
+        in_bin bins b,
+        place_verdict (subset instance (in_bin bins b)) (places_of instance places (in_bin bins b)),
+      ))
+      (range_with_len 0 k)) good
       (in_bin bins b, place_verdict (subset instance (in_bin bins b)) (places_of instance places (in_bin bins b)))
-      (in_map (λ b. (in_bin bins b, place_verdict (subset instance (in_bin bins b)) (places_of instance places (in_bin bins b)))) b (range_with_len 0 k)
+      (in_map (λ b. (
+        in_bin bins b,
+        place_verdict (subset instance (in_bin bins b))
+            (places_of instance places (in_bin bins b)),
+      )) b (range_with_len 0 k)
       (in_range 0 k b (omega arith) (omega (arith, h)))));
 }

@@ -1,5 +1,7 @@
 -- The bytes of a document, fed from its start with each line taken as it ends, give its verdict.
-use Rattle.std.proofs.Common.{◌≡◌, ℕ, suc, pred, ◌+◌, ◌-◌, ◌*◌, ◌≤◌, refl, sym, ap, ap₂, subst, ◌∙◌, arith, Bool, true, false, cond, not, ◌&&◌, ◌==◌, List, [], ◌∷◌, ◌++◌, take, length, Option, Some, None, Result, Ok, Err, codes}
+use Rattle.std.proofs.Common.{◌≡◌, ℕ, suc, pred, ◌+◌, ◌-◌, ◌*◌, ◌≤◌, refl, sym, ap, ap₂, subst, ◌∙◌, arith, Bool, true}
+use Rattle.std.proofs.Common.{false, cond, not, ◌&&◌, ◌==◌, List, [], ◌∷◌, ◌++◌, take, length, Option, Some, None}
+use Rattle.std.proofs.Common.{Result, Ok, Err, codes}
 use Rattle.std.specs.Prelude.{nat_le, nat_lt}
 use Rattle.std.specs.List.{list_all}
 use mathlib.Core.Path.{fun_ext}
@@ -7,18 +9,22 @@ use Rattle.std.proofs.Math.ListN.{length-set}
 use Rattle.packing_terms.specs.Packing.{PlainInstance, dims, box_count, container_side, side}
 use Rattle.packing_terms.specs.Goals.{with_last_side}
 use Rattle.packing_terms.specs.Tokens.{PlainToken}
-use Rattle.packing_terms.specs.Tokens.PlainToken.{Apart, Order, Rules, TooLarge, Scales, Assign, Choose, SetRefuted, ValueShort, GlobalScales}
+use Rattle.packing_terms.specs.Tokens.PlainToken.{Apart, Order, Rules, TooLarge, Scales, Assign, Choose, SetRefuted}
+use Rattle.packing_terms.specs.Tokens.PlainToken.{ValueShort, GlobalScales}
 use Rattle.text_terms.specs.Lines.{Line, line_of, text_lines, cut_line, cut_words, is_line_feed, same_bytes}
 use Rattle.packing_terms.specs.Results.{◌>>=◌}
 use Rattle.text_terms.specs.Texts.{Parts, no_parts, add_line, at_end as end_of, refuse, IsWithinLimits}
-use Rattle.text_terms.specs.Feeding.{Lexer, new_lexer, end_line, add_byte, held_of, feed, finish, NumberedLine, told_now, lines_fed, numbered_lines}
+use Rattle.text_terms.specs.Feeding.{Lexer, new_lexer, end_line, add_byte, held_of, feed, finish, NumberedLine}
+use Rattle.text_terms.specs.Feeding.{told_now, lines_fed, numbered_lines}
 use Rattle.text_terms.proofs.Cut.{same_front, words_cut}
 use Rattle.text_terms.proofs.Good.{good_start, line_good, parts_limits, bind_ok}
 use Rattle.text_terms.proofs.LinesFed.{texts_are_lines}
 use Rattle.check_terms.specs.Judging.{names_box}
 use Rattle.document_terms.specs.declared.claim.SolvingJob.{SolvingJob}
 use Rattle.document_terms.specs.declared.claim.Claim.{Claim}
-use Rattle.document_terms.specs.declared.claim.Claim.TheVariants.{Fitting, NotFitting, LeastHeight, HeightBetween, NoHeight, LeastBins, BinsBetween, NoBins, GreatestValue, ValueBetween}
+use Rattle.document_terms.specs.declared.claim.Claim.TheVariants.{Fitting, NotFitting, LeastHeight, HeightBetween}
+use Rattle.document_terms.specs.declared.claim.Claim.TheVariants.{NoHeight, LeastBins, BinsBetween, NoBins}
+use Rattle.document_terms.specs.declared.claim.Claim.TheVariants.{GreatestValue, ValueBetween}
 use Rattle.verdict_terms.specs.declared.heading.Heading.{Heading}
 use Rattle.verdict_terms.specs.declared.heading.Heading.TheVariants.{Answer}
 use Rattle.verdict_terms.specs.declared.reason.Reason.{Reason}
@@ -28,9 +34,14 @@ use Rattle.document_terms.specs.TokenLines.{token_of}
 use Rattle.document_terms.proofs.Cuts.{token_cut, cut_rest}
 use Rattle.verdict_terms.specs.Trees.{Refuted, Tree, begun, is_whole, refuted_dims, tree_dims, tree_after}
 use Rattle.verdict_terms.specs.Results.{claim_of}
-use Rattle.verdict_terms.specs.Stages.{Stage, text_fault, end_of_parts, is_result, reading_line, rest_of, words_line, share_line, take_box_line, exceeding_token, refused_by, places_reason, bins_reason, taken_reason, to_refute, is_word, tree_token, coded, late_line, late_by, grown_tree, placed, claimed, filled_line, stage_after, is_blank}
-use Rattle.verdict_terms.specs.Stages.Stage.{Beginning, Reading, Placing, Sharing, Taking, Proving, Refuting, Exceeding, Ending, Ended}
-use Rattle.verdict_terms.specs.Documents.{Refusal, document_at_line, document_at_end, read_document_lines, headed_verdict}
+use Rattle.verdict_terms.specs.Stages.{Stage, text_fault, end_of_parts, is_result, reading_line, rest_of, words_line}
+use Rattle.verdict_terms.specs.Stages.{share_line, take_box_line, exceeding_token, refused_by, places_reason}
+use Rattle.verdict_terms.specs.Stages.{bins_reason, taken_reason, to_refute, is_word, tree_token, coded, late_line}
+use Rattle.verdict_terms.specs.Stages.{late_by, grown_tree, placed, claimed, filled_line, stage_after, is_blank}
+use Rattle.verdict_terms.specs.Stages.Stage.{Beginning, Reading, Placing, Sharing, Taking, Proving, Refuting, Exceeding}
+use Rattle.verdict_terms.specs.Stages.Stage.{Ending, Ended}
+use Rattle.verdict_terms.specs.Documents.{Refusal, document_at_line, document_at_end, read_document_lines}
+use Rattle.verdict_terms.specs.Documents.{headed_verdict}
 use Rattle.verdict_terms.specs.Fed.{taken_line, fed_verdict, DocumentsAreFed}
 use Rattle.verdict_terms.proofs.Passed.{require_ok, refused_ok, ok_is}
 use Rattle.verdict_terms.proofs.Cuts.{numbers_cut, is_word_cut, heading_cut, claim_cut}
@@ -113,37 +124,49 @@ place_well : (b : Bool) (o : Option Reason) (stage later : Stage) → IsWell sta
 place_well true o stage later w v next e = gives_well stage w next (refused_ok o (Ok stage) next e).1
 place_well false o stage later w v next e = gives_well later v next e
 
-share_well : (instance : PlainInstance) (claim : Claim) (k : ℕ) (bins places ns : List ℕ) → dims instance ≤ 4 → GivesWell (share_line instance claim k bins places ns)
+share_well : (instance : PlainInstance) (claim : Claim) (k : ℕ) (bins places ns : List ℕ) → dims instance ≤ 4
+    → GivesWell (share_line instance claim k bins places ns)
 share_well instance claim k bins places [] few next e = absurd (cc (e))
 share_well instance claim k bins places (b ∷ ns) few next e =
     let q = require_ok (nat_le 1 b && nat_le b k) range _ next e in
     let c = bind_ok (coordinates ns) _ next q.1 in
-    place_well (length (bins ++ pred b ∷ []) == box_count instance) (bins_reason instance k (bins ++ pred b ∷ []) (places ++ c.0)) (placed claim (to_refute Answer instance claim))
-    (Sharing instance claim k (bins ++ pred b ∷ []) (places ++ c.0)) (placed_well claim (to_refute Answer instance claim) (refute_well instance few Answer claim)) few next c.2
+    place_well (length (bins ++ pred b ∷ []) == box_count instance)
+    (bins_reason instance k (bins ++ pred b ∷ []) (places ++ c.0)) (placed claim (to_refute Answer instance claim))
+    (Sharing instance claim k (bins ++ pred b ∷ []) (places ++ c.0))
+    (placed_well claim (to_refute Answer instance claim) (refute_well instance few Answer claim)) few next c.2
 
-take_well : (instance : PlainInstance) (claim : Claim) (value : ℕ) (taken places ns : List ℕ) → dims instance ≤ 4 → GivesWell (take_box_line instance claim value taken places ns)
+take_well : (instance : PlainInstance) (claim : Claim) (value : ℕ) (taken places ns : List ℕ) → dims instance ≤ 4
+    → GivesWell (take_box_line instance claim value taken places ns)
 take_well instance claim value taken places [] few next e = absurd (cc (e))
 take_well instance claim value taken places (v ∷ ns) few next e =
     let q = require_ok (names_box instance v && list_all (λ u. nat_lt u (pred v)) taken) range _ next e in
     let c = bind_ok (coordinates ns) _ next q.1 in
     gives_well (Taking instance claim value (taken ++ pred v ∷ []) (places ++ c.0)) few next c.2
 
-taking_well : (instance : PlainInstance) (claim : Claim) (value : ℕ) (taken places : List ℕ) (words : List (List ℕ)) (b : Bool) → dims instance ≤ 4
+taking_well : (instance : PlainInstance) (claim : Claim) (value : ℕ) (taken places : List ℕ) (words : List (List ℕ))
+    (b : Bool) → dims instance ≤ 4
     → GivesWell (elim b as (λ x. Result Stage Reason) [
-      | true ↦ refused_by (taken_reason instance value taken places) (Ok (Refuting claim (begun (to_refute Answer instance claim))))
-      | false ↦ numbers_line (codes "take") (suc (dims instance)) words >>= λ ns. take_box_line instance claim value taken places ns
+      | true ↦ refused_by (taken_reason instance value taken places)
+          (Ok (Refuting claim (begun (to_refute Answer instance claim))))
+      | false ↦ numbers_line (codes "take") (suc (dims instance)) words
+          >>= λ ns. take_box_line instance claim value taken places ns
     ])
 taking_well instance claim value taken places words true few next e =
-    gives_well (Refuting claim (begun (to_refute Answer instance claim))) (begun_well (to_refute Answer instance claim) (refute_well instance few Answer claim)) next
-    (refused_ok (taken_reason instance value taken places) (Ok (Refuting claim (begun (to_refute Answer instance claim)))) next e).1
+    gives_well (Refuting claim (begun (to_refute Answer instance claim)))
+    (begun_well (to_refute Answer instance claim) (refute_well instance few Answer claim)) next
+    (refused_ok (taken_reason instance value taken places)
+    (Ok (Refuting claim (begun (to_refute Answer instance claim)))) next e).1
 taking_well instance claim value taken places words false few next e =
-    let n = bind_ok (numbers_line (codes "take") (suc (dims instance)) words) (λ ns. take_box_line instance claim value taken places ns) next e in
+    let n = bind_ok (numbers_line (codes "take") (suc (dims instance)) words)
+    (λ ns. take_box_line instance claim value taken places ns) next e in
     take_well instance claim value taken places n.0 few next n.2
 
-exceeding_well : (instance : PlainInstance) (claim : Claim) (m : ℕ) (t : PlainToken) → dims instance ≤ 4 → GivesWell (exceeding_token instance claim m t)
+exceeding_well : (instance : PlainInstance) (claim : Claim) (m : ℕ) (t : PlainToken) → dims instance ≤ 4
+    → GivesWell (exceeding_token instance claim m t)
 exceeding_well instance claim m (TooLarge v i) few next e =
     let q = require_ok (names_box instance v && (nat_le 1 i && nat_le i m)) range _ next e in
-    let w = require_ok (nat_lt (container_side instance (pred i)) (side instance (pred v) (pred i))) _ (Ok (Ending claim (Some (dims instance)))) next q.1 in
+    let w = require_ok (nat_lt (container_side instance (pred i)) (side instance (pred v) (pred i))) _
+    (Ok (Ending claim (Some (dims instance)))) next q.1 in
     gives_well (Ending claim (Some (dims instance))) few next w.1
 exceeding_well instance claim m (Apart i u v) few next e = absurd (cc (e))
 exceeding_well instance claim m (Order i u v) few next e = absurd (cc (e))
@@ -162,47 +185,76 @@ words_well (Reading h j p) words well next e = absurd (cc (e))
 words_well (Placing i c r p) words well next e =
     let n = bind_ok (numbers_line (codes "place") (dims i) words) _ next e in
     let x = bind_ok (coordinates n.0) _ next n.2 in
-    place_well (length (p ++ x.0) == box_count i * dims i) (places_reason i (p ++ x.0)) (placed c r) (Placing i c r (p ++ x.0)) (placed_well c r well.1) well next x.2
+    place_well (length (p ++ x.0) == box_count i * dims i) (places_reason i (p ++ x.0)) (placed c r)
+    (Placing i c r (p ++ x.0)) (placed_well c r well.1) well next x.2
 words_well (Sharing i c k b p) words well next e =
-    let n = bind_ok (numbers_line (codes "place") (suc (dims i)) words) (λ ns. share_line i c k b p ns) next e in share_well i c k b p n.0 well next n.2
-words_well (Taking i c v t p) words well next e = taking_well i c v t p words (is_word (codes "proof") words) well next e
+    let n = bind_ok (numbers_line (codes "place") (suc (dims i)) words) (λ ns. share_line i c k b p ns) next e in
+    share_well i c k b p n.0 well next n.2
+words_well (Taking i c v t p) words well next e =
+    taking_well i c v t p words (is_word (codes "proof") words) well next e
 words_well (Proving c r) words well next e =
-    gives_well (Refuting c (begun r)) (begun_well r well) next (require_ok (is_word (codes "proof") words) form (Ok (Refuting c (begun r))) next e).1
+    gives_well (Refuting c (begun r)) (begun_well r well) next
+    (require_ok (is_word (codes "proof") words) form (Ok (Refuting c (begun r))) next e).1
 words_well (Refuting c t) words well next e =
-    let b = bind_ok (tree_token (is_word (codes "end") words) (token_of (tree_dims t) words)) (λ x. coded (tree_after t x) >>= λ more. Ok (grown_tree c more)) next e in
+    let b = bind_ok (tree_token (is_word (codes "end") words) (token_of (tree_dims t) words))
+    (λ x. coded (tree_after t x) >>= λ more. Ok (grown_tree c more)) next e in
     let m = bind_ok (coded (tree_after t b.0)) (λ more. Ok (grown_tree c more)) next b.2 in
-    gives_well (grown_tree c m.0) (grown_well c m.0 (subst (λ n. n ≤ 4) (sym (dims_same t m.0 b.0 (coded_ok (tree_after t b.0) m.0 m.1))) well)) next m.2
+    gives_well (grown_tree c m.0) (grown_well c m.0
+    (subst (λ n. n ≤ 4) (sym (dims_same t m.0 b.0 (coded_ok (tree_after t b.0) m.0 m.1))) well)) next m.2
 words_well (Exceeding i c m) words well next e =
-    let b = bind_ok (tree_token (is_word (codes "end") words) (token_of (dims i) words)) (λ x. exceeding_token i c m x) next e in exceeding_well i c m b.0 well next b.2
-words_well (Ending c b) words well next e = gives_well (Ended c) tt next (require_ok (is_word (codes "end") words) (late_line b words) (Ok (Ended c)) next e).1
+    let b = bind_ok (tree_token (is_word (codes "end") words) (token_of (dims i) words)) (λ x. exceeding_token i c m x)
+    next e in exceeding_well i c m b.0 well next b.2
+words_well (Ending c b) words well next e =
+    gives_well (Ended c) tt next (require_ok (is_word (codes "end") words) (late_line b words) (Ok (Ended c)) next e).1
 words_well (Ended c) words well next e = absurd (cc (e))
 
-reading_well : (b : Bool) (heading : Heading) (job : SolvingJob) (parts : Parts) (line : Line) → IsWithinLimits parts → GivesWell (reading_line b heading job parts line)
+reading_well : (b : Bool) (heading : Heading) (job : SolvingJob) (parts : Parts) (line : Line) → IsWithinLimits parts
+    → GivesWell (reading_line b heading job parts line)
 reading_well true heading job parts line well next e =
-    let i = bind_ok (end_of_parts (end_of parts 0)) (λ instance. claim_of job instance (rest_of line.words) >>= λ claim. Ok (claimed heading instance claim)) next e in
+    let i = bind_ok (end_of_parts (end_of parts 0))
+    (λ instance. claim_of job instance (rest_of line.words)
+    >>= λ claim. Ok (claimed heading instance claim)) next e in
     let c = bind_ok (claim_of job i.0 (rest_of line.words)) (λ claim. Ok (claimed heading i.0 claim)) next i.2 in
     let limits = parts_limits parts i.0 0 well (end_ok (end_of parts 0) i.0 i.1) in
     gives_well (claimed heading i.0 c.0) (claimed_well i.0 limits.dimensions.1 heading c.0) next c.2
 reading_well false heading job parts line well next e =
     let m = bind_ok (text_fault (add_line parts line)) (λ more. Ok (Reading heading job more)) next e in
-    gives_well (Reading heading job m.0) (line_good parts m.0 line well (fault_ok (add_line parts line) m.0 m.1)) next m.2
+    gives_well (Reading heading job m.0)
+    (line_good parts m.0 line well (fault_ok (add_line parts line) m.0 m.1)) next m.2
 
 filled_well : (stage : Stage) (line : Line) → IsWell stage → GivesWell (filled_line stage line)
-filled_well (Beginning h) line well next e = words_well (Beginning h) line.words well next (require_ok (not line.bad) form (words_line (Beginning h) line.words) next e).1
+filled_well (Beginning h) line well next e =
+    words_well (Beginning h) line.words well next
+    (require_ok (not line.bad) form (words_line (Beginning h) line.words) next e).1
 filled_well (Reading h j p) line well next e = reading_well (is_result line) h j p line well next e
-filled_well (Placing i c r p) line well next e = words_well (Placing i c r p) line.words well next (require_ok (not line.bad) form (words_line (Placing i c r p) line.words) next e).1
-filled_well (Sharing i c k b p) line well next e = words_well (Sharing i c k b p) line.words well next (require_ok (not line.bad) form (words_line (Sharing i c k b p) line.words) next e).1
-filled_well (Taking i c v t p) line well next e = words_well (Taking i c v t p) line.words well next (require_ok (not line.bad) form (words_line (Taking i c v t p) line.words) next e).1
-filled_well (Proving c r) line well next e = words_well (Proving c r) line.words well next (require_ok (not line.bad) form (words_line (Proving c r) line.words) next e).1
-filled_well (Refuting c t) line well next e = words_well (Refuting c t) line.words well next (require_ok (not line.bad) form (words_line (Refuting c t) line.words) next e).1
-filled_well (Exceeding i c m) line well next e = words_well (Exceeding i c m) line.words well next (require_ok (not line.bad) form (words_line (Exceeding i c m) line.words) next e).1
-filled_well (Ending c b) line well next e = words_well (Ending c b) line.words well next (require_ok (not line.bad) form (words_line (Ending c b) line.words) next e).1
+filled_well (Placing i c r p) line well next e =
+    words_well (Placing i c r p) line.words well next
+    (require_ok (not line.bad) form (words_line (Placing i c r p) line.words) next e).1
+filled_well (Sharing i c k b p) line well next e =
+    words_well (Sharing i c k b p) line.words well next
+    (require_ok (not line.bad) form (words_line (Sharing i c k b p) line.words) next e).1
+filled_well (Taking i c v t p) line well next e =
+    words_well (Taking i c v t p) line.words well next
+    (require_ok (not line.bad) form (words_line (Taking i c v t p) line.words) next e).1
+filled_well (Proving c r) line well next e =
+    words_well (Proving c r) line.words well next
+    (require_ok (not line.bad) form (words_line (Proving c r) line.words) next e).1
+filled_well (Refuting c t) line well next e =
+    words_well (Refuting c t) line.words well next
+    (require_ok (not line.bad) form (words_line (Refuting c t) line.words) next e).1
+filled_well (Exceeding i c m) line well next e =
+    words_well (Exceeding i c m) line.words well next
+    (require_ok (not line.bad) form (words_line (Exceeding i c m) line.words) next e).1
+filled_well (Ending c b) line well next e =
+    words_well (Ending c b) line.words well next
+    (require_ok (not line.bad) form (words_line (Ending c b) line.words) next e).1
 filled_well (Ended c) line well next e = absurd (cc (e))
 
 stage_well : (stage : Stage) (line : Line) → IsWell stage → GivesWell (stage_after stage line)
 stage_well stage line well next e = go (is_blank line) e
   where
-    go : (b : Bool) → ◌≡◌ {A = Result Stage Reason} (elim b [ true ↦ Ok stage | false ↦ filled_line stage line ]) (Ok next) → IsWell next
+    go : (b : Bool) → ◌≡◌ {A = Result Stage Reason} (elim b [ true ↦ Ok stage | false ↦ filled_line stage line ])
+        (Ok next) → IsWell next
     go true f = gives_well stage well next f
     go false f = filled_well stage line well next f
 
@@ -221,46 +273,65 @@ behind_numbers instance claim refuted places ns =
 abbrev behind_taking : PlainInstance → Claim → ℕ → List ℕ → List ℕ → Bool → Result (List ℕ) Reason → Result Stage Reason
 behind_taking instance claim value taken places b r =
     elim b [
-      | true ↦ refused_by (taken_reason instance value taken places) (Ok (Refuting claim (begun (to_refute Answer instance claim))))
+      | true ↦ refused_by (taken_reason instance value taken places)
+          (Ok (Refuting claim (begun (to_refute Answer instance claim))))
       | false ↦ r >>= λ ns. take_box_line instance claim value taken places ns
     ]
 
-words_told : (stage : Stage) (w : List ℕ) (ws : List (List ℕ)) → IsWell stage → words_line stage (take 21 w ∷ cut_rest ws) ≡ words_line stage (w ∷ ws)
+words_told : (stage : Stage) (w : List ℕ) (ws : List (List ℕ)) → IsWell stage
+    → words_line stage (take 21 w ∷ cut_rest ws) ≡ words_line stage (w ∷ ws)
 words_told (Beginning h) w ws well = heading_cut h w ws
 words_told (Reading h j p) w ws well = refl
 words_told (Placing i c r p) w ws well =
-    ap (λ x. x >>= λ ns. behind_numbers i c r p ns) (numbers_cut (codes "place") (dims i) w ws (omega arith) (let f = well.0 in omega (arith, f)))
+    ap (λ x. x >>= λ ns. behind_numbers i c r p ns)
+    (numbers_cut (codes "place") (dims i) w ws (omega arith) (let f = well.0 in omega (arith, f)))
 words_told (Sharing i c k b p) w ws well =
-    ap (λ x. x >>= λ ns. share_line i c k b p ns) (numbers_cut (codes "place") (suc (dims i)) w ws (omega arith) (omega (arith, well)))
+    ap (λ x. x >>= λ ns. share_line i c k b p ns)
+    (numbers_cut (codes "place") (suc (dims i)) w ws (omega arith) (omega (arith, well)))
 words_told (Taking i c v t p) w ws well =
-    ap₂ (λ b x. behind_taking i c v t p b x) (is_word_cut (codes "proof") w ws (omega arith)) (numbers_cut (codes "take") (suc (dims i)) w ws (omega arith) (omega (arith, well)))
-words_told (Proving c r) w ws well = ap (λ b. require b form (Ok (Refuting c (begun r)))) (is_word_cut (codes "proof") w ws (omega arith))
+    ap₂ (λ b x. behind_taking i c v t p b x) (is_word_cut (codes "proof") w ws (omega arith))
+    (numbers_cut (codes "take") (suc (dims i)) w ws (omega arith) (omega (arith, well)))
+words_told (Proving c r) w ws well =
+    ap (λ b. require b form (Ok (Refuting c (begun r)))) (is_word_cut (codes "proof") w ws (omega arith))
 words_told (Refuting c t) w ws well =
-    ap₂ (λ b o. tree_token b o >>= λ x. coded (tree_after t x) >>= λ more. Ok (grown_tree c more)) (is_word_cut (codes "end") w ws (omega arith)) (token_cut (tree_dims t) w ws well)
+    ap₂ (λ b o. tree_token b o >>= λ x. coded (tree_after t x) >>= λ more. Ok (grown_tree c more))
+    (is_word_cut (codes "end") w ws (omega arith)) (token_cut (tree_dims t) w ws well)
 words_told (Exceeding i c m) w ws well =
-    ap₂ (λ b o. tree_token b o >>= λ x. exceeding_token i c m x) (is_word_cut (codes "end") w ws (omega arith)) (token_cut (dims i) w ws well)
+    ap₂ (λ b o. tree_token b o >>= λ x. exceeding_token i c m x) (is_word_cut (codes "end") w ws (omega arith))
+    (token_cut (dims i) w ws well)
 words_told (Ending c (Some d)) w ws well =
-    ap₂ (λ b o. require b (late_by o) (Ok (Ended c))) (is_word_cut (codes "end") w ws (omega arith)) (token_cut d w ws well)
-words_told (Ending c None) w ws well = ap (λ b. require b form (Ok (Ended c))) (is_word_cut (codes "end") w ws (omega arith))
+    ap₂ (λ b o. require b (late_by o) (Ok (Ended c))) (is_word_cut (codes "end") w ws (omega arith))
+    (token_cut d w ws well)
+words_told (Ending c None) w ws well =
+    ap (λ b. require b form (Ok (Ended c))) (is_word_cut (codes "end") w ws (omega arith))
 words_told (Ended c) w ws well = refl
 
-reading_told_by : (heading : Heading) (job : SolvingJob) (parts : Parts) (w : List ℕ) (ws : List (List ℕ)) (n m : ℕ) → IsWithinLimits parts
-    → filled_line (Reading heading job parts) (record { bad = false; count = n; words = take 21 w ∷ cut_rest ws }) ≡ filled_line (Reading heading job parts) (record { bad = false; count = m; words = w ∷ ws })
+reading_told_by : (heading : Heading) (job : SolvingJob) (parts : Parts) (w : List ℕ) (ws : List (List ℕ)) (n m : ℕ)
+    → IsWithinLimits parts
+    → filled_line (Reading heading job parts) (record { bad = false; count = n; words = take 21 w ∷ cut_rest ws })
+    ≡ filled_line (Reading heading job parts) (record { bad = false; count = m; words = w ∷ ws })
 reading_told_by heading job parts w ws n m well =
-    ap (λ b. reading_line b heading job parts (record { bad = false; count = n; words = take 21 w ∷ cut_rest ws })) (same_front 21 w (codes "result") (omega arith))
+    ap (λ b. reading_line b heading job parts (record { bad = false; count = n; words = take 21 w ∷ cut_rest ws }))
+    (same_front 21 w (codes "result") (omega arith))
     ∙ go (same_bytes w (codes "result"))
   where
-    go : (b : Bool) → reading_line b heading job parts (record { bad = false; count = n; words = take 21 w ∷ cut_rest ws }) ≡ reading_line b heading job parts (record { bad = false; count = m; words = w ∷ ws })
-    go true = ap (λ (f : PlainInstance → Result Claim Reason). end_of_parts (end_of parts 0) >>= λ instance. f instance >>= λ claim. Ok (claimed heading instance claim)) (fun_ext (λ instance. claim_cut job instance ws))
-    go false = ap (λ r. text_fault (refuse false 8 r) >>= λ more. Ok (Reading heading job more)) (words_cut parts (w ∷ ws) well.few)
+    go : (b : Bool) → reading_line b heading job parts
+        (record { bad = false; count = n; words = take 21 w ∷ cut_rest ws })
+        ≡ reading_line b heading job parts (record { bad = false; count = m; words = w ∷ ws })
+    go true = ap (λ (f : PlainInstance → Result Claim Reason). end_of_parts (end_of parts 0) >>= λ instance. f instance
+        >>= λ claim. Ok (claimed heading instance claim)) (fun_ext (λ instance. claim_cut job instance ws))
+    go false = ap (λ r. text_fault (refuse false 8 r) >>= λ more. Ok (Reading heading job more))
+        (words_cut parts (w ∷ ws) well.few)
 
 filled_told : (stage : Stage) (bad : Bool) (w : List ℕ) (ws : List (List ℕ)) (n m : ℕ) → IsWell stage
-    → filled_line stage (record { bad = bad; count = n; words = take 21 w ∷ cut_rest ws }) ≡ filled_line stage (record { bad = bad; count = m; words = w ∷ ws })
+    → filled_line stage (record { bad = bad; count = n; words = take 21 w ∷ cut_rest ws })
+    ≡ filled_line stage (record { bad = bad; count = m; words = w ∷ ws })
 filled_told (Beginning h) bad w ws n m well = ap (require (not bad) form) (words_told (Beginning h) w ws well)
 filled_told (Reading h j p) true w ws n m well = refl
 filled_told (Reading h j p) false w ws n m well = reading_told_by h j p w ws n m well
 filled_told (Placing i c r p) bad w ws n m well = ap (require (not bad) form) (words_told (Placing i c r p) w ws well)
-filled_told (Sharing i c k b p) bad w ws n m well = ap (require (not bad) form) (words_told (Sharing i c k b p) w ws well)
+filled_told (Sharing i c k b p) bad w ws n m well =
+    ap (require (not bad) form) (words_told (Sharing i c k b p) w ws well)
 filled_told (Taking i c v t p) bad w ws n m well = ap (require (not bad) form) (words_told (Taking i c v t p) w ws well)
 filled_told (Proving c r) bad w ws n m well = ap (require (not bad) form) (words_told (Proving c r) w ws well)
 filled_told (Refuting c t) bad w ws n m well = ap (require (not bad) form) (words_told (Refuting c t) w ws well)
@@ -269,10 +340,12 @@ filled_told (Ending c b) bad w ws n m well = ap (require (not bad) form) (words_
 filled_told (Ended c) bad w ws n m well = refl
 
 line_told : (stage : Stage) (bad : Bool) (words : List (List ℕ)) (n m : ℕ) → IsWell stage
-    → stage_after stage (record { bad = bad; count = n; words = cut_words words }) ≡ stage_after stage (record { bad = bad; count = m; words = words })
+    → stage_after stage (record { bad = bad; count = n; words = cut_words words })
+    ≡ stage_after stage (record { bad = bad; count = m; words = words })
 line_told stage true [] n m well = bad_same stage
   where
-    bad_same : (s : Stage) → filled_line s (record { bad = true; count = n; words = [] }) ≡ filled_line s (record { bad = true; count = m; words = [] })
+    bad_same : (s : Stage) → filled_line s (record { bad = true; count = n; words = [] })
+        ≡ filled_line s (record { bad = true; count = m; words = [] })
     bad_same (Beginning h) = refl
     bad_same (Reading h j p) = refl
     bad_same (Placing i c r p) = refl
@@ -294,33 +367,45 @@ read_told stage n [] = document_at_end stage n
 read_told stage n (l ∷ ls) = document_at_line l.number (stage_after stage l.line) >>= λ next. read_told next l.number ls
 
 byte_told : (s : Lexer) (stage : Stage) (b : ℕ) (bytes : List ℕ) (t : Bool) → is_line_feed b ≡ t
-    → ((next : Stage) → fed_verdict (feed b s) next bytes ≡ read_told next (feed b s).number (lines_fed (feed b s) bytes))
-    → cond t (taken_line stage (feed b s) >>= λ next. fed_verdict (feed b s) next bytes) (fed_verdict (feed b s) stage bytes)
+    → ((next : Stage) → fed_verdict (feed b s) next bytes
+    ≡ read_told next (feed b s).number (lines_fed (feed b s) bytes))
+    → cond t (taken_line stage (feed b s) >>= λ next. fed_verdict (feed b s) next bytes)
+    (fed_verdict (feed b s) stage bytes)
     ≡ read_told stage s.number (cond t (told_now (feed b s) ∷ lines_fed (feed b s) bytes) (lines_fed (feed b s) bytes))
 byte_told s stage b bytes true e later =
     ap (λ (f : Stage → Result Claim Refusal). taken_line stage (feed b s) >>= f) (fun_ext later)
-byte_told s stage b bytes false e later = later stage ∙ ap (λ n. read_told stage n (lines_fed (feed b s) bytes)) (same_number e)
+byte_told s stage b bytes false e later =
+    later stage ∙ ap (λ n. read_told stage n (lines_fed (feed b s) bytes)) (same_number e)
   where
     same_number : is_line_feed b ≡ false → (feed b s).number ≡ s.number
-    same_number f = ap (λ t. (cond t (end_line s) (record { number = s.number; begun = true; held = add_byte b (held_of s) })).number) f
+    same_number f = ap (λ t. (cond t (end_line s)
+        (record { number = s.number; begun = true; held = add_byte b (held_of s) })).number) f
 
-fed_is_told : (s : Lexer) (stage : Stage) (bytes : List ℕ) → fed_verdict s stage bytes ≡ read_told stage s.number (lines_fed s bytes)
+fed_is_told : (s : Lexer) (stage : Stage) (bytes : List ℕ)
+    → fed_verdict s stage bytes ≡ read_told stage s.number (lines_fed s bytes)
 fed_is_told s stage [] = go s.begun
   where
-    go : (b : Bool) → cond b (taken_line stage (finish s) >>= λ next. document_at_end next (finish s).number) (document_at_end stage s.number) ≡ read_told stage s.number (cond b (told_now (finish s) ∷ []) [])
+    go : (b : Bool) → cond b (taken_line stage (finish s) >>= λ next. document_at_end next (finish s).number)
+        (document_at_end stage s.number) ≡ read_told stage s.number (cond b (told_now (finish s) ∷ []) [])
     go true = refl
     go false = refl
-fed_is_told s stage (b ∷ bytes) = byte_told s stage b bytes (is_line_feed b) refl (λ next. fed_is_told (feed b s) next bytes)
+fed_is_told s stage (b ∷ bytes) =
+    byte_told s stage b bytes (is_line_feed b) refl (λ next. fed_is_told (feed b s) next bytes)
 
-told_is_read : (stage : Stage) (n : ℕ) (lines : List (List ℕ)) → IsWell stage → read_told stage n (numbered_lines n lines) ≡ read_document_lines stage n lines
+told_is_read : (stage : Stage) (n : ℕ) (lines : List (List ℕ)) → IsWell stage
+    → read_told stage n (numbered_lines n lines) ≡ read_document_lines stage n lines
 told_is_read stage n [] well = refl
 told_is_read stage n (line ∷ lines) well =
     ap (λ r. document_at_line (n + 1) r >>= λ next. read_told next (n + 1) (numbered_lines (n + 1) lines))
     (line_told stage (line_of line).bad (line_of line).words (cut_line (line_of line)).count (line_of line).count well)
-    ∙ go (stage_after stage (line_of line)) (λ next e. told_is_read next (n + 1) lines (stage_well stage (line_of line) well next e))
+    ∙ go (stage_after stage (line_of line))
+    (λ next e. told_is_read next (n + 1) lines (stage_well stage (line_of line) well next e))
   where
-    go : (r : Result Stage Reason) → ((next : Stage) → r ≡ Ok next → read_told next (n + 1) (numbered_lines (n + 1) lines) ≡ read_document_lines next (n + 1) lines)
-        → (document_at_line (n + 1) r >>= λ next. read_told next (n + 1) (numbered_lines (n + 1) lines)) ≡ (document_at_line (n + 1) r >>= λ next. read_document_lines next (n + 1) lines)
+    go : (r : Result Stage Reason)
+        → ((next : Stage) → r ≡ Ok next → read_told next (n + 1) (numbered_lines (n + 1) lines)
+        ≡ read_document_lines next (n + 1) lines)
+        → (document_at_line (n + 1) r >>= λ next. read_told next (n + 1) (numbered_lines (n + 1) lines))
+        ≡ (document_at_line (n + 1) r >>= λ next. read_document_lines next (n + 1) lines)
     go (Ok next) later = later next refl
     go (Err reason) later = refl
 

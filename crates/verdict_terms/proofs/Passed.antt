@@ -1,5 +1,6 @@
 -- What it says that tests were passed.
-use Rattle.std.proofs.Common.{◌≡◌, ℕ, refl, sym, ap, subst, ◌∙◌, arith, Bool, true, false, cond, List, [], ◌∷◌, length, Option, Some, None, Result, Ok, Err}
+use Rattle.std.proofs.Common.{◌≡◌, ℕ, refl, sym, ap, subst, ◌∙◌, arith, Bool, true, false, cond, List, [], ◌∷◌, length}
+use Rattle.std.proofs.Common.{Option, Some, None, Result, Ok, Err}
 use Rattle.std.proofs.lemmas.Bool.{and_parts, leb-true, eqb-true}
 use Rattle.text_terms.specs.Lines.{number_of}
 use Rattle.packing_terms.specs.Results.{◌>>=◌}
@@ -8,18 +9,22 @@ use Rattle.text_terms.proofs.FormNumbers.{word_is}
 use Rattle.verdict_terms.specs.declared.reason.Reason.{Reason}
 use Rattle.verdict_terms.specs.Reasons.{form}
 use Rattle.verdict_terms.specs.Form.{AreCoordinates}
-use Rattle.verdict_terms.specs.Numbers.{most_coordinate, require, wanted_by, wanted, all_wanted, numbers_line, are_coordinates, coordinates}
+use Rattle.verdict_terms.specs.Numbers.{most_coordinate, require, wanted_by, wanted, all_wanted, numbers_line}
+use Rattle.verdict_terms.specs.Numbers.{are_coordinates, coordinates}
 use Rattle.verdict_terms.specs.Stages.{refused_by, is_word}
 
-pub require_ok : {A : Type 0} (test : Bool) (reason : Reason) (rest : Result A Reason) (x : A) → require test reason rest ≡ Ok x → (test ≡ true) × (rest ≡ Ok x)
+pub require_ok : {A : Type 0} (test : Bool) (reason : Reason) (rest : Result A Reason) (x : A)
+    → require test reason rest ≡ Ok x → (test ≡ true) × (rest ≡ Ok x)
 require_ok true reason rest x e = (refl, e)
 require_ok false reason rest x e = absurd (cc (e))
 
-pub refused_ok : {A : Type 0} (o : Option Reason) (rest : Result A Reason) (x : A) → refused_by o rest ≡ Ok x → (o ≡ None) × (rest ≡ Ok x)
+pub refused_ok : {A : Type 0} (o : Option Reason) (rest : Result A Reason) (x : A) → refused_by o rest ≡ Ok x
+    → (o ≡ None) × (rest ≡ Ok x)
 refused_ok None rest x e = (refl, e)
 refused_ok (Some reason) rest x e = absurd (cc (e))
 
-pub cond_ok : {A : Type 0} (test : Bool) (r : Result A Reason) (reason : Reason) (x : A) → cond test r (Err reason) ≡ Ok x → (test ≡ true) × (r ≡ Ok x)
+pub cond_ok : {A : Type 0} (test : Bool) (r : Result A Reason) (reason : Reason) (x : A)
+    → cond test r (Err reason) ≡ Ok x → (test ≡ true) × (r ≡ Ok x)
 cond_ok true r reason x e = (refl, e)
 cond_ok false r reason x e = absurd (cc (e))
 
@@ -34,7 +39,8 @@ wanted_ok word n e = go (number_of word) refl e
     go None f k = absurd (cc (k))
 
 -- numbers that are coordinates
-pub numbers_are : (words : List (List ℕ)) (ns : List ℕ) → all_wanted words ≡ Ok ns → are_coordinates ns ≡ true → AreCoordinates words ns
+pub numbers_are : (words : List (List ℕ)) (ns : List ℕ) → all_wanted words ≡ Ok ns → are_coordinates ns ≡ true
+    → AreCoordinates words ns
 numbers_are [] ns e h = let same : [] ≡ ns = cc (e) in subst (λ l. AreCoordinates [] l) same tt
 numbers_are (word ∷ words) ns e h =
     let a = bind_ok (wanted word) (λ n. all_wanted words >>= λ ms. Ok (n ∷ ms)) ns e in
@@ -53,12 +59,18 @@ pub record NumbersLine (key : List ℕ) (count : ℕ) (words : List (List ℕ)) 
   pub counted : length numbers ≡ count
   pub read : all_wanted numbers ≡ Ok ns
 
-pub numbers_line_ok : (key : List ℕ) (count : ℕ) (words : List (List ℕ)) (ns : List ℕ) → numbers_line key count words ≡ Ok ns → NumbersLine key count words ns
+pub numbers_line_ok : (key : List ℕ) (count : ℕ) (words : List (List ℕ)) (ns : List ℕ)
+    → numbers_line key count words ≡ Ok ns → NumbersLine key count words ns
 numbers_line_ok key count [] ns e = absurd (cc (e))
 numbers_line_ok key count (word ∷ words) ns e =
     let c = cond_ok _ (all_wanted words) form ns e in
     let p = and_parts _ _ c.0 in
-    record { numbers = words; are = ap (λ w. w ∷ words) (word_is word key p.0); counted = eqb-true (length words) count p.1; read = c.1 }
+    record {
+      numbers = words;
+      are = ap (λ w. w ∷ words) (word_is word key p.0);
+      counted = eqb-true (length words) count p.1;
+      read = c.1;
+    }
 
 pub coordinates_ok : (ns xs : List ℕ) → coordinates ns ≡ Ok xs → (are_coordinates ns ≡ true) × (ns ≡ xs)
 coordinates_ok ns xs e = let r = require_ok _ _ (Ok ns) xs e in (r.0, ok_is ns xs r.1)

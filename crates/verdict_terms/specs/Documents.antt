@@ -32,7 +32,8 @@ document_at_end stage n = Err (record { line = n + 1; reason = TooShort })
 -- the lines after the first n
 abbrev pub read_document_lines : Stage → ℕ → List (List ℕ) → Result Claim Refusal
 read_document_lines stage n [] = document_at_end stage n
-read_document_lines stage n (line ∷ lines) = document_at_line (n + 1) (stage_after stage (line_of line)) >>= λ next. read_document_lines next (n + 1) lines
+read_document_lines stage n (line ∷ lines) =
+    document_at_line (n + 1) (stage_after stage (line_of line)) >>= λ next. read_document_lines next (n + 1) lines
 
 -- the claim that is verified of a text that has to begin with this heading, or the first refusal
 unfoldable pub headed_verdict : Heading → List ℕ → Result Claim Refusal

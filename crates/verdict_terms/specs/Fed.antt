@@ -17,13 +17,16 @@ taken_line stage s = document_at_line s.number (stage_after stage (ended_line s.
 
 -- the verdict of these bytes, behind what is held of a line begun and the stage of the lines before
 abbrev pub fed_verdict : Lexer → Stage → List ℕ → Result Claim Refusal
-fed_verdict s stage [] = cond s.begun (taken_line stage (finish s) >>= λ next. document_at_end next (finish s).number) (document_at_end stage s.number)
+fed_verdict s stage [] = cond s.begun (taken_line stage (finish s) >>= λ next. document_at_end next (finish s).number)
+    (document_at_end stage s.number)
 fed_verdict s stage (b ∷ bytes) =
-    cond (is_line_feed b) (taken_line stage (feed b s) >>= λ next. fed_verdict (feed b s) next bytes) (fed_verdict (feed b s) stage bytes)
+    cond (is_line_feed b) (taken_line stage (feed b s) >>= λ next. fed_verdict (feed b s) next bytes)
+    (fed_verdict (feed b s) stage bytes)
 
 -- the bytes of a document, fed from its start with each line taken as it ends, give its verdict
 abbrev pub DocumentsAreFed : Type 0
-DocumentsAreFed = (heading : Heading) (text : List ℕ) → fed_verdict new_lexer (Beginning heading) text ≡ headed_verdict heading text
+DocumentsAreFed = (heading : Heading) (text : List ℕ)
+    → fed_verdict new_lexer (Beginning heading) text ≡ headed_verdict heading text
 
 -- The refused line is the last of the bytes, and a line feed ends it: nothing behind it is there.
 pub record EndsRefused (bytes : List ℕ) (refusal : Refusal) : Type 0 where
@@ -34,7 +37,8 @@ pub record EndsRefused (bytes : List ℕ) (refusal : Refusal) : Type 0 where
 -- no line of the bytes that a line feed ends is refused: no front of them ends in the line feed of
 -- a refused line
 abbrev pub NoneRefusedUnder : Heading → List ℕ → Type 0
-NoneRefusedUnder heading bytes = (front rest : List ℕ) (refusal : Refusal) → bytes ≡ front ++ rest → EndsRefused front refusal → headed_verdict heading front ≡ Err refusal → ⊥
+NoneRefusedUnder heading bytes = (front rest : List ℕ) (refusal : Refusal) → bytes ≡ front ++ rest
+    → EndsRefused front refusal → headed_verdict heading front ≡ Err refusal → ⊥
 
 -- the same of an answer
 abbrev pub NoneRefused : List ℕ → Type 0
@@ -42,5 +46,6 @@ NoneRefused bytes = NoneRefusedUnder Answer bytes
 
 -- a refusal of bytes that its line ends is the refusal of every text that begins with them
 abbrev pub RefusalsStay : Type 0
-RefusalsStay = (heading : Heading) (bytes more : List ℕ) (refusal : Refusal) → headed_verdict heading bytes ≡ Err refusal → EndsRefused bytes refusal
+RefusalsStay = (heading : Heading) (bytes more : List ℕ) (refusal : Refusal)
+    → headed_verdict heading bytes ≡ Err refusal → EndsRefused bytes refusal
     → headed_verdict heading (bytes ++ more) ≡ Err refusal

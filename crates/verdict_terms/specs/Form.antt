@@ -15,7 +15,9 @@ use Rattle.document_terms.specs.declared.claim.SolvingJob.{SolvingJob}
 use Rattle.document_terms.specs.declared.claim.SolvingJob.TheVariants.{Fit, Strip, Bins, Knapsack}
 use Rattle.document_terms.specs.declared.claim.Claim.{Claim}
 use Rattle.document_terms.specs.Claims.{job_of, job_word, IsTrueOf}
-use Rattle.document_terms.specs.declared.claim.Claim.TheVariants.{Fitting, NotFitting, LeastHeight, HeightBetween, NoHeight, LeastBins, BinsBetween, NoBins, GreatestValue, ValueBetween}
+use Rattle.document_terms.specs.declared.claim.Claim.TheVariants.{Fitting, NotFitting, LeastHeight, HeightBetween}
+use Rattle.document_terms.specs.declared.claim.Claim.TheVariants.{NoHeight, LeastBins, BinsBetween, NoBins}
+use Rattle.document_terms.specs.declared.claim.Claim.TheVariants.{GreatestValue, ValueBetween}
 use Rattle.packing_terms.specs.Limits.{most_height}
 use Rattle.document_terms.specs.Claims.{most_worth}
 use Rattle.verdict_terms.specs.Numbers.{most_coordinate}
@@ -95,7 +97,8 @@ AreNumberedLines key most d [] [] places = places ≡ []
 AreNumberedLines key most d [] (n ∷ ns) places = ⊥
 AreNumberedLines key most d (words ∷ lines) [] places = ⊥
 AreNumberedLines key most d (words ∷ lines) (n ∷ ns) places =
-    (xs : List ℕ) × (more : List ℕ) × (places ≡ xs ++ more) × IsNumberedLine key most d words n xs × AreNumberedLines key most d lines ns more
+    (xs : List ℕ) × (more : List ℕ) × (places ≡ xs ++ more) × IsNumberedLine key most d words n xs
+    × AreNumberedLines key most d lines ns more
 
 -- place lines of a packing
 pub record ArePlaced (instance : PlainInstance) (lines : List (List (List ℕ))) : Type 0 where
@@ -159,15 +162,21 @@ abbrev pub BacksUnder : Heading → PlainInstance → Claim → List (List (List
 BacksUnder heading instance Fitting lines = ArePlaced instance lines
 BacksUnder heading instance NotFitting lines = AreRefuting (ToFit instance (start_exclusions heading instance)) lines
 BacksUnder heading instance (LeastHeight h) lines =
-    AreProved (ArePlaced (with_last_side instance h)) (AreRefuting (ToFit (with_last_side instance (pred h)) (start_exclusions heading instance))) lines
+    AreProved (ArePlaced (with_last_side instance h))
+    (AreRefuting (ToFit (with_last_side instance (pred h)) (start_exclusions heading instance))) lines
 BacksUnder heading instance (HeightBetween a b) lines =
-    AreProved (ArePlaced (with_last_side instance b)) (AreRefuting (ToFit (with_last_side instance a) (start_exclusions heading instance))) lines
+    AreProved (ArePlaced (with_last_side instance b))
+    (AreRefuting (ToFit (with_last_side instance a) (start_exclusions heading instance))) lines
 BacksUnder heading instance NoHeight lines = IsExceedingLine instance (dims instance - 1) lines
-BacksUnder heading instance (LeastBins k) lines = AreProved (AreShared instance k) (AreRefuting (ToFitIn instance (pred k))) lines
-BacksUnder heading instance (BinsBetween a b) lines = AreProved (AreShared instance b) (AreRefuting (ToFitIn instance a)) lines
+BacksUnder heading instance (LeastBins k) lines =
+    AreProved (AreShared instance k) (AreRefuting (ToFitIn instance (pred k))) lines
+BacksUnder heading instance (BinsBetween a b) lines =
+    AreProved (AreShared instance b) (AreRefuting (ToFitIn instance a)) lines
 BacksUnder heading instance NoBins lines = IsExceedingLine instance (dims instance) lines
-BacksUnder heading instance (GreatestValue v) lines = AreProved (AreTaken instance v) (AreRefuting (ToReach instance (suc v))) lines
-BacksUnder heading instance (ValueBetween a b) lines = AreProved (AreTaken instance a) (AreRefuting (ToReach instance b)) lines
+BacksUnder heading instance (GreatestValue v) lines =
+    AreProved (AreTaken instance v) (AreRefuting (ToReach instance (suc v))) lines
+BacksUnder heading instance (ValueBetween a b) lines =
+    AreProved (AreTaken instance a) (AreRefuting (ToReach instance b)) lines
 
 -- a heading names every job, or one of `fit` and `strip`
 abbrev pub MayName : Heading → SolvingJob → Type 0
@@ -188,7 +197,8 @@ pub record IsHeadedDocument (heading : Heading) (text : List ℕ) (claim : Claim
   pub headed : MayName heading (job_of claim)
   pub clean : AreClean (text_lines text)
   pub are : filled_lines (text_lines text)
-      ≡ (heading_word heading ∷ job_word (job_of claim) ∷ []) ∷ (written ++ (codes "result" ∷ result) ∷ (backing ++ (codes "end" ∷ []) ∷ []))
+      ≡ (heading_word heading ∷ job_word (job_of claim) ∷ [])
+      ∷ (written ++ (codes "result" ∷ result) ∷ (backing ++ (codes "end" ∷ []) ∷ []))
   pub is_instance : HasForm written instance
   pub is_result : IsResult instance claim result
   pub backed : BacksUnder heading instance claim backing
@@ -204,8 +214,10 @@ IsReducedDocument text claim = IsHeadedDocument Reduced text claim
 
 -- a text is verified with a claim under a heading exactly where it is such a document of it
 abbrev pub DocumentsHaveForm : Type 0
-DocumentsHaveForm = (heading : Heading) (text : List ℕ) (claim : Claim) → (headed_verdict heading text ≡ Ok claim) ↔ IsHeadedDocument heading text claim
+DocumentsHaveForm = (heading : Heading) (text : List ℕ) (claim : Claim)
+    → (headed_verdict heading text ≡ Ok claim) ↔ IsHeadedDocument heading text claim
 
 -- the claim of a document is true of the instance in it
 abbrev pub DocumentsAreTrue : Type 0
-DocumentsAreTrue = (heading : Heading) (text : List ℕ) (claim : Claim) (document : IsHeadedDocument heading text claim) → IsTrueOf document.instance claim
+DocumentsAreTrue = (heading : Heading) (text : List ℕ) (claim : Claim) (document : IsHeadedDocument heading text claim)
+    → IsTrueOf document.instance claim

@@ -1,5 +1,6 @@
 -- Numbers on the lines of a document, and the limits of documents.
-use Rattle.std.specs.Prelude.{ℕ, ◌&&◌, ◌==◌, cond, Bool, List, [], ◌∷◌, length, Option, Some, None, Result, Ok, Err, nat_le}
+use Rattle.std.specs.Prelude.{ℕ, ◌&&◌, ◌==◌, cond, Bool, List, [], ◌∷◌, length, Option, Some, None, Result, Ok, Err}
+use Rattle.std.specs.Prelude.{nat_le}
 use Rattle.std.specs.List.{list_all}
 use Rattle.text_terms.specs.Lines.{number_of, same_bytes}
 use Rattle.packing_terms.specs.Results.{◌>>=◌}

@@ -7,7 +7,9 @@ use Rattle.packing_terms.specs.Results.{◌>>=◌}
 use Rattle.document_terms.specs.declared.claim.SolvingJob.{SolvingJob}
 use Rattle.document_terms.specs.declared.claim.Claim.{Claim}
 use Rattle.document_terms.specs.declared.claim.SolvingJob.TheVariants.{Fit, Strip, Bins, Knapsack}
-use Rattle.document_terms.specs.declared.claim.Claim.TheVariants.{Fitting, NotFitting, LeastHeight, HeightBetween, NoHeight, LeastBins, BinsBetween, NoBins, GreatestValue, ValueBetween}
+use Rattle.document_terms.specs.declared.claim.Claim.TheVariants.{Fitting, NotFitting, LeastHeight, HeightBetween}
+use Rattle.document_terms.specs.declared.claim.Claim.TheVariants.{NoHeight, LeastBins, BinsBetween, NoBins}
+use Rattle.document_terms.specs.declared.claim.Claim.TheVariants.{GreatestValue, ValueBetween}
 use Rattle.verdict_terms.specs.declared.reason.Reason.{Reason}
 use Rattle.verdict_terms.specs.Reasons.{form, range}
 use Rattle.verdict_terms.specs.declared.reason.Reason.TheVariants.{NoClaim}
@@ -22,7 +24,8 @@ none_claim claim word = require (same_bytes word (codes "none")) form (Ok claim)
 -- a number behind this word, within these ends
 abbrev pub one_claim : List ℕ → ℕ → ℕ → (ℕ → Claim) → List ℕ → List ℕ → Result Claim Reason
 one_claim key low high make word number =
-    cond (same_bytes word key) (wanted number >>= λ n. require (nat_le low n && nat_le n high) range (Ok (make n))) (Err form)
+    cond (same_bytes word key) (wanted number >>= λ n. require (nat_le low n && nat_le n high) range
+    (Ok (make n))) (Err form)
 
 -- two numbers behind `between`, the first below the second, which is within the end
 abbrev pub two_claim : ℕ → (ℕ → ℕ → Claim) → List ℕ → List ℕ → List ℕ → Result Claim Reason

@@ -4,12 +4,14 @@
 --     answer JOB        Beginning: the heading that is wanted
 --     format ..         Reading: the parts of the instance so far, under the heading
 --     result ..
---     place ..          Placing, Sharing (bins) or Taking (knapsacks): the coordinates so far, and what is to be refuted behind them
+-- place ..          Placing, Sharing (bins) or Taking (knapsacks): the coordinates so far, and what
+-- is to be refuted behind them
 --     proof             Proving: `proof` is wanted
 --     d 1 1 2           Refuting: the open nodes of the tree; Exceeding: the `t` line of `none` is wanted
 --     end               Ending: `end` is wanted, behind a tree (of so many dimensions) or behind places
 --                       Ended
-use Rattle.std.specs.Prelude.{ℕ, pred, suc, ◌*◌, ◌-◌, ◌&&◌, ◌==◌, not, cond, Bool, true, false, List, [], ◌∷◌, ◌++◌, length, map, Option, Some, None, Result, Ok, Err, nat_le, nat_lt, slice_index, codes}
+use Rattle.std.specs.Prelude.{ℕ, pred, suc, ◌*◌, ◌-◌, ◌&&◌, ◌==◌, not, cond, Bool, true, false, List, [], ◌∷◌, ◌++◌}
+use Rattle.std.specs.Prelude.{length, map, Option, Some, None, Result, Ok, Err, nat_le, nat_lt, slice_index, codes}
 use Rattle.std.specs.List.{list_all, range_with_len}
 use Rattle.packing_terms.specs.declared.Exclusion.{Exclusion}
 use Rattle.packing_terms.specs.Packing.{PlainInstance, dims, box_count, container_side, side}
@@ -30,12 +32,15 @@ use Rattle.check_terms.specs.Judging.{names_box}
 use Rattle.document_terms.specs.declared.claim.SolvingJob.{SolvingJob}
 use Rattle.document_terms.specs.declared.claim.Claim.{Claim}
 use Rattle.document_terms.specs.declared.claim.SolvingJob.TheVariants.{Fit, Strip, Bins, Knapsack}
-use Rattle.document_terms.specs.declared.claim.Claim.TheVariants.{Fitting, NotFitting, LeastHeight, HeightBetween, NoHeight, LeastBins, BinsBetween, NoBins, GreatestValue, ValueBetween}
+use Rattle.document_terms.specs.declared.claim.Claim.TheVariants.{Fitting, NotFitting, LeastHeight, HeightBetween}
+use Rattle.document_terms.specs.declared.claim.Claim.TheVariants.{NoHeight, LeastBins, BinsBetween, NoBins}
+use Rattle.document_terms.specs.declared.claim.Claim.TheVariants.{GreatestValue, ValueBetween}
 use Rattle.verdict_terms.specs.declared.heading.Heading.{Heading}
 use Rattle.verdict_terms.specs.declared.heading.Heading.TheVariants.{Answer, Reduced}
 use Rattle.verdict_terms.specs.declared.reason.Reason.{Reason}
 use Rattle.verdict_terms.specs.Reasons.{form, range, after}
-use Rattle.verdict_terms.specs.declared.reason.Reason.TheVariants.{Text, Token, OutsideAt, OverlapAt, TooLittle, TooShort}
+use Rattle.verdict_terms.specs.declared.reason.Reason.TheVariants.{Text, Token, OutsideAt, OverlapAt, TooLittle}
+use Rattle.verdict_terms.specs.declared.reason.Reason.TheVariants.{TooShort}
 use Rattle.verdict_terms.specs.Numbers.{require, numbers_line, coordinates}
 use Rattle.document_terms.specs.TokenLines.{token_of}
 use Rattle.verdict_terms.specs.Trees.{Refuted, ToFit, ToFitIn, ToReach, Tree, begun, tree_dims, tree_after, is_whole}
@@ -89,12 +94,17 @@ groups_reason groups = first_reason (first_outside groups) (first_overlap groups
 
 -- the places of all boxes
 abbrev pub places_reason : PlainInstance → List ℕ → Option Reason
-places_reason instance places = groups_reason ((range_with_len 0 (box_count instance), place_verdict instance places) ∷ [])
+places_reason instance places =
+    groups_reason ((range_with_len 0 (box_count instance), place_verdict instance places) ∷ [])
 
 -- the places of the boxes of each of k bins
 abbrev pub bins_reason : PlainInstance → ℕ → List ℕ → List ℕ → Option Reason
 bins_reason instance k bins places =
-    groups_reason (map (λ b. (in_bin bins b, place_verdict (subset instance (in_bin bins b)) (places_of instance places (in_bin bins b)))) (range_with_len 0 k))
+    groups_reason (map (λ b. (
+      in_bin bins b,
+      place_verdict (subset instance (in_bin bins b)) (places_of instance places (in_bin bins b)),
+    ))
+    (range_with_len 0 k))
 
 -- the places of the taken boxes, and then their value
 abbrev pub taken_reason : PlainInstance → ℕ → List ℕ → List ℕ → Option Reason
@@ -111,7 +121,8 @@ start_exclusions Reduced instance = symmetry_facts instance
 
 -- what a claim under a heading says to be refuted; the facts of the instance are those of all heights
 abbrev pub to_refute : Heading → PlainInstance → Claim → Refuted
-to_refute heading instance (LeastHeight h) = ToFit (with_last_side instance (pred h)) (start_exclusions heading instance)
+to_refute heading instance (LeastHeight h) =
+    ToFit (with_last_side instance (pred h)) (start_exclusions heading instance)
 to_refute heading instance (HeightBetween a b) = ToFit (with_last_side instance a) (start_exclusions heading instance)
 to_refute heading instance (LeastBins k) = ToFitIn instance (pred k)
 to_refute heading instance (BinsBetween a b) = ToFitIn instance a
@@ -123,8 +134,10 @@ to_refute heading instance _ = ToFit instance (start_exclusions heading instance
 abbrev pub claimed : Heading → PlainInstance → Claim → Stage
 claimed heading instance Fitting = Placing instance Fitting (to_refute heading instance Fitting) []
 claimed heading instance NotFitting = Refuting NotFitting (begun (to_refute heading instance NotFitting))
-claimed heading instance (LeastHeight h) = Placing (with_last_side instance h) (LeastHeight h) (to_refute heading instance (LeastHeight h)) []
-claimed heading instance (HeightBetween a b) = Placing (with_last_side instance b) (HeightBetween a b) (to_refute heading instance (HeightBetween a b)) []
+claimed heading instance (LeastHeight h) =
+    Placing (with_last_side instance h) (LeastHeight h) (to_refute heading instance (LeastHeight h)) []
+claimed heading instance (HeightBetween a b) =
+    Placing (with_last_side instance b) (HeightBetween a b) (to_refute heading instance (HeightBetween a b)) []
 claimed heading instance NoHeight = Exceeding instance NoHeight (dims instance - 1)
 claimed heading instance (LeastBins k) = Sharing instance (LeastBins k) k [] []
 claimed heading instance (BinsBetween a b) = Sharing instance (BinsBetween a b) b [] []
@@ -159,7 +172,9 @@ job_headed Reduced word =
 
 -- the first line: `answer JOB`, or `reduced JOB`
 abbrev pub heading_line : Heading → List (List ℕ) → Result Stage Reason
-heading_line heading (key ∷ word ∷ []) = cond (same_bytes key (heading_word heading)) (job_headed heading word >>= λ job. Ok (Reading heading job no_parts)) (Err form)
+heading_line heading (key ∷ word ∷ []) =
+    cond (same_bytes key (heading_word heading))
+    (job_headed heading word >>= λ job. Ok (Reading heading job no_parts)) (Err form)
 heading_line heading _ = Err form
 
 -- a fault of an instance text is told by its code
@@ -174,7 +189,8 @@ end_of_parts (Err fault) = Err (Text fault.code)
 
 abbrev pub result_line : Heading → SolvingJob → Parts → List (List ℕ) → Result Stage Reason
 result_line heading job parts words =
-    end_of_parts (at_end parts 0) >>= λ instance. claim_of job instance words >>= λ claim. Ok (claimed heading instance claim)
+    end_of_parts (at_end parts 0) >>= λ instance. claim_of job instance words
+    >>= λ claim. Ok (claimed heading instance claim)
 
 -- whether the line is a result line: its first word is `result`
 abbrev pub is_result : Line → Bool
@@ -209,7 +225,8 @@ share_line instance claim k bins places [] = Err form
 share_line instance claim k bins places (b ∷ ns) =
     require (nat_le 1 b && nat_le b k) range (coordinates ns >>= λ xs.
     elim (length (bins ++ pred b ∷ []) == box_count instance) [
-      | true ↦ refused_by (bins_reason instance k (bins ++ pred b ∷ []) (places ++ xs)) (Ok (placed claim (to_refute Answer instance claim)))
+      | true ↦ refused_by (bins_reason instance k (bins ++ pred b ∷ []) (places ++ xs))
+          (Ok (placed claim (to_refute Answer instance claim)))
       | false ↦ Ok (Sharing instance claim k (bins ++ pred b ∷ []) (places ++ xs))
     ])
 
@@ -236,7 +253,8 @@ grown_tree claim tree = cond (is_whole tree) (Ending claim (Some (tree_dims tree
 
 abbrev pub tree_line : Claim → Tree → List (List ℕ) → Result Stage Reason
 tree_line claim tree words =
-    tree_token (is_word (codes "end") words) (token_of (tree_dims tree) words) >>= λ t. coded (tree_after tree t) >>= λ more. Ok (grown_tree claim more)
+    tree_token (is_word (codes "end") words) (token_of (tree_dims tree) words) >>= λ t. coded (tree_after tree t)
+    >>= λ more. Ok (grown_tree claim more)
 
 -- the `t` line of `none`: the box exceeds the container in one of the first dimensions, of which
 -- there are so many
@@ -249,7 +267,8 @@ exceeding_token instance claim m _ = Err form
 
 abbrev pub exceeding_line : PlainInstance → Claim → ℕ → List (List ℕ) → Result Stage Reason
 exceeding_line instance claim m words =
-    tree_token (is_word (codes "end") words) (token_of (dims instance) words) >>= λ t. exceeding_token instance claim m t
+    tree_token (is_word (codes "end") words) (token_of (dims instance) words)
+    >>= λ t. exceeding_token instance claim m t
 
 -- a token where `end` is wanted comes too late behind a tree, and has no place behind coordinates
 abbrev pub late_by : Option PlainToken → Reason
@@ -269,13 +288,17 @@ words_line (Sharing instance claim k bins places) words =
     numbers_line (codes "place") (suc (dims instance)) words >>= λ ns. share_line instance claim k bins places ns
 words_line (Taking instance claim value taken places) words =
     elim (is_word (codes "proof") words) [
-      | true ↦ refused_by (taken_reason instance value taken places) (Ok (Refuting claim (begun (to_refute Answer instance claim))))
-      | false ↦ numbers_line (codes "take") (suc (dims instance)) words >>= λ ns. take_box_line instance claim value taken places ns
+      | true ↦ refused_by (taken_reason instance value taken places)
+          (Ok (Refuting claim (begun (to_refute Answer instance claim))))
+      | false ↦ numbers_line (codes "take") (suc (dims instance)) words
+          >>= λ ns. take_box_line instance claim value taken places ns
     ]
-words_line (Proving claim refuted) words = require (is_word (codes "proof") words) form (Ok (Refuting claim (begun refuted)))
+words_line (Proving claim refuted) words =
+    require (is_word (codes "proof") words) form (Ok (Refuting claim (begun refuted)))
 words_line (Refuting claim tree) words = tree_line claim tree words
 words_line (Exceeding instance claim m) words = exceeding_line instance claim m words
-words_line (Ending claim behind) words = require (is_word (codes "end") words) (late_line behind words) (Ok (Ended claim))
+words_line (Ending claim behind) words =
+    require (is_word (codes "end") words) (late_line behind words) (Ok (Ended claim))
 words_line (Ended claim) words = Err after
 
 -- a line that isn't blank. A bad byte is refused as the place where it stands says.

@@ -4,7 +4,8 @@ use Rattle.packing_terms.specs.declared.Exclusion.{Exclusion}
 use Rattle.packing_terms.specs.Packing.{PlainInstance, dims}
 use Rattle.packing_terms.specs.Tokens.{PlainToken}
 use Rattle.packing_terms.specs.Refutation.{Refutes}
-use Rattle.packing_terms.specs.OuterRefutation.{Bins as UsedBins, Choice as BoxChoice, no_choice, IsBinRefutation, IsValueRefutation}
+use Rattle.packing_terms.specs.OuterRefutation.{Bins as UsedBins, Choice as BoxChoice, no_choice, IsBinRefutation}
+use Rattle.packing_terms.specs.OuterRefutation.{IsValueRefutation}
 use Rattle.packing_terms.specs.OuterFeeding.{OpenNode, Outer}
 use Rattle.check_terms.specs.declared.answers.RefuseCode.{RefuseCode}
 use Rattle.check_terms.specs.Checking.{inner_after, bins_after, value_after}

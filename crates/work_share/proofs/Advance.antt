@@ -1,16 +1,19 @@
 -- The front, taken on by one entry, and kept where an entry behind it changes.
-use Rattle.std.proofs.Common.{◌≡◌, ℕ, zero, suc, ◌+◌, ◌<◌, ◌≤◌, refl, sym, ap, ◌∙◌, subst, arith, List, [], ◌∷◌, ◌++◌, length, take, drop, Bool, true, false, if◌then◌else◌, get_or, ◌==◌, ◌-◌}
+use Rattle.std.proofs.Common.{◌≡◌, ℕ, zero, suc, ◌+◌, ◌<◌, ◌≤◌, refl, sym, ap, ◌∙◌, subst, arith, List, [], ◌∷◌, ◌++◌}
+use Rattle.std.proofs.Common.{length, take, drop, Bool, true, false, if◌then◌else◌, get_or, ◌==◌, ◌-◌}
 use Rattle.std.proofs.lemmas.Bool.{true≢false}
 use Rattle.std.proofs.lemmas.Option.{slice_get_read}
 use Rattle.std.proofs.lemmas.List.{take_more, drop_more}
-use Rattle.board_terms.specs.Board.{PlainEntry, SplitEntry, TaskEntry, PlainTaskState, Waits, Out, Done, at_first, state_waits, waits_as, is_out}
+use Rattle.board_terms.specs.Board.{PlainEntry, SplitEntry, TaskEntry, PlainTaskState, Waits, Out, Done, at_first}
+use Rattle.board_terms.specs.Board.{state_waits, waits_as, is_out}
 use Rattle.board_terms.specs.Kept.{AreBelow}
 use Rattle.board_terms.proofs.Outs.{out_is}
 use Rattle.work_share.specs.declared.slot.Slot.{Slot}
 use Rattle.work_share.specs.declared.slot.Piece.{Piece}
 use Rattle.work_share.specs.declared.slot.Piece.TheVariants.{Open, Refuted}
 use Rattle.work_share.specs.Slots.{entry_of, entry_or, entries_of}
-use Rattle.work_share.specs.Fronts.{piece_of, IsRefutedPiece, AreRefuted, count_in, counted, Ends, EndsWithFirst, IsOpen, StandsAt, HasFront, HasFrontTo, IsFront}
+use Rattle.work_share.specs.Fronts.{piece_of, IsRefutedPiece, AreRefuted, count_in, counted, Ends, EndsWithFirst}
+use Rattle.work_share.specs.Fronts.{IsOpen, StandsAt, HasFront, HasFrontTo, IsFront}
 
 -- ---- one entry more
 
@@ -18,7 +21,8 @@ use Rattle.work_share.specs.Fronts.{piece_of, IsRefutedPiece, AreRefuted, count_
 abbrev pub no_entry : PlainEntry
 no_entry = TaskEntry 0 [] Waits
 
-refuted_push : (es : List PlainEntry) (e : PlainEntry) → AreRefuted es → IsRefutedPiece (piece_of e) → AreRefuted (es ++ e ∷ [])
+refuted_push : (es : List PlainEntry) (e : PlainEntry) → AreRefuted es → IsRefutedPiece (piece_of e)
+    → AreRefuted (es ++ e ∷ [])
 refuted_push [] e a r = (r, tt)
 refuted_push (x ∷ es) e a r = (a.0, refuted_push es e a.1 r)
 
@@ -26,7 +30,8 @@ counted_push : (es : List PlainEntry) (e : PlainEntry) → counted (es ++ e ∷ 
 counted_push [] e = omega arith
 counted_push (x ∷ es) e = let r = counted_push es e in omega (arith, r)
 
-pub front_more : (budget : ℕ) (es : List PlainEntry) (d : PlainEntry) (len count more : ℕ) → HasFront budget es len count → len < length es
+pub front_more : (budget : ℕ) (es : List PlainEntry) (d : PlainEntry) (len count more : ℕ)
+    → HasFront budget es len count → len < length es
     → Refuted more ≡ piece_of (get_or es len d) → more ≤ budget - count → HasFront budget es (len + 1) (count + more)
 front_more budget es d len count more f l p small =
     let e = get_or es len d in
@@ -43,14 +48,21 @@ front_more budget es d len count more f l p small =
       within = omega (arith, w, small);
     }
 
-pub front_open : (budget : ℕ) (es : List PlainEntry) (d : PlainEntry) (len count : ℕ) → HasFront budget es len count → len < length es
+pub front_open : (budget : ℕ) (es : List PlainEntry) (d : PlainEntry) (len count : ℕ) → HasFront budget es len count
+    → len < length es
     → Open ≡ piece_of (get_or es len d) → IsFront budget es len count false
-front_open budget es d len count f l p = record { known = f; stands = subst IsOpen (sym (drop_more es len d l)) (sym p) }
+front_open budget es d len count f l p =
+    record { known = f; stands = subst IsOpen (sym (drop_more es len d l)) (sym p) }
 
-pub front_ends : (budget : ℕ) (es : List PlainEntry) (d : PlainEntry) (len count : ℕ) (p : Piece) → HasFront budget es len count → len < length es
+pub front_ends : (budget : ℕ) (es : List PlainEntry) (d : PlainEntry) (len count : ℕ) (p : Piece)
+    → HasFront budget es len count → len < length es
     → p ≡ piece_of (get_or es len d) → Ends budget count p → IsFront budget es len count true
 front_ends budget es d len count p f l e h =
-    record { known = f; stands = subst (EndsWithFirst budget count) (sym (drop_more es len d l)) (subst (Ends budget count) e h) }
+    record {
+      known = f;
+      stands = subst (EndsWithFirst budget count) (sym (drop_more es len d l))
+          (subst (Ends budget count) e h);
+    }
 
 -- ---- an entry behind the front changes
 
@@ -62,7 +74,8 @@ pub waits_open : (n : ℕ) → FindsOpen (waits_as n)
 waits_open n (SplitEntry number path token own children) h = absurd (true≢false (sym h))
 waits_open n (TaskEntry number path state) h = go (number == n) state h
   where
-    go : (b : Bool) (s : PlainTaskState) → (if b then state_waits s else false) ≡ true → piece_of (TaskEntry number path s) ≡ Open
+    go : (b : Bool) (s : PlainTaskState) → (if b then state_waits s else false) ≡ true
+        → piece_of (TaskEntry number path s) ≡ Open
     go true Waits f = refl
     go true Out f = absurd (true≢false (sym f))
     go true (Done o) f = absurd (true≢false (sym f))
@@ -77,19 +90,24 @@ open_not_refuted p e r = subst IsRefutedPiece e r
 module _ (test : PlainEntry → Bool) (change : PlainEntry → List PlainEntry) (finds : FindsOpen test) where
   -- the entries of the front stay
   front_stays : (len : ℕ) (es : List PlainEntry) → len ≤ length es → AreRefuted (take len es)
-      → (take len (at_first test change es) ≡ take len es) × (drop len (at_first test change es) ≡ at_first test change (drop len es)) × (len ≤ length (at_first test change es))
+      → (take len (at_first test change es) ≡ take len es)
+      × (drop len (at_first test change es) ≡ at_first test change (drop len es))
+      × (len ≤ length (at_first test change es))
   front_stays zero es l r = (refl, refl, omega arith)
   front_stays (suc len) [] l r = absurd (omega (arith, l))
   front_stays (suc len) (e ∷ es) l r =
       let rest = front_stays len es (omega (arith, l)) r.1 in
-      elim (test e) as (λ b. test e ≡ b → (take (suc len) (if b then change e ++ es else e ∷ at_first test change es) ≡ take (suc len) (e ∷ es))
-      × (drop (suc len) (if b then change e ++ es else e ∷ at_first test change es) ≡ at_first test change (drop len es))
+      elim (test e) as (λ b. test e ≡ b
+      → (take (suc len) (if b then change e ++ es else e ∷ at_first test change es) ≡ take (suc len) (e ∷ es))
+      × (drop (suc len) (if b then change e ++ es else e ∷ at_first test change es)
+      ≡ at_first test change (drop len es))
       × (suc len ≤ length (if b then change e ++ es else e ∷ at_first test change es))) [
         | true ↦ λ f. absurd (open_not_refuted (piece_of e) (finds e f) r.0)
         | false ↦ λ _. (ap (λ xs. e ∷ xs) rest.0, rest.1, (let h = rest.2 in omega (arith, h)))
       ] refl
 
-  pub front_kept : (budget : ℕ) (es : List PlainEntry) (len count : ℕ) → HasFront budget es len count → HasFront budget (at_first test change es) len count
+  pub front_kept : (budget : ℕ) (es : List PlainEntry) (len count : ℕ) → HasFront budget es len count
+      → HasFront budget (at_first test change es) len count
   front_kept budget es len count f =
       let stays = front_stays len es f.inside f.refuted in
       record {
@@ -103,15 +121,18 @@ module _ (test : PlainEntry → Bool) (change : PlainEntry → List PlainEntry) 
   ends_not_open budget count p e h = subst (Ends budget count) e h
 
   -- an entry that ends the run stays
-  ended_stays : (budget count : ℕ) (es : List PlainEntry) → EndsWithFirst budget count es → EndsWithFirst budget count (at_first test change es)
+  ended_stays : (budget count : ℕ) (es : List PlainEntry) → EndsWithFirst budget count es
+      → EndsWithFirst budget count (at_first test change es)
   ended_stays budget count [] h = h
   ended_stays budget count (e ∷ es) h =
-      elim (test e) as (λ b. test e ≡ b → EndsWithFirst budget count (if b then change e ++ es else e ∷ at_first test change es)) [
+      elim (test e) as (λ b. test e ≡ b
+      → EndsWithFirst budget count (if b then change e ++ es else e ∷ at_first test change es)) [
         | true ↦ λ f. absurd (ends_not_open budget count (piece_of e) (finds e f) h)
         | false ↦ λ _. h
       ] refl
 
-  pub front_known : (budget : ℕ) (es : List PlainEntry) (len count : ℕ) (ended : Bool) → IsFront budget es len count ended
+  pub front_known : (budget : ℕ) (es : List PlainEntry) (len count : ℕ) (ended : Bool)
+      → IsFront budget es len count ended
       → HasFrontTo budget (at_first test change es) len count ended
   front_known budget es len count ended f =
       let stays = front_stays len es f.known.inside f.known.refuted in
@@ -122,7 +143,8 @@ module _ (test : PlainEntry → Bool) (change : PlainEntry → List PlainEntry) 
       }
 
   -- where what comes in the entry's place isn't finished either
-  module _ (opens : (e : PlainEntry) → test e ≡ true → (x : PlainEntry) × (xs : List PlainEntry) × (change e ≡ x ∷ xs) × (piece_of x ≡ Open)) where
+  module _ (opens : (e : PlainEntry) → test e ≡ true → (x : PlainEntry) × (xs : List PlainEntry) × (change e ≡ x ∷ xs)
+      × (piece_of x ≡ Open)) where
     open_stays : (es : List PlainEntry) → IsOpen es → IsOpen (at_first test change es)
     open_stays [] h = tt
     open_stays (e ∷ es) h =
@@ -131,13 +153,18 @@ module _ (test : PlainEntry → Bool) (change : PlainEntry → List PlainEntry) 
           | false ↦ λ _. h
         ] refl
 
-    pub front_same : (budget : ℕ) (es : List PlainEntry) (len count : ℕ) (ended : Bool) → IsFront budget es len count ended
+    pub front_same : (budget : ℕ) (es : List PlainEntry) (len count : ℕ) (ended : Bool)
+        → IsFront budget es len count ended
         → IsFront budget (at_first test change es) len count ended
     front_same budget es len count ended f =
         let stays = front_stays len es f.known.inside f.known.refuted in
-        record { known = front_kept budget es len count f.known; stands = subst (StandsAt budget count ended) (sym stays.1) (go ended f.stands) }
+        record {
+          known = front_kept budget es len count f.known;
+          stands = subst (StandsAt budget count ended) (sym stays.1) (go ended f.stands);
+        }
       where
-        go : (b : Bool) → StandsAt budget count b (drop len es) → StandsAt budget count b (at_first test change (drop len es))
+        go : (b : Bool) → StandsAt budget count b (drop len es)
+            → StandsAt budget count b (at_first test change (drop len es))
         go true h = ended_stays budget count (drop len es) h
         go false h = open_stays (drop len es) h
 
@@ -147,8 +174,10 @@ below_at n (x ∷ order) zero a l = a.0
 below_at n (x ∷ order) (suc k) a l = below_at n order k a.1 (omega (arith, l))
 
 -- what an index reads of the stored entries
-pub stored_at : (slots : List Slot) (order : List ℕ) (k : ℕ) (slot : Slot) (d : PlainEntry) → AreBelow (length slots) order → k < length order
-    → slot ≡ get_or slots (get_or order k 0) slot → get_or (entries_of slots order) k d ≡ entry_of (get_or order k 0) slot
+pub stored_at : (slots : List Slot) (order : List ℕ) (k : ℕ) (slot : Slot) (d : PlainEntry)
+    → AreBelow (length slots) order → k < length order
+    → slot ≡ get_or slots (get_or order k 0) slot
+    → get_or (entries_of slots order) k d ≡ entry_of (get_or order k 0) slot
 stored_at slots [] k slot d a l e = absurd (omega (arith, l))
 stored_at slots (n ∷ order) zero slot d a l e = ap (entry_or n) (slice_get_read slots (length slots) n slot refl a.0 e)
 stored_at slots (n ∷ order) (suc k) slot d a l e = stored_at slots order k slot d a.1 (omega (arith, l)) e

@@ -1,5 +1,7 @@
 -- Entries put among others: lists with a part in between, and what is read of stored entries behind others.
-use Rattle.std.proofs.Common.{◌≡◌, ℕ, zero, suc, ◌+◌, ◌*◌, ◌-◌, ◌<◌, ◌≤◌, inl, inr, refl, sym, ap, ap₂, ◌∙◌, arith, add-one, List, [], ◌∷◌, ◌++◌, length, reverse, take, drop, append_assoc, Some, true, false, if◌then◌else◌}
+use Rattle.std.proofs.Common.{◌≡◌, ℕ, zero, suc, ◌+◌, ◌*◌, ◌-◌, ◌<◌, ◌≤◌, inl, inr, refl, sym, ap, ap₂, ◌∙◌, arith}
+use Rattle.std.proofs.Common.{add-one, List, [], ◌∷◌, ◌++◌, length, reverse, take, drop, append_assoc, Some, true}
+use Rattle.std.proofs.Common.{false, if◌then◌else◌}
 use Rattle.std.specs.List.{range_with_len}
 use Rattle.std.specs.Prelude.{slice_get}
 use Rattle.std.proofs.lemmas.Bool.{cases_lt}
@@ -19,7 +21,8 @@ get_left (x ∷ xs) ys (suc k) l = get_left xs ys k (omega (arith, l))
 pub entry_left : (xs ys : List Slot) (k : ℕ) → k < length xs → entry_at (xs ++ ys) k ≡ entry_at xs k
 entry_left xs ys k l = ap (entry_or k) (get_left xs ys k l)
 
-pub entries_left : (xs ys : List Slot) (order : List ℕ) → AreBelow (length xs) order → entries_of (xs ++ ys) order ≡ entries_of xs order
+pub entries_left : (xs ys : List Slot) (order : List ℕ) → AreBelow (length xs) order
+    → entries_of (xs ++ ys) order ≡ entries_of xs order
 entries_left xs ys [] b = refl
 entries_left xs ys (k ∷ order) b = ap₂ (λ e es. e ∷ es) (entry_left xs ys k b.0) (entries_left xs ys order b.1)
 
@@ -28,14 +31,17 @@ get_here [] y ys = refl
 get_here (x ∷ xs) y ys = get_here xs y ys
 
 -- the entries behind others, by their numbers
-pub entries_right : (xs ys : List Slot) → entries_of (xs ++ ys) (range_with_len (length xs) (length ys)) ≡ entries_from (length xs) ys
+pub entries_right : (xs ys : List Slot) → entries_of (xs ++ ys) (range_with_len (length xs) (length ys))
+    ≡ entries_from (length xs) ys
 entries_right xs [] = refl
 entries_right xs (y ∷ ys) =
     let one : length (xs ++ y ∷ []) ≡ length xs + 1 = length_push xs y in
     let all : (xs ++ y ∷ []) ++ ys ≡ xs ++ y ∷ ys = append_assoc xs (y ∷ []) ys in
     let rest = entries_right (xs ++ y ∷ []) ys in
-    let moved : entries_of (xs ++ y ∷ ys) (range_with_len (length xs + 1) (length ys)) ≡ entries_from (suc (length xs)) ys =
-    sym (ap₂ (λ ss n. entries_of ss (range_with_len n (length ys))) all one) ∙ (rest ∙ ap (λ n. entries_from n ys) (one ∙ add-one (length xs))) in
+    let moved : entries_of (xs ++ y ∷ ys) (range_with_len (length xs + 1) (length ys))
+    ≡ entries_from (suc (length xs)) ys =
+    sym (ap₂ (λ ss n. entries_of ss (range_with_len n (length ys))) all one)
+    ∙ (rest ∙ ap (λ n. entries_from n ys) (one ∙ add-one (length xs))) in
     ap₂ (λ e es. e ∷ es) (ap (entry_or (length xs)) (get_here xs y ys)) moved
 
 pub length_from : (n : ℕ) (slots : List Slot) → length (entries_from n slots) ≡ length slots
@@ -52,18 +58,21 @@ owed_children path k (suc more) n = let r = owed_children path (suc k) more (suc
 
 -- ---- a change behind entries that don't pass
 
-pub change_behind : (slots : List Slot) (n : ℕ) (change : PlainEntry → List PlainEntry) (pre : List ℕ) (ys : List PlainEntry) → IsNotIn n pre
+pub change_behind : (slots : List Slot) (n : ℕ) (change : PlainEntry → List PlainEntry) (pre : List ℕ)
+    (ys : List PlainEntry) → IsNotIn n pre
     → at_first (is_out n) change (entries_of slots pre ++ ys) ≡ entries_of slots pre ++ at_first (is_out n) change ys
 change_behind slots n change [] ys a = refl
 change_behind slots n change (m ∷ pre) ys a =
     elim (is_out n (entry_at slots m)) as (λ b. is_out n (entry_at slots m) ≡ b
-    → (if b then change (entry_at slots m) ++ (entries_of slots pre ++ ys) else entry_at slots m ∷ at_first (is_out n) change (entries_of slots pre ++ ys))
+    → (if b then change (entry_at slots m) ++ (entries_of slots pre ++ ys) else entry_at slots m
+    ∷ at_first (is_out n) change (entries_of slots pre ++ ys))
     ≡ entry_at slots m ∷ (entries_of slots pre ++ at_first (is_out n) change ys)) [
       | true ↦ λ f. absurd (a.0 (sym (out_number slots n m f)))
       | false ↦ λ _. ap (λ es. entry_at slots m ∷ es) (change_behind slots n change pre ys a.1)
     ] refl
 
-pub change_here : (n : ℕ) (change : PlainEntry → List PlainEntry) (e : PlainEntry) (ys : List PlainEntry) → is_out n e ≡ true
+pub change_here : (n : ℕ) (change : PlainEntry → List PlainEntry) (e : PlainEntry) (ys : List PlainEntry)
+    → is_out n e ≡ true
     → at_first (is_out n) change (e ∷ ys) ≡ change e ++ ys
 change_here n change e ys h = rw h refl
 
@@ -101,7 +110,8 @@ not_in_no n (m ∷ order) (inr i) a = not_in_no n order i a.1
 
 -- ---- the stack
 
-pub stack_inserted : (front middle back : List PlainTask) (stack : List PlainTask) (n : ℕ) → stack ≡ reverse (front ++ back) → n ≡ length stack - length front
+pub stack_inserted : (front middle back : List PlainTask) (stack : List PlainTask) (n : ℕ)
+    → stack ≡ reverse (front ++ back) → n ≡ length stack - length front
     → take n stack ++ (reverse middle ++ drop n stack) ≡ reverse (front ++ (middle ++ back))
 stack_inserted front middle back stack n s e =
     let parts : stack ≡ reverse back ++ reverse front = s ∙ reverse-append front back in

@@ -14,36 +14,47 @@ use Rattle.work_share.specs.Slots.{entry_at, entries_of}
 use Rattle.work_share.specs.Boards.{stored_state, IsKept}
 use Rattle.work_share.proofs.Stored.{numbers_are}
 
-pub keeps_stored : (tree : SearchTree) (budget : ℕ) (slots : List Slot) (order : List ℕ) (short : Bool) (history : List Event)
+pub keeps_stored : (tree : SearchTree) (budget : ℕ) (slots : List Slot) (order : List ℕ) (short : Bool)
+    (history : List Event)
     → replay tree budget history ≡ stored_state slots order short → Keeps tree budget (entries_of slots order)
-keeps_stored tree budget slots order short history e = subst (λ (b : BoardState). Keeps tree budget b.entries) e (keeps_replay tree budget history)
+keeps_stored tree budget slots order short history e =
+    subst (λ (b : BoardState). Keeps tree budget b.entries) e (keeps_replay tree budget history)
 
 -- the two facts of the type that follow from the history
-pub apart_stored : (tree : SearchTree) (budget : ℕ) (slots : List Slot) (order : List ℕ) (short : Bool) (history : List Event)
+pub apart_stored : (tree : SearchTree) (budget : ℕ) (slots : List Slot) (order : List ℕ) (short : Bool)
+    (history : List Event)
     → replay tree budget history ≡ stored_state slots order short → OutsAreApart (entries_of slots order)
-apart_stored tree budget slots order short history e = outs_apart (entries_of slots order) (keeps_stored tree budget slots order short history e).order
+apart_stored tree budget slots order short history e =
+    outs_apart (entries_of slots order) (keeps_stored tree budget slots order short history e).order
 
-pub distinct_order : (tree : SearchTree) (budget : ℕ) (slots : List Slot) (order : List ℕ) → Keeps tree budget (entries_of slots order) → AreDistinct order
+pub distinct_order : (tree : SearchTree) (budget : ℕ) (slots : List Slot) (order : List ℕ)
+    → Keeps tree budget (entries_of slots order) → AreDistinct order
 distinct_order tree budget slots order k = subst AreDistinct (numbers_are slots order) k.numbers
 
-pub below_order : (tree : SearchTree) (budget : ℕ) (slots : List Slot) (order : List ℕ) → Keeps tree budget (entries_of slots order)
+pub below_order : (tree : SearchTree) (budget : ℕ) (slots : List Slot) (order : List ℕ)
+    → Keeps tree budget (entries_of slots order)
     → length slots ≡ length order → AreBelow (length slots) order
 below_order tree budget slots order k size =
     subst (λ n. AreBelow n order) (length-map order (entry_at slots) ∙ sym size)
     (subst (λ ns. AreBelow (length (entries_of slots order)) ns) (numbers_are slots order) k.below)
 
-pub replay_more : (tree : SearchTree) (budget : ℕ) (history : List Event) (event : Event) (old new : BoardState) → replay tree budget history ≡ old
+pub replay_more : (tree : SearchTree) (budget : ℕ) (history : List Event) (event : Event) (old new : BoardState)
+    → replay tree budget history ≡ old
     → happens tree budget old event ≡ new → replay tree budget (history ++ event ∷ []) ≡ new
 replay_more tree budget history event old new e h =
-    fold-append (happens tree budget) board_start history (event ∷ []) ∙ (ap (λ (b : BoardState). happens tree budget b event) e ∙ h)
+    fold-append (happens tree budget) board_start history (event ∷ [])
+    ∙ (ap (λ (b : BoardState). happens tree budget b event) e ∙ h)
 
 -- the stack, with the leftmost task on top
-pub stack_top : (waiting rest : List PlainTask) (task : PlainTask) → rest ++ task ∷ [] ≡ reverse waiting → waiting ≡ task ∷ reverse rest
+pub stack_top : (waiting rest : List PlainTask) (task : PlainTask) → rest ++ task ∷ [] ≡ reverse waiting
+    → waiting ≡ task ∷ reverse rest
 stack_top waiting rest task e = sym (reverse-reverse waiting) ∙ (ap reverse (sym e) ∙ reverse-append rest (task ∷ []))
 
 -- more room
-pub kept_roomier : (tree : SearchTree) (budget : ℕ) (slots : List Slot) (order : List ℕ) (stack : List PlainTask) (len count : ℕ) (ended short : Bool)
-    (history : List Event) (capacity more : ℕ) → IsKept tree budget slots order stack len count ended short history capacity → capacity ≤ more
+pub kept_roomier : (tree : SearchTree) (budget : ℕ) (slots : List Slot) (order : List ℕ) (stack : List PlainTask)
+    (len count : ℕ) (ended short : Bool)
+    (history : List Event) (capacity more : ℕ)
+    → IsKept tree budget slots order stack len count ended short history capacity → capacity ≤ more
     → IsKept tree budget slots order stack len count ended short history more
 kept_roomier tree budget slots order stack len count ended short history capacity more k l = record {
   replays = k.replays;

@@ -11,8 +11,10 @@ use Rattle.work_share.specs.Boards.{IsKept}
 use Rattle.work_share.proofs.Standing.{out_there, out_found}
 use Rattle.work_share.proofs.Finishing.{out_inside}
 
-module _ (tree : SearchTree) (budget : ℕ) (slots : List Slot) (order : List ℕ) (stack : List PlainTask) (len count : ℕ) (ended short : Bool)
-    (history : List Event) (capacity : ℕ) (kept : IsKept tree budget slots order stack len count ended short history capacity) (n : ℕ) (p : List ℕ) where
+module _ (tree : SearchTree) (budget : ℕ) (slots : List Slot) (order : List ℕ) (stack : List PlainTask) (len count : ℕ)
+    (ended short : Bool)
+    (history : List Event) (capacity : ℕ)
+    (kept : IsKept tree budget slots order stack len count ended short history capacity) (n : ℕ) (p : List ℕ) where
   pub read_out : (slot : Slot) (b : Bool) → slice_get slots n ≡ Some slot
       → MatchBool b (entry_of n slot ≡ TaskEntry n p Out) (¬ (entry_of n slot ≡ TaskEntry n p Out))
       → MatchBool b (out_path n (entries_of slots order) ≡ Some p) (¬ (out_path n (entries_of slots order) ≡ Some p))

@@ -1,8 +1,11 @@
 -- Which tasks wait and which are out, among stored entries.
-use Rattle.std.proofs.Common.{◌≡◌, ℕ, suc, ◌<◌, ◌⊎◌, inl, inr, refl, sym, ap, ◌∙◌, subst, arith, List, [], ◌∷◌, ◌++◌, Some, None, Bool, true, false, if◌then◌else◌, ◌==◌, option_to_list}
+use Rattle.std.proofs.Common.{◌≡◌, ℕ, suc, ◌<◌, ◌⊎◌, inl, inr, refl, sym, ap, ◌∙◌, subst, arith, List, [], ◌∷◌, ◌++◌}
+use Rattle.std.proofs.Common.{Some, None, Bool, true, false, if◌then◌else◌, ◌==◌, option_to_list}
 use Rattle.std.proofs.lemmas.Bool.{true≢false, eq-eqb}
 use Rattle.tree_terms.specs.Trees.{PlainOutcome}
-use Rattle.board_terms.specs.Board.{PlainEntry, SplitEntry, TaskEntry, PlainTask, Waits, Out, Done, waits, waits_as, is_out, state_waits, task_of, entry_path, entry_number, first_waiting, out_path, with_state}
+use Rattle.board_terms.specs.Board.{PlainEntry, SplitEntry, TaskEntry, PlainTask, Waits, Out, Done, waits, waits_as}
+use Rattle.board_terms.specs.Board.{is_out, state_waits, task_of, entry_path, entry_number, first_waiting, out_path}
+use Rattle.board_terms.specs.Board.{with_state}
 use Rattle.board_terms.specs.Steps.{handed_out, finished}
 use Rattle.board_terms.specs.Kept.{AreBelow}
 use Rattle.board_terms.proofs.Outs.{out_is, same_path}
@@ -25,24 +28,32 @@ pub out_there : (slots : List Slot) (order : List ℕ) (n : ℕ) (p : List ℕ) 
     → IsIn n order × (entry_at slots n ≡ TaskEntry n p Out)
 out_there slots [] n p h = absurd (cc h)
 out_there slots (m ∷ order) n p h =
-    elim (is_out n (entry_at slots m)) as (λ b. is_out n (entry_at slots m) ≡ b → (if b then entry_path (entry_at slots m) else out_path n (entries_of slots order)) ≡ Some p
+    elim (is_out n (entry_at slots m)) as
+    (λ b. is_out n (entry_at slots m) ≡ b
+    → (if b then entry_path (entry_at slots m) else out_path n (entries_of slots order)) ≡ Some p
     → IsIn n (m ∷ order) × (entry_at slots n ≡ TaskEntry n p Out)) [
       | true ↦ λ f g.
           let at = out_is n (entry_at slots m) f in
           let same = out_number slots n m f in
-          let path : at.0 ≡ p = same_path at.0 p (sym (ap entry_path at.1) ∙ g) in
-          (inl (sym same), subst (λ k. entry_at slots k ≡ TaskEntry n p Out) same (at.1 ∙ ap (λ q. TaskEntry n q Out) path))
+          let path : at.0 ≡ p = same_path at.0 p (sym (ap entry_path at.1) ∙ g) in (
+            inl (sym same),
+            subst (λ k. entry_at slots k ≡ TaskEntry n p Out) same
+                (at.1 ∙ ap (λ q. TaskEntry n q Out) path),
+          )
       | false ↦ λ _ g. let rest = out_there slots order n p g in (inr rest.0, rest.1)
     ] refl h
 
 pub is_out_task : (n : ℕ) (p : List ℕ) → is_out n (TaskEntry n p Out) ≡ true
 is_out_task n p = rw (eq-eqb n n refl) refl
 
-pub out_found : (slots : List Slot) (order : List ℕ) (n : ℕ) (p : List ℕ) → IsIn n order → entry_at slots n ≡ TaskEntry n p Out
+pub out_found : (slots : List Slot) (order : List ℕ) (n : ℕ) (p : List ℕ) → IsIn n order
+    → entry_at slots n ≡ TaskEntry n p Out
     → out_path n (entries_of slots order) ≡ Some p
 out_found slots [] n p i e = absurd i
 out_found slots (m ∷ order) n p i e =
-    elim (is_out n (entry_at slots m)) as (λ b. is_out n (entry_at slots m) ≡ b → (if b then entry_path (entry_at slots m) else out_path n (entries_of slots order)) ≡ Some p) [
+    elim (is_out n (entry_at slots m)) as
+    (λ b. is_out n (entry_at slots m) ≡ b
+    → (if b then entry_path (entry_at slots m) else out_path n (entries_of slots order)) ≡ Some p) [
       | true ↦ λ f. ap entry_path (ap (entry_at slots) (out_number slots n m f) ∙ e)
       | false ↦ λ f. out_found slots order n p (behind i f) e
     ] refl
@@ -74,7 +85,8 @@ head_same : (x y : PlainTask) (xs ys : List PlainTask) → x ∷ xs ≡ y ∷ ys
 head_same x y xs ys e = (cc, cc)
 
 -- what is known of an entry that waits, first of all that do
-pub first_entry : (e : PlainEntry) (rest ts : List PlainTask) (t : PlainTask) → waits e ≡ true → option_to_list (task_of e) ++ rest ≡ t ∷ ts
+pub first_entry : (e : PlainEntry) (rest ts : List PlainTask) (t : PlainTask) → waits e ≡ true
+    → option_to_list (task_of e) ++ rest ≡ t ∷ ts
     → (e ≡ TaskEntry t.number t.path Waits) × (rest ≡ ts)
 first_entry e rest ts t w h =
     let at = waits_is e w in
@@ -82,7 +94,8 @@ first_entry e rest ts t w h =
     let heads = head_same task t rest ts (sym (ap (λ x. option_to_list (task_of x) ++ rest) at.2) ∙ h) in
     (at.2 ∙ ap (λ (x : PlainTask). TaskEntry x.number x.path Waits) heads.0, heads.1)
 
-pub waiting_there : (slots : List Slot) (order : List ℕ) (t : PlainTask) (ts : List PlainTask) → waiting_tasks (entries_of slots order) ≡ t ∷ ts
+pub waiting_there : (slots : List Slot) (order : List ℕ) (t : PlainTask) (ts : List PlainTask)
+    → waiting_tasks (entries_of slots order) ≡ t ∷ ts
     → IsIn t.number order × (entry_at slots t.number ≡ TaskEntry t.number t.path Waits)
 waiting_there slots [] t ts h = absurd (cc h)
 waiting_there slots (m ∷ order) t ts h =
@@ -96,7 +109,8 @@ waiting_there slots (m ∷ order) t ts h =
       | false ↦ λ _ g. let rest = waiting_there slots order t ts g in (inr rest.0, rest.1)
     ] refl h
 
-pub first_is : (es : List PlainEntry) (t : PlainTask) (ts : List PlainTask) → waiting_tasks es ≡ t ∷ ts → first_waiting es ≡ Some t
+pub first_is : (es : List PlainEntry) (t : PlainTask) (ts : List PlainTask) → waiting_tasks es ≡ t ∷ ts
+    → first_waiting es ≡ Some t
 first_is [] t ts h = absurd (cc h)
 first_is (e ∷ es) t ts h =
     elim (waits e) as (λ b. waits e ≡ b → (if b then option_to_list (task_of e) else []) ++ waiting_tasks es ≡ t ∷ ts
@@ -108,8 +122,10 @@ first_is (e ∷ es) t ts h =
 pub none_is : (es : List PlainEntry) → waiting_tasks es ≡ [] → first_waiting es ≡ None
 none_is [] h = refl
 none_is (e ∷ es) h =
-    elim (waits e) as (λ b. waits e ≡ b → (if b then option_to_list (task_of e) else []) ++ waiting_tasks es ≡ [] → (if b then task_of e else first_waiting es) ≡ None) [
-      | true ↦ λ w g. let at = waits_is e w in let f = sym (ap (λ x. option_to_list (task_of x) ++ waiting_tasks es) at.2) ∙ g in absurd (cc f)
+    elim (waits e) as (λ b. waits e ≡ b → (if b then option_to_list (task_of e) else []) ++ waiting_tasks es ≡ []
+    → (if b then task_of e else first_waiting es) ≡ None) [
+      | true ↦ λ w g. let at = waits_is e w in let f =
+          sym (ap (λ x. option_to_list (task_of x) ++ waiting_tasks es) at.2) ∙ g in absurd (cc f)
       | false ↦ λ _ g. none_is es g
     ] refl h
 
@@ -119,10 +135,12 @@ pub taken_rest : (es : List PlainEntry) (t : PlainTask) (ts : List PlainTask) �
 taken_rest [] t ts h = absurd (cc h)
 taken_rest (e ∷ es) t ts h =
     elim (waits e) as (λ b. waits e ≡ b → (if b then option_to_list (task_of e) else []) ++ waiting_tasks es ≡ t ∷ ts
-    → (waiting_tasks (handed_out t.number (e ∷ es)) ≡ ts) × (owed (e ∷ es) ≡ suc (owed (handed_out t.number (e ∷ es))))) [
+    → (waiting_tasks (handed_out t.number (e ∷ es)) ≡ ts)
+    × (owed (e ∷ es) ≡ suc (owed (handed_out t.number (e ∷ es))))) [
       | true ↦ λ w g.
           let first = first_entry e (waiting_tasks es) ts t w g in
-          subst (λ x. (waiting_tasks (handed_out t.number (x ∷ es)) ≡ ts) × (owed (x ∷ es) ≡ suc (owed (handed_out t.number (x ∷ es))))) (sym first.0)
+          subst (λ x. (waiting_tasks (handed_out t.number (x ∷ es)) ≡ ts)
+          × (owed (x ∷ es) ≡ suc (owed (handed_out t.number (x ∷ es))))) (sym first.0)
           (rw (waits_as_task t.number t.path) (first.1, omega arith))
       | false ↦ λ w g.
           let rest = taken_rest es t ts g in
@@ -139,9 +157,12 @@ finished_rest (e ∷ es) o n p h =
     × (owed (e ∷ es) ≡ suc (owed (if b then (with_state (Done o) e ∷ []) ++ es else e ∷ finished o n es)))) [
       | true ↦ λ f _.
           let at = out_is n e f in
-          subst (λ x. (waiting_tasks (with_state (Done o) x ∷ es) ≡ waiting_tasks (x ∷ es)) × (owed (x ∷ es) ≡ suc (owed (with_state (Done o) x ∷ es)))) (sym at.1)
+          subst (λ x. (waiting_tasks (with_state (Done o) x ∷ es) ≡ waiting_tasks (x ∷ es))
+          × (owed (x ∷ es) ≡ suc (owed (with_state (Done o) x ∷ es)))) (sym at.1)
           (refl, omega arith)
       | false ↦ λ _ g.
-          let rest = finished_rest es o n p g in
-          (ap (λ ts. (if waits e then option_to_list (task_of e) else []) ++ ts) rest.0, (let r = rest.1 in omega (arith, r)))
+          let rest = finished_rest es o n p g in (
+            ap (λ ts. (if waits e then option_to_list (task_of e) else []) ++ ts) rest.0,
+            (let r = rest.1 in omega (arith, r)),
+          )
     ] refl h

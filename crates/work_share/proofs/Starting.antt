@@ -1,5 +1,6 @@
 -- A new board is kept.
-use Rattle.std.proofs.Common.{◌≡◌, ℕ, zero, suc, ◌<◌, ◌≤◌, inl, refl, sym, ap, ◌∙◌, subst, arith, [], ◌∷◌, reverse, false}
+use Rattle.std.proofs.Common.{◌≡◌, ℕ, zero, suc, ◌<◌, ◌≤◌, inl, refl, sym, ap, ◌∙◌, subst, arith, [], ◌∷◌, reverse}
+use Rattle.std.proofs.Common.{false}
 use Rattle.tree_terms.specs.Trees.{SearchTree}
 use Rattle.board_terms.specs.Board.{BoardState}
 use Rattle.board_terms.specs.Replay.{replay}
@@ -10,7 +11,8 @@ use Rattle.work_share.specs.Fronts.{IsFront}
 use Rattle.work_share.specs.Boards.{stored_state, waiting_tasks, owed, IsIn, IsKept}
 use Rattle.work_share.proofs.Kept.{keeps_stored, apart_stored}
 
-pub start_kept : (tree : SearchTree) (budget : ℕ) (root : Slot) (capacity : ℕ) → root.path.items ≡ [] → root.state ≡ Waits → 3 ≤ capacity
+pub start_kept : (tree : SearchTree) (budget : ℕ) (root : Slot) (capacity : ℕ) → root.path.items ≡ []
+    → root.state ≡ Waits → 3 ≤ capacity
     → IsKept tree budget (root ∷ []) (0 ∷ []) (record { path = []; number = 0 } ∷ []) 0 0 false false [] capacity
 start_kept tree budget root capacity path state room =
     let replays : replay tree budget [] ≡ stored_state (root ∷ []) (0 ∷ []) false =
@@ -24,7 +26,11 @@ start_kept tree budget root capacity path state room =
       size = refl;
       all = first;
       stacked = ap (λ es. reverse (waiting_tasks es)) entries;
-      front = subst (λ es. IsFront budget es 0 0 false) entries (record { known = record { inside = omega arith; refuted = tt; sum = refl; within = omega arith }; stands = refl });
+      front = subst (λ es. IsFront budget es 0 0 false) entries
+          (record {
+            known = record { inside = omega arith; refuted = tt; sum = refl; within = omega arith };
+            stands = refl;
+          });
       owes = let e = ap owed entries in omega (arith, e);
       room = omega (arith, room);
     }

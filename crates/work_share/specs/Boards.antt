@@ -1,8 +1,10 @@
 -- A board as its callers see it, and what its type keeps.
-use Rattle.std.specs.Prelude.{ℕ, ◌+◌, ◌*◌, ◌≡◌, ◌≤◌, ◌<◌, ◌⊎◌, List, [], ◌∷◌, ◌++◌, length, reverse, Bool, if◌then◌else◌, option_to_list}
+use Rattle.std.specs.Prelude.{ℕ, ◌+◌, ◌*◌, ◌≡◌, ◌≤◌, ◌<◌, ◌⊎◌, List, [], ◌∷◌, ◌++◌, length, reverse, Bool}
+use Rattle.std.specs.Prelude.{if◌then◌else◌, option_to_list}
 use Rattle.tree_terms.specs.Trees.{SearchTree}
 use Rattle.board_terms.specs.declared.Event.{Event}
-use Rattle.board_terms.specs.Board.{BoardState, PlainTask, PlainEntry, SplitEntry, TaskEntry, PlainTaskState, Waits, Out, Done, waits, task_of}
+use Rattle.board_terms.specs.Board.{BoardState, PlainTask, PlainEntry, SplitEntry, TaskEntry, PlainTaskState, Waits}
+use Rattle.board_terms.specs.Board.{Out, Done, waits, task_of}
 use Rattle.board_terms.specs.Replay.{replay}
 use Rattle.board_terms.specs.Kept.{OutsAreApart, AreTasksRight}
 use Rattle.work_share.specs.declared.slot.Slot.{Slot}
@@ -50,7 +52,8 @@ IsIn n (m ∷ ms) = (n ≡ m) ⊎ IsIn n ms
 -- each done task has its node's outcome. Beside these: each number stands in the order, the tasks
 -- that wait are on the stack with the leftmost on top, the front of the leftmost finished run is
 -- known, and the history has room for all events that are still to come.
-pub record IsKept (tree : SearchTree) (budget : ℕ) (slots : List Slot) (order : List ℕ) (stack : List PlainTask) (len count : ℕ) (is_ended is_short : Bool)
+pub record IsKept (tree : SearchTree) (budget : ℕ) (slots : List Slot) (order : List ℕ) (stack : List PlainTask)
+    (len count : ℕ) (is_ended is_short : Bool)
     (history : List Event) (capacity : ℕ) : Type 0 where
   pub replays : replay tree budget history ≡ stored_state slots order is_short
   pub apart : OutsAreApart (entries_of slots order)

@@ -29,7 +29,8 @@ StaysWhole budget depth node =
 -- What was found of a node is right: its outcome under the budget exactly where no split is called
 -- for, and else its split.
 abbrev pub IsFoundOf : ℕ → ℕ → SearchTree → Found → Type 0
-IsFoundOf budget depth node (Whole found) = (plain_outcome found ≡ told budget (outcome node)) × StaysWhole budget depth node
+IsFoundOf budget depth node (Whole found) = (plain_outcome found ≡ told budget (outcome node))
+    × StaysWhole budget depth node
 IsFoundOf budget depth node (Pieces token own children) =
     (node_told node ≡ Splits (plain_token token) own children) × ExceedsCap budget depth node
 
@@ -40,7 +41,8 @@ IsFoundAt tree budget path found = IfSome (node_at (Some tree) path) (λ node. I
 -- What was found of the task of this number is put into the board in one step. In the place of a
 -- split, the step may be the note that there was no memory for it.
 abbrev pub PutsFound : SearchTree → ℕ → BoardState → ℕ → Found → BoardState → Type 0
-PutsFound tree budget old number (Whole found) new = BoardStep tree budget old (AskFinish number (is_past (plain_outcome found))) IsDone new
+PutsFound tree budget old number (Whole found) new =
+    BoardStep tree budget old (AskFinish number (is_past (plain_outcome found))) IsDone new
 PutsFound tree budget old number (Pieces token own children) new =
     BoardStep tree budget old (AskSplit number) IsDone new ⊎ BoardStep tree budget old NoteShort IsDone new
 

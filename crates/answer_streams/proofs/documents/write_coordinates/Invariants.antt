@@ -8,5 +8,6 @@ use Rattle.answer_streams.proofs.documents.write_coordinates.Given as goal
 
 abbrev pub invariant-loop-dim : goal.invariant-loop-dim
 invariant-loop-dim g l =
-    Continues (g.K.Sink.written l.initial.sink) (g.K.Sink.written l.sink) (g.K.Sink.faults l.initial.sink) (g.K.Sink.faults l.sink)
+    Continues (g.K.Sink.written l.initial.sink) (g.K.Sink.written l.sink) (g.K.Sink.faults l.initial.sink)
+    (g.K.Sink.faults l.sink)
     (after_spaces (map (λ i. decimal (place l.instance l.places l.box_no i)) (below l.dim))) l.initial.now l.now

@@ -7,5 +7,6 @@ use Rattle.answer_streams.proofs.documents.write_places.Given as goal
 
 abbrev pub invariant-loop-box_no : goal.invariant-loop-box_no
 invariant-loop-box_no g l =
-    Continues (g.K.Sink.written l.initial.sink) (g.K.Sink.written l.sink) (g.K.Sink.faults l.initial.sink) (g.K.Sink.faults l.sink)
+    Continues (g.K.Sink.written l.initial.sink) (g.K.Sink.written l.sink) (g.K.Sink.faults l.initial.sink)
+    (g.K.Sink.faults l.sink)
     (lines_text (map (place_words l.instance l.places) (below l.box_no))) l.initial.now l.now

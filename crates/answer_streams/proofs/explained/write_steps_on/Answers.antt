@@ -8,7 +8,8 @@ loop-k-init g c = none _ _ _
 
 pub loop-k-preserved : goal.loop-k-preserved
 loop-k-preserved g c =
-    same _ _ _ _ _ _ _ _ (steps_more c.args.steps.now c.loop-k.k c.index-steps-k.result c.index-steps-k.result c.index-steps-k.is (omega arith))
+    same _ _ _ _ _ _ _ _ (steps_more c.args.steps.now c.loop-k.k c.index-steps-k.result c.index-steps-k.result
+    c.index-steps-k.is (omega arith))
     (more _ _ _ _ _ _ _ _ _ _ _ c.loop-k.invariant c.write_step_on-now.ensures)
 
 pub returns : goal.returns

@@ -7,5 +7,6 @@ use Rattle.answer_streams.proofs.explained.write_steps_on.Given as goal
 
 abbrev pub invariant-loop-k : goal.invariant-loop-k
 invariant-loop-k g l =
-    Continues (g.K.Sink.written l.initial.sink) (g.K.Sink.written l.sink) (g.K.Sink.faults l.initial.sink) (g.K.Sink.faults l.sink)
+    Continues (g.K.Sink.written l.initial.sink) (g.K.Sink.written l.sink) (g.K.Sink.faults l.initial.sink)
+    (g.K.Sink.faults l.sink)
     (lines_text (step_lines (map plain_step (take l.k l.steps)))) l.initial.now l.now

@@ -10,14 +10,17 @@ returns-in-Ok-clause-written g c = λ before text wrote.
     let front = c.empty-result.new.self in
     let ended = c.empty-result.ensures in
     let whole = subst
-    (λ r. Writes g.B.Behind.begun (shown (g.K.Sink.written old.out.now) old.block old.start old.end) before (g.K.Sink.faults old.out.now) text r) c.in-Ok.is wrote in
+    (λ r. Writes g.B.Behind.begun (shown (g.K.Sink.written old.out.now) old.block old.start old.end) before
+    (g.K.Sink.faults old.out.now) text r) c.in-Ok.is wrote in
     rw (c.sink_behind.ensures.out, c.sink_behind.ensures.result)
-    (behind_end _ _ _ _ front.block front.start front.end before before _ _ text _ refl refl front.since whole ended.shown ended.empty ended.count)
+    (behind_end _ _ _ _ front.block front.start front.end before before _ _ text _ refl refl front.since whole
+    ended.shown ended.empty ended.count)
 
 pub returns-in-Err-clause-written : goal.returns-in-Err-clause-written
 returns-in-Err-clause-written g c = λ before text wrote.
     let old = c.args.front in
     let failed = subst
-    (λ r. Writes g.B.Behind.begun (shown (g.K.Sink.written old.out.now) old.block old.start old.end) before (g.K.Sink.faults old.out.now) text r) c.in-Err.is wrote in
+    (λ r. Writes g.B.Behind.begun (shown (g.K.Sink.written old.out.now) old.block old.start old.end) before
+    (g.K.Sink.faults old.out.now) text r) c.in-Err.is wrote in
     rw (c.sink_behind-in-Err.ensures.out, c.sink_behind-in-Err.ensures.result)
     (behind_err _ _ _ _ before before _ text _ _ refl refl old.since failed)

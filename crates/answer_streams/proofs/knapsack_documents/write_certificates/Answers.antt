@@ -12,5 +12,7 @@ write_all_numbered-taken-requires g c =
     omega (arith, e)
 
 pub returns : goal.returns
-returns g c = same _ _ _ _ _ _ _ _ (certificates (take_lines c.args.instance.now c.args.numbers.now) (plain_tokens c.args.tokens.now))
-    (more _ _ _ _ _ _ _ _ _ _ _ (rw c.dims-dims.ensures.value at c.write_all_numbered-taken.ensures) c.write_proof.ensures)
+returns g c = same _ _ _ _ _ _ _ _
+    (certificates (take_lines c.args.instance.now c.args.numbers.now) (plain_tokens c.args.tokens.now))
+    (more _ _ _ _ _ _ _ _ _ _ _ (rw c.dims-dims.ensures.value at c.write_all_numbered-taken.ensures)
+    c.write_proof.ensures)

@@ -4,4 +4,5 @@ use Rattle.answer_streams.proofs.knapsack_documents.write_greatest_line.Goals as
 
 pub returns : goal.returns
 returns g c = same _ _ _ _ _ _ _ _ (greatest_line c.args.value)
-    (more _ _ _ _ _ _ _ _ _ _ _ c.write_on-named.ensures.goes_on (more _ _ _ _ _ _ _ _ _ _ _ c.write_number-said.ensures.goes_on c.write_on.ensures.goes_on))
+    (more _ _ _ _ _ _ _ _ _ _ _ c.write_on-named.ensures.goes_on
+    (more _ _ _ _ _ _ _ _ _ _ _ c.write_number-said.ensures.goes_on c.write_on.ensures.goes_on))

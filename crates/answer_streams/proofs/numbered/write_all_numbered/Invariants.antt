@@ -7,5 +7,6 @@ use Rattle.answer_streams.proofs.numbered.write_all_numbered.Given as goal
 
 abbrev pub invariant-loop-k : goal.invariant-loop-k
 invariant-loop-k g l =
-    Continues (g.K.Sink.written l.initial.sink) (g.K.Sink.written l.sink) (g.K.Sink.faults l.initial.sink) (g.K.Sink.faults l.sink)
+    Continues (g.K.Sink.written l.initial.sink) (g.K.Sink.written l.sink) (g.K.Sink.faults l.initial.sink)
+    (g.K.Sink.faults l.sink)
     (lines_text (map (numbered_words l.key l.dims l.numbers) (below l.k))) l.initial.now l.now

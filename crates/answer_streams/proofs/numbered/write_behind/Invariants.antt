@@ -7,5 +7,6 @@ use Rattle.answer_streams.proofs.numbered.write_behind.Given as goal
 
 abbrev pub invariant-loop-dim : goal.invariant-loop-dim
 invariant-loop-dim g l =
-    Continues (g.K.Sink.written l.initial.sink) (g.K.Sink.written l.sink) (g.K.Sink.faults l.initial.sink) (g.K.Sink.faults l.sink)
+    Continues (g.K.Sink.written l.initial.sink) (g.K.Sink.written l.sink) (g.K.Sink.faults l.initial.sink)
+    (g.K.Sink.faults l.sink)
     (after_spaces (map (λ i. decimal (get_or l.numbers (l.start + (1 + i)) 0)) (below l.dim))) l.initial.now l.now

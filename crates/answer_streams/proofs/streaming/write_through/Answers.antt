@@ -5,5 +5,6 @@ use Rattle.answer_streams.proofs.streaming.write_through.Goals as goal
 pub returns-clause-written : goal.returns-clause-written
 returns-clause-written g c =
     let begun = c.front_before-front.ensures.shown ∙ c.requires.begun in
-    same_start _ _ _ _ _ _ _ _ (sym c.requires.begun) refl (c.hand_back.ensures.written (g.K.Sink.faults c.args.out.now) _
+    same_start _ _ _ _ _ _ _ _ (sym c.requires.begun) refl
+    (c.hand_back.ensures.written (g.K.Sink.faults c.args.out.now) _
     (same_start _ _ _ _ _ _ _ _ begun c.front_before-front.ensures.faults c.write_to-written.ensures))

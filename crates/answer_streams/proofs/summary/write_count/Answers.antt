@@ -2,4 +2,5 @@ use Rattle.pack_streams.proofs.Writers.{more}
 use Rattle.answer_streams.proofs.summary.write_count.Goals as goal
 
 pub returns : goal.returns
-returns g c = more _ _ _ _ _ _ _ _ _ _ _ c.write_on-named.ensures.goes_on (more _ _ _ _ _ _ _ _ _ _ _ c.write_number-counted.ensures.goes_on c.write_on.ensures.goes_on)
+returns g c = more _ _ _ _ _ _ _ _ _ _ _ c.write_on-named.ensures.goes_on
+    (more _ _ _ _ _ _ _ _ _ _ _ c.write_number-counted.ensures.goes_on c.write_on.ensures.goes_on)

@@ -3,4 +3,5 @@ use Rattle.answer_streams.proofs.Lined.{claim_line}
 use Rattle.answer_streams.proofs.verdict.write_verified.Goals as goal
 
 pub returns : goal.returns
-returns g c = (same _ _ _ _ _ _ _ _ (claim_line c.args.claim) (more _ _ _ _ _ _ _ _ _ _ _ c.write_on-named.ensures.goes_on c.write_claim.ensures)).goes
+returns g c = (same _ _ _ _ _ _ _ _ (claim_line c.args.claim)
+    (more _ _ _ _ _ _ _ _ _ _ _ c.write_on-named.ensures.goes_on c.write_claim.ensures)).goes

@@ -7,7 +7,8 @@ use Rattle.bin_knapsack.proofs.greatest.bisect_values.Given as goal
 
 abbrev pub invariant-loop-level : goal.invariant-loop-level
 invariant-loop-level g l = record {
-  run : IsOnRun (value_answer l.fn.instance l.fn.settings.budget l.fn.settings.scales) 0 (first_values l.fn.instance).refuted
+  run : IsOnRun (value_answer l.fn.instance l.fn.settings.budget l.fn.settings.scales) 0
+      (first_values l.fn.instance).refuted
       (first_values l.fn.instance) (plain_reached l.reached);
   search : l.search ≡ record { instance = l.fn.instance; scales = l.fn.settings.scales };
 }

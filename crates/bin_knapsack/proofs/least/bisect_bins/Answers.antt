@@ -12,7 +12,8 @@ decide_bins-requires-clause-fit g c κs within = none_large c.args.instance.now 
 
 pub loop-level-preserved : goal.loop-level-preserved
 loop-level-preserved g c = record {
-  run = on_run_next _ _ _ _ (plain_reached c.loop-level.reached) (plain_reached c.after-reached.result) c.in-Some.level (plain_level c.in_ok-answer.answer)
+  run = on_run_next _ _ _ _ (plain_reached c.loop-level.reached) (plain_reached c.after-reached.result) c.in-Some.level
+      (plain_level c.in_ok-answer.answer)
       c.loop-level.invariant.run c.in-Some.ensures c.in_ok-answer.ensures.level c.after-reached.ensures;
   search = c.in_ok-answer.ensures.same ∙ c.loop-level.invariant.search;
 }

@@ -45,8 +45,10 @@ push_coordinates-requires c =
     let h = c.requires c.loop-v.v l c.bin_of-b.result c.bin_of-b.ensures in
     let n = length-map c.args.bins.now (λ (x : Vec ℕ Global). x.items) in
     let m = length-map c.args.answers.now (λ (x : Vec ℕ Global). x.items) in
-    let e = c.as_slice.ensures.value ∙ list_at c.args.bins.now c.bin_of-b.result c.index-bins-b.result (omega (arith, h, n)) c.index-bins-b.is in
-    let f = c.as_slice-in-loop-v.ensures.value ∙ list_at c.args.answers.now c.bin_of-b.result c.index-answers-b.result (omega (arith, h, m)) c.index-answers-b.is in
+    let e = c.as_slice.ensures.value ∙ list_at c.args.bins.now c.bin_of-b.result c.index-bins-b.result
+    (omega (arith, h, n)) c.index-bins-b.is in
+    let f = c.as_slice-in-loop-v.ensures.value ∙ list_at c.args.answers.now c.bin_of-b.result c.index-answers-b.result
+    (omega (arith, h, m)) c.index-answers-b.is in
     rw (c.position_of.ensures, e, f) h.3
 
 pub loop-v-preserved : goal.loop-v-preserved
@@ -55,9 +57,13 @@ loop-v-preserved c =
     let h = c.requires c.loop-v.v l c.bin_of-b.result c.bin_of-b.ensures in
     let n = length-map c.args.bins.now (λ (x : Vec ℕ Global). x.items) in
     let m = length-map c.args.answers.now (λ (x : Vec ℕ Global). x.items) in
-    let e = c.as_slice.ensures.value ∙ list_at c.args.bins.now c.bin_of-b.result c.index-bins-b.result (omega (arith, h, n)) c.index-bins-b.is in
-    let f = c.as_slice-in-loop-v.ensures.value ∙ list_at c.args.answers.now c.bin_of-b.result c.index-answers-b.result (omega (arith, h, m)) c.index-answers-b.is in
+    let e = c.as_slice.ensures.value ∙ list_at c.args.bins.now c.bin_of-b.result c.index-bins-b.result
+    (omega (arith, h, n)) c.index-bins-b.is in
+    let f = c.as_slice-in-loop-v.ensures.value ∙ list_at c.args.answers.now c.bin_of-b.result c.index-answers-b.result
+    (omega (arith, h, m)) c.index-answers-b.is in
     c.in_ok-push_coordinates.ensures.appends
-    ∙ (ap (λ (x : List ℕ). x ++ coordinates_at (dims c.args.instance.now) c.as_slice-in-loop-v.result.now c.position_of.result) c.in-Ok.ensures.items
-    ∙ numbers_next (lists_of c.args.bins.now) (lists_of c.args.answers.now) (dims c.args.instance.now) c.loop-v.v c.bin_of-b.result c.position_of.result c.loop-v.all.items c.as_slice-in-loop-v.result.now
+    ∙ (ap (λ (x : List ℕ). x ++ coordinates_at (dims c.args.instance.now) c.as_slice-in-loop-v.result.now
+    c.position_of.result) c.in-Ok.ensures.items
+    ∙ numbers_next (lists_of c.args.bins.now) (lists_of c.args.answers.now) (dims c.args.instance.now) c.loop-v.v
+    c.bin_of-b.result c.position_of.result c.loop-v.all.items c.as_slice-in-loop-v.result.now
     c.loop-v.invariant c.bin_of-b.ensures (c.position_of.ensures ∙ ap (position_or_len (λ u. u == c.loop-v.v)) e) f)

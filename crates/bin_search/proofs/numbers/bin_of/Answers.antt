@@ -8,7 +8,8 @@ use Rattle.bin_search.proofs.numbers.bin_of.Goals as goal
 
 pub returns : goal.returns
 returns c =
-    let found = position_from_yields_List (λ bin. has_box c.args.v bin.items) _ _ c.position.result c.position.ensures.ran
+    let found = position_from_yields_List (λ bin. has_box c.args.v bin.items) _ _ c.position.result
+    c.position.ensures.ran
     (YieldsList-from_slice _ c.iter.ensures.rest) (λ x b q k. search (rules, tests)) in
     c.unwrap_or.ensures ∙ (ap (λ r. unwrap_or r (length c.args.bins.now)) found
     ∙ (position_or_length (λ bin. has_box c.args.v bin.items) c.args.bins.now

@@ -24,6 +24,7 @@ loop-k-preserved c =
           ∙ (ap₂ (λ (xs : List (List ℕ)) (x : List ℕ). xs ++ x ∷ []) c.loop-k.invariant.answers e
           ∙ (append_assoc (lists_of c.args.answers.now.items) _ _
           ∙ ap (λ (xs : List (List ℕ)). lists_of c.args.answers.now.items ++ xs)
-          (sym (answers_next (λ set. yes_numbers (set_verdict c.args.search.now.instance c.args.search.now.scales set)) c.args.sets.now c.loop-k.k c.index-sets-k.result l c.index-sets-k.is)))));
+          (sym (answers_next (λ set. yes_numbers (set_verdict c.args.search.now.instance c.args.search.now.scales set))
+          c.args.sets.now c.loop-k.k c.index-sets-k.result l c.index-sets-k.is)))));
       same = c.in_ok-answer.ensures.same ∙ c.loop-k.invariant.same;
     }

@@ -7,6 +7,8 @@ pub returns : goal.returns
 returns c = record {
   tuple = c.in-Some.tuple.items;
   is = refl;
-  first = ap (λ o. exceeding_where c.args.instance.now c.args.bins c.args.scales o) (fit_none c.args.instance.now c.requires.fit)
-      ∙ (ap (λ (s : Bool). exceeding_where c.args.instance.now c.args.bins s None) c.if-not-scales.false ∙ c.in-Some.ensures.first);
+  first = ap (λ o. exceeding_where c.args.instance.now c.args.bins c.args.scales o)
+      (fit_none c.args.instance.now c.requires.fit)
+      ∙ (ap (λ (s : Bool). exceeding_where c.args.instance.now c.args.bins s None) c.if-not-scales.false
+      ∙ c.in-Some.ensures.first);
 }

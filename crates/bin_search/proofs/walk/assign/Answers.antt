@@ -8,6 +8,7 @@ use Rattle.bin_search.proofs.walk.assign.Goals as goal
 pub overflow_add-result : goal.overflow_add-result
 overflow_add-result c =
     let e = ap length c.requires.order in
-    let small = below_at (box_count c.args.instance.now) (ranked c.args.instance.now) (ranked_are_boxes c.args.instance.now) c.args.placed 0 (omega (arith, e, c.requires.there)) in
+    let small = below_at (box_count c.args.instance.now) (ranked c.args.instance.now)
+    (ranked_are_boxes c.args.instance.now) c.args.placed 0 (omega (arith, e, c.requires.there)) in
     let few = c.len-limits.ensures.limits.boxes.count.1 in
     rw c.requires.order (omega (arith, small, few))

@@ -11,8 +11,10 @@ use Rattle.bin_search.proofs.walk.walk.Given as goal
 abbrev pub invariant-loop-node : goal.invariant-loop-node
 invariant-loop-node l = record {
   left : IsLeft (record { instance = l.instance; bins = l.most; scales = l.fn.search.scales })
-      (outcome (bin_node l.instance l.fn.search.scales l.most (drop l.fn.node.placed (ranked l.instance)) (lists_of l.fn.node.bins.items) (lists_of l.fn.node.answers.items) l.own))
-      (map plain_token l.tokens.items) l.count (plain_placed l.node) (nodes_above (plain_placed l.node) (map plain_change (reverse l.stack.items)));
+      (outcome (bin_node l.instance l.fn.search.scales l.most (drop l.fn.node.placed (ranked l.instance))
+      (lists_of l.fn.node.bins.items) (lists_of l.fn.node.answers.items) l.own))
+      (map plain_token l.tokens.items) l.count (plain_placed l.node)
+      (nodes_above (plain_placed l.node) (map plain_change (reverse l.stack.items)));
   within : l.count ≤ l.cap;
   same : l.search ≡ l.fn.search;
 }

@@ -9,16 +9,19 @@ use Rattle.board_terms.proofs.RunRight.{joins_right}
 use Rattle.board_terms.proofs.Calls.{steps_replay}
 use Rattle.board_terms.proofs.laws.any_order_gives_one_outcome.Goals as goal
 
-kept : (tree : SearchTree) (budget : ℕ) (calls : List Call) (board : BoardState) → AreSteps tree budget board_start calls board
+kept : (tree : SearchTree) (budget : ℕ) (calls : List Call) (board : BoardState)
+    → AreSteps tree budget board_start calls board
     → Keeps tree budget board.entries
 kept tree budget calls board s =
-    subst (λ (b : BoardState). Keeps tree budget b.entries) (sym (steps_replay tree budget calls board_start board s)) (keeps_replay tree budget (events_of calls))
+    subst (λ (b : BoardState). Keeps tree budget b.entries) (sym (steps_replay tree budget calls board_start board s))
+    (keeps_replay tree budget (events_of calls))
 
 pub returns-clause-apart : goal.returns-clause-apart
 returns-clause-apart c tree budget calls board s = outs_apart board.entries (kept tree budget calls board s).order
 
 pub returns-clause-once : goal.returns-clause-once
-returns-clause-once c tree budget calls board s = finished_once tree budget (events_of calls) board_start (keeps_start tree budget)
+returns-clause-once c tree budget calls board s =
+    finished_once tree budget (events_of calls) board_start (keeps_start tree budget)
 
 pub returns-clause-empty : goal.returns-clause-empty
 returns-clause-empty c tree budget calls board after s none = some_out budget board none.0 none.1

@@ -16,7 +16,8 @@ pub returns-clause-order : goal.returns-clause-order
 returns-clause-order c tree budget events = (keeps_replay tree budget events).order
 
 pub returns-clause-apart : goal.returns-clause-apart
-returns-clause-apart c tree budget events = outs_apart (replay tree budget events).entries (keeps_replay tree budget events).order
+returns-clause-apart c tree budget events =
+    outs_apart (replay tree budget events).entries (keeps_replay tree budget events).order
 
 pub returns-clause-right : goal.returns-clause-right
 returns-clause-right c tree budget events = (keeps_replay tree budget events).right
@@ -25,4 +26,5 @@ pub returns-clause-once : goal.returns-clause-once
 returns-clause-once c tree budget events = finished_once tree budget events board_start (keeps_start tree budget)
 
 pub returns-clause-joined : goal.returns-clause-joined
-returns-clause-joined c tree budget events = joins_right tree budget (replay tree budget events) (keeps_replay tree budget events)
+returns-clause-joined c tree budget events =
+    joins_right tree budget (replay tree budget events) (keeps_replay tree budget events)

@@ -13,7 +13,8 @@ subset-requires-clause-set c =
     let n = box_count c.args.whole.now in
     let count = ap length c.requires ∙ length-range_with_len 0 n in
     let few : c.loop-last.last + 1 ≤ n = omega (arith, c.loop-last-test.true, count) in
-    subst (λ (l : List ℕ). IsBoxSet c.args.whole.now l) (sym (ap (take (c.loop-last.last + 1)) c.requires ∙ range_front 0 n (c.loop-last.last + 1) few))
+    subst (λ (l : List ℕ). IsBoxSet c.args.whole.now l)
+    (sym (ap (take (c.loop-last.last + 1)) c.requires ∙ range_front 0 n (c.loop-last.last + 1) few))
     (range_set c.args.whole.now (c.loop-last.last + 1) few)
 
 pub loop-last-preserved : goal.loop-last-preserved
@@ -22,7 +23,8 @@ loop-last-preserved c =
     let count = ap length c.requires ∙ length-range_with_len 0 n in
     let few : c.loop-last.last + 1 ≤ n = omega (arith, c.loop-last-test.true, count) in
     sets_more c.args.whole.now c.loop-last.last c.loop-last.sets.items _ c.in_ok-set.set c.loop-last.invariant
-    (c.in_ok-set.ensures ∙ ap (λ (l : List ℕ). subset c.args.whole.now l) (ap (take (c.loop-last.last + 1)) c.requires ∙ range_front 0 n (c.loop-last.last + 1) few)) (search rules)
+    (c.in_ok-set.ensures ∙ ap (λ (l : List ℕ). subset c.args.whole.now l)
+    (ap (take (c.loop-last.last + 1)) c.requires ∙ range_front 0 n (c.loop-last.last + 1) few)) (search rules)
 
 pub returns : goal.returns
 returns c =

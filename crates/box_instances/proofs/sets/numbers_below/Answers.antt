@@ -10,6 +10,7 @@ push_reserved-requires c =
 
 pub loop-v-preserved : goal.loop-v-preserved
 loop-v-preserved c = record {
-  items = c.push_reserved.ensures.items ∙ (ap (λ l. l ++ c.loop-v.v ∷ []) c.loop-v.invariant.items ∙ sym (numbers_more c.loop-v.v));
+  items = c.push_reserved.ensures.items
+      ∙ (ap (λ l. l ++ c.loop-v.v ∷ []) c.loop-v.invariant.items ∙ sym (numbers_more c.loop-v.v));
   room = rw c.push_reserved.ensures.capacity c.loop-v.invariant.room;
 }

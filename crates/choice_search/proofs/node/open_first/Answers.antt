@@ -25,4 +25,5 @@ returns-else-own-left-clause-opened c =
     record { cost = h.cost; is = h.is; counted = omega (arith, k); within = omega (arith, k, l, c.if-own-left.false) }
 
 pub returns-in-Fits-clause-opened : goal.returns-in-Fits-clause-opened
-returns-in-Fits-clause-opened c = record { decided = refl; fits = rw (c.deref.ensures.value, c.in-Fits.is) at c.in_ok-grow.ensures.child }
+returns-in-Fits-clause-opened c =
+    record { decided = refl; fits = rw (c.deref.ensures.value, c.in-Fits.is) at c.in_ok-grow.ensures.child }

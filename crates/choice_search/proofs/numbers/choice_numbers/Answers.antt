@@ -10,4 +10,5 @@ loop-k-preserved c =
     ∙ (ap (λ (l : List _). l ++ coordinates_at (dims c.args.instance.now) c.args.numbers.now c.loop-k.k)
     (c.in-Ok.ensures.items ∙ ap (λ (l : List _). l ++ get_or c.args.taken.now c.loop-k.k 0 ∷ []) c.loop-k.invariant)
     ∙ (append_assoc _ (get_or c.args.taken.now c.loop-k.k 0 ∷ []) _
-    ∙ sym (flat_map_last_below (λ k. get_or c.args.taken.now k 0 ∷ coordinates_at (dims c.args.instance.now) c.args.numbers.now k) c.loop-k.k)))
+    ∙ sym (flat_map_last_below (λ k. get_or c.args.taken.now k 0
+    ∷ coordinates_at (dims c.args.instance.now) c.args.numbers.now k) c.loop-k.k)))

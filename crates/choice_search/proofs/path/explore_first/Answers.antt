@@ -11,34 +11,65 @@ use Rattle.choice_search.proofs.path.explore_first.Goals as goal
 
 pub grow-requires : goal.grow-requires
 grow-requires c =
-    let t : PlainChoiceTree = record { instance = c.args.instance.now; goal = c.args.value; scales = c.args.search.now.scales } in
-    rw (c.requires.search, c.requires.order, c.deref.ensures.value) (first_set t c.args.above.decided c.args.above.taken.items c.requires.above)
+    let t : PlainChoiceTree = record {
+      instance = c.args.instance.now;
+      goal = c.args.value;
+      scales = c.args.search.now.scales;
+    } in
+    rw (c.requires.search, c.requires.order, c.deref.ensures.value)
+    (first_set t c.args.above.decided c.args.above.taken.items c.requires.above)
 
 pub returns-in-Past : goal.returns-in-Past
 returns-in-Past c =
-    let t : PlainChoiceTree = record { instance = c.args.instance.now; goal = c.args.value; scales = c.args.search.now.scales } in
-    let h = rw (c.requires.search, c.requires.order, c.deref.ensures.value, c.in-Past.is) at c.in_ok-grow.ensures.child in
+    let t : PlainChoiceTree = record {
+      instance = c.args.instance.now;
+      goal = c.args.value;
+      scales = c.args.search.now.scales;
+    } in
+    let h = rw (c.requires.search, c.requires.order, c.deref.ensures.value, c.in-Past.is)
+    at c.in_ok-grow.ensures.child in
     first_past t c.args.above.decided c.args.above.taken.items c.requires.above c.args.cap h
 
 pub returns-in-Refuted : goal.returns-in-Refuted
 returns-in-Refuted c =
-    let t : PlainChoiceTree = record { instance = c.args.instance.now; goal = c.args.value; scales = c.args.search.now.scales } in
-    let h = rw (c.requires.search, c.requires.order, c.deref.ensures.value, c.in-Refuted.is) at c.in_ok-grow.ensures.child in
-    let e = c.in_ok-push_refuted-in-Refuted.ensures.appends ∙ ap (λ (l : List _). map plain_token l ++ SetRefuted None ∷ map plain_token c.in-Refuted.inner.items) c.new-tokens.ensures.items in
+    let t : PlainChoiceTree = record {
+      instance = c.args.instance.now;
+      goal = c.args.value;
+      scales = c.args.search.now.scales;
+    } in
+    let h = rw (c.requires.search, c.requires.order, c.deref.ensures.value, c.in-Refuted.is)
+    at c.in_ok-grow.ensures.child in
+    let e = c.in_ok-push_refuted-in-Refuted.ensures.appends
+    ∙ ap (λ (l : List _). map plain_token l ++ SetRefuted None ∷ map plain_token c.in-Refuted.inner.items)
+    c.new-tokens.ensures.items in
     ap (λ (l : List PlainToken). Decided (No l c.in-Refuted.own)) e
-    ∙ first_refuted t c.args.above.decided c.args.above.taken.items c.requires.above c.args.cap (map plain_token c.in-Refuted.inner.items) h.cost c.in-Refuted.own h.is h.counted h.within
+    ∙ first_refuted t c.args.above.decided c.args.above.taken.items c.requires.above c.args.cap
+    (map plain_token c.in-Refuted.inner.items) h.cost c.in-Refuted.own h.is h.counted h.within
 
 pub walk-requires-clause-node : goal.walk-requires-clause-node
 walk-requires-clause-node c =
-    let t : PlainChoiceTree = record { instance = c.args.instance.now; goal = c.args.value; scales = c.args.search.now.scales } in
-    let h = rw (c.requires.search, c.requires.order, c.deref.ensures.value, c.in-Fits.is) at c.in_ok-grow.ensures.child in
-    subst (λ (us : List ℕ). IsChosen c.args.instance.now (c.args.above.decided + 1) us c.in-Fits.numbers.items) (sym h.same)
-    (first_chosen t c.args.above.decided c.args.above.taken.items c.requires.above c.in-Fits.numbers.items (places_count c.args.instance.now _ c.in-Fits.numbers.items h.packing))
+    let t : PlainChoiceTree = record {
+      instance = c.args.instance.now;
+      goal = c.args.value;
+      scales = c.args.search.now.scales;
+    } in
+    let h = rw (c.requires.search, c.requires.order, c.deref.ensures.value, c.in-Fits.is)
+    at c.in_ok-grow.ensures.child in
+    subst (λ (us : List ℕ). IsChosen c.args.instance.now (c.args.above.decided + 1) us c.in-Fits.numbers.items)
+    (sym h.same)
+    (first_chosen t c.args.above.decided c.args.above.taken.items c.requires.above c.in-Fits.numbers.items
+    (places_count c.args.instance.now _ c.in-Fits.numbers.items h.packing))
 
 pub returns : goal.returns
 returns c =
-    let t : PlainChoiceTree = record { instance = c.args.instance.now; goal = c.args.value; scales = c.args.search.now.scales } in
-    let h = rw (c.requires.search, c.requires.order, c.deref.ensures.value, c.in-Fits.is) at c.in_ok-grow.ensures.child in
+    let t : PlainChoiceTree = record {
+      instance = c.args.instance.now;
+      goal = c.args.value;
+      scales = c.args.search.now.scales;
+    } in
+    let h = rw (c.requires.search, c.requires.order, c.deref.ensures.value, c.in-Fits.is)
+    at c.in_ok-grow.ensures.child in
     let k = rw (c.in_ok-grow.ensures.same, h.same) at c.walk.ensures.outcome in
     subst (λ (x : SearchTree). IfOk c.walk.result (λ r. plain_outcome r ≡ told c.args.cap (outcome x)))
-    (first_fits t c.args.above.decided c.args.above.taken.items c.requires.above c.in-Fits.numbers.items h.cost c.in-Fits.own h.is h.counted) k
+    (first_fits t c.args.above.decided c.args.above.taken.items c.requires.above c.in-Fits.numbers.items h.cost
+    c.in-Fits.own h.is h.counted) k

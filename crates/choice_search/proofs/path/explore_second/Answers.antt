@@ -9,17 +9,28 @@ use Rattle.choice_search.proofs.path.explore_second.Goals as goal
 
 pub returns-then-cap-eq0 : goal.returns-then-cap-eq0
 returns-then-cap-eq0 c =
-    let t : PlainChoiceTree = record { instance = c.args.instance.now; goal = c.args.value; scales = c.args.search.now.scales } in
+    let t : PlainChoiceTree = record {
+      instance = c.args.instance.now;
+      goal = c.args.value;
+      scales = c.args.search.now.scales;
+    } in
     let p = second_past t c.args.above.decided c.args.above.taken.items c.requires.above in
-    sym (told_past c.args.cap (outcome (child_tree t c.args.above.decided c.args.above.taken.items 1)) (omega (arith, p, c.if-cap-eq0.true)))
+    sym (told_past c.args.cap (outcome (child_tree t c.args.above.decided c.args.above.taken.items 1))
+    (omega (arith, p, c.if-cap-eq0.true)))
 
 pub class_answer-requires-clause-set : goal.class_answer-requires-clause-set
 class_answer-requires-clause-set c =
-    rw (c.requires.search, c.deref.ensures.value) (box_set c.args.instance.now c.args.above.taken.items c.requires.above.chosen.boxes c.requires.above.chosen.rising)
+    rw (c.requires.search, c.deref.ensures.value)
+    (box_set c.args.instance.now c.args.above.taken.items c.requires.above.chosen.boxes
+    c.requires.above.chosen.rising)
 
 pub walk-requires-clause-node : goal.walk-requires-clause-node
 walk-requires-clause-node c =
-    let t : PlainChoiceTree = record { instance = c.args.instance.now; goal = c.args.value; scales = c.args.search.now.scales } in
+    let t : PlainChoiceTree = record {
+      instance = c.args.instance.now;
+      goal = c.args.value;
+      scales = c.args.search.now.scales;
+    } in
     let e = rw (c.requires.search, c.deref.ensures.value) at c.in_ok-numbers.ensures.value in
     subst (λ (ns : List ℕ). IsChosen c.args.instance.now (c.args.above.decided + 1) c.args.above.taken.items ns) (sym e)
     (second_chosen t c.args.above.decided c.args.above.taken.items c.requires.above)

@@ -7,30 +7,58 @@ use Rattle.choice_search.proofs.path.tell_first.Goals as goal
 
 pub grow-requires : goal.grow-requires
 grow-requires c =
-    let t : PlainChoiceTree = record { instance = c.args.instance.now; goal = c.args.value; scales = c.args.search.now.scales } in
-    rw (c.requires.search, c.requires.order, c.deref.ensures.value) (first_set t c.args.above.decided c.args.above.taken.items c.requires.above)
+    let t : PlainChoiceTree = record {
+      instance = c.args.instance.now;
+      goal = c.args.value;
+      scales = c.args.search.now.scales;
+    } in
+    rw (c.requires.search, c.requires.order, c.deref.ensures.value)
+    (first_set t c.args.above.decided c.args.above.taken.items c.requires.above)
 
 pub returns-in-Past : goal.returns-in-Past
 returns-in-Past c =
-    let t : PlainChoiceTree = record { instance = c.args.instance.now; goal = c.args.value; scales = c.args.search.now.scales } in
-    let h = rw (c.requires.search, c.requires.order, c.deref.ensures.value, c.in-Past.is) at c.in_ok-grow.ensures.child in
+    let t : PlainChoiceTree = record {
+      instance = c.args.instance.now;
+      goal = c.args.value;
+      scales = c.args.search.now.scales;
+    } in
+    let h = rw (c.requires.search, c.requires.order, c.deref.ensures.value, c.in-Past.is)
+    at c.in_ok-grow.ensures.child in
     first_past_told t c.args.above.decided c.args.above.taken.items c.requires.above h
 
 pub returns-in-Refuted : goal.returns-in-Refuted
 returns-in-Refuted c =
-    let t : PlainChoiceTree = record { instance = c.args.instance.now; goal = c.args.value; scales = c.args.search.now.scales } in
-    let h = rw (c.requires.search, c.requires.order, c.deref.ensures.value, c.in-Refuted.is) at c.in_ok-grow.ensures.child in
+    let t : PlainChoiceTree = record {
+      instance = c.args.instance.now;
+      goal = c.args.value;
+      scales = c.args.search.now.scales;
+    } in
+    let h = rw (c.requires.search, c.requires.order, c.deref.ensures.value, c.in-Refuted.is)
+    at c.in_ok-grow.ensures.child in
     first_refuted_told t c.args.above.decided c.args.above.taken.items c.requires.above _ h.cost h.is
 
 pub meet-kind-requires-clause-taken : goal.meet-kind-requires-clause-taken
 meet-kind-requires-clause-taken c =
-    let t : PlainChoiceTree = record { instance = c.args.instance.now; goal = c.args.value; scales = c.args.search.now.scales } in
-    let h = rw (c.requires.search, c.requires.order, c.deref.ensures.value, c.in-Fits.is) at c.in_ok-grow.ensures.child in
-    subst (λ (us : List ℕ). AreBoxes c.args.instance.now us) (sym (c.deref-in-Fits.ensures.value ∙ h.same)) (first_boxes t c.args.above.decided c.args.above.taken.items c.requires.above)
+    let t : PlainChoiceTree = record {
+      instance = c.args.instance.now;
+      goal = c.args.value;
+      scales = c.args.search.now.scales;
+    } in
+    let h = rw (c.requires.search, c.requires.order, c.deref.ensures.value, c.in-Fits.is)
+    at c.in_ok-grow.ensures.child in
+    subst (λ (us : List ℕ). AreBoxes c.args.instance.now us) (sym (c.deref-in-Fits.ensures.value ∙ h.same))
+    (first_boxes t c.args.above.decided c.args.above.taken.items c.requires.above)
 
 pub returns : goal.returns
 returns c =
-    let t : PlainChoiceTree = record { instance = c.args.instance.now; goal = c.args.value; scales = c.args.search.now.scales } in
-    let h = rw (c.requires.search, c.requires.order, c.deref.ensures.value, c.in-Fits.is) at c.in_ok-grow.ensures.child in
-    let k = rw (c.deref-in-Fits-2.ensures.value, h.same) at c.tell.ensures c.args.search.now.scales c.in-Fits._numbers.items in
-    k ∙ ap node_told (first_fits t c.args.above.decided c.args.above.taken.items c.requires.above c.in-Fits._numbers.items h.cost c.in-Fits.own h.is h.counted)
+    let t : PlainChoiceTree = record {
+      instance = c.args.instance.now;
+      goal = c.args.value;
+      scales = c.args.search.now.scales;
+    } in
+    let h = rw (c.requires.search, c.requires.order, c.deref.ensures.value, c.in-Fits.is)
+    at c.in_ok-grow.ensures.child in
+    let k = rw (c.deref-in-Fits-2.ensures.value, h.same) at c.tell.ensures c.args.search.now.scales
+    c.in-Fits._numbers.items in
+    k ∙ ap node_told (first_fits t c.args.above.decided c.args.above.taken.items c.requires.above
+    c.in-Fits._numbers.items h.cost c.in-Fits.own h.is h.counted)

@@ -10,7 +10,8 @@ use Rattle.std.proofs.Common.{sym, ◌≡◌}
 use Rattle.conservative_scales.proofs.excess.exceeds_among.Goals as goal
 
 pub image_product-total-requires-clause-fits : goal.image_product-total-requires-clause-fits
-image_product-total-requires-clause-fits c = named_fits c.args.instance.now c.args.keep.now c.loop-k.k c.loop-k-test.true c.requires.fit
+image_product-total-requires-clause-fits c =
+    named_fits c.args.instance.now c.args.keep.now c.loop-k.k c.loop-k-test.true c.requires.fit
 
 pub overflow_add-total : goal.overflow_add-total
 overflow_add-total c =
@@ -22,23 +23,30 @@ overflow_add-total c =
 
 pub loop-k-preserved : goal.loop-k-preserved
 loop-k-preserved c =
-    total_next _ _ _ _ c.loop-k.invariant (c.image_product-total.ensures.value ∙ image_of_named c.args.instance.now c.args.keep.now c.args.tuple.now c.loop-k.k c.loop-k-test.true)
+    total_next _ _ _ _ c.loop-k.invariant
+    (c.image_product-total.ensures.value ∙ image_of_named c.args.instance.now c.args.keep.now c.args.tuple.now
+    c.loop-k.k c.loop-k-test.true)
     c.image_product-total.ensures.limit
 
 pub returns-clause-exactly : goal.returns-clause-exactly
 returns-clause-exactly c =
     let e : c.loop-k.k ≡ length c.args.keep.now = omega arith in
-    let n : c.loop-k.k ≡ box_count (subset c.args.instance.now c.args.keep.now) = e ∙ sym (length-map c.args.keep.now _) in (
+    let n : c.loop-k.k ≡ box_count (subset c.args.instance.now c.args.keep.now) =
+    e ∙ sym (length-map c.args.keep.now _) in (
       λ x. excess_at_end (subset c.args.instance.now c.args.keep.now) c.args.tuple.now c.args.copies _ _ _
-          (record { count = c.requires.tuple.count; legal = c.requires.tuple.legal }) c.requires.fit c.loop-k.invariant n c.whole_product.ensures.value x,
-      λ x. excess_is_told (subset c.args.instance.now c.args.keep.now) c.args.tuple.now c.args.copies _ _ _ c.loop-k.invariant n c.whole_product.ensures.value x,
+          (record { count = c.requires.tuple.count; legal = c.requires.tuple.legal }) c.requires.fit c.loop-k.invariant
+          n c.whole_product.ensures.value x,
+      λ x. excess_is_told (subset c.args.instance.now c.args.keep.now) c.args.tuple.now c.args.copies _ _ _
+          c.loop-k.invariant n c.whole_product.ensures.value x,
     )
 
 pub returns-clause-refutes : goal.returns-clause-refutes
 returns-clause-refutes c x =
-    excess_law.bins (subset c.args.instance.now c.args.keep.now) c.args.tuple.now c.args.copies ((returns-clause-exactly c).0 x)
+    excess_law.bins (subset c.args.instance.now c.args.keep.now) c.args.tuple.now c.args.copies
+    ((returns-clause-exactly c).0 x)
 
 pub returns-clause-refutes_one : goal.returns-clause-refutes_one
 returns-clause-refutes_one c x e =
-    let h : Exceeds (subset c.args.instance.now c.args.keep.now) c.args.tuple.now c.args.copies = (returns-clause-exactly c).0 x in
+    let h : Exceeds (subset c.args.instance.now c.args.keep.now) c.args.tuple.now c.args.copies =
+    (returns-clause-exactly c).0 x in
     excess_law.one (subset c.args.instance.now c.args.keep.now) c.args.tuple.now (rw e at h)

@@ -6,6 +6,7 @@ use Rattle.conservative_scales.proofs.fastest.exceeds_with.Given as goal
 
 abbrev pub invariant-loop-box_no : goal.invariant-loop-box_no
 invariant-loop-box_no l = record {
-  value : l.total ≡ sum_below l.box_no (λ v. get_or l.images (l.at + v) 0 * scale_image l.f (container_side l.instance 0) (side l.instance v 0));
+  value : l.total ≡ sum_below l.box_no
+      (λ v. get_or l.images (l.at + v) 0 * scale_image l.f (container_side l.instance 0) (side l.instance v 0));
   limit : l.total ≤ l.box_no * 2 ^ 110;
 }

@@ -4,11 +4,14 @@ use Rattle.conservative_scales.proofs.fastest.may_exceed.Goals as goal
 
 pub loop-box_no-preserved : goal.loop-box_no-preserved
 loop-box_no-preserved c =
-    shared_next c.args.instance.now (λ v. get_or c.args.images.now (c.args.at + v) 0) c.loop-box_no.box_no c.loop-box_no.total c.share-share.result _
-    c.loop-box_no.invariant (rw (← c.side.ensures, ← c.container_side-whole_side.ensures) c.share-share.ensures.most) c.share-share.ensures.limit refl
+    shared_next c.args.instance.now (λ v. get_or c.args.images.now (c.args.at + v) 0) c.loop-box_no.box_no
+    c.loop-box_no.total c.share-share.result _
+    c.loop-box_no.invariant (rw (← c.side.ensures, ← c.container_side-whole_side.ensures) c.share-share.ensures.most)
+    c.share-share.ensures.limit refl
     (c.requires.small c.loop-box_no.box_no (omega arith))
 
 pub returns : goal.returns
 returns c =
-    shared_test c.args.instance.now (λ v. get_or c.args.images.now (c.args.at + v) 0) c.args.copies c.loop-box_no.box_no c.loop-box_no.total c.args.whole
+    shared_test c.args.instance.now (λ v. get_or c.args.images.now (c.args.at + v) 0) c.args.copies c.loop-box_no.box_no
+    c.loop-box_no.total c.args.whole
     c.loop-box_no.invariant (omega arith)

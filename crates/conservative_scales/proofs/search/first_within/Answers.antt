@@ -19,4 +19,5 @@ pub search-requires-clause-partial : goal.search-requires-clause-partial
 search-requires-clause-partial g c =
     let r = rows_less (dims c.args.instance.now + 1) (dims c.args.instance.now) (box_count c.args.instance.now) refl in
     rw (none_left, c.dims-dims.ensures.value)
-    (partial_none c.args.instance.now _ _ (λ v l. get_or-replicate g.row.T (0 + v) 1 0 (omega (arith, r, c.requires.room, l))) refl)
+    (partial_none c.args.instance.now _ _
+    (λ v l. get_or-replicate g.row.T (0 + v) 1 0 (omega (arith, r, c.requires.room, l))) refl)

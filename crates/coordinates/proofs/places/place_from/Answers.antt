@@ -14,12 +14,16 @@ heads-requires-clause-transitive c =
 
 pub returns-clause-ends : goal.returns-clause-ends
 returns-clause-ends c =
-    ends_are _ _ _ _ _ c.dims-sizes.ensures.limits.trail c.len.ensures.limits c.requires.fit c.requires.closed c.requires.full
+    ends_are _ _ _ _ _ c.dims-sizes.ensures.limits.trail c.len.ensures.limits c.requires.fit c.requires.closed
+    c.requires.full
     (λ i hi. c.loop-dim.invariant i (omega arith))
 
 pub returns-clause-packing : goal.returns-clause-packing
 returns-clause-packing c =
-    let ends = ends_are c.args.instance.now c.args.state.now.trail c.loop-dim.into _ _ c.dims-sizes.ensures.limits.trail c.len.ensures.limits c.requires.fit c.requires.closed c.requires.full
+    let ends = ends_are c.args.instance.now c.args.state.now.trail c.loop-dim.into _ _ c.dims-sizes.ensures.limits.trail
+    c.len.ensures.limits c.requires.fit c.requires.closed c.requires.full
     (λ i hi. c.loop-dim.invariant i (omega arith)) in
-    places_pack c.args.instance.now (excludes c.args.state.now.trail) c.requires.closed (excludes_symmetric c.args.state.now.trail) c.requires.full
-    (internal_sides _ c.len.ensures.limits) c.requires.fit c.loop-dim.into ends (c.loop-dim.auto.into ∙ c.requires.count) c.requires.settled
+    places_pack c.args.instance.now (excludes c.args.state.now.trail) c.requires.closed
+    (excludes_symmetric c.args.state.now.trail) c.requires.full
+    (internal_sides _ c.len.ensures.limits) c.requires.fit c.loop-dim.into ends
+    (c.loop-dim.auto.into ∙ c.requires.count) c.requires.settled

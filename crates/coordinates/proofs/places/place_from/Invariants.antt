@@ -5,4 +5,5 @@ use Rattle.coordinates.specs.Starts.{EndsInHeads}
 use Rattle.coordinates.proofs.places.place_from.Given as goal
 
 abbrev pub invariant-loop-dim : goal.invariant-loop-dim
-invariant-loop-dim l = (i : ℕ) → i < l.dim → EndsInHeads l.instance (excludes l.state.trail) l.into i (box_count l.instance)
+invariant-loop-dim l = (i : ℕ) → i < l.dim
+    → EndsInHeads l.instance (excludes l.state.trail) l.into i (box_count l.instance)

@@ -10,7 +10,8 @@ use Rattle.coordinates.proofs.places.write_dim.Goals as goal
 pub overflow_cast-into : goal.overflow_cast-into
 overflow_cast-into c =
     let hv : c.loop-v.v < box_count c.args.instance.now = omega arith in
-    let small = run_small _ _ _ 1000000 c.loop-v.v _ (λ u hu. side_small _ c.dims-dims.ensures.limits u c.args.dim hu c.requires.dim)
+    let small = run_small _ _ _ 1000000 c.loop-v.v _
+    (λ u hu. side_small _ c.dims-dims.ensures.limits u c.args.dim hu c.requires.dim)
     (run_of_head _ _ _ _ _ (c.requires.heads c.loop-v.v hv).some) in
     omega (arith, few_boxes _ c.dims-dims.ensures.limits)
 
@@ -19,7 +20,9 @@ loop-v-preserved c =
     let hv : c.loop-v.v < box_count c.args.instance.now = omega arith in
     let at : c.dims-dims.result ≡ dims c.args.instance.now = omega arith in
     rw (at, c.from.ensures, c.side.ensures) (record {
-      heads = write_next _ (excludes c.args.state.now.trail) c.loop-v.into c.args.dim c.loop-v.v _ c.requires.dim hv (c.loop-v.auto.into ∙ c.requires.count)
+      heads = write_next _ (excludes c.args.state.now.trail) c.loop-v.into c.args.dim c.loop-v.v _ c.requires.dim hv
+          (c.loop-v.auto.into ∙ c.requires.count)
           (c.requires.heads c.loop-v.v hv) c.loop-v.invariant.heads;
-      others = λ v i hi ne. write_other c.args.instance.now c.loop-v.into c.args.dim c.loop-v.v _ v i c.requires.dim hi ne ∙ c.loop-v.invariant.others v i hi ne;
+      others = λ v i hi ne. write_other c.args.instance.now c.loop-v.into c.args.dim c.loop-v.v _ v i c.requires.dim hi
+          ne ∙ c.loop-v.invariant.others v i hi ne;
     })

@@ -9,5 +9,6 @@ pub returns-clause-tree : goal.returns-clause-tree
 returns-clause-tree c =
     IfOk-weaker c.starting.result _ _
     (λ r h. inner_begun r c.args.level.now c.as_slice.result.now h
-    ∙ ap (λ (es : List Exclusion). InnerTree c.args.level.now (es ∷ [])) (c.as_slice.ensures.value ∙ c.in_ok-start.ensures))
+    ∙ ap (λ (es : List Exclusion). InnerTree c.args.level.now (es ∷ []))
+    (c.as_slice.ensures.value ∙ c.in_ok-start.ensures))
     c.starting.ensures

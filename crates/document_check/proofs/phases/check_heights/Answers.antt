@@ -14,5 +14,6 @@ returns-in_default-with_last_side g c = memory_here _ _ c.args.at.now _ c.requir
 
 pub check_placed-requires-clause-edges : goal.check_placed-requires-clause-edges
 check_placed-requires-clause-edges g c =
-    subst (λ (i : PlainInstance). AreAtEdges i (start_exclusions c.args.head.now.heading c.args.head.now.instance)) (sym c.in-Ok-with_last_side.ensures)
+    subst (λ (i : PlainInstance). AreAtEdges i (start_exclusions c.args.head.now.heading c.args.head.now.instance))
+    (sym c.in-Ok-with_last_side.ensures)
     (level_edges c.args.head.now.heading c.args.head.now.instance c.args.refuted c.dims-some_dims.ensures.limits)

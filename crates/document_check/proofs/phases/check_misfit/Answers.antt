@@ -9,7 +9,8 @@ use Rattle.document_check.proofs.phases.check_misfit.Goals as goal
 pub returns-in-Ok : goal.returns-in-Ok
 returns-in-Ok g c =
     subst
-    (λ (s : Stage). IsCheckedFrom (g.S.Source.left c.args.input.now) (g.S.Source.left c.check_proof.new.input) (g.S.Source.faults c.args.input.now) (g.S.Source.faults c.check_proof.new.input)
+    (λ (s : Stage). IsCheckedFrom (g.S.Source.left c.args.input.now) (g.S.Source.left c.check_proof.new.input)
+    (g.S.Source.faults c.args.input.now) (g.S.Source.faults c.check_proof.new.input)
     c.args.at.now s c.check_proof.result)
     (ap (λ t. Proving c.args.head.now.claim (refuted_by t)) c.in-Ok.ensures.tree) c.check_proof.ensures
 

@@ -14,9 +14,12 @@ begin_refuter-requires g c = start_edges c.args.head.now.heading c.args.head.now
 pub returns-in-Ok : goal.returns-in-Ok
 returns-in-Ok g c =
     subst
-    (λ (s : Stage). IsCheckedFrom (g.S.Source.left c.args.input.now) (g.S.Source.left c.check_tokens.new.input) (g.S.Source.faults c.args.input.now) (g.S.Source.faults c.check_tokens.new.input)
+    (λ (s : Stage). IsCheckedFrom (g.S.Source.left c.args.input.now) (g.S.Source.left c.check_tokens.new.input)
+    (g.S.Source.faults c.args.input.now) (g.S.Source.faults c.check_tokens.new.input)
     c.args.at.now s c.check_tokens.result)
-    (ap (Refuting NotFitting) c.in-Ok.ensures.tree ∙ ap (λ (claim : Claim). claimed c.args.head.now.heading c.args.head.now.instance claim) (sym c.requires.is)) c.check_tokens.ensures
+    (ap (Refuting NotFitting) c.in-Ok.ensures.tree
+    ∙ ap (λ (claim : Claim). claimed c.args.head.now.heading c.args.head.now.instance claim) (sym c.requires.is))
+    c.check_tokens.ensures
 
 pub returns-in-Err : goal.returns-in-Err
 returns-in-Err g c = memory_here _ _ c.args.at.now _ c.requires.at.1

@@ -6,5 +6,7 @@ use Rattle.document_check.proofs.phases.check_tree.Goals as goal
 
 pub returns : goal.returns
 returns g c =
-    then_from _ _ _ _ _ _ c.args.at.now c.give_lines.new.at _ _ c.check_end.result c.in-None.ensures.goes (Ending c.args.claim (Some c.args.dims))
-    (at_behind c.args.judge.behind c.give_lines.new.judge.stage (Ending c.args.claim (Some c.args.dims)) (c.give_lines.ensures.behind c.in-None.is) c.requires.behind) c.check_end.ensures
+    then_from _ _ _ _ _ _ c.args.at.now c.give_lines.new.at _ _ c.check_end.result c.in-None.ensures.goes
+    (Ending c.args.claim (Some c.args.dims))
+    (at_behind c.args.judge.behind c.give_lines.new.judge.stage (Ending c.args.claim (Some c.args.dims))
+    (c.give_lines.ensures.behind c.in-None.is) c.requires.behind) c.check_end.ensures

@@ -6,5 +6,6 @@ use Rattle.document_check.proofs.phases.check_values.Goals as goal
 
 pub returns-in-None : goal.returns-in-None
 returns-in-None g c =
-    then_from _ _ _ _ _ _ c.args.at.now c.read_taken.new.at _ _ c.check_high_value.result c.in-None.ensures.goes (Refuting c.args.claim (begun (ToReach c.args.instance.now c.args.refuted)))
+    then_from _ _ _ _ _ _ c.args.at.now c.read_taken.new.at _ _ c.check_high_value.result c.in-None.ensures.goes
+    (Refuting c.args.claim (begun (ToReach c.args.instance.now c.args.refuted)))
     (ap (λ r. Refuting c.args.claim (begun r)) c.requires.says) c.check_high_value.ensures

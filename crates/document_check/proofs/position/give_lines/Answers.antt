@@ -8,7 +8,8 @@ use Rattle.document_check.proofs.position.give_lines.Goals as goal
 pub returns-in-End-clause-goes : goal.returns-in-End-clause-goes
 returns-in-End-clause-goes g c =
     subst
-    (λ (r : CheckEnd). IsCheckedFrom (g.S.Source.left c.args.input.now) (g.S.Source.left c.take_lines.new.input) (g.S.Source.faults c.args.input.now) (g.S.Source.faults c.take_lines.new.input)
+    (λ (r : CheckEnd). IsCheckedFrom (g.S.Source.left c.args.input.now) (g.S.Source.left c.take_lines.new.input)
+    (g.S.Source.faults c.args.input.now) (g.S.Source.faults c.take_lines.new.input)
     c.args.at.now (g.J.LineJudge.stage c.args.judge.now) r)
     (sym (c.end_of.ensures ∙ ap (end_of c.ended.result) c.line_number.ensures))
     (end_from _ _ _ _ c.args.at.now _ _ _ _ c.in-End.ensures.read c.ended.result (sym c.ended.ensures))
@@ -19,7 +20,8 @@ returns-in-Paused-clause-goes g c = paused_from _ _ _ _ c.args.at.now _ _ _ _ c.
 pub returns-in-Refused-clause-goes : goal.returns-in-Refused-clause-goes
 returns-in-Refused-clause-goes g c =
     subst
-    (λ n. IsCheckedFrom (g.S.Source.left c.args.input.now) (g.S.Source.left c.take_lines.new.input) (g.S.Source.faults c.args.input.now) (g.S.Source.faults c.take_lines.new.input)
+    (λ n. IsCheckedFrom (g.S.Source.left c.args.input.now) (g.S.Source.left c.take_lines.new.input)
+    (g.S.Source.faults c.args.input.now) (g.S.Source.faults c.take_lines.new.input)
     c.args.at.now (g.J.LineJudge.stage c.args.judge.now) (Refused n c.in-Refused.reason))
     (sym c.line_number-in-Refused.ensures)
     (refused_from _ _ _ _ c.args.at.now _ _ _ _ c.in-Refused.reason c.in-Refused.ensures.read)

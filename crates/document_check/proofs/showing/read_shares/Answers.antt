@@ -2,4 +2,6 @@ use Rattle.document_check.proofs.Passes.{goes_known}
 use Rattle.document_check.proofs.showing.read_shares.Goals as goal
 
 pub returns-clause-goes : goal.returns-clause-goes
-returns-clause-goes g c = goes_known _ _ _ _ c.args.at.now c.give_lines-end.new.at c.new-judge.result _ c.give_lines-end.new.judge.stage _ c.give_lines-end.result c.new-judge.ensures c.give_lines-end.ensures.goes c.give_lines-end.ensures.behind
+returns-clause-goes g c = goes_known _ _ _ _ c.args.at.now c.give_lines-end.new.at c.new-judge.result _
+    c.give_lines-end.new.judge.stage _ c.give_lines-end.result c.new-judge.ensures c.give_lines-end.ensures.goes
+    c.give_lines-end.ensures.behind

@@ -5,4 +5,5 @@ use Rattle.document_lines.proofs.bins.bins_reason.Given as goal
 
 abbrev pub invariant-loop-bin : goal.invariant-loop-bin
 invariant-loop-bin l =
-    (first_outside (bin_groups l.instance l.bins l.places l.bin) ≡ None) × (l.overlap ≡ first_overlap (bin_groups l.instance l.bins l.places l.bin))
+    (first_outside (bin_groups l.instance l.bins l.places l.bin) ≡ None)
+    × (l.overlap ≡ first_overlap (bin_groups l.instance l.bins l.places l.bin))

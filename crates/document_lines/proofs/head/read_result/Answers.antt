@@ -5,4 +5,5 @@ use Rattle.document_lines.proofs.head.read_result.Goals as goal
 
 pub returns-clause-ranged : goal.returns-clause-ranged
 returns-clause-ranged c =
-    claim_ranged c.args.job c.in-Ok.instance (rest_of c.args.line.now.held.words) c.in_ok-claim.claim (sym c.read_claim.ensures ∙ c.in_ok-claim.was)
+    claim_ranged c.args.job c.in-Ok.instance (rest_of c.args.line.now.held.words) c.in_ok-claim.claim
+    (sym c.read_claim.ensures ∙ c.in_ok-claim.was)

@@ -6,4 +6,5 @@ use Rattle.document_refutations.proofs.position.result_line.Given as goal
 
 abbrev pub invariant-loop-byte : goal.invariant-loop-byte
 invariant-loop-byte l =
-    (number_told (lines_fed l.lexer (drop l.byte-index l.bytes)) ≡ number_told (lines_fed new_lexer l.bytes)) × (lines l.lexer ≤ l.byte-index)
+    (number_told (lines_fed l.lexer (drop l.byte-index l.bytes)) ≡ number_told (lines_fed new_lexer l.bytes))
+    × (lines l.lexer ≤ l.byte-index)

@@ -7,4 +7,5 @@ use Rattle.document_refutations.proofs.reading.read_again.Given as goal
 
 abbrev pub invariant-loop-byte : goal.invariant-loop-byte
 invariant-loop-byte l =
-    (reread_lines (plain_reading l.at) (lines_fed l.lexer (drop l.byte-index l.bytes)) ≡ reread_lines Unheaded (lines_fed new_lexer l.bytes)) × (lines l.lexer ≤ l.byte-index)
+    (reread_lines (plain_reading l.at) (lines_fed l.lexer (drop l.byte-index l.bytes))
+    ≡ reread_lines Unheaded (lines_fed new_lexer l.bytes)) × (lines l.lexer ≤ l.byte-index)

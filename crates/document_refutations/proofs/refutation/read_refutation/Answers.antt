@@ -4,13 +4,17 @@ use Rattle.document_refutations.proofs.Held.{not_unheaded, not_described, not_br
 use Rattle.document_refutations.proofs.refutation.read_refutation.Goals as goal
 
 pub returns : goal.returns
-returns c = refutation_is c.args.bytes.now c.requires c.in-Proving.instance _ (ap plain_reading (sym c.in-Proving.is) ∙ c.in_ok-instance.ensures)
+returns c = refutation_is c.args.bytes.now c.requires c.in-Proving.instance _
+    (ap plain_reading (sym c.in-Proving.is) ∙ c.in_ok-instance.ensures)
 
 pub unreachable-requires : goal.unreachable-requires
-unreachable-requires c = not_unheaded c.args.bytes.now c.requires (ap plain_reading (sym c.in-Heading.is) ∙ c.in_ok-instance.ensures)
+unreachable-requires c = not_unheaded c.args.bytes.now c.requires
+    (ap plain_reading (sym c.in-Heading.is) ∙ c.in_ok-instance.ensures)
 
 pub unreachable-requires-in-Describing : goal.unreachable-requires-in-Describing
-unreachable-requires-in-Describing c = not_described c.args.bytes.now c.requires _ (ap plain_reading (sym c.in-Describing.is) ∙ c.in_ok-instance.ensures)
+unreachable-requires-in-Describing c =
+    not_described c.args.bytes.now c.requires _ (ap plain_reading (sym c.in-Describing.is) ∙ c.in_ok-instance.ensures)
 
 pub unreachable-requires-in-Broken : goal.unreachable-requires-in-Broken
-unreachable-requires-in-Broken c = not_broken c.args.bytes.now c.requires (ap plain_reading (sym c.in-Broken.is) ∙ c.in_ok-instance.ensures)
+unreachable-requires-in-Broken c =
+    not_broken c.args.bytes.now c.requires (ap plain_reading (sym c.in-Broken.is) ∙ c.in_ok-instance.ensures)

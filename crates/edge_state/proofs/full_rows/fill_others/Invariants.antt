@@ -9,5 +9,6 @@ invariant-loop-place l = record {
   seconds : l.rows.seconds ≡ l.initial.rows.seconds;
   below : l.u < l.boxes;
   box : l.u ≡ l.place % l.boxes;
-  each : (k : ℕ) → k < l.place * 3 → (x : ℕ) → row_has (get_or l.rows.rows k []) x ≡ is_other_box l.boxes (k / 3 % l.boxes) x;
+  each : (k : ℕ) → k < l.place * 3 → (x : ℕ)
+      → row_has (get_or l.rows.rows k []) x ≡ is_other_box l.boxes (k / 3 % l.boxes) x;
 }

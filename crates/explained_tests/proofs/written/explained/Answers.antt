@@ -8,5 +8,6 @@ use Rattle.work_share.specs.Outcomes.{plain_outcome}
 use Rattle.explained_tests.proofs.written.explained.Goals as goal
 
 pub explain-requires : goal.explain-requires
-explain-requires c = subst (λ (l : List Token). Refutes c.args.instance.now [] (plain_tokens l)) (sym c.as_slice.ensures.value)
+explain-requires c = subst (λ (l : List Token). Refutes c.args.instance.now [] (plain_tokens l))
+    (sym c.as_slice.ensures.value)
     (subst (λ (o : Outcome). IsRight c.args.instance.now [] (plain_outcome o)) c.in-No.is c.in_ok-found.ensures.right)

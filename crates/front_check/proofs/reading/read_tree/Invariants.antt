@@ -4,4 +4,5 @@ use Rattle.front_check.proofs.Audited.{IsTreeAt}
 use Rattle.front_check.proofs.reading.read_tree.Given as goal
 
 abbrev pub invariant-loop-index : goal.invariant-loop-index
-invariant-loop-index l = IsTreeAt l.fn.instance l.fn.width l.fn.height (map plain_line l.fn.lines) l.fn.start l.index l.refuter
+invariant-loop-index l = IsTreeAt l.fn.instance l.fn.width l.fn.height (map plain_line l.fn.lines) l.fn.start
+    l.index l.refuter

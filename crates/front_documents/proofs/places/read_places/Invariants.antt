@@ -4,7 +4,8 @@ use Rattle.front_documents.proofs.Read.{IsPlacesRead}
 use Rattle.front_documents.proofs.places.read_places.Given as goal
 
 abbrev pub invariant-loop-alloc : goal.invariant-loop-alloc
-invariant-loop-alloc l = IsAmong l.bytes l.at × IsPlacesRead l.bytes l.fn.at l.at l.fn.instance l.fn.width l.fn.height l.places.items
+invariant-loop-alloc l = IsAmong l.bytes l.at
+    × IsPlacesRead l.bytes l.fn.at l.at l.fn.instance l.fn.width l.fn.height l.places.items
 
 abbrev pub decreases-loop-alloc : goal.decreases-loop-alloc
 decreases-loop-alloc l = length (lines_left l.bytes l.at)

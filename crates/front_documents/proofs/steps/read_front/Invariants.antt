@@ -9,7 +9,8 @@ use Rattle.front_documents.proofs.steps.read_front.Given as goal
 abbrev pub invariant-loop-alloc : goal.invariant-loop-alloc
 invariant-loop-alloc l =
     IsAmong l.bytes l.at × IsPartInside l.fn.instance l.stage.part
-    × (verdict_left l.bytes l.fn.at (at_front l.fn.instance l.fn.complete l.fn.points (announced l.fn.points)) ≡ verdict_left l.bytes l.at (at_front l.fn.instance l.fn.complete l.fn.points (plain_stage l.stage)))
+    × (verdict_left l.bytes l.fn.at (at_front l.fn.instance l.fn.complete l.fn.points (announced l.fn.points))
+    ≡ verdict_left l.bytes l.at (at_front l.fn.instance l.fn.complete l.fn.points (plain_stage l.stage)))
 
 abbrev pub decreases-loop-alloc : goal.decreases-loop-alloc
 decreases-loop-alloc l = length (lines_left l.bytes l.at)

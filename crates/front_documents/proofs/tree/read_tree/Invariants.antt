@@ -4,7 +4,8 @@ use Rattle.front_documents.proofs.Read.{IsTreeRead}
 use Rattle.front_documents.proofs.tree.read_tree.Given as goal
 
 abbrev pub invariant-loop-alloc : goal.invariant-loop-alloc
-invariant-loop-alloc l = IsAmong l.bytes l.at × IsTreeRead l.bytes l.fn.at l.at l.fn.instance l.fn.width l.fn.height l.refuter
+invariant-loop-alloc l = IsAmong l.bytes l.at
+    × IsTreeRead l.bytes l.fn.at l.at l.fn.instance l.fn.width l.fn.height l.refuter
 
 abbrev pub decreases-loop-alloc : goal.decreases-loop-alloc
 decreases-loop-alloc l = length (lines_left l.bytes l.at)

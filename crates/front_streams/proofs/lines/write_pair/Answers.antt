@@ -3,5 +3,7 @@ use Rattle.front_streams.proofs.lines.write_pair.Goals as goal
 
 pub returns : goal.returns
 returns g c =
-    more _ _ _ _ _ _ _ _ _ _ _ c.write_on-named.ensures.goes_on (more _ _ _ _ _ _ _ _ _ _ _ c.write_number-opened.ensures.goes_on
-    (more _ _ _ _ _ _ _ _ _ _ _ c.write_on-spaced.ensures.goes_on (more _ _ _ _ _ _ _ _ _ _ _ c.write_number-closed.ensures.goes_on c.write_on.ensures.goes_on)))
+    more _ _ _ _ _ _ _ _ _ _ _ c.write_on-named.ensures.goes_on
+    (more _ _ _ _ _ _ _ _ _ _ _ c.write_number-opened.ensures.goes_on
+    (more _ _ _ _ _ _ _ _ _ _ _ c.write_on-spaced.ensures.goes_on
+    (more _ _ _ _ _ _ _ _ _ _ _ c.write_number-closed.ensures.goes_on c.write_on.ensures.goes_on)))

@@ -8,5 +8,7 @@ use Rattle.front_streams.proofs.steps.write_steps.Given as goal
 
 abbrev pub invariant-loop-k : goal.invariant-loop-k
 invariant-loop-k g l =
-    Continues (g.K.Sink.written l.initial.sink) (g.K.Sink.written l.sink) (g.K.Sink.faults l.initial.sink) (g.K.Sink.faults l.sink)
-    (text_of (step_lines (first l.k (map plain_corner l.corners)) (first l.k (map plain_point l.points)))) l.initial.now l.now
+    Continues (g.K.Sink.written l.initial.sink) (g.K.Sink.written l.sink) (g.K.Sink.faults l.initial.sink)
+    (g.K.Sink.faults l.sink)
+    (text_of (step_lines (first l.k (map plain_corner l.corners)) (first l.k (map plain_point l.points))))
+    l.initial.now l.now

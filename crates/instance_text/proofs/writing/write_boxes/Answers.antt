@@ -11,7 +11,10 @@ loop-box_no-init g c = none _ _ _
 
 pub loop-box_no-preserved : goal.loop-box_no-preserved
 loop-box_no-preserved g c =
-    same _ _ _ _ _ _ _ _ (sym (boxes_more c.args.instance.now.boxes c.loop-box_no.box_no (omega arith))) (more _ _ _ _ _ _ _ _ _ _ _ c.loop-box_no.invariant c.write_box-now.ensures)
+    same _ _ _ _ _ _ _ _ (sym (boxes_more c.args.instance.now.boxes c.loop-box_no.box_no (omega arith)))
+    (more _ _ _ _ _ _ _ _ _ _ _ c.loop-box_no.invariant c.write_box-now.ensures)
 
 pub returns : goal.returns
-returns g c = same _ _ _ _ _ _ _ _ (ap (flat_map box_text) (take_all c.loop-box_no.box_no c.args.instance.now.boxes (omega arith))) c.loop-box_no.invariant
+returns g c = same _ _ _ _ _ _ _ _
+    (ap (flat_map box_text) (take_all c.loop-box_no.box_no c.args.instance.now.boxes (omega arith)))
+    c.loop-box_no.invariant

@@ -6,5 +6,6 @@ use Rattle.instance_text.proofs.writing.write_container.Given as goal
 
 abbrev pub invariant-loop-dim : goal.invariant-loop-dim
 invariant-loop-dim g l =
-    Continues (g.K.Sink.written l.initial.sink) (g.K.Sink.written l.sink) (g.K.Sink.faults l.initial.sink) (g.K.Sink.faults l.sink)
+    Continues (g.K.Sink.written l.initial.sink) (g.K.Sink.written l.sink) (g.K.Sink.faults l.initial.sink)
+    (g.K.Sink.faults l.sink)
     (after_spaces (map decimal (take l.dim l.instance.container))) l.initial.now l.now

@@ -8,5 +8,7 @@ use Rattle.instance_text.proofs.writing.write_sides.Given as goal
 
 abbrev pub invariant-loop-dim : goal.invariant-loop-dim
 invariant-loop-dim g l =
-    Continues (g.K.Sink.written l.initial.sink) (g.K.Sink.written l.sink) (g.K.Sink.faults l.initial.sink) (g.K.Sink.faults l.sink)
-    (after_spaces (map decimal (take l.dim (slice_index_or l.instance.boxes l.box_no no_box).sides))) l.initial.now l.now
+    Continues (g.K.Sink.written l.initial.sink) (g.K.Sink.written l.sink) (g.K.Sink.faults l.initial.sink)
+    (g.K.Sink.faults l.sink)
+    (after_spaces (map decimal (take l.dim (slice_index_or l.instance.boxes l.box_no no_box).sides)))
+    l.initial.now l.now

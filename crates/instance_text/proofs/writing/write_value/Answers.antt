@@ -6,4 +6,5 @@ pub returns-then-value-eq1 : goal.returns-then-value-eq1
 returns-then-value-eq1 g c = same _ _ _ _ _ _ _ _ (value_none c.args.value c.if-value-eq1.true) (none _ _ _)
 
 pub returns : goal.returns
-returns g c = same _ _ _ _ _ _ _ _ (value_is c.args.value c.if-value-eq1.false) (more _ _ _ _ _ _ _ _ _ _ _ c.write_on-spaced.ensures.goes_on c.write_next.ensures)
+returns g c = same _ _ _ _ _ _ _ _ (value_is c.args.value c.if-value-eq1.false)
+    (more _ _ _ _ _ _ _ _ _ _ _ c.write_on-spaced.ensures.goes_on c.write_next.ensures)

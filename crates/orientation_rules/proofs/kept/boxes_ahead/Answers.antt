@@ -20,7 +20,8 @@ loop-v-preserved g c =
       none = λ u x l hx. below_next v (λ u. row_has c.with_if_any-ahead.result u ≡ false → (u ≡ x → ⊥) → R u x → ⊥)
           (λ u l off. i.none u x l hx (c.with_if_any-ahead.ensures.off u off).0)
           (λ off ne lead. true≢false (sym (row_of n R v x (row x) c.requires.ordered.one_way hv hx ne lead
-          (λ none lead. c.leads_row-row.ensures.others x (rw c.requires.ordered.same_boxes hx) ne none lead)) ∙ (c.with_if_any-ahead.ensures.off v off).1 refl x)) u l;
+          (λ none lead. c.leads_row-row.ensures.others x (rw c.requires.ordered.same_boxes hx) ne none lead))
+          ∙ (c.with_if_any-ahead.ensures.off v off).1 refl x)) u l;
       within = λ u h. there u (c.with_if_any-ahead.ensures.on u h);
     }
   where

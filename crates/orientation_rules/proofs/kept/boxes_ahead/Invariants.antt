@@ -8,6 +8,7 @@ use Rattle.orientation_rules.proofs.kept.boxes_ahead.Given as goal
 
 abbrev pub invariant-loop-v : goal.invariant-loop-v
 invariant-loop-v g l = record {
-  none : (u x : ℕ) → u < l.v → x < box_count l.instance → row_has l.ahead u ≡ false → (u ≡ x → ⊥) → Leads (excludes l.state.trail) l.dim Forwards u x → ⊥;
+  none : (u x : ℕ) → u < l.v → x < box_count l.instance → row_has l.ahead u ≡ false → (u ≡ x → ⊥)
+      → Leads (excludes l.state.trail) l.dim Forwards u x → ⊥;
   within : (u : ℕ) → row_has l.ahead u ≡ true → u < l.state.boxes;
 }

@@ -12,7 +12,8 @@ invariant-loop-v g l = record {
   count : length l.rows ≡ length l.fn.rows;
   within : (u : ℕ) → row_has l.rest u ≡ true → u < l.state.boxes;
   old : (u x : ℕ) → u < box_count l.instance → GoesOn l.rows u x → Leads (excludes l.state.trail) l.dim Forwards u x;
-  new : (u x : ℕ) → u < box_count l.instance → x < box_count l.instance → row_has l.rest u ≡ false → (u ≡ x → ⊥) → Leads (excludes l.state.trail) l.dim Forwards u x → GoesOn l.rows u x;
+  new : (u x : ℕ) → u < box_count l.instance → x < box_count l.instance → row_has l.rest u ≡ false → (u ≡ x → ⊥)
+      → Leads (excludes l.state.trail) l.dim Forwards u x → GoesOn l.rows u x;
 }
 
 abbrev pub decreases-loop-v : goal.decreases-loop-v

@@ -1,4 +1,5 @@
-use Rattle.std.proofs.Common.{◌≡◌, ◌+◌, ◌<◌, ◌∙◌, ℕ, refl, sym, inl, inr, ◌⊎◌, [], true, false, slice_index, slice_index_or, length, arith}
+use Rattle.std.proofs.Common.{◌≡◌, ◌+◌, ◌<◌, ◌∙◌, ℕ, refl, sym, inl, inr, ◌⊎◌, [], true, false, slice_index}
+use Rattle.std.proofs.Common.{slice_index_or, length, arith}
 use Rattle.packing_terms.specs.Packing.{box_count, side}
 use Rattle.packing_terms.specs.Exclusions.{excludes}
 use Rattle.edge_state.specs.BitRows.{row_has}
@@ -20,15 +21,20 @@ loop-v-preserved g c =
     let same : slice_index_or rows v [] ≡ c.index-rows-at.result = get_any rows v [] _ there ∙ sym c.index-rows-at.is in
     let kept = row_has c.index-rows-at.result in
     let now = row_has c.leads_row-now.result in
-    let on = λ (x : ℕ) (hx : x < n) (ne : v ≡ x → ⊥) (lead : R v x). row_of n R v x (now x) c.requires.ordered.one_way hv hx ne lead
+    let on = λ (x : ℕ) (hx : x < n) (ne : v ≡ x → ⊥) (lead : R v x). row_of n R v x (now x) c.requires.ordered.one_way
+    hv hx ne lead
     (λ off lead. c.leads_row-now.ensures.others x (rw c.requires.ordered.same_boxes hx) ne off lead) in
     record {
-      sides = below_next v (λ u. slice_index c.args.sides.now u ≡ side c.args.instance.now u c.args.dim) i.sides (omega (arith, c.if-sides-at.false, c.from.ensures, c.side.ensures));
+      sides = below_next v (λ u. slice_index c.args.sides.now u ≡ side c.args.instance.now u c.args.dim) i.sides
+          (omega (arith, c.if-sides-at.false, c.from.ensures, c.side.ensures));
       old = λ u x l. below_next v (λ u. GoesOn rows u x → R u x) (λ u l. i.old u x l)
-          (λ g. (c.leads_row-now.ensures.leads x (none_out _ _ _ (c.minus.ensures x) (c.if-not-has_none.ensures refl x) ((rw same at g)))).1) u l;
-      first = λ u x l hx. below_next v (λ u. row_has c.with_if_any.result u ≡ false → (u ≡ x → ⊥) → R u x → GoesOn rows u x)
+          (λ g. (c.leads_row-now.ensures.leads x
+          (none_out _ _ _ (c.minus.ensures x) (c.if-not-has_none.ensures refl x) ((rw same at g)))).1) u l;
+      first = λ u x l hx. below_next v
+          (λ u. row_has c.with_if_any.result u ≡ false → (u ≡ x → ⊥) → R u x → GoesOn rows u x)
           (λ u l off. i.first u x l hx (c.with_if_any.ensures.off u off).0)
-          (λ off ne lead. rw same (none_out _ _ _ (c.minus-in-loop-v.ensures x) ((c.with_if_any.ensures.off v off).1 refl x) (on x hx ne lead))) u l;
+          (λ off ne lead. rw same (none_out _ _ _ (c.minus-in-loop-v.ensures x)
+          ((c.with_if_any.ensures.off v off).1 refl x) (on x hx ne lead))) u l;
       ahead = λ u h. ahead_at u (c.with_if_any.ensures.on u h);
     }
   where

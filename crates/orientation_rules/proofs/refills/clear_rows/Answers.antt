@@ -12,6 +12,7 @@ loop-at-preserved g c =
     let there : at < length c.loop-at.rows = omega (arith, c.loop-at-test.true, c.loop-at.auto.at-end, i.count) in
     record {
       count = length-set c.loop-at.rows at c.empty.result ∙ i.count;
-      none = λ u x l. row_set c.loop-at.rows at c.empty.result (λ z r. row_has r x ≡ true → ⊥) there (λ on. true≢false (sym on ∙ c.empty.ensures x)) u
+      none = λ u x l. row_set c.loop-at.rows at c.empty.result (λ z r. row_has r x ≡ true → ⊥) there
+          (λ on. true≢false (sym on ∙ c.empty.ensures x)) u
           (λ ne. i.none u x (less_than u at l ne));
     }

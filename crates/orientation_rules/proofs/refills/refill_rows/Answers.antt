@@ -11,7 +11,9 @@ loop-preserved g c =
     let grown = length-append old (c.empty.result ∷ []) in
     record {
       count = rw c.push_reserved.ensures.items (omega (arith, grown, c.loop.invariant.count));
-      none = rw c.push_reserved.ensures.items (λ u x hu. each_more (λ (row : List ℕ). row_has row x ≡ true → ⊥) old c.empty.result
-          (λ on. true≢false (sym on ∙ c.empty.ensures x)) (λ k d hk. rw (get_any old k d [] hk) (c.loop.invariant.none k x hk)) u [] hu);
+      none = rw c.push_reserved.ensures.items
+          (λ u x hu. each_more (λ (row : List ℕ). row_has row x ≡ true → ⊥) old c.empty.result
+          (λ on. true≢false (sym on ∙ c.empty.ensures x))
+          (λ k d hk. rw (get_any old k d [] hk) (c.loop.invariant.none k x hk)) u [] hu);
       same = c.push_reserved.ensures.capacity ∙ c.loop.invariant.same;
     }

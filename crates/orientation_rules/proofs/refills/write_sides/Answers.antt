@@ -15,7 +15,10 @@ loop-v-preserved c =
       sides_count = length-set c.loop-v.sides v own ∙ i.sides_count;
       head_count = length-set c.loop-v.head v own ∙ i.head_count;
       tail_count = length-set c.loop-v.tail v own ∙ i.tail_count;
-      sides = λ u l. number_set c.loop-v.sides v own (λ z k. k ≡ side c.args.instance.now z c.args.dim) (omega (arith, hv, i.sides_count)) here u (λ ne. i.sides u (less_than u v l ne));
-      heads = λ u l. number_set c.loop-v.head v own (λ z k. k ≡ side c.args.instance.now z c.args.dim) (omega (arith, hv, i.head_count)) here u (λ ne. i.heads u (less_than u v l ne));
-      tails = λ u l. number_set c.loop-v.tail v own (λ z k. k ≡ side c.args.instance.now z c.args.dim) (omega (arith, hv, i.tail_count)) here u (λ ne. i.tails u (less_than u v l ne));
+      sides = λ u l. number_set c.loop-v.sides v own (λ z k. k ≡ side c.args.instance.now z c.args.dim)
+          (omega (arith, hv, i.sides_count)) here u (λ ne. i.sides u (less_than u v l ne));
+      heads = λ u l. number_set c.loop-v.head v own (λ z k. k ≡ side c.args.instance.now z c.args.dim)
+          (omega (arith, hv, i.head_count)) here u (λ ne. i.heads u (less_than u v l ne));
+      tails = λ u l. number_set c.loop-v.tail v own (λ z k. k ≡ side c.args.instance.now z c.args.dim)
+          (omega (arith, hv, i.tail_count)) here u (λ ne. i.tails u (less_than u v l ne));
     }

@@ -7,6 +7,8 @@ use Rattle.orientation_rules.proofs.rises.hand_on.Goals as goal
 
 pub returns-clause-weighed : goal.returns-clause-weighed
 returns-clause-weighed g c =
-    led_all (box_count c.args.instance.now) (Leads (excludes c.args.state.now.trail) c.args.dim c.args.direction) (λ x. side c.args.instance.now x c.args.dim) _ c.args.v
-    (row_has c.led_row-led.result) c.requires.ordered.one_way (rw (← c.requires.ordered.same_boxes) c.requires.v) c.hand_on_to.ensures.weighed
+    led_all (box_count c.args.instance.now) (Leads (excludes c.args.state.now.trail) c.args.dim c.args.direction)
+    (λ x. side c.args.instance.now x c.args.dim) _ c.args.v
+    (row_has c.led_row-led.result) c.requires.ordered.one_way (rw (← c.requires.ordered.same_boxes) c.requires.v)
+    c.hand_on_to.ensures.weighed
     (λ x small ne off lead. c.led_row-led.ensures.others x (rw c.requires.ordered.same_boxes small) ne off lead)

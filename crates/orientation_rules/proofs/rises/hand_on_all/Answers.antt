@@ -13,20 +13,27 @@ loop-first-smaller g c =
     let v = c.last_in-v.result in
     let hv : v < c.args.state.now.boxes = c.loop-first.invariant.within v c.last_in-v.ensures in
     let few : c.args.state.now.boxes ≤ 64 * g.row.K = c.requires.words.1 in
-    handed_less (Leads (excludes c.args.state.now.trail) c.args.dim c.args.direction) (λ x. side c.args.instance.now x c.args.dim) _ _ v
-    (row_has c.loop-first.rest) (row_has c.without-rest.result) (row_has c.hand_on.new.risen) c.without-rest.ensures (64 * g.row.K) c.hand_on.result
-    c.hand_on.ensures.raised.shrinks c.hand_on.ensures.raised.same c.hand_on.ensures.none c.last_in-v.ensures (omega (arith, hv, few))
+    handed_less (Leads (excludes c.args.state.now.trail) c.args.dim c.args.direction)
+    (λ x. side c.args.instance.now x c.args.dim) _ _ v
+    (row_has c.loop-first.rest) (row_has c.without-rest.result) (row_has c.hand_on.new.risen) c.without-rest.ensures
+    (64 * g.row.K) c.hand_on.result
+    c.hand_on.ensures.raised.shrinks c.hand_on.ensures.raised.same c.hand_on.ensures.none c.last_in-v.ensures
+    (omega (arith, hv, few))
 
 pub loop-first-preserved : goal.loop-first-preserved
 loop-first-preserved g c = record {
   weights = c.hand_on.ensures.raised.runs;
   within = c.hand_on.ensures.within;
-  weighed = handed_next (Leads (excludes c.args.state.now.trail) c.args.dim c.args.direction) (λ x. side c.args.instance.now x c.args.dim) _ _ c.last_in-v.result
-      (row_has c.loop-first.rest) (row_has c.without-rest.result) (row_has c.hand_on.new.risen) c.without-rest.ensures (box_count c.args.instance.now)
+  weighed = handed_next (Leads (excludes c.args.state.now.trail) c.args.dim c.args.direction)
+      (λ x. side c.args.instance.now x c.args.dim) _ _ c.last_in-v.result
+      (row_has c.loop-first.rest) (row_has c.without-rest.result) (row_has c.hand_on.new.risen) c.without-rest.ensures
+      (box_count c.args.instance.now)
       c.hand_on.ensures.stays c.hand_on.ensures.grows c.loop-first.invariant.weighed c.hand_on.ensures.weighed;
-  stays = λ x off. (let p = or_parts _ _ (sym (c.or-all.ensures x) ∙ off) in let s = c.loop-first.invariant.stays x p.0 in
+  stays = λ x off. (let p = or_parts _ _ (sym (c.or-all.ensures x) ∙ off) in
+      let s = c.loop-first.invariant.stays x p.0 in
       (p.1, s.1, (c.hand_on.ensures.stays x p.1).1 ∙ s.2));
 }
 
 pub returns-clause-heaviest : goal.returns-clause-heaviest
-returns-clause-heaviest g c = heaviest _ _ _ _ c.loop-first.invariant.weights (λ v x hv hx. c.loop-first.invariant.weighed v x hv hx (c.in_default.ensures.least x))
+returns-clause-heaviest g c = heaviest _ _ _ _ c.loop-first.invariant.weights
+    (λ v x hv hx. c.loop-first.invariant.weighed v x hv hx (c.in_default.ensures.least x))

@@ -9,8 +9,10 @@ abbrev pub invariant-loop-first : goal.invariant-loop-first
 invariant-loop-first g l = record {
   weights : AreWeights l.instance l.state l.dim l.direction l.into;
   within : (x : ℕ) → row_has l.rest x ≡ true → x < l.state.boxes;
-  weighed : (u x : ℕ) → u < box_count l.instance → x < box_count l.instance → row_has l.rest x ≡ false → IsWeighedAt l.instance l.state l.dim l.direction l.into u x;
-  stays : (x : ℕ) → row_has l.all x ≡ false → (row_has l.rest x ≡ false) × (row_has l.fn.row x ≡ false) × (slice_index l.into x ≡ slice_index l.fn.into x);
+  weighed : (u x : ℕ) → u < box_count l.instance → x < box_count l.instance → row_has l.rest x ≡ false
+      → IsWeighedAt l.instance l.state l.dim l.direction l.into u x;
+  stays : (x : ℕ) → row_has l.all x ≡ false → (row_has l.rest x ≡ false) × (row_has l.fn.row x ≡ false)
+      × (slice_index l.into x ≡ slice_index l.fn.into x);
 }
 
 abbrev pub decreases-loop-first : goal.decreases-loop-first

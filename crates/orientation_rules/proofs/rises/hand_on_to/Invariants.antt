@@ -6,8 +6,10 @@ use Rattle.orientation_rules.proofs.rises.hand_on_to.Given as goal
 abbrev pub invariant-loop-u : goal.invariant-loop-u
 invariant-loop-u g l = record {
   raise : IsRaised l.instance l.state l.dim l.direction l.fn.into l.into l.changed;
-  weighed : (x : ℕ) → row_has l.fn.row x ≡ true → row_has l.rest x ≡ false → IsWeighedAt l.instance l.state l.dim l.direction l.into x l.v;
-  stays : (x : ℕ) → row_has l.risen x ≡ false → (row_has l.fn.risen x ≡ false) × (slice_index l.into x ≡ slice_index l.fn.into x);
+  weighed : (x : ℕ) → row_has l.fn.row x ≡ true → row_has l.rest x ≡ false
+      → IsWeighedAt l.instance l.state l.dim l.direction l.into x l.v;
+  stays : (x : ℕ) → row_has l.risen x ≡ false → (row_has l.fn.risen x ≡ false)
+      × (slice_index l.into x ≡ slice_index l.fn.into x);
   grows : (x : ℕ) → slice_index l.fn.into x ≤ slice_index l.into x;
   within : (x : ℕ) → row_has l.risen x ≡ true → x < l.state.boxes;
   part : (x : ℕ) → row_has l.rest x ≡ true → row_has l.fn.row x ≡ true;

@@ -18,8 +18,12 @@ pub returns-clause-others : goal.returns-clause-others
 returns-clause-others g c x small ne off = go (cases_Bool (row_has c.leads_row-now.result x))
   where
     go : (row_has c.leads_row-now.result x ≡ true) ⊎ (row_has c.leads_row-now.result x ≡ false)
-        → GoesOn c.args.kept.now c.args.v x ⊎ (Leads (excludes c.args.state.now.trail) c.args.dim Forwards c.args.v x → Leads (excludes c.args.state.now.trail) c.args.dim Forwards x c.args.v)
+        → GoesOn c.args.kept.now c.args.v x
+        ⊎ (Leads (excludes c.args.state.now.trail) c.args.dim Forwards c.args.v x
+        → Leads (excludes c.args.state.now.trail) c.args.dim Forwards x c.args.v)
     go (inl on) =
         let there : c.args.v < length c.args.kept.now = omega (arith, c.requires.v, c.requires.count) in
-        inl (subst (λ (z : List ℕ). row_has z x ≡ true) (sym (get_any c.args.kept.now c.args.v [] _ there ∙ sym c.index-kept-v.is)) (none_out _ _ _ (c.minus.ensures x) off on))
+        inl (subst (λ (z : List ℕ). row_has z x ≡ true)
+        (sym (get_any c.args.kept.now c.args.v [] _ there ∙ sym c.index-kept-v.is))
+        (none_out _ _ _ (c.minus.ensures x) off on))
     go (inr none) = inr (c.leads_row-now.ensures.others x small ne none)

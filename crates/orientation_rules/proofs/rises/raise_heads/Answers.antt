@@ -25,7 +25,13 @@ new_row-row-requires g c = (
   search rules,
   (
     c.requires.words,
-    (c.requires.ordered.dim, (c.loop-v.invariant.left c.in-Some.v c.in-Some.ensures.least.there, c.requires.rows ∙ sym c.requires.ordered.same_boxes)),
+    (
+      c.requires.ordered.dim,
+      (
+        c.loop-v.invariant.left c.in-Some.v c.in-Some.ensures.least.there,
+        c.requires.rows ∙ sym c.requires.ordered.same_boxes,
+      ),
+    ),
   ),
 )
 
@@ -49,7 +55,8 @@ hand_on_to-requires g c = (
 
 pub loop-v-smaller : goal.loop-v-smaller
 loop-v-smaller g c =
-    members_fewer (row_has c.loop-v.rest) (row_has c.without-rest.result) c.in-Some.v (64 * g.row.K) c.without-rest.ensures c.in-Some.ensures.least.there c.in-Some.ensures.limit
+    members_fewer (row_has c.loop-v.rest) (row_has c.without-rest.result) c.in-Some.v (64 * g.row.K)
+    c.without-rest.ensures c.in-Some.ensures.least.there c.in-Some.ensures.limit
 
 pub loop-v-preserved : goal.loop-v-preserved
 loop-v-preserved g c =
@@ -63,16 +70,21 @@ loop-v-preserved g c =
     let grows = c.hand_on_to.ensures.grows in
     record {
       weights = c.hand_on_to.ensures.raised.runs;
-      left = λ x on. i.left x (left_part (row_has c.loop-v.rest) (row_has c.without-rest.result) v c.without-rest.ensures x on);
+      left = λ x on. i.left x (left_part (row_has c.loop-v.rest) (row_has c.without-rest.result) v
+          c.without-rest.ensures x on);
       within = c.hand_on_to.ensures.within;
-      others = λ u x hu hx off low. rest_settled (λ (z : ℕ). z < n → row_has c.hand_on_to.new.risen z ≡ false → HasNoHeavierRun R w into u z) v x
+      others = λ u x hu hx off low. rest_settled
+          (λ (z : ℕ). z < n → row_has c.hand_on_to.new.risen z ≡ false → HasNoHeavierRun R w into u z) v x
           (row_has c.loop-v.rest) (row_has c.without-rest.result) c.without-rest.ensures off
           (λ hz calm. (let s = stay v calm in
-          newly_settled n R w c.loop-v.into into u v (GoesOn c.args.kept.now v u) (row_has c.new_row-row.result u) c.requires.ordered_back.one_way hu hz (grows u) s.1
+          newly_settled n R w c.loop-v.into into u v (GoesOn c.args.kept.now v u) (row_has c.new_row-row.result u)
+          c.requires.ordered_back.one_way hu hz (grows u) s.1
           (c.hand_on_to.ensures.weighed u) (λ on. i.known u v hu hz on s.0)
           (λ ne none. c.new_row-row.ensures.others u (rw c.requires.ordered.same_boxes hu) (λ e. ne (sym e)) none)))
-          (λ none hz calm. (let s = stay x calm in settled_still R w c.loop-v.into into u x (grows u) s.1 (i.others u x hu hz none s.0))) hx low;
-      known = λ u x hu hx on low. (let s = stay x low in settled_still R w c.loop-v.into into u x (grows u) s.1 (i.known u x hu hx on s.0));
+          (λ none hz calm. (let s = stay x calm in
+          settled_still R w c.loop-v.into into u x (grows u) s.1 (i.others u x hu hz none s.0))) hx low;
+      known = λ u x hu hx on low. (let s = stay x low in
+          settled_still R w c.loop-v.into into u x (grows u) s.1 (i.known u x hu hx on s.0));
       stays = λ x low. (let s = stay x low in s.1 ∙ i.stays x s.0);
     }
 

@@ -11,8 +11,10 @@ invariant-loop-v g l = record {
   weights : AreWeights l.instance l.state l.dim Backwards l.into;
   left : (x : ℕ) → row_has l.rest x ≡ true → x < l.state.boxes;
   within : (x : ℕ) → row_has l.risen x ≡ true → x < l.state.boxes;
-  others : (u x : ℕ) → u < box_count l.instance → x < box_count l.instance → row_has l.rest x ≡ false → row_has l.risen x ≡ false → IsWeighedAt l.instance l.state l.dim Backwards l.into u x;
-  known : (u x : ℕ) → u < box_count l.instance → x < box_count l.instance → GoesOn l.kept x u → row_has l.risen x ≡ false → IsWeighedAt l.instance l.state l.dim Backwards l.into u x;
+  others : (u x : ℕ) → u < box_count l.instance → x < box_count l.instance → row_has l.rest x ≡ false
+      → row_has l.risen x ≡ false → IsWeighedAt l.instance l.state l.dim Backwards l.into u x;
+  known : (u x : ℕ) → u < box_count l.instance → x < box_count l.instance → GoesOn l.kept x u
+      → row_has l.risen x ≡ false → IsWeighedAt l.instance l.state l.dim Backwards l.into u x;
   stays : (x : ℕ) → row_has l.risen x ≡ false → slice_index l.into x ≡ slice_index l.fn.into x;
 }
 

@@ -7,7 +7,8 @@ use Rattle.edge_state.proofs.RowBits.{members_fewer}
 use Rattle.rule_terms.specs.declared.Direction.TheVariants.{Forwards}
 use Rattle.rule_terms.specs.Runs.{Leads, HasNoHeavierRun}
 use Rattle.orientation_rules.specs.KeptWeights.{GoesOn}
-use Rattle.orientation_rules.proofs.HandedOn.{newly_settled, rest_settled, settled_still, grows_next, stays_next, within_next, left_part}
+use Rattle.orientation_rules.proofs.HandedOn.{newly_settled, rest_settled, settled_still, grows_next, stays_next}
+use Rattle.orientation_rules.proofs.HandedOn.{within_next, left_part}
 use Rattle.orientation_rules.proofs.rises.raise_tails.Goals as goal
 
 pub loop-v-init : goal.loop-v-init
@@ -25,13 +26,20 @@ new_row-row-requires g c = (
   search rules,
   (
     c.requires.words,
-    (c.requires.ordered.dim, (c.loop-v.invariant.left c.in-Some.v c.in-Some.ensures.least.there, c.requires.rows ∙ sym c.requires.ordered.same_boxes)),
+    (
+      c.requires.ordered.dim,
+      (
+        c.loop-v.invariant.left c.in-Some.v c.in-Some.ensures.least.there,
+        c.requires.rows ∙ sym c.requires.ordered.same_boxes,
+      ),
+    ),
   ),
 )
 
 pub loop-v-smaller : goal.loop-v-smaller
 loop-v-smaller g c =
-    members_fewer (row_has c.loop-v.rest) (row_has c.without-rest.result) c.in-Some.v (64 * g.row.K) c.without-rest.ensures c.in-Some.ensures.least.there c.in-Some.ensures.limit
+    members_fewer (row_has c.loop-v.rest) (row_has c.without-rest.result) c.in-Some.v (64 * g.row.K)
+    c.without-rest.ensures c.in-Some.ensures.least.there c.in-Some.ensures.limit
 
 pub loop-v-preserved : goal.loop-v-preserved
 loop-v-preserved g c =
@@ -42,19 +50,28 @@ loop-v-preserved g c =
     let v = c.in-Some.v in
     let hv : v < c.args.state.now.boxes = i.left v c.in-Some.ensures.least.there in
     let here = c.raise_along-here.result in
-    let grows = grows_next c.loop-v.into c.raise_along-here.new.into v c.raise_along-here.ensures.others c.raise_along-here.ensures.grows in
-    let stay = stays_next c.loop-v.into c.raise_along-here.new.into v here (row_has c.loop-v.risen) (row_has c.with_if-risen.result) c.with_if-risen.ensures
+    let grows = grows_next c.loop-v.into c.raise_along-here.new.into v c.raise_along-here.ensures.others
+    c.raise_along-here.ensures.grows in
+    let stay = stays_next c.loop-v.into c.raise_along-here.new.into v here (row_has c.loop-v.risen)
+    (row_has c.with_if-risen.result) c.with_if-risen.ensures
     c.raise_along-here.ensures.others c.raise_along-here.ensures.raised.same in
     record {
       weights = c.raise_along-here.ensures.raised.runs;
-      left = λ x on. i.left x (left_part (row_has c.loop-v.rest) (row_has c.without-rest.result) v c.without-rest.ensures x on);
-      within = within_next v here (row_has c.loop-v.risen) (row_has c.with_if-risen.result) c.with_if-risen.ensures _ hv i.within;
+      left = λ x on. i.left x (left_part (row_has c.loop-v.rest) (row_has c.without-rest.result) v
+          c.without-rest.ensures x on);
+      within = within_next v here (row_has c.loop-v.risen) (row_has c.with_if-risen.result) c.with_if-risen.ensures _
+          hv i.within;
       others = λ u x hu hx off low. (let s = stay x low in
-          rest_settled (λ (z : ℕ). z < n → HasNoHeavierRun R w c.raise_along-here.new.into z x) v u (row_has c.loop-v.rest) (row_has c.without-rest.result) c.without-rest.ensures off
-          (λ hz. newly_settled n R w c.loop-v.into c.raise_along-here.new.into v x (GoesOn c.args.kept.now v x) (row_has c.new_row-row.result x) c.requires.ordered.one_way hz hx (grows v) s.1
-          (c.raise_along-here.ensures.weighed x) (λ on. i.known v x hz hx on s.0) (λ ne none. c.new_row-row.ensures.others x (rw c.requires.ordered.same_boxes hx) ne none))
-          (λ none hz. settled_still R w c.loop-v.into c.raise_along-here.new.into u x (grows u) s.1 (i.others u x hz hx none s.0)) hu);
-      known = λ u x hu hx on low. (let s = stay x low in settled_still R w c.loop-v.into c.raise_along-here.new.into u x (grows u) s.1 (i.known u x hu hx on s.0));
+          rest_settled (λ (z : ℕ). z < n → HasNoHeavierRun R w c.raise_along-here.new.into z x) v u
+          (row_has c.loop-v.rest) (row_has c.without-rest.result) c.without-rest.ensures off
+          (λ hz. newly_settled n R w c.loop-v.into c.raise_along-here.new.into v x (GoesOn c.args.kept.now v x)
+          (row_has c.new_row-row.result x) c.requires.ordered.one_way hz hx (grows v) s.1
+          (c.raise_along-here.ensures.weighed x) (λ on. i.known v x hz hx on s.0)
+          (λ ne none. c.new_row-row.ensures.others x (rw c.requires.ordered.same_boxes hx) ne none))
+          (λ none hz. settled_still R w c.loop-v.into c.raise_along-here.new.into u x (grows u) s.1
+          (i.others u x hz hx none s.0)) hu);
+      known = λ u x hu hx on low. (let s = stay x low in
+          settled_still R w c.loop-v.into c.raise_along-here.new.into u x (grows u) s.1 (i.known u x hu hx on s.0));
       stays = λ x low. (let s = stay x low in s.1 ∙ i.stays x s.0);
     }
 

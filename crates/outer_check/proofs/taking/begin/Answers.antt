@@ -7,5 +7,6 @@ use Rattle.outer_check.proofs.taking.begin.Goals as goal
 pub restart-requires-clause-set : goal.restart-requires-clause-set
 restart-requires-clause-set c =
     subst (λ keep. IsBoxSet c.args.inner.now.instance keep)
-    (ap (λ n. boxes_put n c.args.path.now.frames c.args.child) (sym c.requires.boxes) ∙ (sym c.gather.ensures.boxes ∙ sym c.as_slice.ensures.value))
+    (ap (λ n. boxes_put n c.args.path.now.frames c.args.child) (sym c.requires.boxes)
+    ∙ (sym c.gather.ensures.boxes ∙ sym c.as_slice.ensures.value))
     (boxes_set c.args.inner.now.instance c.args.path.now.frames c.args.child)

@@ -8,7 +8,9 @@ pub returns : goal.returns
 returns c =
     let held = c.in_ok-held.ensures in
     record {
-      is = held_explained c.args.bytes.now c.in_ok-held.held.instance (plain_tokens c.in_ok-held.held.tokens.items) (map plain_step c.in_ok-steps.steps.items) c.requires held
+      is = held_explained c.args.bytes.now c.in_ok-held.held.instance (plain_tokens c.in_ok-held.held.tokens.items)
+          (map plain_step c.in_ok-steps.steps.items) c.requires held
           c.in_ok-steps.ensures.explains (c.in_ok-steps.ensures.tokens ∙ ap plain_tokens c.as_slice.ensures.value);
-      ready = held_limits c.args.bytes.now c.in_ok-held.held.instance (plain_tokens c.in_ok-held.held.tokens.items) held;
+      ready = held_limits c.args.bytes.now c.in_ok-held.held.instance
+          (plain_tokens c.in_ok-held.held.tokens.items) held;
     }

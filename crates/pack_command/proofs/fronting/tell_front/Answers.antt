@@ -8,5 +8,6 @@ returns-in-Ok-stream-clause-answered g c = λ words asks.
     let value = c.dims.ensures.value in
     let two = c.if-dims-ne2.false in
     let plane : dims c.in_ok-instance.instance ≡ 2 = omega (arith, value, two) in
-    front_written words _ _ _ _ _ _ c.in-Ok.front asks c.in_ok-instance.ensures.moves c.in_ok-instance.ensures.limits plane c.in-Ok.ensures.walk
+    front_written words _ _ _ _ _ _ c.in-Ok.front asks c.in_ok-instance.ensures.moves c.in_ok-instance.ensures.limits
+    plane c.in-Ok.ensures.walk
     _ c.front_status.ensures c.in-Ok-stream.ensures.whole

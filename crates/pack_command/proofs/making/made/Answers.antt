@@ -10,5 +10,6 @@ returns g c = record {
   instance_is = c.in_ok-instance.ensures.ok;
   budget_is = refl;
   outcome_is = c.in_ok-outcome.ensures.outcome
-      ∙ ap (λ (i : PlainInstance). told c.args.settings.now.budget (outcome (class_tree i [] c.args.settings.now.scales))) c.in_ok-instance.ensures.ok;
+      ∙ ap (λ (i : PlainInstance). told c.args.settings.now.budget
+      (outcome (class_tree i [] c.args.settings.now.scales))) c.in_ok-instance.ensures.ok;
 }

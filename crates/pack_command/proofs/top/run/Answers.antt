@@ -10,74 +10,103 @@ use Rattle.pack_command.proofs.ProposedEnds.{proposed_done}
 use Rattle.pack_command.proofs.ProposedDecided.{proposed_decided, proposed_own, proposed_within, proposed_exactly}
 use Rattle.pack_command.proofs.Sized.{told_decided, told_front, told_whole, told_own}
 use Rattle.pack_command.proofs.Checked.{solved_done, judged_done, judged_exactly, judged_claimed}
-use Rattle.pack_command.proofs.Causes.{answer_counts, completes, never_read, refusable_done, refuses, stop_reads, stop_unanswered, stop_writes}
+use Rattle.pack_command.proofs.Causes.{answer_counts, completes, never_read, refusable_done, refuses, stop_reads}
+use Rattle.pack_command.proofs.Causes.{stop_unanswered, stop_writes}
 use Rattle.pack_command.proofs.top.run.Goals as goal
 
 pub returns-in-Ok-clause-decides : goal.returns-in-Ok-clause-decides
 returns-in-Ok-clause-decides g c = λ job settings instance asked answer.
-    written_job _ _ _ _ _ _ settings asked.bytes instance (solved_done _ _ _ _ _ _ job settings asked.asks c.in-Ok.ensures.answered) asked.told asked.read job asked.asks
+    written_job _ _ _ _ _ _ settings asked.bytes instance
+    (solved_done _ _ _ _ _ _ job settings asked.asks c.in-Ok.ensures.answered) asked.told asked.read job asked.asks
 
 pub returns-in-Ok-clause-answers : goal.returns-in-Ok-clause-answers
 returns-in-Ok-clause-answers g c = λ job settings instance asked answer.
-    written_answers _ _ _ _ _ _ settings asked.bytes instance (solved_done _ _ _ _ _ _ job settings asked.asks c.in-Ok.ensures.answered) asked.told asked.read job asked.asks
+    written_answers _ _ _ _ _ _ settings asked.bytes instance
+    (solved_done _ _ _ _ _ _ job settings asked.asks c.in-Ok.ensures.answered) asked.told asked.read job asked.asks
 
 pub returns-in-Ok-clause-enough : goal.returns-in-Ok-clause-enough
 returns-in-Ok-clause-enough g c = λ job settings instance asked enough.
-    written_enough _ _ _ _ _ _ settings asked.bytes instance (solved_done _ _ _ _ _ _ job settings asked.asks c.in-Ok.ensures.answered) asked.told asked.read job asked.asks enough
+    written_enough _ _ _ _ _ _ settings asked.bytes instance
+    (solved_done _ _ _ _ _ _ job settings asked.asks c.in-Ok.ensures.answered) asked.told asked.read job
+    asked.asks enough
 
 pub returns-in-Ok-clause-fits : goal.returns-in-Ok-clause-fits
 returns-in-Ok-clause-fits g c = λ job settings instance asked fits answer enough.
-    written_fits _ _ _ _ _ _ settings asked.bytes instance (solved_done _ _ _ _ _ _ job settings asked.asks c.in-Ok.ensures.answered) asked.told asked.read job fits asked.asks enough
+    written_fits _ _ _ _ _ _ settings asked.bytes instance
+    (solved_done _ _ _ _ _ _ job settings asked.asks c.in-Ok.ensures.answered) asked.told asked.read job fits
+    asked.asks enough
 
 pub returns-in-Ok-clause-verified : goal.returns-in-Ok-clause-verified
 returns-in-Ok-clause-verified g c = λ job settings instance asked answer.
-    own_written _ _ _ _ _ _ settings asked.bytes instance (solved_done _ _ _ _ _ _ job settings asked.asks c.in-Ok.ensures.answered) asked.told asked.read job asked.asks
+    own_written _ _ _ _ _ _ settings asked.bytes instance
+    (solved_done _ _ _ _ _ _ job settings asked.asks c.in-Ok.ensures.answered) asked.told asked.read job asked.asks
 
 pub returns-in-Ok-clause-checks : goal.returns-in-Ok-clause-checks
-returns-in-Ok-clause-checks g c = λ bytes asked answer. judged_exactly _ _ _ _ _ bytes asked.told (judged_done _ _ _ _ _ _ asked.asks c.in-Ok.ensures.answered)
+returns-in-Ok-clause-checks g c =
+    λ bytes asked answer. judged_exactly _ _ _ _ _ bytes asked.told
+    (judged_done _ _ _ _ _ _ asked.asks c.in-Ok.ensures.answered)
 
 pub returns-in-Ok-clause-claimed : goal.returns-in-Ok-clause-claimed
-returns-in-Ok-clause-claimed g c = λ asks zero. judged_claimed _ _ _ _ _ zero (judged_done _ _ _ _ _ _ asks c.in-Ok.ensures.answered)
+returns-in-Ok-clause-claimed g c =
+    λ asks zero. judged_claimed _ _ _ _ _ zero (judged_done _ _ _ _ _ _ asks c.in-Ok.ensures.answered)
 
 pub returns-in-Ok-clause-audits : goal.returns-in-Ok-clause-audits
-returns-in-Ok-clause-audits g c = λ bytes asked answer. exactly_read _ _ _ _ _ _ bytes asked.told (reading_done _ _ _ _ _ _ _ asked.asks c.in-Ok.ensures.answered)
+returns-in-Ok-clause-audits g c =
+    λ bytes asked answer. exactly_read _ _ _ _ _ _ bytes asked.told
+    (reading_done _ _ _ _ _ _ _ asked.asks c.in-Ok.ensures.answered)
 
 pub returns-in-Ok-clause-explains : goal.returns-in-Ok-clause-explains
-returns-in-Ok-clause-explains g c = λ bytes asked answer. exactly_read _ _ _ _ _ _ bytes asked.told (reading_done _ _ _ _ _ _ _ asked.asks c.in-Ok.ensures.answered)
+returns-in-Ok-clause-explains g c =
+    λ bytes asked answer. exactly_read _ _ _ _ _ _ bytes asked.told
+    (reading_done _ _ _ _ _ _ _ asked.asks c.in-Ok.ensures.answered)
 
 pub returns-in-Ok-clause-attests : goal.returns-in-Ok-clause-attests
-returns-in-Ok-clause-attests g c = λ asks zero. audited_claimed _ _ _ _ _ zero (reading_done _ _ _ _ _ _ _ asks c.in-Ok.ensures.answered)
+returns-in-Ok-clause-attests g c =
+    λ asks zero. audited_claimed _ _ _ _ _ zero (reading_done _ _ _ _ _ _ _ asks c.in-Ok.ensures.answered)
 
 pub returns-in-Ok-clause-sizes : goal.returns-in-Ok-clause-sizes
-returns-in-Ok-clause-sizes g c = λ settings instance asked answer. told_decided _ _ _ _ _ _ settings instance asked (fronted_done _ _ _ _ _ _ settings asked.asks c.in-Ok.ensures.answered)
+returns-in-Ok-clause-sizes g c =
+    λ settings instance asked answer. told_decided _ _ _ _ _ _ settings instance asked
+    (fronted_done _ _ _ _ _ _ settings asked.asks c.in-Ok.ensures.answered)
 
 pub returns-in-Ok-clause-fronts : goal.returns-in-Ok-clause-fronts
-returns-in-Ok-clause-fronts g c = λ settings instance asked answer. told_front _ _ _ _ _ _ settings instance asked (fronted_done _ _ _ _ _ _ settings asked.asks c.in-Ok.ensures.answered)
+returns-in-Ok-clause-fronts g c =
+    λ settings instance asked answer. told_front _ _ _ _ _ _ settings instance asked
+    (fronted_done _ _ _ _ _ _ settings asked.asks c.in-Ok.ensures.answered)
 
 pub returns-in-Ok-clause-whole : goal.returns-in-Ok-clause-whole
-returns-in-Ok-clause-whole g c = λ settings instance asked bound. told_whole _ _ _ _ _ _ settings instance asked (fronted_done _ _ _ _ _ _ settings asked.asks c.in-Ok.ensures.answered) bound
+returns-in-Ok-clause-whole g c =
+    λ settings instance asked bound. told_whole _ _ _ _ _ _ settings instance asked
+    (fronted_done _ _ _ _ _ _ settings asked.asks c.in-Ok.ensures.answered) bound
 
 pub returns-in-Ok-clause-confirmed : goal.returns-in-Ok-clause-confirmed
-returns-in-Ok-clause-confirmed g c = λ settings instance asked answer. told_own _ _ _ _ _ _ settings instance asked (fronted_done _ _ _ _ _ _ settings asked.asks c.in-Ok.ensures.answered)
+returns-in-Ok-clause-confirmed g c =
+    λ settings instance asked answer. told_own _ _ _ _ _ _ settings instance asked
+    (fronted_done _ _ _ _ _ _ settings asked.asks c.in-Ok.ensures.answered)
 
 pub returns-in-Ok-clause-proposes : goal.returns-in-Ok-clause-proposes
 returns-in-Ok-clause-proposes g c = λ job settings instance asked answer.
-    proposed_decided _ _ _ _ _ _ job settings instance asked (proposed_done _ _ _ _ _ _ job settings asked.asks c.in-Ok.ensures.answered)
+    proposed_decided _ _ _ _ _ _ job settings instance asked
+    (proposed_done _ _ _ _ _ _ job settings asked.asks c.in-Ok.ensures.answered)
 
 pub returns-in-Ok-clause-settles : goal.returns-in-Ok-clause-settles
 returns-in-Ok-clause-settles g c = λ job settings instance asked few.
-    proposed_within _ _ _ _ _ _ job settings instance asked (proposed_done _ _ _ _ _ _ job settings asked.asks c.in-Ok.ensures.answered) few
+    proposed_within _ _ _ _ _ _ job settings instance asked
+    (proposed_done _ _ _ _ _ _ job settings asked.asks c.in-Ok.ensures.answered) few
 
 pub returns-in-Ok-clause-settled : goal.returns-in-Ok-clause-settled
 returns-in-Ok-clause-settled g c = λ settings instance asked answer enough.
-    proposed_exactly _ _ _ _ _ _ settings instance asked (proposed_done _ _ _ _ _ _ _ settings asked.asks c.in-Ok.ensures.answered) enough
+    proposed_exactly _ _ _ _ _ _ settings instance asked
+    (proposed_done _ _ _ _ _ _ _ settings asked.asks c.in-Ok.ensures.answered) enough
 
 pub returns-in-Ok-clause-vouched : goal.returns-in-Ok-clause-vouched
 returns-in-Ok-clause-vouched g c = λ job settings instance asked answer.
-    proposed_own _ _ _ _ _ _ job settings instance asked (proposed_done _ _ _ _ _ _ job settings asked.asks c.in-Ok.ensures.answered)
+    proposed_own _ _ _ _ _ _ job settings instance asked
+    (proposed_done _ _ _ _ _ _ job settings asked.asks c.in-Ok.ensures.answered)
 
 pub returns-in-Ok-clause-makes : goal.returns-in-Ok-clause-makes
-returns-in-Ok-clause-makes g c = λ number settings asks answer. made_exactly _ _ _ _ _ number settings asks _ c.in-Ok.ensures.answered
+returns-in-Ok-clause-makes g c =
+    λ number settings asks answer. made_exactly _ _ _ _ _ number settings asks _ c.in-Ok.ensures.answered
 
 pub returns-in-Ok-clause-completes : goal.returns-in-Ok-clause-completes
 returns-in-Ok-clause-completes g c = λ asked. inl c.in-Ok.ensures.status
@@ -98,61 +127,78 @@ pub returns-in-Ok-clause-writes : goal.returns-in-Ok-clause-writes
 returns-in-Ok-clause-writes g c = answer_counts 5 _ _ _ (omega arith) c.in-Ok.ensures.status c.in-Ok.ensures.writes
 
 pub returns-in-Err-clause-decides : goal.returns-in-Err-clause-decides
-returns-in-Err-clause-decides g c = λ job settings instance asked answer. absurd (stop_unanswered c.in-Err.stop _ c.status.ensures answer)
+returns-in-Err-clause-decides g c =
+    λ job settings instance asked answer. absurd (stop_unanswered c.in-Err.stop _ c.status.ensures answer)
 
 pub returns-in-Err-clause-answers : goal.returns-in-Err-clause-answers
-returns-in-Err-clause-answers g c = λ job settings instance asked answer. absurd (stop_unanswered c.in-Err.stop _ c.status.ensures answer)
+returns-in-Err-clause-answers g c =
+    λ job settings instance asked answer. absurd (stop_unanswered c.in-Err.stop _ c.status.ensures answer)
 
 pub returns-in-Err-clause-fits : goal.returns-in-Err-clause-fits
-returns-in-Err-clause-fits g c = λ job settings instance asked fits answer enough. absurd (stop_unanswered c.in-Err.stop _ c.status.ensures answer)
+returns-in-Err-clause-fits g c =
+    λ job settings instance asked fits answer enough. absurd (stop_unanswered c.in-Err.stop _ c.status.ensures answer)
 
 pub returns-in-Err-clause-verified : goal.returns-in-Err-clause-verified
-returns-in-Err-clause-verified g c = λ job settings instance asked answer. absurd (stop_unanswered c.in-Err.stop _ c.status.ensures answer)
+returns-in-Err-clause-verified g c =
+    λ job settings instance asked answer. absurd (stop_unanswered c.in-Err.stop _ c.status.ensures answer)
 
 pub returns-in-Err-clause-checks : goal.returns-in-Err-clause-checks
-returns-in-Err-clause-checks g c = λ bytes asked answer. absurd (stop_unanswered c.in-Err.stop _ c.status.ensures answer)
+returns-in-Err-clause-checks g c =
+    λ bytes asked answer. absurd (stop_unanswered c.in-Err.stop _ c.status.ensures answer)
 
 pub returns-in-Err-clause-audits : goal.returns-in-Err-clause-audits
-returns-in-Err-clause-audits g c = λ bytes asked answer. absurd (stop_unanswered c.in-Err.stop _ c.status.ensures answer)
+returns-in-Err-clause-audits g c =
+    λ bytes asked answer. absurd (stop_unanswered c.in-Err.stop _ c.status.ensures answer)
 
 pub returns-in-Err-clause-explains : goal.returns-in-Err-clause-explains
-returns-in-Err-clause-explains g c = λ bytes asked answer. absurd (stop_unanswered c.in-Err.stop _ c.status.ensures answer)
+returns-in-Err-clause-explains g c =
+    λ bytes asked answer. absurd (stop_unanswered c.in-Err.stop _ c.status.ensures answer)
 
 pub returns-in-Err-clause-sizes : goal.returns-in-Err-clause-sizes
-returns-in-Err-clause-sizes g c = λ settings instance asked answer. absurd (stop_unanswered c.in-Err.stop _ c.status.ensures answer)
+returns-in-Err-clause-sizes g c =
+    λ settings instance asked answer. absurd (stop_unanswered c.in-Err.stop _ c.status.ensures answer)
 
 pub returns-in-Err-clause-fronts : goal.returns-in-Err-clause-fronts
-returns-in-Err-clause-fronts g c = λ settings instance asked answer. absurd (stop_unanswered c.in-Err.stop _ c.status.ensures answer)
+returns-in-Err-clause-fronts g c =
+    λ settings instance asked answer. absurd (stop_unanswered c.in-Err.stop _ c.status.ensures answer)
 
 pub returns-in-Err-clause-confirmed : goal.returns-in-Err-clause-confirmed
-returns-in-Err-clause-confirmed g c = λ settings instance asked answer. absurd (stop_unanswered c.in-Err.stop _ c.status.ensures answer)
+returns-in-Err-clause-confirmed g c =
+    λ settings instance asked answer. absurd (stop_unanswered c.in-Err.stop _ c.status.ensures answer)
 
 pub returns-in-Err-clause-proposes : goal.returns-in-Err-clause-proposes
-returns-in-Err-clause-proposes g c = λ job settings instance asked answer. absurd (stop_unanswered c.in-Err.stop _ c.status.ensures answer)
+returns-in-Err-clause-proposes g c =
+    λ job settings instance asked answer. absurd (stop_unanswered c.in-Err.stop _ c.status.ensures answer)
 
 pub returns-in-Err-clause-settled : goal.returns-in-Err-clause-settled
-returns-in-Err-clause-settled g c = λ settings instance asked answer enough. absurd (stop_unanswered c.in-Err.stop _ c.status.ensures answer)
+returns-in-Err-clause-settled g c =
+    λ settings instance asked answer enough. absurd (stop_unanswered c.in-Err.stop _ c.status.ensures answer)
 
 pub returns-in-Err-clause-vouched : goal.returns-in-Err-clause-vouched
-returns-in-Err-clause-vouched g c = λ job settings instance asked answer. absurd (stop_unanswered c.in-Err.stop _ c.status.ensures answer)
+returns-in-Err-clause-vouched g c =
+    λ job settings instance asked answer. absurd (stop_unanswered c.in-Err.stop _ c.status.ensures answer)
 
 pub returns-in-Err-clause-makes : goal.returns-in-Err-clause-makes
-returns-in-Err-clause-makes g c = λ number settings asks answer. absurd (stop_unanswered c.in-Err.stop _ c.status.ensures answer)
+returns-in-Err-clause-makes g c =
+    λ number settings asks answer. absurd (stop_unanswered c.in-Err.stop _ c.status.ensures answer)
 
 pub returns-in-Err-clause-answered : goal.returns-in-Err-clause-answered
 returns-in-Err-clause-answered g c = λ answer. absurd (stop_unanswered c.in-Err.stop _ c.status.ensures answer)
 
 pub returns-in-Err-clause-completes : goal.returns-in-Err-clause-completes
-returns-in-Err-clause-completes g c = λ asked. inr (completes _ _ _ _ _ asked c.in-Err.stop _ c.status.ensures c.in-Err.ensures.stopped)
+returns-in-Err-clause-completes g c =
+    λ asked. inr (completes _ _ _ _ _ asked c.in-Err.stop _ c.status.ensures c.in-Err.ensures.stopped)
 
 pub returns-in-Err-clause-refuses : goal.returns-in-Err-clause-refuses
 returns-in-Err-clause-refuses g c = λ stop asked.
     refuses _ _ _ _ _ stop asked c.in-Err.stop _ c.status.ensures c.in-Err.ensures.stopped
-    (λ (message : List ℕ). IsTold (g.E.Sink.written c.args.err.now) (g.E.Sink.written c.tell-told.new.err) (g.E.Sink.faults c.args.err.now) (g.E.Sink.faults c.tell-told.new.err) message)
+    (λ (message : List ℕ). IsTold (g.E.Sink.written c.args.err.now) (g.E.Sink.written c.tell-told.new.err)
+    (g.E.Sink.faults c.args.err.now) (g.E.Sink.faults c.tell-told.new.err) message)
     (c.tell-told.result, c.tell-told.ensures)
 
 pub returns-in-Err-clause-unwritten : goal.returns-in-Err-clause-unwritten
-returns-in-Err-clause-unwritten g c = λ none five. c.in-Err.ensures.unwritten (λ e. five (c.status.ensures ∙ ap stop_status e))
+returns-in-Err-clause-unwritten g c =
+    λ none five. c.in-Err.ensures.unwritten (λ e. five (c.status.ensures ∙ ap stop_status e))
 
 pub returns-in-Err-clause-unread : goal.returns-in-Err-clause-unread
 returns-in-Err-clause-unread g c = λ nothing. (

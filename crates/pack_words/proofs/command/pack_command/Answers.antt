@@ -5,10 +5,17 @@ use Rattle.pack_words.proofs.command.pack_command.Goals as goal
 
 pub returns : goal.returns
 returns c =
-    let one = c.in_ok-arg.ensures.shape c.option_arg.ensures.local ∙ ap₂ with_rule c.bare_command.ensures c.option_arg.ensures.rule in
-    let two = c.in_ok-arg-2.ensures.shape c.option_arg-2.ensures.local ∙ ap₂ with_rule one c.option_arg-2.ensures.rule in
-    let three = c.in_ok-arg-3.ensures.shape c.option_arg-3.ensures.local ∙ ap₂ with_rule two c.option_arg-3.ensures.rule in
-    let four = c.in_ok-arg-4.ensures.shape c.option_arg-4.ensures.local ∙ ap₂ with_rule three c.option_arg-4.ensures.rule in
-    let five = c.in_ok-arg-5.ensures.shape c.option_arg-5.ensures.local ∙ ap₂ with_rule four c.option_arg-5.ensures.rule in
-    let six = c.in_ok-arg-6.ensures.shape c.option_arg-6.ensures.local ∙ ap₂ with_rule five c.option_arg-6.ensures.rule in
-    IfOk-weaker c.arg-7.result _ _ (λ r h. h.shape c.job_arg.ensures.local ∙ ap₂ with_rule six c.job_arg.ensures.rule) c.arg-7.ensures
+    let one = c.in_ok-arg.ensures.shape c.option_arg.ensures.local
+    ∙ ap₂ with_rule c.bare_command.ensures c.option_arg.ensures.rule in
+    let two = c.in_ok-arg-2.ensures.shape c.option_arg-2.ensures.local
+    ∙ ap₂ with_rule one c.option_arg-2.ensures.rule in
+    let three = c.in_ok-arg-3.ensures.shape c.option_arg-3.ensures.local
+    ∙ ap₂ with_rule two c.option_arg-3.ensures.rule in
+    let four = c.in_ok-arg-4.ensures.shape c.option_arg-4.ensures.local
+    ∙ ap₂ with_rule three c.option_arg-4.ensures.rule in
+    let five = c.in_ok-arg-5.ensures.shape c.option_arg-5.ensures.local
+    ∙ ap₂ with_rule four c.option_arg-5.ensures.rule in
+    let six = c.in_ok-arg-6.ensures.shape c.option_arg-6.ensures.local
+    ∙ ap₂ with_rule five c.option_arg-6.ensures.rule in
+    IfOk-weaker c.arg-7.result _ _ (λ r h. h.shape c.job_arg.ensures.local ∙ ap₂ with_rule six c.job_arg.ensures.rule)
+    c.arg-7.ensures

@@ -32,4 +32,5 @@ pub returns-else-eq-clause-refused : goal.returns-else-eq-clause-refused
 returns-else-eq-clause-refused c = λ _.
     let words = map string_bytes c.args.words.now in
     no_job_of_rows words (none_said words (fault_of pack_app words) c.in-Err.error refl c.in-Err.ensures.fails
-    (λ memory. let h : false ≡ true = subst (λ k. false ≡ sameb the_type k OutOfMemory) (c.kind.ensures ∙ memory) c.if-eq.ensures in cc))
+    (λ memory. let h : false ≡ true = subst (λ k. false ≡ sameb the_type k OutOfMemory) (c.kind.ensures ∙ memory)
+    c.if-eq.ensures in cc))

@@ -9,7 +9,8 @@ loop-preserved c =
     let more = length-append before (c.in_ok-named.named.function ∷ []) in
     let count = c.loop.invariant.1 in
     rw c.push_reserved.ensures.items (
-      read_more c.args.line.now.held.words c.loop.k c.in_ok-named.named.next before c.in_ok-named.named.function n.front n.within n.few c.loop.invariant.0,
+      read_more c.args.line.now.held.words c.loop.k c.in_ok-named.named.next before c.in_ok-named.named.function n.front
+          n.within n.few c.loop.invariant.0,
       omega (arith, more, count),
       c.push_reserved.ensures.capacity ∙ c.loop.invariant.2,
     )
@@ -25,4 +26,5 @@ returns-else-k-count-2 c =
     let end = c.loop.auto.counter-end in
     let most = c.requires.dims in
     read_long c.args.dims c.loop.k c.args.line.now.held.words c.loop.tuple.items read
-    (omega (arith, within, few, read_all, held, same, end, most, c.if-k-count-2.false, c.loop-test.false)) (omega (arith, read_all, end, c.loop-test.false))
+    (omega (arith, within, few, read_all, held, same, end, most, c.if-k-count-2.false, c.loop-test.false))
+    (omega (arith, read_all, end, c.loop-test.false))

@@ -12,35 +12,46 @@ returns-clause-right g c =
     let instance = c.args.instance.now in
     let p = c.in_ok-proposal.proposal in
     IfOk-weaker c.decide_behind.result _ _
-    (λ r h. outcome_right instance c.len-limits.ensures.limits c.args.settings.now.budget c.args.settings.now.scales (plain_proposal p) (plain_outcome r) h
+    (λ r h. outcome_right instance c.len-limits.ensures.limits c.args.settings.now.budget c.args.settings.now.scales
+    (plain_proposal p) (plain_outcome r) h
     (proposal_counted instance p c.in_ok-proposal.ensures))
     c.decide_behind.ensures.outcome
 
 pub returns-clause-decides : goal.returns-clause-decides
 returns-clause-decides g c =
-    IfOk-weaker c.decide_behind.result _ _ (λ r h. right_decides c.args.instance.now c.len-limits.ensures.limits (plain_outcome r) h) (returns-clause-right g c)
+    IfOk-weaker c.decide_behind.result _ _
+    (λ r h. right_decides c.args.instance.now c.len-limits.ensures.limits (plain_outcome r) h)
+    (returns-clause-right g c)
 
 pub returns-clause-past : goal.returns-clause-past
 returns-clause-past g c =
     IfOk-weaker c.decide_behind.result _ _
-    (λ r h. outcome_past c.args.instance.now c.len-limits.ensures.limits c.args.settings.now.budget c.args.settings.now.scales (plain_proposal c.in_ok-proposal.proposal)
+    (λ r h. outcome_past c.args.instance.now c.len-limits.ensures.limits c.args.settings.now.budget
+    c.args.settings.now.scales (plain_proposal c.in_ok-proposal.proposal)
     (plain_outcome r) h)
     c.decide_behind.ensures.outcome
 
 pub returns-clause-within : goal.returns-clause-within
 returns-clause-within g c l =
     IfOk-weaker c.decide_behind.result _ _
-    (λ r h. outcome_within c.args.instance.now c.len-limits.ensures.limits c.args.settings.now.budget c.args.settings.now.scales
+    (λ r h. outcome_within c.args.instance.now c.len-limits.ensures.limits c.args.settings.now.budget
+    c.args.settings.now.scales
     (plain_proposal c.in_ok-proposal.proposal) (plain_outcome r) h l)
     c.decide_behind.ensures.outcome
 
 pub returns-clause-enough : goal.returns-clause-enough
 returns-clause-enough g c l =
-    let b = class_count c.args.instance.now (some_dimension c.args.instance.now c.len-limits.ensures.limits) [] c.args.settings.now.scales in
+    let b = class_count c.args.instance.now (some_dimension c.args.instance.now c.len-limits.ensures.limits) []
+    c.args.settings.now.scales in
     returns-clause-within g c (omega (arith, b, l))
 
 pub returns-clause-behind : goal.returns-clause-behind
 returns-clause-behind g c =
     let p = c.in_ok-proposal.proposal in
     IfOk-weaker c.decide_behind.result _ _
-    (λ r h. record { proposal = plain_proposal p; counted = proposal_counted c.args.instance.now p c.in_ok-proposal.ensures; is = h }) c.decide_behind.ensures.outcome
+    (λ r h. record {
+      proposal = plain_proposal p;
+      counted = proposal_counted c.args.instance.now p c.in_ok-proposal.ensures;
+      is = h;
+    })
+    c.decide_behind.ensures.outcome

@@ -13,11 +13,16 @@ use Rattle.proposed_bins.proofs.counts.narrow_bins.Goals as goal
 
 pub loop-level-preserved : goal.loop-level-preserved
 loop-level-preserved g c = record {
-  bounds = subst (λ (b : PlainBounds). AreBinBounds c.args.instance.now c.args.settings.now b) (sym c.after-bounds.ensures)
-      (step (AreBinNumbers c.args.instance.now) (IsBinRefutation c.args.instance.now) (IsPastCount c.args.instance.now c.args.settings.now) (box_count c.args.instance.now)
-      (plain_bounds c.loop-level.bounds) c.loop-level.invariant.bounds c.in-Some.level (plain_level c.in_ok-answer.answer) c.in-Some.ensures.asked
-      (subst (λ (a : PlainLevel). IsBinsAnswer c.args.instance.now c.args.settings.now c.in-Some.level a) (sym c.in_ok-answer.ensures.level)
+  bounds = subst (λ (b : PlainBounds). AreBinBounds c.args.instance.now c.args.settings.now b)
+      (sym c.after-bounds.ensures)
+      (step (AreBinNumbers c.args.instance.now) (IsBinRefutation c.args.instance.now)
+      (IsPastCount c.args.instance.now c.args.settings.now) (box_count c.args.instance.now)
+      (plain_bounds c.loop-level.bounds) c.loop-level.invariant.bounds c.in-Some.level
+      (plain_level c.in_ok-answer.answer) c.in-Some.ensures.asked
+      (subst (λ (a : PlainLevel). IsBinsAnswer c.args.instance.now c.args.settings.now c.in-Some.level a)
+      (sym c.in_ok-answer.ensures.level)
       (bins_answered c.args.instance.now c.args.settings.now c.in-Some.level
-      (bin_tree_right c.args.instance.now c.len-limits.ensures.limits c.in-Some.level c.args.settings.now.scales)))).are;
+      (bin_tree_right c.args.instance.now c.len-limits.ensures.limits c.in-Some.level
+      c.args.settings.now.scales)))).are;
   search = c.in_ok-answer.ensures.same ∙ c.loop-level.invariant.search;
 }

@@ -6,16 +6,20 @@ use Rattle.proposed_bins.proofs.Numbers.{bins_length, met, told_by}
 use Rattle.proposed_bins.proofs.testing.are_bin_numbers.Goals as goal
 
 pub bins_reason-requires-clause-count : goal.bins_reason-requires-clause-count
-bins_reason-requires-clause-count c = ap length (c.deref-2.ensures.value ∙ c.in_ok-bins.ensures) ∙ bins_length c.args.instance.now c.args.numbers.now
+bins_reason-requires-clause-count c =
+    ap length (c.deref-2.ensures.value ∙ c.in_ok-bins.ensures) ∙ bins_length c.args.instance.now c.args.numbers.now
 
 pub bins_reason-requires-clause-placed : goal.bins_reason-requires-clause-placed
-bins_reason-requires-clause-placed c = ap length (c.deref-3.ensures.value ∙ c.in_ok-places.ensures) ∙ places_count c.args.instance.now c.args.numbers.now
+bins_reason-requires-clause-placed c =
+    ap length (c.deref-3.ensures.value ∙ c.in_ok-places.ensures) ∙ places_count c.args.instance.now c.args.numbers.now
 
 pub returns : goal.returns
 returns c =
     told_by c.args.instance.now c.args.numbers.now c.requires c.args.count
-    (subst (All (λ b. b < c.args.count)) (c.deref.ensures.value ∙ c.in_ok-bins.ensures) (met _ _ c.are_below.result c.if-not-are_below.false c.are_below.ensures))
+    (subst (All (λ b. b < c.args.count)) (c.deref.ensures.value ∙ c.in_ok-bins.ensures)
+    (met _ _ c.are_below.result c.if-not-are_below.false c.are_below.ensures))
     c.in_ok-reason.reason
     (sym (c.in_ok-reason.ensures
-    ∙ ap₂ (λ b p. bins_reason c.args.instance.now c.args.count b p) (c.deref-2.ensures.value ∙ c.in_ok-bins.ensures) (c.deref-3.ensures.value ∙ c.in_ok-places.ensures)))
+    ∙ ap₂ (λ b p. bins_reason c.args.instance.now c.args.count b p) (c.deref-2.ensures.value ∙ c.in_ok-bins.ensures)
+    (c.deref-3.ensures.value ∙ c.in_ok-places.ensures)))
     c.is_none.result c.is_none.ensures

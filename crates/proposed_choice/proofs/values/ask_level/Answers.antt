@@ -11,7 +11,9 @@ returns-clause-kept g c =
     let t = c.requires.top in
     let e = c.saturating_sub-value.ensures in
     let value : c.saturating_sub-value.result ≡ value_at c.args.instance.now c.args.level = omega (arith, t, e) in
-    (asked_step c.args.instance.now c.len-limits.ensures.limits c.args.settings.now (plain_bounds c.args.bounds) c.requires.bounds c.args.level c.requires.asked
+    (asked_step c.args.instance.now c.len-limits.ensures.limits c.args.settings.now (plain_bounds c.args.bounds)
+    c.requires.bounds c.args.level c.requires.asked
     (plain_level c.in_ok-answer.answer)
-    (c.in_ok-answer.ensures.level ∙ ap (λ (n : ℕ). value_answer c.args.instance.now c.args.settings.now.budget c.args.settings.now.scales n) value)
+    (c.in_ok-answer.ensures.level ∙ ap
+    (λ (n : ℕ). value_answer c.args.instance.now c.args.settings.now.budget c.args.settings.now.scales n) value)
     (plain_bounds c.after.result) c.after.ensures).0

@@ -10,7 +10,9 @@ use Rattle.proposed_levels.proofs.heights.decide_height.Goals as goal
 pub returns : goal.returns
 returns g c =
     let o = plain_outcome c.in_ok-outcome.outcome in
-    subst (λ (l : PlainLevel). IsHeightAnswer c.args.instance.now c.args.settings.now c.args.effort c.args.height l) (sym c.level_of.ensures)
+    subst (λ (l : PlainLevel). IsHeightAnswer c.args.instance.now c.args.settings.now c.args.effort c.args.height l)
+    (sym c.level_of.ensures)
     (height_answered c.args.instance.now c.args.settings.now c.args.effort c.args.height o
     (subst (λ (i : PlainInstance). IsRight i [] o) c.in_ok-tall.ensures c.in_ok-outcome.ensures.right)
-    (λ e. subst (λ (i : PlainInstance). IsPastTree i c.args.settings.now c.args.effort) c.in_ok-tall.ensures (c.in_ok-outcome.ensures.past e)))
+    (λ e. subst (λ (i : PlainInstance). IsPastTree i c.args.settings.now c.args.effort) c.in_ok-tall.ensures
+    (c.in_ok-outcome.ensures.past e)))

@@ -8,12 +8,18 @@ use Rattle.proposed_levels.proofs.heights.narrow_heights.Goals as goal
 
 pub loop-level-preserved : goal.loop-level-preserved
 loop-level-preserved g c =
-    subst (λ (b : PlainBounds). AreHeightBounds c.args.instance.now c.args.settings.now c.args.effort b) (sym c.after-bounds.ensures)
-    (step (IsPackedAt c.args.instance.now) (IsRefutedAt c.args.instance.now) (IsPastHeight c.args.instance.now c.args.settings.now c.args.effort) most_height
-    (plain_bounds c.loop-level.bounds) c.loop-level.invariant c.in-Some.level (plain_level c.in_ok-answer.answer) c.in-Some.ensures.asked c.in_ok-answer.ensures).are
+    subst (λ (b : PlainBounds). AreHeightBounds c.args.instance.now c.args.settings.now c.args.effort b)
+    (sym c.after-bounds.ensures)
+    (step (IsPackedAt c.args.instance.now) (IsRefutedAt c.args.instance.now)
+    (IsPastHeight c.args.instance.now c.args.settings.now c.args.effort) most_height
+    (plain_bounds c.loop-level.bounds) c.loop-level.invariant c.in-Some.level (plain_level c.in_ok-answer.answer)
+    c.in-Some.ensures.asked c.in_ok-answer.ensures).are
 
 pub loop-level-smaller : goal.loop-level-smaller
 loop-level-smaller g c =
-    subst (λ (b : PlainBounds). asked_left b < asked_left (plain_bounds c.loop-level.bounds)) (sym c.after-bounds.ensures)
-    (step (IsPackedAt c.args.instance.now) (IsRefutedAt c.args.instance.now) (IsPastHeight c.args.instance.now c.args.settings.now c.args.effort) most_height
-    (plain_bounds c.loop-level.bounds) c.loop-level.invariant c.in-Some.level (plain_level c.in_ok-answer.answer) c.in-Some.ensures.asked c.in_ok-answer.ensures).less
+    subst (λ (b : PlainBounds). asked_left b < asked_left (plain_bounds c.loop-level.bounds))
+    (sym c.after-bounds.ensures)
+    (step (IsPackedAt c.args.instance.now) (IsRefutedAt c.args.instance.now)
+    (IsPastHeight c.args.instance.now c.args.settings.now c.args.effort) most_height
+    (plain_bounds c.loop-level.bounds) c.loop-level.invariant c.in-Some.level (plain_level c.in_ok-answer.answer)
+    c.in-Some.ensures.asked c.in_ok-answer.ensures).less

@@ -11,12 +11,17 @@ use Rattle.proposed_levels.proofs.strip.least_height_proposed.Goals as goal
 pub narrowed-requires-clause-bounds : goal.narrowed-requires-clause-bounds
 narrowed-requires-clause-bounds g c κs within =
     subst (λ (b : PlainBounds). AreHeightBounds c.args.instance.now c.args.settings.now Rough b)
-    (ap₂ (λ (m : ℕ) (n : ℕ). first_bounds m (plain_tokens c.in-Between.tokens.items) n c.in-Between.places.items) (sym c.from.ensures) (sym c.from-in-Between.ensures)
+    (ap₂ (λ (m : ℕ) (n : ℕ). first_bounds m (plain_tokens c.in-Between.tokens.items) n c.in-Between.places.items)
+    (sym c.from.ensures) (sym c.from-in-Between.ensures)
     ∙ sym c.new-first.ensures)
-    (between_bounds c.args.instance.now c.args.settings.now c.in-Between.refuted c.in-Between.height (plain_tokens c.in-Between.tokens.items) c.in-Between.places.items
+    (between_bounds c.args.instance.now c.args.settings.now c.in-Between.refuted c.in-Between.height
+    (plain_tokens c.in-Between.tokens.items) c.in-Between.places.items
     (subst (λ (s : Strip). IsTrueStrip c.args.instance.now s) c.in-Between.is c.in_ok-found.ensures.right)
-    (subst IsLimitedStrip c.in-Between.is (run_limited c.args.instance.now c.len-limits.ensures.limits _ _ c.in_ok-found.found c.in_ok-found.ensures.answer)))
+    (subst IsLimitedStrip c.in-Between.is
+    (run_limited c.args.instance.now c.len-limits.ensures.limits _ _ c.in_ok-found.found
+    c.in_ok-found.ensures.answer)))
 
 pub returns-in-Least-clause-limited : goal.returns-in-Least-clause-limited
 returns-in-Least-clause-limited g c =
-    subst IsLimitedStrip c.in-Least.is (run_limited c.args.instance.now c.len-limits.ensures.limits _ _ c.in_ok-found.found c.in_ok-found.ensures.answer)
+    subst IsLimitedStrip c.in-Least.is
+    (run_limited c.args.instance.now c.len-limits.ensures.limits _ _ c.in_ok-found.found c.in_ok-found.ensures.answer)

@@ -7,15 +7,23 @@ use Rattle.refutation_check.proofs.judging.are_legal.Goals as goal
 
 pub returns-then-not-legal : goal.returns-then-not-legal
 returns-then-not-legal c =
-    not_all_below (λ i. is_legal (container_side c.args.instance.now i) (function_at c.args.tuple.now i)) (dims c.args.instance.now) c.loop-dim.dim
+    not_all_below (λ i. is_legal (container_side c.args.instance.now i) (function_at c.args.tuple.now i))
+    (dims c.args.instance.now) c.loop-dim.dim
     (omega (arith, c.loop-dim-test.true, c.dims-dim-end.ensures.value))
-    (rw (← c.container_side.ensures) (legal_told c.args.instance.now c.container_side.result (function_at c.args.tuple.now c.loop-dim.dim) c.legal.result c.legal.ensures) ∙ c.if-not-legal.true)
+    (rw (← c.container_side.ensures)
+    (legal_told c.args.instance.now c.container_side.result (function_at c.args.tuple.now c.loop-dim.dim)
+    c.legal.result c.legal.ensures) ∙ c.if-not-legal.true)
 
 pub returns : goal.returns
 returns c =
-    all_below (λ i. is_legal (container_side c.args.instance.now i) (function_at c.args.tuple.now i)) (dims c.args.instance.now)
+    all_below (λ i. is_legal (container_side c.args.instance.now i) (function_at c.args.tuple.now i))
+    (dims c.args.instance.now)
     (λ i h. c.loop-dim.invariant i (omega (arith, h, c.loop-dim-test.false, c.dims-dim-end.ensures.value)))
 
 pub loop-dim-preserved : goal.loop-dim-preserved
-loop-dim-preserved c = next_below (λ i. is_legal (container_side c.args.instance.now i) (function_at c.args.tuple.now i)) c.loop-dim.dim c.loop-dim.invariant
-    (rw (← c.container_side.ensures) (legal_told c.args.instance.now c.container_side.result (function_at c.args.tuple.now c.loop-dim.dim) c.legal.result c.legal.ensures) ∙ c.if-not-legal.false)
+loop-dim-preserved c = next_below
+    (λ i. is_legal (container_side c.args.instance.now i) (function_at c.args.tuple.now i)) c.loop-dim.dim
+    c.loop-dim.invariant
+    (rw (← c.container_side.ensures)
+    (legal_told c.args.instance.now c.container_side.result (function_at c.args.tuple.now c.loop-dim.dim)
+    c.legal.result c.legal.ensures) ∙ c.if-not-legal.false)

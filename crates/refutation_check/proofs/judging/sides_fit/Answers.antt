@@ -7,7 +7,8 @@ use Rattle.refutation_check.proofs.judging.sides_fit.Goals as goal
 pub returns-then-not-box_fits : goal.returns-then-not-box_fits
 returns-then-not-box_fits c =
     not_all_below (box_fits c.args.instance.now) (box_count c.args.instance.now) c.loop-box_no.box_no
-    (omega (arith, c.loop-box_no-test.true, c.len-box_no-end.ensures.value)) (sym c.box_fits.ensures ∙ c.if-not-box_fits.true)
+    (omega (arith, c.loop-box_no-test.true, c.len-box_no-end.ensures.value))
+    (sym c.box_fits.ensures ∙ c.if-not-box_fits.true)
 
 pub returns : goal.returns
 returns c =

@@ -7,7 +7,8 @@ use Rattle.rule_passes.proofs.chains.cover_chains.Goals as goal
 
 pub keep-requires : goal.keep-requires
 keep-requires g c =
-    let same : c.shut_all.new.state.boxes ≡ box_count c.args.instance.now = c.shut_all.ensures.pass.same_boxes ∙ c.requires.sizes.same_boxes in (
+    let same : c.shut_all.new.state.boxes ≡ box_count c.args.instance.now =
+    c.shut_all.ensures.pass.same_boxes ∙ c.requires.sizes.same_boxes in (
       search rules,
       (
         rw same c.requires.words,
@@ -15,7 +16,8 @@ keep-requires g c =
           omega (arith, c.requires.sizes.there, c.requires.sizes.same_dims, c.shut_all.ensures.pass.same_dims),
           (
             c.renew.ensures.boxes ∙ (c.requires.room ∙ sym same),
-            λ u v hu hv ne off. fits_shut c.args.instance.now c.args.dim _ _ _ u v c.shut_all.new.state.trail c.renew.ensures.limit
+            λ u v hu hv ne off. fits_shut c.args.instance.now c.args.dim _ _ _ u v c.shut_all.new.state.trail
+                c.renew.ensures.limit
                 (c.shut_all.ensures.pass.done c.if-shut_all.false u (rw (← same) hu) v (rw (← same) hv)) ne off,
           ),
         ),
@@ -34,4 +36,5 @@ returns-then-shut_all-clause-worked g c = record {
 
 pub returns-clause-worked : goal.returns-clause-worked
 returns-clause-worked g c =
-    worked_heaviest _ _ _ _ _ _ c.renew.ensures.heads c.renew.ensures.tails (pass_as _ _ _ _ _ (λ es h. h c.if-shut_all.false) c.shut_all.ensures.pass)
+    worked_heaviest _ _ _ _ _ _ c.renew.ensures.heads c.renew.ensures.tails
+    (pass_as _ _ _ _ _ (λ es h. h c.if-shut_all.false) c.shut_all.ensures.pass)

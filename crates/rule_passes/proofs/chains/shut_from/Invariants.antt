@@ -6,7 +6,9 @@ use Rattle.rule_passes.proofs.chains.shut_from.Given as goal
 
 abbrev pub invariant-loop-v : goal.invariant-loop-v
 invariant-loop-v g l = record {
-  pass : IsPass l.instance l.fn.state l.state (λ es. (v : ℕ) → v < box_count l.instance → row_has l.rest v ≡ false → IsShut l.instance l.dim l.head l.tail l.u v es);
+  pass : IsPass l.instance l.fn.state l.state
+      (λ es. (v : ℕ) → v < box_count l.instance → row_has l.rest v ≡ false
+      → IsShut l.instance l.dim l.head l.tail l.u v es);
   within : (v : ℕ) → row_has l.rest v ≡ true → v < box_count l.instance;
 }
 

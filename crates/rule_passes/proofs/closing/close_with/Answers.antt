@@ -18,7 +18,11 @@ cover_chains-requires g c =
       (
         c.requires.words,
         (
-          record { same_dims = c.loop-dim.invariant.same_dims ∙ c.requires.dims; same_boxes = c.loop-dim.invariant.same_boxes ∙ c.requires.boxes; there = there },
+          record {
+            same_dims = c.loop-dim.invariant.same_dims ∙ c.requires.dims;
+            same_boxes = c.loop-dim.invariant.same_boxes ∙ c.requires.boxes;
+            there = there;
+          },
           (
             c.loop-dim.invariant.kept.each c.in-Some-first.dim _ there,
             (looked.settled.full, settled_transitive _ _ _ there looked.settled),
@@ -30,27 +34,32 @@ cover_chains-requires g c =
 pub returns-in_default-settle-clause-kept : goal.returns-in_default-settle-clause-kept
 returns-in_default-settle-clause-kept g c =
     let there = c.loop-dim.invariant.looked.within _ c.in-Some-first.ensures.least.there in
-    each_set _ _ (λ (z : PlainLevels). z.boxes) _ _ _ c.loop-dim.invariant.kept there (c.cover_chains.ensures.room ∙ c.loop-dim.invariant.kept.each c.in-Some-first.dim _ there)
+    each_set _ _ (λ (z : PlainLevels). z.boxes) _ _ _ c.loop-dim.invariant.kept there
+    (c.cover_chains.ensures.room ∙ c.loop-dim.invariant.kept.each c.in-Some-first.dim _ there)
 
 pub returns-in_default-settle-clause-made : goal.returns-in_default-settle-clause-made
 returns-in_default-settle-clause-made g c most made =
     let there = c.loop-dim.invariant.looked.within _ c.in-Some-first.ensures.least.there in
     let before = c.loop-dim.invariant.made most made in
-    each_set _ _ (λ (z : PlainLevels). z.most) _ _ _ before there (c.cover_chains.ensures.most ∙ before.each c.in-Some-first.dim _ there)
+    each_set _ _ (λ (z : PlainLevels). z.most) _ _ _ before there
+    (c.cover_chains.ensures.most ∙ before.each c.in-Some-first.dim _ there)
 
 pub returns-then-cover_chains-clause-kept : goal.returns-then-cover_chains-clause-kept
 returns-then-cover_chains-clause-kept g c =
     let there = c.loop-dim.invariant.looked.within _ c.in-Some-first.ensures.least.there in
-    each_set _ _ (λ (z : PlainLevels). z.boxes) _ _ _ c.loop-dim.invariant.kept there (c.cover_chains.ensures.room ∙ c.loop-dim.invariant.kept.each c.in-Some-first.dim _ there)
+    each_set _ _ (λ (z : PlainLevels). z.boxes) _ _ _ c.loop-dim.invariant.kept there
+    (c.cover_chains.ensures.room ∙ c.loop-dim.invariant.kept.each c.in-Some-first.dim _ there)
 
 pub returns-then-cover_chains-clause-made : goal.returns-then-cover_chains-clause-made
 returns-then-cover_chains-clause-made g c most made =
     let there = c.loop-dim.invariant.looked.within _ c.in-Some-first.ensures.least.there in
     let before = c.loop-dim.invariant.made most made in
-    each_set _ _ (λ (z : PlainLevels). z.most) _ _ _ before there (c.cover_chains.ensures.most ∙ before.each c.in-Some-first.dim _ there)
+    each_set _ _ (λ (z : PlainLevels). z.most) _ _ _ before there
+    (c.cover_chains.ensures.most ∙ before.each c.in-Some-first.dim _ there)
 
 pub returns-then-cover_chains-clause-extends : goal.returns-then-cover_chains-clause-extends
-returns-then-cover_chains-clause-extends g c = extends_trans _ _ _ _ c.loop-dim.invariant.extends c.cover_chains.ensures.worked.extends
+returns-then-cover_chains-clause-extends g c =
+    extends_trans _ _ _ _ c.loop-dim.invariant.extends c.cover_chains.ensures.worked.extends
 
 pub settle-requires-in-Some-first : goal.settle-requires-in-Some-first
 settle-requires-in-Some-first g c = (
@@ -65,7 +74,12 @@ settle-requires-in-Some-first g c = (
           c.requires.all,
           (
             marked _ _ _ _ c.mark-next.ensures c.cover_chains.ensures.worked.extends,
-            (looked_after _ _ _ _ _ _ _ c.loop-dim.invariant.looked (worked_kept _ _ _ _ _ c.if-cover_chains.false c.cover_chains.ensures.worked) c.mark-next.ensures c.without-rest.ensures, (c.longest_sides-longest.ensures.count, c.longest_sides-longest.ensures.each)),
+            (
+              looked_after _ _ _ _ _ _ _ c.loop-dim.invariant.looked
+                  (worked_kept _ _ _ _ _ c.if-cover_chains.false c.cover_chains.ensures.worked) c.mark-next.ensures
+                  c.without-rest.ensures,
+              (c.longest_sides-longest.ensures.count, c.longest_sides-longest.ensures.each),
+            ),
           ),
         ),
       ),
@@ -75,37 +89,52 @@ settle-requires-in-Some-first g c = (
 
 pub returns-in_default-settle-clause-extends : goal.returns-in_default-settle-clause-extends
 returns-in_default-settle-clause-extends g c =
-    extends_trans _ _ _ _ c.loop-dim.invariant.extends (extends_trans _ _ _ _ c.cover_chains.ensures.worked.extends c.settle-in-Some-first.ensures.extends)
+    extends_trans _ _ _ _ c.loop-dim.invariant.extends
+    (extends_trans _ _ _ _ c.cover_chains.ensures.worked.extends c.settle-in-Some-first.ensures.extends)
 
 pub loop-dim-smaller : goal.loop-dim-smaller
 loop-dim-smaller g c =
     let s = c.settle-in-Some-first.new.state in
     let room = 3 * c.args.state.now.dims * c.args.state.now.boxes * (c.args.state.now.boxes - 1) / 2 in
-    let same_dims = ap (λ (z : PlainEdges). z.dims) c.settle-in-Some-first.ensures.sizes ∙ (c.cover_chains.ensures.worked.same_dims ∙ c.loop-dim.invariant.same_dims) in
-    let same_boxes = ap (λ (z : PlainEdges). z.boxes) c.settle-in-Some-first.ensures.sizes ∙ (c.cover_chains.ensures.worked.same_boxes ∙ c.loop-dim.invariant.same_boxes) in
-    let short : length s.trail ≤ room = rw (← same_dims, ← same_boxes) (trail_short s.dims s.boxes s.trail c.dims-sizes.ensures.limits.trail) in
-    less_to_do c.args.instance.now _ _ _ room c.mark-next.result c.in-Some-first.dim c.loop-dim.dirty c.without-rest.result c.in-Some-settle.more
-    c.cover_chains.ensures.worked.extends c.settle-in-Some-first.ensures.extends c.mark-next.ensures short (members_few (row_has c.in-Some-settle.more) 64)
-    c.in-Some-settle.ensures.still c.without-rest.ensures c.in-Some-first.ensures.least.there c.in-Some-first.ensures.limit
+    let same_dims = ap (λ (z : PlainEdges). z.dims) c.settle-in-Some-first.ensures.sizes
+    ∙ (c.cover_chains.ensures.worked.same_dims ∙ c.loop-dim.invariant.same_dims) in
+    let same_boxes = ap (λ (z : PlainEdges). z.boxes) c.settle-in-Some-first.ensures.sizes
+    ∙ (c.cover_chains.ensures.worked.same_boxes ∙ c.loop-dim.invariant.same_boxes) in
+    let short : length s.trail ≤ room =
+    rw (← same_dims, ← same_boxes) (trail_short s.dims s.boxes s.trail c.dims-sizes.ensures.limits.trail) in
+    less_to_do c.args.instance.now _ _ _ room c.mark-next.result c.in-Some-first.dim c.loop-dim.dirty
+    c.without-rest.result c.in-Some-settle.more
+    c.cover_chains.ensures.worked.extends c.settle-in-Some-first.ensures.extends c.mark-next.ensures short
+    (members_few (row_has c.in-Some-settle.more) 64)
+    c.in-Some-settle.ensures.still c.without-rest.ensures c.in-Some-first.ensures.least.there
+    c.in-Some-first.ensures.limit
 
 pub loop-dim-preserved : goal.loop-dim-preserved
 loop-dim-preserved g c = record {
-  same_dims = ap (λ (z : PlainEdges). z.dims) c.settle-in-Some-first.ensures.sizes ∙ (c.cover_chains.ensures.worked.same_dims ∙ c.loop-dim.invariant.same_dims);
-  same_boxes = ap (λ (z : PlainEdges). z.boxes) c.settle-in-Some-first.ensures.sizes ∙ (c.cover_chains.ensures.worked.same_boxes ∙ c.loop-dim.invariant.same_boxes);
-  same_room = ap (λ (z : PlainEdges). z.room) c.settle-in-Some-first.ensures.sizes ∙ (c.cover_chains.ensures.worked.same_room ∙ c.loop-dim.invariant.same_room);
-  extends = extends_trans _ _ _ _ c.loop-dim.invariant.extends (extends_trans _ _ _ _ c.cover_chains.ensures.worked.extends c.settle-in-Some-first.ensures.extends);
+  same_dims = ap (λ (z : PlainEdges). z.dims) c.settle-in-Some-first.ensures.sizes
+      ∙ (c.cover_chains.ensures.worked.same_dims ∙ c.loop-dim.invariant.same_dims);
+  same_boxes = ap (λ (z : PlainEdges). z.boxes) c.settle-in-Some-first.ensures.sizes
+      ∙ (c.cover_chains.ensures.worked.same_boxes ∙ c.loop-dim.invariant.same_boxes);
+  same_room = ap (λ (z : PlainEdges). z.room) c.settle-in-Some-first.ensures.sizes
+      ∙ (c.cover_chains.ensures.worked.same_room ∙ c.loop-dim.invariant.same_room);
+  extends = extends_trans _ _ _ _ c.loop-dim.invariant.extends
+      (extends_trans _ _ _ _ c.cover_chains.ensures.worked.extends c.settle-in-Some-first.ensures.extends);
   kept = (let there = c.loop-dim.invariant.looked.within _ c.in-Some-first.ensures.least.there in
-      each_set _ _ (λ (z : PlainLevels). z.boxes) _ _ _ c.loop-dim.invariant.kept there (c.cover_chains.ensures.room ∙ c.loop-dim.invariant.kept.each c.in-Some-first.dim _ there));
+      each_set _ _ (λ (z : PlainLevels). z.boxes) _ _ _ c.loop-dim.invariant.kept there
+      (c.cover_chains.ensures.room ∙ c.loop-dim.invariant.kept.each c.in-Some-first.dim _ there));
   made = λ most made. (let there = c.loop-dim.invariant.looked.within _ c.in-Some-first.ensures.least.there in
       let before = c.loop-dim.invariant.made most made in
-      each_set _ _ (λ (z : PlainLevels). z.most) _ _ _ before there (c.cover_chains.ensures.most ∙ before.each c.in-Some-first.dim _ there));
+      each_set _ _ (λ (z : PlainLevels). z.most) _ _ _ before there
+      (c.cover_chains.ensures.most ∙ before.each c.in-Some-first.dim _ there));
   looked = c.in-Some-settle.ensures.looked;
 }
 
 pub returns-clause-ended : goal.returns-clause-ended
 returns-clause-ended g c =
-    let looked = c.loop-dim.invariant.looked in
-    (stable_settled _ _ looked.settled (λ i h. looked.chained i h (c.in_default-first.ensures.least i)), looked.settled.full)
+    let looked = c.loop-dim.invariant.looked in (
+      stable_settled _ _ looked.settled (λ i h. looked.chained i h (c.in_default-first.ensures.least i)),
+      looked.settled.full,
+    )
 
 pub returns-clause-kept : goal.returns-clause-kept
 returns-clause-kept g c = c.finish_each.ensures.kept _ _ c.loop-dim.invariant.kept

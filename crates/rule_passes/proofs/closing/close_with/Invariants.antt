@@ -18,4 +18,5 @@ invariant-loop-dim g l = record {
 }
 
 abbrev pub decreases-loop-dim : goal.decreases-loop-dim
-decreases-loop-dim g l = 65 * (3 * l.fn.state.dims * l.fn.state.boxes * (l.fn.state.boxes - 1) / 2 - length l.state.trail) + members_below (row_has l.dirty) 64
+decreases-loop-dim g l = 65 * (3 * l.fn.state.dims * l.fn.state.boxes * (l.fn.state.boxes - 1) / 2 - length
+    l.state.trail) + members_below (row_has l.dirty) 64

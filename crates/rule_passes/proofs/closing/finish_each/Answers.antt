@@ -15,8 +15,10 @@ loop-dim-preserved g c =
       count = length-set kept dim new ∙ old.count;
       kept = λ d n h. (let before = old.kept d n h in
           let small : dim < d = rw (← before.count) there in
-          each_set d n (λ (z : PlainLevels). z.boxes) kept dim new before small (c.finish.ensures.boxes ∙ before.each dim _ small));
+          each_set d n (λ (z : PlainLevels). z.boxes) kept dim new before small
+          (c.finish.ensures.boxes ∙ before.each dim _ small));
       made = λ d most h. (let before = old.made d most h in
           let small : dim < d = rw (← before.count) there in
-          each_set d most (λ (z : PlainLevels). z.most) kept dim new before small (c.finish.ensures.most ∙ before.each dim _ small));
+          each_set d most (λ (z : PlainLevels). z.most) kept dim new before small
+          (c.finish.ensures.most ∙ before.each dim _ small));
     }

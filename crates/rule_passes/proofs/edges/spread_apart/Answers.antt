@@ -19,12 +19,17 @@ returns g c =
     let one : Rule → Type 0 = λ rule. Triples instance j u v rule ⊎ Triples instance j v u rule in
     let two : Rule → Type 0 = λ rule. Chords instance j u v rule ⊎ Chords instance j v u rule in
     worked_as instance _ _ _ (λ (rule : Rule). one rule ⊎ two rule)
-    (λ (rule : Rule). (mask_has c.args.left Overlap ≡ false) × (IsReachedApart instance j u v rule ⊎ IsReachedApart instance j v u rule)) (λ rule e. go rule e.1)
-    (worked_then instance _ _ _ _ one two (worked_kept instance _ _ _ one c.if-triples.false c.triples.ensures) c.chords.ensures)
+    (λ (rule : Rule). (mask_has c.args.left Overlap ≡ false)
+    × (IsReachedApart instance j u v rule ⊎ IsReachedApart instance j v u rule)) (λ rule e. go rule e.1)
+    (worked_then instance _ _ _ _ one two (worked_kept instance _ _ _ one c.if-triples.false c.triples.ensures)
+    c.chords.ensures)
   where
-    go : (rule : Rule) → IsReachedApart c.args.instance.now c.args.dim c.args.u c.args.v rule ⊎ IsReachedApart c.args.instance.now c.args.dim c.args.v c.args.u rule
-        → (Triples c.args.instance.now c.args.dim c.args.u c.args.v rule ⊎ Triples c.args.instance.now c.args.dim c.args.v c.args.u rule)
-        ⊎ (Chords c.args.instance.now c.args.dim c.args.u c.args.v rule ⊎ Chords c.args.instance.now c.args.dim c.args.v c.args.u rule)
+    go : (rule : Rule) → IsReachedApart c.args.instance.now c.args.dim c.args.u c.args.v rule
+        ⊎ IsReachedApart c.args.instance.now c.args.dim c.args.v c.args.u rule
+        → (Triples c.args.instance.now c.args.dim c.args.u c.args.v rule
+        ⊎ Triples c.args.instance.now c.args.dim c.args.v c.args.u rule)
+        ⊎ (Chords c.args.instance.now c.args.dim c.args.u c.args.v rule
+        ⊎ Chords c.args.instance.now c.args.dim c.args.v c.args.u rule)
     go rule (inl (inl t)) = inl (inl t)
     go rule (inl (inr k)) = inr (inl k)
     go rule (inr (inl t)) = inl (inr t)

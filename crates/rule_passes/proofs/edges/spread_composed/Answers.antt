@@ -23,7 +23,8 @@ beyond_compositions-back-requires g c = (
             c.requires.u,
             (
               λ e. c.requires.distinct (sym e),
-              λ r. c.flip.ensures.exact r ∙ (c.requires.left (mirror r) ∙ ap not (excludes_mirror c.args.state.now.trail c.args.dim c.args.u c.args.v r)),
+              λ r. c.flip.ensures.exact r ∙ (c.requires.left (mirror r)
+                  ∙ ap not (excludes_mirror c.args.state.now.trail c.args.dim c.args.u c.args.v r)),
             ),
           ),
         ),
@@ -43,5 +44,7 @@ returns g c =
     let back = row_has c.beyond_compositions-back.result in
     let one : ℕ → Rule = λ x. Compose c.args.dim c.args.u c.args.v x in
     let two : ℕ → Rule = λ x. Compose c.args.dim c.args.v c.args.u x in
-    worked_rows instance _ _ _ n there back one two c.beyond_compositions-there.ensures.others c.beyond_compositions-back.ensures.others
-    (worked_then instance _ _ _ _ (Among n there one) (Among n back two) (worked_kept instance _ _ _ (Among n there one) c.if-composes.false c.composes.ensures) c.composes-2.ensures)
+    worked_rows instance _ _ _ n there back one two c.beyond_compositions-there.ensures.others
+    c.beyond_compositions-back.ensures.others
+    (worked_then instance _ _ _ _ (Among n there one) (Among n back two)
+    (worked_kept instance _ _ _ (Among n there one) c.if-composes.false c.composes.ensures) c.composes-2.ensures)

@@ -12,7 +12,9 @@ orders_second-requires g c = (
   (
     c.requires.words,
     (
-      sizes_worked _ _ _ _ _ _ (worked_kept c.args.instance.now _ _ _ (λ (rule : Rule). OrdersFirst c.args.instance.now c.args.dim c.args.p c.args.q rule) c.if-orders_first.false c.orders_first.ensures) c.requires.sizes,
+      sizes_worked _ _ _ _ _ _ (worked_kept c.args.instance.now _ _ _
+          (λ (rule : Rule). OrdersFirst c.args.instance.now c.args.dim c.args.p c.args.q rule) c.if-orders_first.false
+          c.orders_first.ensures) c.requires.sizes,
       (
         c.requires.p,
         (
@@ -33,6 +35,10 @@ returns g c =
     let j = c.args.dim in
     let p = c.args.p in
     let q = c.args.q in
-    let first = worked_kept instance _ _ _ (λ (rule : Rule). OrdersFirst instance j p q rule) c.if-orders_first.false c.orders_first.ensures in
-    worked_as instance _ _ _ (λ (rule : Rule). OrdersFirst instance j p q rule ⊎ OrdersSecond instance j p q rule) (λ (rule : Rule). ((mask_has c.args.left Overlap ≡ false) × (mask_has c.args.left After ≡ false)) × (OrdersFirst instance j p q rule ⊎ OrdersSecond instance j p q rule)) (λ rule e. e.1)
-    (worked_then instance _ _ _ _ (λ (rule : Rule). OrdersFirst instance j p q rule) (λ (rule : Rule). OrdersSecond instance j p q rule) first c.orders_second.ensures)
+    let first = worked_kept instance _ _ _ (λ (rule : Rule). OrdersFirst instance j p q rule) c.if-orders_first.false
+    c.orders_first.ensures in
+    worked_as instance _ _ _ (λ (rule : Rule). OrdersFirst instance j p q rule ⊎ OrdersSecond instance j p q rule)
+    (λ (rule : Rule). ((mask_has c.args.left Overlap ≡ false) × (mask_has c.args.left After ≡ false))
+    × (OrdersFirst instance j p q rule ⊎ OrdersSecond instance j p q rule)) (λ rule e. e.1)
+    (worked_then instance _ _ _ _ (λ (rule : Rule). OrdersFirst instance j p q rule)
+    (λ (rule : Rule). OrdersSecond instance j p q rule) first c.orders_second.ensures)

@@ -8,4 +8,5 @@ returns-then-u-v c =
     let edge : IsEdge c.args.instance.now c.args.dim c.args.u c.args.v
     = record { dim = c.requires.sizes.there; first = c.requires.u; second = c.requires.v; distinct = c.if-u-v.true } in
     let small : c.args.left < 8 = omega (arith, c.bits.ensures.value, c.bits.ensures.limit) in
-    rw c.bits.ensures.value (empty_or_left c.args.instance.now (excludes c.args.state.now.trail) c.args.dim c.args.u c.args.v c.args.left edge small c.requires.left)
+    rw c.bits.ensures.value (empty_or_left c.args.instance.now (excludes c.args.state.now.trail) c.args.dim c.args.u
+    c.args.v c.args.left edge small c.requires.left)

@@ -6,4 +6,5 @@ use Rattle.rule_passes.specs.Lines.{IsLine}
 use Rattle.rule_passes.proofs.lines.chain_of.Given as goal
 
 abbrev pub invariant-loop-k : goal.invariant-loop-k
-invariant-loop-k g l = (l.first < box_count l.instance) × IsLine l.instance (excludes l.state.trail) l.dim l.first l.weight (row_has l.known)
+invariant-loop-k g l = (l.first < box_count l.instance)
+    × IsLine l.instance (excludes l.state.trail) l.dim l.first l.weight (row_has l.known)

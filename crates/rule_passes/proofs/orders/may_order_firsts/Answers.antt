@@ -14,12 +14,15 @@ loop-a-init g c = record { covered = λ x on off. absurd (true≢false (sym on �
 
 pub loop-a-smaller : goal.loop-a-smaller
 loop-a-smaller g c =
-    members_fewer (row_has c.loop-a.rest) (row_has c.without-rest.result) c.in-Some.a (64 * g.row.K) c.without-rest.ensures c.in-Some.ensures.least.there c.in-Some.ensures.limit
+    members_fewer (row_has c.loop-a.rest) (row_has c.without-rest.result) c.in-Some.a (64 * g.row.K)
+    c.without-rest.ensures c.in-Some.ensures.least.there c.in-Some.ensures.limit
 
 pub loop-a-preserved : goal.loop-a-preserved
 loop-a-preserved g c = record {
   covered = member_next (row_has c.args.firsts) (row_has c.loop-a.rest) (row_has c.without-rest.result) c.in-Some.a
-      (λ x. (y : ℕ) → y < box_count c.args.instance.now → IsCovered c.args.instance.now (excludes c.args.state.now.trail) c.args.state.now.trail (Order c.args.dim x y c.args.c c.args.d))
+      (λ x. (y : ℕ) → y < box_count c.args.instance.now
+      → IsCovered c.args.instance.now (excludes c.args.state.now.trail) c.args.state.now.trail
+      (Order c.args.dim x y c.args.c c.args.d))
       c.without-rest.ensures c.loop-a.invariant.covered
       (λ y small. c.beyond_orders_to.ensures.others y small (c.is_empty.ensures c.if-not-is_empty.false y));
   within = λ x h. c.loop-a.invariant.within x (and_parts _ _ (sym (c.without-rest.ensures x) ∙ h)).0;

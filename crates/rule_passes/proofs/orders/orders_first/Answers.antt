@@ -11,13 +11,18 @@ use Rattle.rule_passes.proofs.orders.orders_first.Goals as goal
 
 pub loop-d-init : goal.loop-d-init
 loop-d-init g c = record {
-  work = worked_rest _ _ (box_count c.args.instance.now) (row_has c.gone-lasts.result) (λ x rule. (y : ℕ) × (y < box_count c.args.instance.now) × (rule ≡ Order c.args.dim c.args.a c.args.b y x)) (λ x small off rule e. covered_named _ _ rule (Order c.args.dim c.args.a c.args.b e.0 x) e.2 (covered_never c.args.instance.now _ (Order c.args.dim c.args.a c.args.b e.0 x) (λ is p. c.gone-lasts.ensures.others x small is.1.1.1.1.0 off p.2 p.2)));
+  work = worked_rest _ _ (box_count c.args.instance.now) (row_has c.gone-lasts.result)
+      (λ x rule. (y : ℕ) × (y < box_count c.args.instance.now) × (rule ≡ Order c.args.dim c.args.a c.args.b y x))
+      (λ x small off rule e. covered_named _ _ rule (Order c.args.dim c.args.a c.args.b e.0 x) e.2
+      (covered_never c.args.instance.now _ (Order c.args.dim c.args.a c.args.b e.0 x)
+      (λ is p. c.gone-lasts.ensures.others x small is.1.1.1.1.0 off p.2 p.2)));
   within = c.gone-lasts.ensures.within;
 }
 
 pub loop-d-smaller : goal.loop-d-smaller
 loop-d-smaller g c =
-    members_fewer (row_has c.loop-d.rest) (row_has c.without-rest.result) c.in-Some.d (64 * g.row.K) c.without-rest.ensures c.in-Some.ensures.least.there c.in-Some.ensures.limit
+    members_fewer (row_has c.loop-d.rest) (row_has c.without-rest.result) c.in-Some.d (64 * g.row.K)
+    c.without-rest.ensures c.in-Some.ensures.least.there c.in-Some.ensures.limit
 
 pub orders_from-requires-clause-sizes : goal.orders_from-requires-clause-sizes
 orders_from-requires-clause-sizes g c = sizes_worked _ _ _ _ _ _ c.loop-d.invariant.work c.requires.sizes
@@ -26,21 +31,29 @@ pub orders_from-requires-clause-d : goal.orders_from-requires-clause-d
 orders_from-requires-clause-d g c = c.loop-d.invariant.within _ c.in-Some.ensures.least.there
 
 pub returns-then-orders_from : goal.returns-then-orders_from
-returns-then-orders_from g c = worked_lost _ _ _ _ _ _ _ _ c.if-orders_from.true c.loop-d.invariant.work c.orders_from.ensures
+returns-then-orders_from g c =
+    worked_lost _ _ _ _ _ _ _ _ c.if-orders_from.true c.loop-d.invariant.work c.orders_from.ensures
 
 pub loop-d-preserved : goal.loop-d-preserved
 loop-d-preserved g c = record {
-  work = worked_row _ _ _ _ _ (box_count c.args.instance.now) c.in-Some.d (row_has c.loop-d.rest) (row_has c.without-rest.result) (λ x rule. (y : ℕ) × (y < box_count c.args.instance.now) × (rule ≡ Order c.args.dim c.args.a c.args.b y x))
-      c.without-rest.ensures c.loop-d.invariant.work (worked_kept _ _ _ _ _ c.if-orders_from.false c.orders_from.ensures);
+  work = worked_row _ _ _ _ _ (box_count c.args.instance.now) c.in-Some.d (row_has c.loop-d.rest)
+      (row_has c.without-rest.result)
+      (λ x rule. (y : ℕ) × (y < box_count c.args.instance.now) × (rule ≡ Order c.args.dim c.args.a c.args.b y x))
+      c.without-rest.ensures c.loop-d.invariant.work
+      (worked_kept _ _ _ _ _ c.if-orders_from.false c.orders_from.ensures);
   within = λ x h. c.loop-d.invariant.within x (and_parts _ _ (sym (c.without-rest.ensures x) ∙ h)).0;
 }
 
 pub returns : goal.returns
 returns g c =
-    worked_all _ _ _ (box_count c.args.instance.now) (row_has c.loop-d.rest) (λ x rule. (y : ℕ) × (y < box_count c.args.instance.now) × (rule ≡ Order c.args.dim c.args.a c.args.b y x)) c.in_default.ensures.least c.loop-d.invariant.work
+    worked_all _ _ _ (box_count c.args.instance.now) (row_has c.loop-d.rest)
+    (λ x rule. (y : ℕ) × (y < box_count c.args.instance.now) × (rule ≡ Order c.args.dim c.args.a c.args.b y x))
+    c.in_default.ensures.least c.loop-d.invariant.work
 
 pub returns-then-not-may_order_lasts : goal.returns-then-not-may_order_lasts
 returns-then-not-may_order_lasts g c =
-    none_worked c.args.instance.now _ (box_count c.args.instance.now) (row_has c.gone-lasts.result) (λ x y. Order c.args.dim c.args.a c.args.b y x)
+    none_worked c.args.instance.now _ (box_count c.args.instance.now) (row_has c.gone-lasts.result)
+    (λ x y. Order c.args.dim c.args.a c.args.b y x)
     (c.may_order_lasts.ensures c.if-not-may_order_lasts.true)
-    (λ x small off y. covered_never c.args.instance.now _ (Order c.args.dim c.args.a c.args.b y x) (λ is p. c.gone-lasts.ensures.others x small is.1.1.1.1.0 off p.2 p.2))
+    (λ x small off y. covered_never c.args.instance.now _ (Order c.args.dim c.args.a c.args.b y x)
+    (λ is p. c.gone-lasts.ensures.others x small is.1.1.1.1.0 off p.2 p.2))

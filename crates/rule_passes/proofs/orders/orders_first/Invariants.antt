@@ -7,7 +7,9 @@ use Rattle.rule_passes.proofs.orders.orders_first.Given as goal
 
 abbrev pub invariant-loop-d : goal.invariant-loop-d
 invariant-loop-d g l = record {
-  work : IsWorked l.instance l.fn.state l.state false (λ rule. (x : ℕ) × (x < box_count l.instance) × (row_has l.rest x ≡ false) × ((y : ℕ) × (y < box_count l.instance) × (rule ≡ Order l.dim l.a l.b y x)));
+  work : IsWorked l.instance l.fn.state l.state false
+      (λ rule. (x : ℕ) × (x < box_count l.instance) × (row_has l.rest x ≡ false)
+      × ((y : ℕ) × (y < box_count l.instance) × (rule ≡ Order l.dim l.a l.b y x)));
   within : (x : ℕ) → row_has l.rest x ≡ true → x < box_count l.instance;
 }
 

@@ -7,7 +7,8 @@ use Rattle.rule_passes.proofs.orders.orders_from.Given as goal
 
 abbrev pub invariant-loop-c : goal.invariant-loop-c
 invariant-loop-c g l = record {
-  work : IsWorked l.instance l.fn.state l.state false (λ rule. (x : ℕ) × (x < box_count l.instance) × (row_has l.rest x ≡ false) × (rule ≡ Order l.dim l.a l.b x l.d));
+  work : IsWorked l.instance l.fn.state l.state false
+      (λ rule. (x : ℕ) × (x < box_count l.instance) × (row_has l.rest x ≡ false) × (rule ≡ Order l.dim l.a l.b x l.d));
   within : (x : ℕ) → row_has l.rest x ≡ true → x < box_count l.instance;
 }
 

@@ -13,13 +13,20 @@ use Rattle.rule_passes.proofs.orders.orders_second.Goals as goal
 
 pub loop-a-init : goal.loop-a-init
 loop-a-init g c = record {
-  work = worked_rest _ _ (box_count c.args.instance.now) (row_has c.gone-firsts.result) (λ x rule. (y : ℕ) × (y < box_count c.args.instance.now) × (rule ≡ Order c.args.dim x y c.args.c c.args.d)) (λ x small off rule e. covered_named _ _ rule (Order c.args.dim x e.0 c.args.c c.args.d) e.2 (covered_never c.args.instance.now _ (Order c.args.dim x e.0 c.args.c c.args.d) (λ is p. c.gone-firsts.ensures.others x small (λ e. is.1.1.1.1.0 (sym e)) off (excludes_symmetric c.args.state.now.trail c.args.dim x c.args.d Before p.2) (excludes_symmetric c.args.state.now.trail c.args.dim x c.args.d Before p.2))));
+  work = worked_rest _ _ (box_count c.args.instance.now) (row_has c.gone-firsts.result)
+      (λ x rule. (y : ℕ) × (y < box_count c.args.instance.now) × (rule ≡ Order c.args.dim x y c.args.c c.args.d))
+      (λ x small off rule e. covered_named _ _ rule (Order c.args.dim x e.0 c.args.c c.args.d) e.2
+      (covered_never c.args.instance.now _ (Order c.args.dim x e.0 c.args.c c.args.d)
+      (λ is p. c.gone-firsts.ensures.others x small (λ e. is.1.1.1.1.0 (sym e)) off
+      (excludes_symmetric c.args.state.now.trail c.args.dim x c.args.d Before p.2)
+      (excludes_symmetric c.args.state.now.trail c.args.dim x c.args.d Before p.2))));
   within = c.gone-firsts.ensures.within;
 }
 
 pub loop-a-smaller : goal.loop-a-smaller
 loop-a-smaller g c =
-    members_fewer (row_has c.loop-a.rest) (row_has c.without-rest.result) c.in-Some.a (64 * g.row.K) c.without-rest.ensures c.in-Some.ensures.least.there c.in-Some.ensures.limit
+    members_fewer (row_has c.loop-a.rest) (row_has c.without-rest.result) c.in-Some.a (64 * g.row.K)
+    c.without-rest.ensures c.in-Some.ensures.least.there c.in-Some.ensures.limit
 
 pub orders_to-requires-clause-sizes : goal.orders_to-requires-clause-sizes
 orders_to-requires-clause-sizes g c = sizes_worked _ _ _ _ _ _ c.loop-a.invariant.work c.requires.sizes
@@ -32,17 +39,25 @@ returns-then-orders_to g c = worked_lost _ _ _ _ _ _ _ _ c.if-orders_to.true c.l
 
 pub loop-a-preserved : goal.loop-a-preserved
 loop-a-preserved g c = record {
-  work = worked_row _ _ _ _ _ (box_count c.args.instance.now) c.in-Some.a (row_has c.loop-a.rest) (row_has c.without-rest.result) (λ x rule. (y : ℕ) × (y < box_count c.args.instance.now) × (rule ≡ Order c.args.dim x y c.args.c c.args.d))
+  work = worked_row _ _ _ _ _ (box_count c.args.instance.now) c.in-Some.a (row_has c.loop-a.rest)
+      (row_has c.without-rest.result)
+      (λ x rule. (y : ℕ) × (y < box_count c.args.instance.now) × (rule ≡ Order c.args.dim x y c.args.c c.args.d))
       c.without-rest.ensures c.loop-a.invariant.work (worked_kept _ _ _ _ _ c.if-orders_to.false c.orders_to.ensures);
   within = λ x h. c.loop-a.invariant.within x (and_parts _ _ (sym (c.without-rest.ensures x) ∙ h)).0;
 }
 
 pub returns : goal.returns
 returns g c =
-    worked_all _ _ _ (box_count c.args.instance.now) (row_has c.loop-a.rest) (λ x rule. (y : ℕ) × (y < box_count c.args.instance.now) × (rule ≡ Order c.args.dim x y c.args.c c.args.d)) c.in_default.ensures.least c.loop-a.invariant.work
+    worked_all _ _ _ (box_count c.args.instance.now) (row_has c.loop-a.rest)
+    (λ x rule. (y : ℕ) × (y < box_count c.args.instance.now) × (rule ≡ Order c.args.dim x y c.args.c c.args.d))
+    c.in_default.ensures.least c.loop-a.invariant.work
 
 pub returns-then-not-may_order_firsts : goal.returns-then-not-may_order_firsts
 returns-then-not-may_order_firsts g c =
-    none_worked c.args.instance.now _ (box_count c.args.instance.now) (row_has c.gone-firsts.result) (λ x y. Order c.args.dim x y c.args.c c.args.d)
+    none_worked c.args.instance.now _ (box_count c.args.instance.now) (row_has c.gone-firsts.result)
+    (λ x y. Order c.args.dim x y c.args.c c.args.d)
     (c.may_order_firsts.ensures c.if-not-may_order_firsts.true)
-    (λ x small off y. covered_never c.args.instance.now _ (Order c.args.dim x y c.args.c c.args.d) (λ is p. c.gone-firsts.ensures.others x small (λ e. is.1.1.1.1.0 (sym e)) off (excludes_symmetric c.args.state.now.trail c.args.dim x c.args.d Before p.2) (excludes_symmetric c.args.state.now.trail c.args.dim x c.args.d Before p.2)))
+    (λ x small off y. covered_never c.args.instance.now _ (Order c.args.dim x y c.args.c c.args.d)
+    (λ is p. c.gone-firsts.ensures.others x small (λ e. is.1.1.1.1.0 (sym e)) off
+    (excludes_symmetric c.args.state.now.trail c.args.dim x c.args.d Before p.2)
+    (excludes_symmetric c.args.state.now.trail c.args.dim x c.args.d Before p.2)))

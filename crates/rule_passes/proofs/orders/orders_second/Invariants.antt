@@ -7,7 +7,9 @@ use Rattle.rule_passes.proofs.orders.orders_second.Given as goal
 
 abbrev pub invariant-loop-a : goal.invariant-loop-a
 invariant-loop-a g l = record {
-  work : IsWorked l.instance l.fn.state l.state false (λ rule. (x : ℕ) × (x < box_count l.instance) × (row_has l.rest x ≡ false) × ((y : ℕ) × (y < box_count l.instance) × (rule ≡ Order l.dim x y l.c l.d)));
+  work : IsWorked l.instance l.fn.state l.state false
+      (λ rule. (x : ℕ) × (x < box_count l.instance) × (row_has l.rest x ≡ false)
+      × ((y : ℕ) × (y < box_count l.instance) × (rule ≡ Order l.dim x y l.c l.d)));
   within : (x : ℕ) → row_has l.rest x ≡ true → x < box_count l.instance;
 }
 

@@ -4,4 +4,5 @@ use Rattle.closure_terms.specs.Work.{IsWorked}
 use Rattle.rule_passes.proofs.pairs.pairs_from.Given as goal
 
 abbrev pub invariant-loop-v : goal.invariant-loop-v
-invariant-loop-v l = IsWorked l.instance l.fn.state l.state false (λ rule. (v : ℕ) × (v < l.v) × ((l.u < v) × (rule ≡ Pair l.dim l.u v)))
+invariant-loop-v l = IsWorked l.instance l.fn.state l.state false
+    (λ rule. (v : ℕ) × (v < l.v) × ((l.u < v) × (rule ≡ Pair l.dim l.u v)))

@@ -5,4 +5,5 @@ use Rattle.closure_terms.specs.Work.{IsWorked}
 use Rattle.rule_passes.proofs.pairs.pairs_in.Given as goal
 
 abbrev pub invariant-loop-u : goal.invariant-loop-u
-invariant-loop-u l = IsWorked l.instance l.fn.state l.state false (λ rule. (u : ℕ) × (u < l.u) × ((v : ℕ) × (v < box_count l.instance) × ((u < v) × (rule ≡ Pair l.dim u v))))
+invariant-loop-u l = IsWorked l.instance l.fn.state l.state false
+    (λ rule. (u : ℕ) × (u < l.u) × ((v : ℕ) × (v < box_count l.instance) × ((u < v) × (rule ≡ Pair l.dim u v))))

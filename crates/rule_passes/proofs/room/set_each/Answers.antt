@@ -16,9 +16,11 @@ loop-dim-preserved g c =
       count = length-set kept dim new ∙ old.count;
       few = λ k other l. level_set (λ (z : PlainLevels). c.args.boxes ≤ z.most) kept dim new k other there
           (rw c.set_boxes.ensures.most (old.few dim _ (rw (← old.count) there))) (λ ne. old.few k other l);
-      boxes = λ k other l. level_set (λ (z : PlainLevels). z.boxes ≡ c.args.boxes) kept dim new k other there c.set_boxes.ensures.boxes
+      boxes = λ k other l. level_set (λ (z : PlainLevels). z.boxes ≡ c.args.boxes) kept dim new k other there
+          c.set_boxes.ensures.boxes
           (λ ne. old.boxes k other (less_than k dim l ne));
       made = λ d most made. (let before = old.made d most made in
           let small : dim < d = rw (← before.count) there in
-          each_set d most (λ (z : PlainLevels). z.most) kept dim new before small (c.set_boxes.ensures.most ∙ before.each dim _ small));
+          each_set d most (λ (z : PlainLevels). z.most) kept dim new before small
+          (c.set_boxes.ensures.most ∙ before.each dim _ small));
     }

@@ -19,7 +19,8 @@ returns-clause-within g c x on =
     let lb = rw c.requires.sizes.same_boxes at c.left_outside-2.ensures in
     let la = rw c.requires.sizes.same_boxes at c.left_outside-3.ensures in
     within_found n c.args.u x _ _ _ _ _ _ _ _ _ _ _ _ _ _ _ refl refl refl (lo x) (lb x) (la x)
-    _ _ _ _ _ (c.one_of-beyond.ensures x) (c.requires.all x) (c.minus-lost.ensures x) (c.or.ensures x) (and_parts _ _ (sym (c.without.ensures x) ∙ on)).0
+    _ _ _ _ _ (c.one_of-beyond.ensures x) (c.requires.all x) (c.minus-lost.ensures x) (c.or.ensures x)
+    (and_parts _ _ (sym (c.without.ensures x) ∙ on)).0
 
 pub returns-clause-others : goal.returns-clause-others
 returns-clause-others g c x small off =
@@ -29,7 +30,8 @@ returns-clause-others g c x small off =
     let u = c.args.u in
     let v = c.args.v in
     let q = in_each_relation c.has-is_overlap.result c.has-is_before.result c.has-is_after.result in
-    let s = in_each_relation (row_has c.row_in-overlap.result x) (row_has c.row_in-before.result x) (row_has c.row_in-after.result x) in
+    let s = in_each_relation (row_has c.row_in-overlap.result x) (row_has c.row_in-before.result x)
+    (row_has c.row_in-after.result x) in
     let t : Rel → Bool = λ r. is_other_box (box_count instance) u x && not (excludes es j u x r) in
     let lo = rw c.requires.sizes.same_boxes at c.left_outside.ensures in
     let lb = rw c.requires.sizes.same_boxes at c.left_outside-2.ensures in
@@ -37,9 +39,17 @@ returns-clause-others g c x small off =
     let so = rw c.requires.sizes.same_boxes at c.row_in-overlap.ensures in
     let sb = rw c.requires.sizes.same_boxes at c.row_in-before.ensures in
     let sa = rw c.requires.sizes.same_boxes at c.row_in-after.ensures in
-    let hs : (r : Rel) → s r ≡ is_other_box (box_count instance) v x && not (excludes es j v x r) = by_rel s _ (so x) (sb x) (sa x) in
-    let hq : (r : Rel) → q r ≡ not (excludes es j u v r) = by_rel q _ (c.has-is_overlap.ensures ∙ c.requires.left Overlap) (c.has-is_before.ensures ∙ c.requires.left Before) (c.has-is_after.ensures ∙ c.requires.left After) in
-    let e : row_has c.without.result x ≡ (((((t Overlap && not ((s Overlap || (s After && q Before)) || (s Before && q After))) && not (q Overlap)) || ((t Before && not ((s Overlap && q Overlap) || s Before)) && not (q Before))) || ((t After && not ((s Overlap && q Overlap) || s After)) && not (q After))) || (row_has c.args.all x && not (((s Overlap || s Before) || s After) && ((q Overlap || q Before) || q After)))) && not (eqb x v)
+    let hs : (r : Rel) → s r ≡ is_other_box (box_count instance) v x && not (excludes es j v x r) =
+    by_rel s _ (so x) (sb x) (sa x) in
+    let hq : (r : Rel) → q r ≡ not (excludes es j u v r) =
+    by_rel q _ (c.has-is_overlap.ensures ∙ c.requires.left Overlap) (c.has-is_before.ensures ∙ c.requires.left Before)
+    (c.has-is_after.ensures ∙ c.requires.left After) in
+    let e : row_has c.without.result x
+    ≡ (((((t Overlap && not ((s Overlap || (s After && q Before)) || (s Before && q After))) && not (q Overlap))
+    || ((t Before && not ((s Overlap && q Overlap) || s Before)) && not (q Before)))
+    || ((t After && not ((s Overlap && q Overlap) || s After)) && not (q After)))
+    || (row_has c.args.all x && not (((s Overlap || s Before) || s After) && ((q Overlap || q Before) || q After))))
+    && not (eqb x v)
     = rw (
       c.without.ensures x,
       c.or.ensures x,
@@ -57,6 +67,7 @@ returns-clause-others g c x small off =
       c.pick.ensures x,
       c.one_of-any.ensures x,
     ) refl in
-    let none = none_left_out (q Overlap) (q Before) (q After) (s Overlap) (s Before) (s After) (t Overlap) (t Before) (t After) (row_has c.args.all x) (eqb x v)
+    let none = none_left_out (q Overlap) (q Before) (q After) (s Overlap) (s Before) (s After) (t Overlap) (t Before)
+    (t After) (row_has c.args.all x) (eqb x v)
     (c.requires.all x ∙ lt-ltb x _ small) (sym e ∙ off) in
     covered_beyond instance es j u v x _ q s t c.requires.distinct hq hs (λ r. refl) refl none

@@ -9,15 +9,20 @@ use Rattle.closure_terms.proofs.Filters.{covered_order_to, without_off}
 use Rattle.rule_passes.proofs.rows.beyond_orders_to.Goals as goal
 
 pub returns-clause-within : goal.returns-clause-within
-returns-clause-within g c x on = c.either-free.ensures.within x (and_parts _ _ (sym (c.minus.ensures x) ∙ (and_parts _ _ (sym (c.without.ensures x) ∙ on)).0)).0
+returns-clause-within g c x on =
+    c.either-free.ensures.within x
+    (and_parts _ _ (sym (c.minus.ensures x) ∙ (and_parts _ _ (sym (c.without.ensures x) ∙ on)).0)).0
 
 pub returns-clause-others : goal.returns-clause-others
 returns-clause-others g c x small off = go (without_off _ x c.args.a (sym (c.without.ensures x) ∙ off))
   where
     go : (row_has c.minus.result x ≡ false) ⊎ (x ≡ c.args.a)
-        → IsCovered c.args.instance.now (excludes c.args.state.now.trail) c.args.state.now.trail (Order c.args.dim c.args.a x c.args.c c.args.d)
+        → IsCovered c.args.instance.now (excludes c.args.state.now.trail) c.args.state.now.trail
+        (Order c.args.dim c.args.a x c.args.c c.args.d)
     go (inl f) =
-        covered_order_to c.args.instance.now c.args.state.now.trail c.args.dim c.args.a x c.args.c c.args.d _ _ (sym (c.minus.ensures x) ∙ f)
+        covered_order_to c.args.instance.now c.args.state.now.trail c.args.dim c.args.a x c.args.c c.args.d _ _
+        (sym (c.minus.ensures x) ∙ f)
         (λ ne f. c.either-free.ensures.shut x small ne f) (λ on. c.either-first.ensures.some x on)
     go (inr e) =
-        covered_no_instance c.args.instance.now _ c.args.state.now.trail (Order c.args.dim c.args.a x c.args.c c.args.d) (λ is. is.1.1.0 (sym e))
+        covered_no_instance c.args.instance.now _ c.args.state.now.trail (Order c.args.dim c.args.a x c.args.c c.args.d)
+        (λ is. is.1.1.0 (sym e))

@@ -13,4 +13,6 @@ returns-clause-others g c x small first second off one two = go (and_cases _ _ (
   where
     go : (row_has c.gone-first.result x ≡ false) ⊎ (row_has c.gone.result x ≡ false) → ⊥
     go (inl f) = c.gone-first.ensures.others x small first f one.0 one.1
-    go (inr h) = c.gone.ensures.others x small second h (excludes_symmetric c.args.state.now.trail c.args.dim x c.args.c After two.1) (excludes_symmetric c.args.state.now.trail c.args.dim x c.args.c Before two.0)
+    go (inr h) = c.gone.ensures.others x small second h
+        (excludes_symmetric c.args.state.now.trail c.args.dim x c.args.c After two.1)
+        (excludes_symmetric c.args.state.now.trail c.args.dim x c.args.c Before two.0)

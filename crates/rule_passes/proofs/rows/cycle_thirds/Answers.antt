@@ -8,14 +8,18 @@ use Rattle.closure_terms.proofs.Filters.{minus_off, without_off}
 use Rattle.rule_passes.proofs.rows.cycle_thirds.Goals as goal
 
 pub returns-clause-within : goal.returns-clause-within
-returns-clause-within g c x on = c.gone-joined.ensures.within x (and_parts _ _ (sym (c.minus.ensures x) ∙ (and_parts _ _ (sym (c.without.ensures x) ∙ on)).0)).0
+returns-clause-within g c x on =
+    c.gone-joined.ensures.within x
+    (and_parts _ _ (sym (c.minus.ensures x) ∙ (and_parts _ _ (sym (c.without.ensures x) ∙ on)).0)).0
 
 pub returns-clause-others : goal.returns-clause-others
-returns-clause-others g c x small first second off joined apart = go (without_off _ x c.args.a (sym (c.without.ensures x) ∙ off))
+returns-clause-others g c x small first second off joined apart =
+    go (without_off _ x c.args.a (sym (c.without.ensures x) ∙ off))
   where
     inner : (row_has c.gone-joined.result x ≡ false) ⊎ (row_has c.row_in-near.result x ≡ true) → ⊥
     inner (inl f) = c.gone-joined.ensures.others x small second f joined.0 joined.1
-    inner (inr h) = true≢false (sym apart ∙ row_open _ c.args.dim c.args.a x (excludes c.args.state.now.trail) Overlap _ (c.row_in-near.ensures x) h)
+    inner (inr h) = true≢false (sym apart ∙ row_open _ c.args.dim c.args.a x (excludes c.args.state.now.trail) Overlap _
+        (c.row_in-near.ensures x) h)
 
     go : (row_has c.minus.result x ≡ false) ⊎ (x ≡ c.args.a) → ⊥
     go (inl f) = inner (minus_off _ _ (sym (c.minus.ensures x) ∙ f))

@@ -7,12 +7,14 @@ use Rattle.rule_passes.proofs.rows.gone.Goals as goal
 
 pub returns-clause-within : goal.returns-clause-within
 returns-clause-within g c v on =
-    gone_within (box_count c.args.instance.now) v _ _ _ (c.requires.all v) (c.minus.ensures v) (and_parts _ _ (sym (c.without.ensures v) ∙ on)).0
+    gone_within (box_count c.args.instance.now) v _ _ _ (c.requires.all v) (c.minus.ensures v)
+    (and_parts _ _ (sym (c.without.ensures v) ∙ on)).0
 
 pub returns-clause-others : goal.returns-clause-others
 returns-clause-others g c v small ne off one other = go (without_off _ v c.args.u (sym (c.without.ensures v) ∙ off))
   where
     go : (row_has c.minus.result v ≡ false) ⊎ (v ≡ c.args.u) → ⊥
     go (inl f) =
-        c.either-left.ensures.some v (gone_other (box_count c.args.instance.now) v _ _ _ (lt-ltb v _ small) (c.requires.all v) (c.minus.ensures v) f) one other
+        c.either-left.ensures.some v (gone_other (box_count c.args.instance.now) v _ _ _ (lt-ltb v _ small)
+        (c.requires.all v) (c.minus.ensures v) f) one other
     go (inr e) = ne (sym e)

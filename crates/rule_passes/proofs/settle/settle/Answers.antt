@@ -21,12 +21,14 @@ loop-change-init g c = record {
 pub mask_in-left-requires-clause-edge : goal.mask_in-left-requires-clause-edge
 mask_in-left-requires-clause-edge g c =
     let s = c.loop-change.state in
-    change_edge s.dims s.boxes s.trail c.loop-change.next _ c.in-Some.change c.dims-sizes.ensures.limits.trail c.in-Some.ensures
+    change_edge s.dims s.boxes s.trail c.loop-change.next _ c.in-Some.change c.dims-sizes.ensures.limits.trail
+    c.in-Some.ensures
 
 pub is_empty_left-requires : goal.is_empty_left-requires
 is_empty_left-requires g c =
     let s = c.loop-change.state in
-    let edge = change_edge s.dims s.boxes s.trail c.loop-change.next _ c.in-Some.change c.dims-sizes.ensures.limits.trail c.in-Some.ensures in
+    let edge = change_edge s.dims s.boxes s.trail c.loop-change.next _ c.in-Some.change
+    c.dims-sizes.ensures.limits.trail c.in-Some.ensures in
     record {
       sizes = record {
         same_dims = c.loop-change.invariant.same_dims ∙ c.requires.dims;
@@ -41,7 +43,8 @@ is_empty_left-requires g c =
 pub long_pair-requires-clause-sizes : goal.long_pair-requires-clause-sizes
 long_pair-requires-clause-sizes g c =
     let s = c.loop-change.state in
-    let edge = change_edge s.dims s.boxes s.trail c.loop-change.next _ c.in-Some.change c.dims-sizes.ensures.limits.trail c.in-Some.ensures in
+    let edge = change_edge s.dims s.boxes s.trail c.loop-change.next _ c.in-Some.change
+    c.dims-sizes.ensures.limits.trail c.in-Some.ensures in
     record {
       same_dims = c.loop-change.invariant.same_dims ∙ c.requires.dims;
       same_boxes = c.loop-change.invariant.same_boxes ∙ c.requires.boxes;
@@ -49,24 +52,28 @@ long_pair-requires-clause-sizes g c =
     }
 
 pub returns-in-Some-long_pair-clause-extends : goal.returns-in-Some-long_pair-clause-extends
-returns-in-Some-long_pair-clause-extends g c = extends_trans _ _ _ _ c.loop-change.invariant.extends c.shut_pair.ensures.extends
+returns-in-Some-long_pair-clause-extends g c =
+    extends_trans _ _ _ _ c.loop-change.invariant.extends c.shut_pair.ensures.extends
 
 pub dirtied-more-requires-clause-dim : goal.dirtied-more-requires-clause-dim
 dirtied-more-requires-clause-dim g c =
     let s = c.loop-change.state in
-    let edge = change_edge s.dims s.boxes s.trail c.loop-change.next _ c.in-Some.change c.dims-sizes.ensures.limits.trail c.in-Some.ensures in
+    let edge = change_edge s.dims s.boxes s.trail c.loop-change.next _ c.in-Some.change
+    c.dims-sizes.ensures.limits.trail c.in-Some.ensures in
     omega (arith, edge.dim, c.dims-sizes.ensures.limits.dimensions.1)
 
 pub bounds-longest-change : goal.bounds-longest-change
 bounds-longest-change g c =
     let s = c.loop-change.state in
-    let edge = change_edge s.dims s.boxes s.trail c.loop-change.next _ c.in-Some.change c.dims-sizes.ensures.limits.trail c.in-Some.ensures in
+    let edge = change_edge s.dims s.boxes s.trail c.loop-change.next _ c.in-Some.change
+    c.dims-sizes.ensures.limits.trail c.in-Some.ensures in
     omega (arith, edge.dim, c.dims-sizes.ensures.limits.dimensions.1, c.requires.count)
 
 pub spread-requires : goal.spread-requires
 spread-requires g c =
     let s = c.loop-change.state in
-    let edge = change_edge s.dims s.boxes s.trail c.loop-change.next _ c.in-Some.change c.dims-sizes.ensures.limits.trail c.in-Some.ensures in (
+    let edge = change_edge s.dims s.boxes s.trail c.loop-change.next _ c.in-Some.change
+    c.dims-sizes.ensures.limits.trail c.in-Some.ensures in (
       omega (arith, c.requires.words.0.1),
       (
         c.requires.words,
@@ -82,7 +89,18 @@ spread-requires g c =
               omega (arith, edge.second, c.loop-change.invariant.same_boxes, c.requires.boxes),
               (
                 edge.distinct,
-                (c.requires.all, (c.mask_in-left.ensures, c.requires.longest _ (omega (arith, edge.dim, c.loop-change.invariant.same_dims, c.requires.dims)))),
+                (
+                  c.requires.all,
+                  (
+                    c.mask_in-left.ensures,
+                    c.requires.longest _ (omega (
+                      arith,
+                      edge.dim,
+                      c.loop-change.invariant.same_dims,
+                      c.requires.dims,
+                    )),
+                  ),
+                ),
               ),
             ),
           ),
@@ -94,21 +112,31 @@ pub loop-change-smaller : goal.loop-change-smaller
 loop-change-smaller g c =
     let s = c.loop-change.state in
     let short : length s.trail ≤ 3 * c.args.state.now.dims * c.args.state.now.boxes * (c.args.state.now.boxes - 1) / 2
-    = rw (← c.loop-change.invariant.same_dims, ← c.loop-change.invariant.same_boxes) (trail_short s.dims s.boxes s.trail c.dims-sizes.ensures.limits.trail) in
+    = rw (← c.loop-change.invariant.same_dims, ← c.loop-change.invariant.same_boxes)
+    (trail_short s.dims s.boxes s.trail c.dims-sizes.ensures.limits.trail) in
     let change = c.in-Some.ensures in
     let before_last : c.loop-change.next < length s.trail = change.before_last in
-    let past = behind_within s.trail c.loop-change.next c.behind-after.result c.in-Some.change before_last c.behind-after.ensures in
+    let past = behind_within s.trail c.loop-change.next c.behind-after.result c.in-Some.change before_last
+    c.behind-after.ensures in
     omega (arith, short, before_last, past.0)
 
 pub loop-change-preserved : goal.loop-change-preserved
 loop-change-preserved g c =
     let s = c.loop-change.state in
     let change = c.in-Some.ensures in
-    let edge = change_edge s.dims s.boxes s.trail c.loop-change.next _ c.in-Some.change c.dims-sizes.ensures.limits.trail change in
+    let edge = change_edge s.dims s.boxes s.trail c.loop-change.next _ c.in-Some.change
+    c.dims-sizes.ensures.limits.trail change in
     let work = worked_kept _ _ _ _ _ c.if-spread.false c.spread.ensures in
-    let past = behind_within s.trail c.loop-change.next c.behind-after.result c.in-Some.change change.before_last c.behind-after.ensures in
+    let past = behind_within s.trail c.loop-change.next c.behind-after.result c.in-Some.change change.before_last
+    c.behind-after.ensures in
     let here : IsEdge c.args.instance.now c.in-Some.change.dim c.in-Some.change.u c.in-Some.change.v
-    = record { dim = omega (arith, edge.dim, c.loop-change.invariant.same_dims, c.requires.dims); first = omega (arith, edge.first, c.loop-change.invariant.same_boxes, c.requires.boxes); second = omega (arith, edge.second, c.loop-change.invariant.same_boxes, c.requires.boxes); distinct = edge.distinct } in
+    = record {
+      dim = omega (arith, edge.dim, c.loop-change.invariant.same_dims, c.requires.dims);
+      first = omega (arith, edge.first, c.loop-change.invariant.same_boxes, c.requires.boxes);
+      second =
+          omega (arith, edge.second, c.loop-change.invariant.same_boxes, c.requires.boxes);
+      distinct = edge.distinct;
+    } in
     record {
       same_dims = work.same_dims ∙ c.loop-change.invariant.same_dims;
       same_boxes = work.same_boxes ∙ c.loop-change.invariant.same_boxes;
@@ -116,8 +144,10 @@ loop-change-preserved g c =
       extends = extends_trans _ _ _ _ c.loop-change.invariant.extends work.extends;
       later = omega (arith, c.loop-change.invariant.later, past.0);
       within = grown_past c.args.instance.now _ _ _ _ _ work.extends change.before_last c.behind-after.ensures;
-      looked = looked_step c.args.instance.now _ _ c.in-Some.change _ _ _ _ here c.if-is_empty_left.ensures work change c.behind-after.ensures
-          c.dirtied-more.ensures.clean c.dirtied-more.ensures.unordered c.dirtied-more.ensures.within c.loop-change.invariant.looked;
+      looked = looked_step c.args.instance.now _ _ c.in-Some.change _ _ _ _ here c.if-is_empty_left.ensures work change
+          c.behind-after.ensures
+          c.dirtied-more.ensures.clean c.dirtied-more.ensures.unordered c.dirtied-more.ensures.within
+          c.loop-change.invariant.looked;
       still = λ e. absurd (omega (arith, e, c.loop-change.invariant.later, past.0));
     }
 

@@ -9,8 +9,10 @@ use Rattle.rule_passes.proofs.triples.triples.Goals as goal
 
 pub returns-then-is_empty : goal.returns-then-is_empty
 returns-then-is_empty g c =
-    worked_no_rows c.args.instance.now _ (box_count c.args.instance.now) (row_has c.beyond_triples-there.result) (row_has c.beyond_triples-back.result)
-    (λ v. Triple c.args.dim c.args.u v c.args.x) (λ v. Triple c.args.dim c.args.x v c.args.u) c.beyond_triples-there.ensures.others c.beyond_triples-back.ensures.others
+    worked_no_rows c.args.instance.now _ (box_count c.args.instance.now) (row_has c.beyond_triples-there.result)
+    (row_has c.beyond_triples-back.result)
+    (λ v. Triple c.args.dim c.args.u v c.args.x) (λ v. Triple c.args.dim c.args.x v c.args.u)
+    c.beyond_triples-there.ensures.others c.beyond_triples-back.ensures.others
     (λ v. or_parts _ _ (sym (c.or.ensures v) ∙ c.is_empty.ensures c.if-is_empty.true v))
 
 pub returns-then-triples_among : goal.returns-then-triples_among
@@ -24,5 +26,8 @@ returns g c =
     let back = row_has c.beyond_triples-back.result in
     let one : ℕ → Rule = λ v. Triple c.args.dim c.args.u v c.args.x in
     let two : ℕ → Rule = λ v. Triple c.args.dim c.args.x v c.args.u in
-    worked_rows instance _ _ _ n there back one two c.beyond_triples-there.ensures.others c.beyond_triples-back.ensures.others
-    (worked_then instance _ _ _ _ (Among n there one) (Among n back two) (worked_kept instance _ _ _ (Among n there one) c.if-triples_among.false c.triples_among.ensures) c.triples_among-2.ensures)
+    worked_rows instance _ _ _ n there back one two c.beyond_triples-there.ensures.others
+    c.beyond_triples-back.ensures.others
+    (worked_then instance _ _ _ _ (Among n there one) (Among n back two)
+    (worked_kept instance _ _ _ (Among n there one) c.if-triples_among.false c.triples_among.ensures)
+    c.triples_among-2.ensures)

@@ -7,7 +7,9 @@ use Rattle.rule_passes.proofs.triples.triples_among.Given as goal
 
 abbrev pub invariant-loop-v : goal.invariant-loop-v
 invariant-loop-v g l = record {
-  work : IsWorked l.instance l.fn.state l.state false (λ rule. (x : ℕ) × (x < box_count l.instance) × (row_has l.rest x ≡ false) × ((row_has l.fn.thirds x ≡ true) × (rule ≡ Triple l.dim l.u x l.x)));
+  work : IsWorked l.instance l.fn.state l.state false
+      (λ rule. (x : ℕ) × (x < box_count l.instance) × (row_has l.rest x ≡ false)
+      × ((row_has l.fn.thirds x ≡ true) × (rule ≡ Triple l.dim l.u x l.x)));
   within : (x : ℕ) → row_has l.rest x ≡ true → x < box_count l.instance;
 }
 

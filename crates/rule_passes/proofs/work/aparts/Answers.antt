@@ -14,4 +14,5 @@ returns-then-apart_at c = worked_lost _ _ _ _ _ _ _ _ c.if-apart_at.true c.loop-
 
 pub loop-i-preserved : goal.loop-i-preserved
 loop-i-preserved c =
-    worked_next _ _ _ _ _ _ (λ i rule. (c.args.dim ≢ i) × (rule ≡ Apart i c.args.u c.args.v)) c.loop-i.invariant (worked_kept _ _ _ _ _ c.if-apart_at.false c.apart_at.ensures)
+    worked_next _ _ _ _ _ _ (λ i rule. (c.args.dim ≢ i) × (rule ≡ Apart i c.args.u c.args.v)) c.loop-i.invariant
+    (worked_kept _ _ _ _ _ c.if-apart_at.false c.apart_at.ensures)

@@ -12,14 +12,19 @@ use Rattle.rule_passes.proofs.work.chords.Goals as goal
 pub returns-then-has_no_two : goal.returns-then-has_no_two
 returns-then-has_no_two g c = worked_none c.args.instance.now _ _ (λ rule e. go rule e)
   where
-    go : (rule : Rule) → Chords c.args.instance.now c.args.dim c.args.a c.args.c rule ⊎ Chords c.args.instance.now c.args.dim c.args.c c.args.a rule
+    go : (rule : Rule) → Chords c.args.instance.now c.args.dim c.args.a c.args.c rule
+        ⊎ Chords c.args.instance.now c.args.dim c.args.c c.args.a rule
         → IsCovered c.args.instance.now (excludes c.args.state.now.trail) c.args.state.now.trail rule
     go rule (inl e) = covered_named c.args.instance.now _ rule (Cycle c.args.dim c.args.a e.0 c.args.c e.2.0) e.2.2
-        (covered_chord c.args.instance.now c.args.state.now.trail c.args.dim c.args.a e.0 c.args.c e.2.0 (row_has c.cycle_seconds.result) c.cycle_seconds.ensures.others
+        (covered_chord c.args.instance.now c.args.state.now.trail c.args.dim c.args.a e.0 c.args.c e.2.0
+        (row_has c.cycle_seconds.result) c.cycle_seconds.ensures.others
         (c.has_no_two.ensures c.if-has_no_two.true))
     go rule (inr e) = covered_named c.args.instance.now _ rule (Cycle c.args.dim c.args.c e.0 c.args.a e.2.0) e.2.2
-        (covered_chord c.args.instance.now c.args.state.now.trail c.args.dim c.args.c e.0 c.args.a e.2.0 (row_has c.cycle_seconds.result)
-        (λ x small ca aa off one two. c.cycle_seconds.ensures.others x small aa ca off (joined_back c.args.state.now.trail c.args.dim x c.args.a two) (joined_back c.args.state.now.trail c.args.dim c.args.c x one))
+        (covered_chord c.args.instance.now c.args.state.now.trail c.args.dim c.args.c e.0 c.args.a e.2.0
+        (row_has c.cycle_seconds.result)
+        (λ x small ca aa off one two. c.cycle_seconds.ensures.others x small aa ca off
+        (joined_back c.args.state.now.trail c.args.dim x c.args.a two)
+        (joined_back c.args.state.now.trail c.args.dim c.args.c x one))
         (c.has_no_two.ensures c.if-has_no_two.true))
 
 pub returns-then-chords_from : goal.returns-then-chords_from
@@ -30,4 +35,5 @@ returns g c =
     let instance = c.args.instance.now in
     let one : Rule → Type 0 = Chords instance c.args.dim c.args.a c.args.c in
     let two : Rule → Type 0 = Chords instance c.args.dim c.args.c c.args.a in
-    worked_then instance _ _ _ _ one two (worked_kept instance _ _ _ one c.if-chords_from.false c.chords_from.ensures) c.chords_from-2.ensures
+    worked_then instance _ _ _ _ one two (worked_kept instance _ _ _ one c.if-chords_from.false c.chords_from.ensures)
+    c.chords_from-2.ensures

@@ -11,13 +11,18 @@ use Rattle.rule_passes.proofs.work.chords_from.Goals as goal
 
 pub loop-b-init : goal.loop-b-init
 loop-b-init g c = record {
-  work = worked_rest _ _ (box_count c.args.instance.now) (row_has c.cycle_seconds-rest.result) (λ x rule. (y : ℕ) × (y < box_count c.args.instance.now) × (rule ≡ Cycle c.args.dim c.args.a x c.args.c y)) (λ x small off rule e. covered_named _ _ rule (Cycle c.args.dim c.args.a x c.args.c e.0) e.2 (covered_never c.args.instance.now _ (Cycle c.args.dim c.args.a x c.args.c e.0) (λ is p. c.cycle_seconds-rest.ensures.others x small is.1.1.0 (λ q. is.1.2.1.0 (sym q)) off p.0 p.1)));
+  work = worked_rest _ _ (box_count c.args.instance.now) (row_has c.cycle_seconds-rest.result)
+      (λ x rule. (y : ℕ) × (y < box_count c.args.instance.now) × (rule ≡ Cycle c.args.dim c.args.a x c.args.c y))
+      (λ x small off rule e. covered_named _ _ rule (Cycle c.args.dim c.args.a x c.args.c e.0) e.2
+      (covered_never c.args.instance.now _ (Cycle c.args.dim c.args.a x c.args.c e.0)
+      (λ is p. c.cycle_seconds-rest.ensures.others x small is.1.1.0 (λ q. is.1.2.1.0 (sym q)) off p.0 p.1)));
   within = c.cycle_seconds-rest.ensures.within;
 }
 
 pub loop-b-smaller : goal.loop-b-smaller
 loop-b-smaller g c =
-    members_fewer (row_has c.loop-b.rest) (row_has c.without-rest.result) c.in-Some.b (64 * g.row.K) c.without-rest.ensures c.in-Some.ensures.least.there c.in-Some.ensures.limit
+    members_fewer (row_has c.loop-b.rest) (row_has c.without-rest.result) c.in-Some.b (64 * g.row.K)
+    c.without-rest.ensures c.in-Some.ensures.least.there c.in-Some.ensures.limit
 
 pub cycles_from-requires-clause-sizes : goal.cycles_from-requires-clause-sizes
 cycles_from-requires-clause-sizes g c = sizes_worked _ _ _ _ _ _ c.loop-b.invariant.work c.requires.sizes
@@ -26,15 +31,21 @@ pub cycles_from-requires-clause-b : goal.cycles_from-requires-clause-b
 cycles_from-requires-clause-b g c = c.loop-b.invariant.within _ c.in-Some.ensures.least.there
 
 pub returns-then-cycles_from : goal.returns-then-cycles_from
-returns-then-cycles_from g c = worked_lost _ _ _ _ _ _ _ _ c.if-cycles_from.true c.loop-b.invariant.work c.cycles_from.ensures
+returns-then-cycles_from g c =
+    worked_lost _ _ _ _ _ _ _ _ c.if-cycles_from.true c.loop-b.invariant.work c.cycles_from.ensures
 
 pub loop-b-preserved : goal.loop-b-preserved
 loop-b-preserved g c = record {
-  work = worked_row _ _ _ _ _ (box_count c.args.instance.now) c.in-Some.b (row_has c.loop-b.rest) (row_has c.without-rest.result) (λ x rule. (y : ℕ) × (y < box_count c.args.instance.now) × (rule ≡ Cycle c.args.dim c.args.a x c.args.c y))
-      c.without-rest.ensures c.loop-b.invariant.work (worked_kept _ _ _ _ _ c.if-cycles_from.false c.cycles_from.ensures);
+  work = worked_row _ _ _ _ _ (box_count c.args.instance.now) c.in-Some.b (row_has c.loop-b.rest)
+      (row_has c.without-rest.result)
+      (λ x rule. (y : ℕ) × (y < box_count c.args.instance.now) × (rule ≡ Cycle c.args.dim c.args.a x c.args.c y))
+      c.without-rest.ensures c.loop-b.invariant.work
+      (worked_kept _ _ _ _ _ c.if-cycles_from.false c.cycles_from.ensures);
   within = λ x h. c.loop-b.invariant.within x (and_parts _ _ (sym (c.without-rest.ensures x) ∙ h)).0;
 }
 
 pub returns : goal.returns
 returns g c =
-    worked_all _ _ _ (box_count c.args.instance.now) (row_has c.loop-b.rest) (λ x rule. (y : ℕ) × (y < box_count c.args.instance.now) × (rule ≡ Cycle c.args.dim c.args.a x c.args.c y)) c.in_default.ensures.least c.loop-b.invariant.work
+    worked_all _ _ _ (box_count c.args.instance.now) (row_has c.loop-b.rest)
+    (λ x rule. (y : ℕ) × (y < box_count c.args.instance.now) × (rule ≡ Cycle c.args.dim c.args.a x c.args.c y))
+    c.in_default.ensures.least c.loop-b.invariant.work

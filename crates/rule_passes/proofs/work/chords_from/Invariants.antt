@@ -7,7 +7,9 @@ use Rattle.rule_passes.proofs.work.chords_from.Given as goal
 
 abbrev pub invariant-loop-b : goal.invariant-loop-b
 invariant-loop-b g l = record {
-  work : IsWorked l.instance l.fn.state l.state false (λ rule. (x : ℕ) × (x < box_count l.instance) × (row_has l.rest x ≡ false) × ((y : ℕ) × (y < box_count l.instance) × (rule ≡ Cycle l.dim l.a x l.c y)));
+  work : IsWorked l.instance l.fn.state l.state false
+      (λ rule. (x : ℕ) × (x < box_count l.instance) × (row_has l.rest x ≡ false)
+      × ((y : ℕ) × (y < box_count l.instance) × (rule ≡ Cycle l.dim l.a x l.c y)));
   within : (x : ℕ) → row_has l.rest x ≡ true → x < box_count l.instance;
 }
 

@@ -7,7 +7,9 @@ use Rattle.rule_passes.proofs.work.composes.Given as goal
 
 abbrev pub invariant-loop-x : goal.invariant-loop-x
 invariant-loop-x g l = record {
-  work : IsWorked l.instance l.fn.state l.state false (λ rule. (x : ℕ) × (x < box_count l.instance) × (row_has l.rest x ≡ false) × ((row_has l.fn.thirds x ≡ true) × (rule ≡ Compose l.dim l.u l.v x)));
+  work : IsWorked l.instance l.fn.state l.state false
+      (λ rule. (x : ℕ) × (x < box_count l.instance) × (row_has l.rest x ≡ false)
+      × ((row_has l.fn.thirds x ≡ true) × (rule ≡ Compose l.dim l.u l.v x)));
   within : (x : ℕ) → row_has l.rest x ≡ true → x < box_count l.instance;
 }
 

@@ -7,7 +7,9 @@ use Rattle.rule_passes.proofs.work.cycles.Given as goal
 
 abbrev pub invariant-loop-c : goal.invariant-loop-c
 invariant-loop-c g l = record {
-  work : IsWorked l.instance l.fn.state l.state false (λ rule. (x : ℕ) × (x < box_count l.instance) × (row_has l.rest x ≡ false) × ((y : ℕ) × (y < box_count l.instance) × (rule ≡ Cycle l.dim l.a l.b x y)));
+  work : IsWorked l.instance l.fn.state l.state false
+      (λ rule. (x : ℕ) × (x < box_count l.instance) × (row_has l.rest x ≡ false)
+      × ((y : ℕ) × (y < box_count l.instance) × (rule ≡ Cycle l.dim l.a l.b x y)));
   within : (x : ℕ) → row_has l.rest x ≡ true → x < box_count l.instance;
 }
 

@@ -7,7 +7,8 @@ use Rattle.rule_passes.proofs.work.cycles_through.Given as goal
 
 abbrev pub invariant-loop-d : goal.invariant-loop-d
 invariant-loop-d g l = record {
-  work : IsWorked l.instance l.fn.state l.state false (λ rule. (x : ℕ) × (x < box_count l.instance) × (row_has l.rest x ≡ false) × (rule ≡ Cycle l.dim l.a l.b l.c x));
+  work : IsWorked l.instance l.fn.state l.state false
+      (λ rule. (x : ℕ) × (x < box_count l.instance) × (row_has l.rest x ≡ false) × (rule ≡ Cycle l.dim l.a l.b l.c x));
   within : (x : ℕ) → row_has l.rest x ≡ true → x < box_count l.instance;
 }
 

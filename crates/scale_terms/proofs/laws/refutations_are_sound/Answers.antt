@@ -8,7 +8,8 @@ use Rattle.scale_terms.proofs.Excess.{excess_law}
 use Rattle.scale_terms.proofs.laws.refutations_are_sound.Goals as goal
 
 pub returns-clause-under : goal.returns-clause-under
-returns-clause-under c instance places es tokens sides packing h = refutes_sound excess_law instance sides places packing h
+returns-clause-under c instance places es tokens sides packing h =
+    refutes_sound excess_law instance sides places packing h
 
 pub returns-clause-fits : goal.returns-clause-fits
 returns-clause-fits c instance tokens sides h = none_fits excess_law instance sides tokens h
@@ -21,8 +22,10 @@ returns-clause-value c instance goal tokens sides h = none_reaches excess_law in
 
 pub returns-clause-bin_nodes : goal.returns-clause-bin_nodes
 returns-clause-bin_nodes c instance k nodes tokens bin_of places b sides h l packing =
-    bins_sound excess_law instance sides k bin_of places packing h (get_or nodes b []) (index_in {X = Bins} [] nodes b l)
+    bins_sound excess_law instance sides k bin_of places packing h (get_or nodes b [])
+    (index_in {X = Bins} [] nodes b l)
 
 pub returns-clause-value_nodes : goal.returns-clause-value_nodes
 returns-clause-value_nodes c instance goal nodes tokens keep b sides h l set reached fits =
-    value_sound excess_law instance sides goal keep set reached fits h (get_or nodes b no_choice) (index_in {X = Choice} no_choice nodes b l)
+    value_sound excess_law instance sides goal keep set reached fits h (get_or nodes b no_choice)
+    (index_in {X = Choice} no_choice nodes b l)

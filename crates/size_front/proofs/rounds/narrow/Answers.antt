@@ -10,8 +10,11 @@ use Rattle.size_front.proofs.rounds.narrow.Goals as goal
 pub returns-then-widths-clause-round : goal.returns-then-widths-clause-round
 returns-then-widths-clause-round g c = λ more.
     ap (λ (x : PlainFront). joined c.args.front.now x)
-    (spent_widths (size_answer c.args.instance.now c.args.settings.now.budget c.args.settings.now.scales) (written_container c.args.instance.now 0)
-    (walk_on (size_answer c.args.instance.now c.args.settings.now.budget c.args.settings.now.scales) (written_container c.args.instance.now 0) more)
-    c.args.stand.height c.args.stand.refuted (plain_tokens c.args.stand.tokens.items) c.args.places.items c.requires.placed c.requires.refuted
+    (spent_widths (size_answer c.args.instance.now c.args.settings.now.budget c.args.settings.now.scales)
+    (written_container c.args.instance.now 0)
+    (walk_on (size_answer c.args.instance.now c.args.settings.now.budget c.args.settings.now.scales)
+    (written_container c.args.instance.now 0) more)
+    c.args.stand.height c.args.stand.refuted (plain_tokens c.args.stand.tokens.items) c.args.places.items
+    c.requires.placed c.requires.refuted
     (plain_reached c.in_ok-widths.widths) c.in_ok-widths.ensures.run c.if-widths.true)
     ∙ sym c.in_ok-end_spent.ensures

@@ -10,20 +10,30 @@ use Rattle.size_front.proofs.rounds.one_round.Goals as goal
 pub returns-in_ok-end_closed-in-Refuted-clause-round :
     goal.returns-in_ok-end_closed-in-Refuted-clause-round
 returns-in_ok-end_closed-in-Refuted-clause-round g c = λ more.
-    ap (λ (l : PlainLevel). joined c.args.front.now (round_by (size_answer c.args.instance.now c.args.settings.now.budget c.args.settings.now.scales) (written_container c.args.instance.now 0)
-    (walk_on (size_answer c.args.instance.now c.args.settings.now.budget c.args.settings.now.scales) (written_container c.args.instance.now 0) more)
+    ap (λ (l : PlainLevel). joined c.args.front.now
+    (round_by (size_answer c.args.instance.now c.args.settings.now.budget c.args.settings.now.scales)
+    (written_container c.args.instance.now 0)
+    (walk_on (size_answer c.args.instance.now c.args.settings.now.budget c.args.settings.now.scales)
+    (written_container c.args.instance.now 0) more)
     c.args.stand.height c.args.stand.refuted (plain_tokens c.args.stand.tokens.items) l))
-    (ap (λ (w : ℕ). size_answer c.args.instance.now c.args.settings.now.budget c.args.settings.now.scales w c.args.stand.height) (sym c.written_container-most.ensures)
+    (ap (λ (w : ℕ). size_answer c.args.instance.now c.args.settings.now.budget c.args.settings.now.scales w
+    c.args.stand.height) (sym c.written_container-most.ensures)
     ∙ (sym c.in_ok-widest.ensures.answer ∙ ap plain_level c.in-Refuted.is))
-    ∙ (ap (λ (w : ℕ). joined c.args.front.now (closed_front w c.args.stand.height (plain_tokens c.in-Refuted.tokens.items))) (sym c.written_container-most.ensures)
+    ∙ (ap (λ (w : ℕ). joined c.args.front.now
+    (closed_front w c.args.stand.height (plain_tokens c.in-Refuted.tokens.items)))
+    (sym c.written_container-most.ensures)
     ∙ sym c.in_ok-end_closed-in-Refuted.ensures)
 
 pub returns-in_ok-end_spent-in-Spent-clause-round :
     goal.returns-in_ok-end_spent-in-Spent-clause-round
 returns-in_ok-end_spent-in-Spent-clause-round g c = λ more.
-    ap (λ (l : PlainLevel). joined c.args.front.now (round_by (size_answer c.args.instance.now c.args.settings.now.budget c.args.settings.now.scales) (written_container c.args.instance.now 0)
-    (walk_on (size_answer c.args.instance.now c.args.settings.now.budget c.args.settings.now.scales) (written_container c.args.instance.now 0) more)
+    ap (λ (l : PlainLevel). joined c.args.front.now
+    (round_by (size_answer c.args.instance.now c.args.settings.now.budget c.args.settings.now.scales)
+    (written_container c.args.instance.now 0)
+    (walk_on (size_answer c.args.instance.now c.args.settings.now.budget c.args.settings.now.scales)
+    (written_container c.args.instance.now 0) more)
     c.args.stand.height c.args.stand.refuted (plain_tokens c.args.stand.tokens.items) l))
-    (ap (λ (w : ℕ). size_answer c.args.instance.now c.args.settings.now.budget c.args.settings.now.scales w c.args.stand.height) (sym c.written_container-most.ensures)
+    (ap (λ (w : ℕ). size_answer c.args.instance.now c.args.settings.now.budget c.args.settings.now.scales w
+    c.args.stand.height) (sym c.written_container-most.ensures)
     ∙ (sym c.in_ok-widest.ensures.answer ∙ ap plain_level c.in-Spent.is))
     ∙ sym c.in_ok-end_spent-in-Spent.ensures

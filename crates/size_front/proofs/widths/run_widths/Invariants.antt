@@ -8,7 +8,8 @@ use Rattle.size_front.proofs.widths.run_widths.Given as goal
 
 abbrev pub invariant-loop-level : goal.invariant-loop-level
 invariant-loop-level g l =
-    IsOnRun (λ w. size_answer l.fn.instance l.fn.settings.budget l.fn.settings.scales w l.fn.height) l.fn.refuted (written_container l.fn.instance 0)
+    IsOnRun (λ w. size_answer l.fn.instance l.fn.settings.budget l.fn.settings.scales w l.fn.height) l.fn.refuted
+    (written_container l.fn.instance 0)
     (levels_from l.fn.refuted [] (written_container l.fn.instance 0) l.fn.places.items) (plain_reached l.reached)
     × IfSome l.decider (λ d. d ≡ decider_of l.fn.instance)
     × (1 ≤ l.reached.placed)

@@ -17,14 +17,17 @@ with_last_side-requires g c =
 
 pub decide_tall-requires-clause-edges : goal.decide_tall-requires-clause-edges
 decide_tall-requires-clause-edges g c κs within =
-    subst (λ (i : PlainInstance). AreAtEdges i c.args.start.now) (sym c.in_ok-tall.ensures) (c.requires.edges c.args.height)
+    subst (λ (i : PlainInstance). AreAtEdges i c.args.start.now) (sym c.in_ok-tall.ensures)
+    (c.requires.edges c.args.height)
 
 pub decide_tall-requires-clause-ready : goal.decide_tall-requires-clause-ready
 decide_tall-requires-clause-ready g c κs within =
-    subst (λ e. IfSome c.args.decider.now (λ d. (d ≡ e) × (c.args.start.now ≡ []))) (sym (same_decider c.args.instance.now c.args.height) ∙ ap decider_of (sym c.in_ok-tall.ensures)) c.requires.ready
+    subst (λ e. IfSome c.args.decider.now (λ d. (d ≡ e) × (c.args.start.now ≡ [])))
+    (sym (same_decider c.args.instance.now c.args.height) ∙ ap decider_of (sym c.in_ok-tall.ensures)) c.requires.ready
 
 pub returns-clause-answer : goal.returns-clause-answer
 returns-clause-answer g c =
     c.level_of.ensures
     ∙ ap level_by (c.in_ok-outcome.ensures.outcome
-    ∙ ap (λ (i : PlainInstance). told c.args.settings.now.budget (outcome (class_tree i c.args.start.now c.args.settings.now.scales))) c.in_ok-tall.ensures)
+    ∙ ap (λ (i : PlainInstance). told c.args.settings.now.budget
+    (outcome (class_tree i c.args.start.now c.args.settings.now.scales))) c.in_ok-tall.ensures)

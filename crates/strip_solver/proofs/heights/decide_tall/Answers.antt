@@ -6,4 +6,6 @@ use Rattle.strip_solver.proofs.heights.decide_tall.Goals as goal
 
 pub returns-in_ok-tree-in-None-clause-outcome : goal.returns-in_ok-tree-in-None-clause-outcome
 returns-in_ok-tree-in-None-clause-outcome g c =
-    subst (λ (t : PlainClassTree). IfOk c.solve.result (λ r. plain_outcome r ≡ told c.args.settings.now.budget (outcome (shape t)))) c.in_ok-tree-in-None.ensures c.solve.ensures
+    subst (λ (t : PlainClassTree). IfOk c.solve.result
+    (λ r. plain_outcome r ≡ told c.args.settings.now.budget (outcome (shape t)))) c.in_ok-tree-in-None.ensures
+    c.solve.ensures

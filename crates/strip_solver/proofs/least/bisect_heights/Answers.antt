@@ -6,9 +6,11 @@ use Rattle.strip_solver.proofs.least.bisect_heights.Goals as goal
 
 pub loop-level-preserved : goal.loop-level-preserved
 loop-level-preserved g c = (
-  on_run_next _ _ _ _ (plain_reached c.loop-level.reached) (plain_reached c.after-reached.result) c.in-Some.level (plain_level c.in_ok-answer.answer)
+  on_run_next _ _ _ _ (plain_reached c.loop-level.reached) (plain_reached c.after-reached.result) c.in-Some.level
+      (plain_level c.in_ok-answer.answer)
       c.loop-level.invariant.0 c.in-Some.ensures c.in_ok-answer.ensures.answer c.after-reached.ensures,
-  subst (λ found. IfSome found (IsReadyFor c.args.instance.now c.args.start.now)) (sym c.in_ok-answer.ensures.same) c.loop-level.invariant.1,
+  subst (λ found. IfSome found (IsReadyFor c.args.instance.now c.args.start.now)) (sym c.in_ok-answer.ensures.same)
+      c.loop-level.invariant.1,
 )
 
 pub returns : goal.returns

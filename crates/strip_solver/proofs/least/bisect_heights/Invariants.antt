@@ -8,7 +8,8 @@ use Rattle.strip_solver.proofs.least.bisect_heights.Given as goal
 
 abbrev pub invariant-loop-level : goal.invariant-loop-level
 invariant-loop-level g l =
-    IsOnRun (height_answer_from l.fn.start l.fn.instance l.fn.settings.budget l.fn.settings.scales) 0 (first_heights l.fn.instance).placed
+    IsOnRun (height_answer_from l.fn.start l.fn.instance l.fn.settings.budget l.fn.settings.scales) 0
+    (first_heights l.fn.instance).placed
     (first_heights l.fn.instance) (plain_reached l.reached)
     × IfSome l.decider (IsReadyFor l.fn.instance l.fn.start)
 

@@ -8,7 +8,9 @@ pub returns-clause-inner : goal.returns-clause-inner
 returns-clause-inner c instance start scales limits = class_count instance (some_dimension instance limits) start scales
 
 pub returns-clause-bins : goal.returns-clause-bins
-returns-clause-bins c instance k scales limits = bin_count instance (internal_sides instance limits) (some_dimension instance limits) scales k
+returns-clause-bins c instance k scales limits =
+    bin_count instance (internal_sides instance limits) (some_dimension instance limits) scales k
 
 pub returns-clause-value : goal.returns-clause-value
-returns-clause-value c instance goal scales limits = choice_count instance (internal_sides instance limits) (some_dimension instance limits) scales goal
+returns-clause-value c instance goal scales limits =
+    choice_count instance (internal_sides instance limits) (some_dimension instance limits) scales goal

@@ -1,4 +1,5 @@
-use Rattle.tree_terms.proofs.SpentRuns.{height_spent, bins_spent, value_spent, height_end, bins_end, value_end, height_enough, bins_enough, value_enough}
+use Rattle.tree_terms.proofs.SpentRuns.{height_spent, bins_spent, value_spent, height_end, bins_end, value_end}
+use Rattle.tree_terms.proofs.SpentRuns.{height_enough, bins_enough, value_enough}
 use Rattle.tree_terms.proofs.level_laws.runs_are_spent_exactly.Goals as goal
 
 pub returns-clause-height : goal.returns-clause-height

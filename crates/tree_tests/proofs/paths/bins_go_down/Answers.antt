@@ -8,5 +8,10 @@ use Rattle.tree_tests.proofs.paths.bins_go_down.Goals as goal
 
 pub node-requires-in-Split-Assign-eq1-eq0-eq1 : goal.node-requires-in-Split-Assign-eq1-eq0-eq1
 node-requires-in-Split-Assign-eq1-eq0-eq1 c =
-    let told : plain_node c.in_ok-placed.field-0 ≡ node_told (bin_tree c.args.tree.now.instance c.args.tree.now.bins c.args.tree.now.scales) = c.in_ok-placed.ensures in
-    child_reached (bin_tree c.args.tree.now.instance c.args.tree.now.bins c.args.tree.now.scales) (plain_token c.in-Split-Assign-eq1-eq0-eq1.token) c.in-Split-Assign-eq1-eq0-eq1.own c.in-Split-Assign-eq1-eq0-eq1.children (sym told ∙ ap plain_node c.in-Split-Assign-eq1-eq0-eq1.is) 0 (omega (arith, c.in-Split-Assign-eq1-eq0-eq1.children-is))
+    let told : plain_node c.in_ok-placed.field-0
+    ≡ node_told (bin_tree c.args.tree.now.instance c.args.tree.now.bins c.args.tree.now.scales) =
+    c.in_ok-placed.ensures in
+    child_reached (bin_tree c.args.tree.now.instance c.args.tree.now.bins c.args.tree.now.scales)
+    (plain_token c.in-Split-Assign-eq1-eq0-eq1.token) c.in-Split-Assign-eq1-eq0-eq1.own
+    c.in-Split-Assign-eq1-eq0-eq1.children (sym told ∙ ap plain_node c.in-Split-Assign-eq1-eq0-eq1.is) 0
+    (omega (arith, c.in-Split-Assign-eq1-eq0-eq1.children-is))

@@ -15,20 +15,27 @@ loop-k-preserved c =
     let path = c.args.path.now in
     let next = children_next path k c.args.children c.args.first c.loop-k-test.true in
     let slot : Slot = record { path = c.in_ok-child_path.field-0; state = stored.Waits } in
-    let made : entries_from c.args.first c.push.new.self.items ≡ entries_from c.args.first c.loop-k.slots.items ++ TaskEntry (c.args.first + k) (path ++ k ∷ []) Waits ∷ [] =
+    let made : entries_from c.args.first c.push.new.self.items ≡ entries_from c.args.first c.loop-k.slots.items
+    ++ TaskEntry (c.args.first + k) (path ++ k ∷ []) Waits ∷ [] =
     ap (entries_from c.args.first) c.in_ok-push.ensures.items
     ∙ (entries_push c.args.first c.loop-k.slots.items slot
-    ∙ ap₂ (λ n p. entries_from c.args.first c.loop-k.slots.items ++ TaskEntry n p Waits ∷ []) (ap (λ n. c.args.first + n) c.loop-k.invariant.size) c.in_ok-child_path.ensures) in
+    ∙ ap₂ (λ n p. entries_from c.args.first c.loop-k.slots.items ++ TaskEntry n p Waits ∷ [])
+    (ap (λ n. c.args.first + n) c.loop-k.invariant.size) c.in_ok-child_path.ensures) in
     let task : PlainTask = record { path = path ++ k ∷ []; number = c.args.first + k } in
     let handed : c.push-in-loop-k-2.new.self.items ≡ c.loop-k.tasks.items ++ task ∷ [] =
     c.in_ok-push-3.ensures.items ∙ ap (λ (t : PlainTask). c.loop-k.tasks.items ++ t ∷ [])
     (c.new.ensures ∙ ap (λ p. record { path = p; number = c.args.first + k }) c.in_ok-child_path-2.ensures) in
     record {
       made = ap (λ es. es ++ children_from path (k + 1) (c.args.children - (k + 1)) (c.args.first + (k + 1))) made
-          ∙ moved_over (entries_from c.args.first c.loop-k.slots.items) (TaskEntry (c.args.first + k) (path ++ k ∷ []) Waits) _ _ _ next c.loop-k.invariant.made;
-      numbered = ap (λ ns. ns ++ range_with_len (c.args.first + (k + 1)) (c.args.children - (k + 1))) c.in_ok-push-2.ensures.items
-          ∙ moved_over c.loop-k.numbers.items (c.args.first + k) _ _ _ (numbers_next k c.args.children c.args.first c.loop-k-test.true) c.loop-k.invariant.numbered;
-      waiting = ap (λ ts. ts ++ waiting_tasks (children_from path (k + 1) (c.args.children - (k + 1)) (c.args.first + (k + 1)))) handed
+          ∙ moved_over (entries_from c.args.first c.loop-k.slots.items)
+          (TaskEntry (c.args.first + k) (path ++ k ∷ []) Waits) _ _ _ next c.loop-k.invariant.made;
+      numbered = ap (λ ns. ns ++ range_with_len (c.args.first + (k + 1)) (c.args.children - (k + 1)))
+          c.in_ok-push-2.ensures.items
+          ∙ moved_over c.loop-k.numbers.items (c.args.first + k) _ _ _
+          (numbers_next k c.args.children c.args.first c.loop-k-test.true) c.loop-k.invariant.numbered;
+      waiting = ap (λ ts. ts ++ waiting_tasks
+          (children_from path (k + 1) (c.args.children - (k + 1)) (c.args.first + (k + 1)))) handed
           ∙ moved_over c.loop-k.tasks.items task _ _ _ (ap waiting_tasks next) c.loop-k.invariant.waiting;
-      size = ap length c.in_ok-push.ensures.items ∙ (length_push c.loop-k.slots.items slot ∙ ap (λ n. n + 1) c.loop-k.invariant.size);
+      size = ap length c.in_ok-push.ensures.items
+          ∙ (length_push c.loop-k.slots.items slot ∙ ap (λ n. n + 1) c.loop-k.invariant.size);
     }

@@ -7,8 +7,10 @@ use Rattle.work_share.proofs.children.children_of.Given as goal
 
 abbrev pub invariant-loop-k : goal.invariant-loop-k
 invariant-loop-k l = record {
-  made : entries_from l.first l.slots.items ++ children_from l.path l.k (l.children - l.k) (l.first + l.k) ≡ children_from l.path 0 l.children l.first;
+  made : entries_from l.first l.slots.items ++ children_from l.path l.k (l.children - l.k) (l.first + l.k)
+      ≡ children_from l.path 0 l.children l.first;
   numbered : l.numbers.items ++ range_with_len (l.first + l.k) (l.children - l.k) ≡ range_with_len l.first l.children;
-  waiting : l.tasks.items ++ waiting_tasks (children_from l.path l.k (l.children - l.k) (l.first + l.k)) ≡ waiting_tasks (children_from l.path 0 l.children l.first);
+  waiting : l.tasks.items ++ waiting_tasks (children_from l.path l.k (l.children - l.k) (l.first + l.k))
+      ≡ waiting_tasks (children_from l.path 0 l.children l.first);
   size : length l.slots.items ≡ l.k;
 }

@@ -1,4 +1,5 @@
-use Rattle.std.proofs.Common.{rules, arith, ◌≡◌, ◌<◌, ◌+◌, ◌∙◌, sym, ap, subst, length, take, drop, get_or, vec_len, true, ℕ, List, Bool}
+use Rattle.std.proofs.Common.{rules, arith, ◌≡◌, ◌<◌, ◌+◌, ◌∙◌, sym, ap, subst, length, take, drop, get_or, vec_len}
+use Rattle.std.proofs.Common.{true, ℕ, List, Bool}
 use Rattle.board_terms.specs.Board.{PlainEntry}
 use Rattle.std.proofs.lemmas.List.{length-map}
 use Rattle.tree_terms.specs.Trees.{No, Decided, told, join}
@@ -10,42 +11,54 @@ use Rattle.work_share.proofs.Advance.{no_entry, below_at, stored_at}
 use Rattle.work_share.proofs.Tokens.{joined_all, joined_end, ends_at, piece_any}
 use Rattle.work_share.proofs.joining.join_run.Goals as goal
 
-ended_front : {budget len count : ℕ} {es : List PlainEntry} {ended : Bool} → IsFront budget es len count ended → ended ≡ true → IsFront budget es len count true
+ended_front : {budget len count : ℕ} {es : List PlainEntry} {ended : Bool} → IsFront budget es len count ended
+    → ended ≡ true → IsFront budget es len count true
 ended_front {budget} {len} {count} {es} f e = subst (λ b. IsFront budget es len count b) e f
 
 pub index_mut-requires : goal.index_mut-requires
 index_mut-requires c =
     let es = entries_of c.args.slots.items c.args.order.now in
     let size : vec_len c.args.slots ≡ length c.args.slots.items = search rules in
-    let at = (ends_at c.args.budget c.args.front.len c.args.front.count es no_entry (ended_front c.requires.front c.if-front.true)).0 in
-    let inside : c.args.front.len < length c.args.order.now = subst (λ n. c.args.front.len < n) (length-map c.args.order.now (entry_at c.args.slots.items)) at in
+    let at = (ends_at c.args.budget c.args.front.len c.args.front.count es no_entry
+    (ended_front c.requires.front c.if-front.true)).0 in
+    let inside : c.args.front.len < length c.args.order.now =
+    subst (λ n. c.args.front.len < n) (length-map c.args.order.now (entry_at c.args.slots.items)) at in
     subst (λ n. get_or c.args.order.now c.args.front.len 0 < n) (sym size)
     (below_at (length c.args.slots.items) c.args.order.now c.args.front.len c.requires.below inside)
 
 pub end_run-requires-clause-ends : goal.end_run-requires-clause-ends
 end_run-requires-clause-ends c number =
     let es = entries_of c.args.slots.items c.args.order.now in
-    let at = ends_at c.args.budget c.args.front.len c.args.front.count es no_entry (ended_front c.requires.front c.if-front.true) in
-    let inside : c.args.front.len < length c.args.order.now = subst (λ n. c.args.front.len < n) (length-map c.args.order.now (entry_at c.args.slots.items)) at.0 in
-    let is = stored_at c.args.slots.items c.args.order.now c.args.front.len c.index_mut.result.now no_entry c.requires.below inside c.index_mut.ensures.value in
-    subst (Ends c.args.budget c.args.front.count) (ap piece_of is ∙ piece_any (get_or c.args.order.now c.args.front.len 0) number c.index_mut.result.now) at.1
+    let at = ends_at c.args.budget c.args.front.len c.args.front.count es no_entry
+    (ended_front c.requires.front c.if-front.true) in
+    let inside : c.args.front.len < length c.args.order.now =
+    subst (λ n. c.args.front.len < n) (length-map c.args.order.now (entry_at c.args.slots.items)) at.0 in
+    let is = stored_at c.args.slots.items c.args.order.now c.args.front.len c.index_mut.result.now no_entry
+    c.requires.below inside c.index_mut.ensures.value in
+    subst (Ends c.args.budget c.args.front.count)
+    (ap piece_of is ∙ piece_any (get_or c.args.order.now c.args.front.len 0) number c.index_mut.result.now) at.1
 
 pub returns-then-front : goal.returns-then-front
 returns-then-front c =
     let es = entries_of c.args.slots.items c.args.order.now in
     let f = ended_front c.requires.front c.if-front.true in
     let at = ends_at c.args.budget c.args.front.len c.args.front.count es no_entry f in
-    let inside : c.args.front.len < length c.args.order.now = subst (λ n. c.args.front.len < n) (length-map c.args.order.now (entry_at c.args.slots.items)) at.0 in
-    let is = stored_at c.args.slots.items c.args.order.now c.args.front.len c.index_mut.result.now no_entry c.requires.below inside c.index_mut.ensures.value in
+    let inside : c.args.front.len < length c.args.order.now =
+    subst (λ n. c.args.front.len < n) (length-map c.args.order.now (entry_at c.args.slots.items)) at.0 in
+    let is = stored_at c.args.slots.items c.args.order.now c.args.front.len c.index_mut.result.now no_entry
+    c.requires.below inside c.index_mut.ensures.value in
     let rest = run_of c.args.budget (drop (c.args.front.len + 1) es) in
     c.end_run.ensures (get_or c.args.order.now c.args.front.len 0) (entry_tokens (take c.args.front.len es)) rest
-    ∙ (ap (λ e. told c.args.budget (join (No (entry_tokens (take c.args.front.len es)) c.args.front.count) (with_entry c.args.budget e rest).verdict)) (sym is)
+    ∙ (ap (λ e. told c.args.budget
+    (join (No (entry_tokens (take c.args.front.len es)) c.args.front.count)
+    (with_entry c.args.budget e rest).verdict)) (sym is)
     ∙ joined_end c.args.budget c.args.front.len c.args.front.count es no_entry f)
 
 pub returns-in-Ok : goal.returns-in-Ok
 returns-in-Ok c =
     let es = entries_of c.args.slots.items c.args.order.now in
-    let f = subst (λ b. IsFront c.args.budget es c.args.front.len c.args.front.count b) c.if-front.false c.requires.front in
+    let f = subst (λ b. IsFront c.args.budget es c.args.front.len c.args.front.count b) c.if-front.false
+    c.requires.front in
     let len : c.args.front.len ≡ length c.args.order.now = c.requires.over c.if-front.false in
     let all = length-map c.args.order.now (entry_at c.args.slots.items) in
     ap (λ ts. Decided (No ts c.args.front.count)) c.in-Ok.ensures

@@ -32,7 +32,8 @@ loop-index-preserved c =
       | else-waits_at w ↦ let is = w.waiting-is in omega (arith, is, few)
     ] in
     record {
-      passed = not_in_more c.args.number c.args.order.now c.loop-index.index c.loop-index-test.true c.loop-index.invariant.passed c.if-order-index.false;
+      passed = not_in_more c.args.number c.args.order.now c.loop-index.index c.loop-index-test.true
+          c.loop-index.invariant.passed c.if-order-index.false;
       counted = omega (arith, more, old, one);
       few = small;
     }

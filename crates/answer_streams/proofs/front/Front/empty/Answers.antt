@@ -4,4 +4,5 @@ use Rattle.answer_streams.proofs.front.Front.empty.Goals as goal
 
 pub returns-then-self-clause-shown : goal.returns-then-self-clause-shown
 returns-then-self-clause-shown g c =
-    shown_given _ _ c.args.self.now.block c.args.self.now.start c.args.self.now.end c.give_part-taken.result (omega (arith, c.give_part-taken.ensures.within, c.args.self.now.ordered)) c.give_part-taken.ensures.moves
+    shown_given _ _ c.args.self.now.block c.args.self.now.start c.args.self.now.end c.give_part-taken.result
+    (omega (arith, c.give_part-taken.ensures.within, c.args.self.now.ordered)) c.give_part-taken.ensures.moves

@@ -9,6 +9,7 @@ returns-clause-moves g c =
     let room = on_ok c.make_room.result _ (c.if-is_err.ensures).value c.make_room.ensures.room in (
       omega (arith, room, c.put-count.ensures.count, c.requires),
       omega (arith, c.put-count.ensures.count),
-      shown_put _ _ _ c.make_room.new.self.start c.make_room.new.self.end n c.args.piece.now c.make_room.new.self.ordered (omega (arith, room)) c.put-count.ensures.bytes
+      shown_put _ _ _ c.make_room.new.self.start c.make_room.new.self.end n c.args.piece.now
+          c.make_room.new.self.ordered (omega (arith, room)) c.put-count.ensures.bytes
           ∙ ap (λ u. append_known u (take n c.args.piece.now)) c.make_room.ensures.shown,
     )

@@ -9,4 +9,6 @@ returns c =
     let e = c.self.view_is in
     let h = rw (← e) at c.in_ok-step.ensures in
     let q = rw c.in_ok-search.ensures at c.explore_step.ensures in
-    rw (← e) (IfOk-weaker c.explore_step.result _ _ (λ r g. subst (λ (x : Option SearchTree). IfSome x (λ node. plain_outcome r ≡ told c.args.cap (outcome node))) (sym h.is) g) q)
+    rw (← e) (IfOk-weaker c.explore_step.result _ _
+    (λ r g. subst (λ (x : Option SearchTree). IfSome x (λ node. plain_outcome r ≡ told c.args.cap (outcome node)))
+    (sym h.is) g) q)

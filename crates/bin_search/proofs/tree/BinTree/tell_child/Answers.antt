@@ -10,4 +10,5 @@ returns c =
     let e = c.self.view_is in
     let h = rw (← e) at c.in_ok-step.ensures in
     let q = rw c.in_ok-search.ensures at c.tell_step.ensures in
-    rw (← e) (IfOk-weaker c.tell_step.result _ _ (λ r g. subst (λ (x : Option SearchTree). IfSome x (λ node. plain_node r ≡ node_told node)) (sym h.is) g) q)
+    rw (← e) (IfOk-weaker c.tell_step.result _ _
+    (λ r g. subst (λ (x : Option SearchTree). IfSome x (λ node. plain_node r ≡ node_told node)) (sym h.is) g) q)

@@ -7,20 +7,36 @@ use Rattle.bin_search.proofs.tree.BinTreeTree.explore.Goals as goal
 pub returns-clause-right : goal.returns-clause-right
 returns-clause-right c =
     let e = c.self.view_is in
-    let t : PlainBinTree = record { instance = c.self.inside.instance.now; bins = c.self.inside.bins; scales = c.self.inside.scales } in
-    rw (← e) (IfOk-weaker c.explore_node.result _ _ (λ r h. right_at t c.len-limits.ensures.limits c.args.path.now c.args.cap (plain_outcome r) (rw (← e) at c.requires.there) h)
+    let t : PlainBinTree = record {
+      instance = c.self.inside.instance.now;
+      bins = c.self.inside.bins;
+      scales = c.self.inside.scales;
+    } in
+    rw (← e) (IfOk-weaker c.explore_node.result _ _
+    (λ r h. right_at t c.len-limits.ensures.limits c.args.path.now c.args.cap (plain_outcome r)
+    (rw (← e) at c.requires.there) h)
     (rw (← e) at c.explore_node.ensures))
 
 pub returns-clause-decides : goal.returns-clause-decides
 returns-clause-decides c =
     let e = c.self.view_is in
-    let t : PlainBinTree = record { instance = c.self.inside.instance.now; bins = c.self.inside.bins; scales = c.self.inside.scales } in
-    rw (← e) (λ p. IfOk-weaker c.explore_node.result _ _ (λ r h. decides_at t c.len-limits.ensures.limits c.args.path.now c.args.cap (plain_outcome r) h p)
+    let t : PlainBinTree = record {
+      instance = c.self.inside.instance.now;
+      bins = c.self.inside.bins;
+      scales = c.self.inside.scales;
+    } in
+    rw (← e) (λ p. IfOk-weaker c.explore_node.result _ _
+    (λ r h. decides_at t c.len-limits.ensures.limits c.args.path.now c.args.cap (plain_outcome r) h p)
     (rw (← e) at c.explore_node.ensures))
 
 pub returns-clause-enough : goal.returns-clause-enough
 returns-clause-enough c =
     let e = c.self.view_is in
-    let t : PlainBinTree = record { instance = c.self.inside.instance.now; bins = c.self.inside.bins; scales = c.self.inside.scales } in
-    rw (← e) (λ p l. IfOk-weaker c.explore_node.result _ _ (λ r h. told_at t c.len-limits.ensures.limits c.args.path.now c.args.cap (plain_outcome r) h p l)
+    let t : PlainBinTree = record {
+      instance = c.self.inside.instance.now;
+      bins = c.self.inside.bins;
+      scales = c.self.inside.scales;
+    } in
+    rw (← e) (λ p l. IfOk-weaker c.explore_node.result _ _
+    (λ r h. told_at t c.len-limits.ensures.limits c.args.path.now c.args.cap (plain_outcome r) h p l)
     (rw (← e) at c.explore_node.ensures))

@@ -36,5 +36,8 @@ invariant_of-self c =
     let whole = c.self.inside.whole.now in
     let set = set_of c.self.view_is c.requires.set in
     rw c.refill.ensures.items
-    (held_set whole _ c.args.keep.now c.self.inside.sets.items _ (length c.args.keep.now - 1) _ _ c.self.invariant c.requires.some set
-    (omega (arith, c.requires.some)) (ap (λ (i : PlainInstance). slice_set c.self.inside.sets.items (length c.args.keep.now - 1) i) c.set_boxes.ensures) c.refill.ensures.capacity)
+    (held_set whole _ c.args.keep.now c.self.inside.sets.items _ (length c.args.keep.now - 1) _ _ c.self.invariant
+    c.requires.some set
+    (omega (arith, c.requires.some))
+    (ap (λ (i : PlainInstance). slice_set c.self.inside.sets.items (length c.args.keep.now - 1) i)
+    c.set_boxes.ensures) c.refill.ensures.capacity)

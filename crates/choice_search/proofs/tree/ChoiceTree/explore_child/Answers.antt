@@ -11,43 +11,86 @@ use Rattle.choice_search.proofs.tree.ChoiceTree.explore_child.Goals as goal
 pub come_to-requires : goal.come_to-requires
 come_to-requires c =
     let e = c.self.view_is in
-    let t : PlainChoiceTree = record { instance = c.self.inside.instance.now; goal = c.self.inside.value; scales = c.self.inside.scales } in
-    let h = end_is t c.len-limits.ensures.limits c.args.path.now (length c.args.path.now - 1) (omega (arith, c.requires.path)) (rw (← e) at c.requires.reached) in
+    let t : PlainChoiceTree = record {
+      instance = c.self.inside.instance.now;
+      goal = c.self.inside.value;
+      scales = c.self.inside.scales;
+    } in
+    let h = end_is t c.len-limits.ensures.limits c.args.path.now (length c.args.path.now - 1)
+    (omega (arith, c.requires.path)) (rw (← e) at c.requires.reached) in
     let l = h.above.there in
     rw (c.as_slice-order.ensures.value, c.self.invariant) (omega (arith, l))
 
 pub explore_first-requires-clause-above : goal.explore_first-requires-clause-above
 explore_first-requires-clause-above c =
     let e = c.self.view_is in
-    let t : PlainChoiceTree = record { instance = c.self.inside.instance.now; goal = c.self.inside.value; scales = c.self.inside.scales } in
-    let h = end_is t c.len-limits.ensures.limits c.args.path.now (length c.args.path.now - 1) (omega (arith, c.requires.path)) (rw (← e) at c.requires.reached) in
-    let k = c.in_ok-above.ensures.taken ∙ ap (λ us. taken_along [] us (take (length c.args.path.now - 1) c.args.path.now)) (c.as_slice-order.ensures.value ∙ c.self.invariant) in
+    let t : PlainChoiceTree = record {
+      instance = c.self.inside.instance.now;
+      goal = c.self.inside.value;
+      scales = c.self.inside.scales;
+    } in
+    let h = end_is t c.len-limits.ensures.limits c.args.path.now (length c.args.path.now - 1)
+    (omega (arith, c.requires.path)) (rw (← e) at c.requires.reached) in
+    let k = c.in_ok-above.ensures.taken
+    ∙ ap (λ us. taken_along [] us (take (length c.args.path.now - 1) c.args.path.now))
+    (c.as_slice-order.ensures.value ∙ c.self.invariant) in
     rw (c.in_ok-search.ensures, c.in_ok-above.ensures.decided, k) h.above
 
 pub returns-then-path-last-eq0 : goal.returns-then-path-last-eq0
 returns-then-path-last-eq0 c =
     let e = c.self.view_is in
-    let t : PlainChoiceTree = record { instance = c.self.inside.instance.now; goal = c.self.inside.value; scales = c.self.inside.scales } in
-    let h = end_is t c.len-limits.ensures.limits c.args.path.now (length c.args.path.now - 1) (omega (arith, c.requires.path)) (rw (← e) at c.requires.reached) in
-    let k = c.in_ok-above.ensures.taken ∙ ap (λ us. taken_along [] us (take (length c.args.path.now - 1) c.args.path.now)) (c.as_slice-order.ensures.value ∙ c.self.invariant) in
+    let t : PlainChoiceTree = record {
+      instance = c.self.inside.instance.now;
+      goal = c.self.inside.value;
+      scales = c.self.inside.scales;
+    } in
+    let h = end_is t c.len-limits.ensures.limits c.args.path.now (length c.args.path.now - 1)
+    (omega (arith, c.requires.path)) (rw (← e) at c.requires.reached) in
+    let k = c.in_ok-above.ensures.taken
+    ∙ ap (λ us. taken_along [] us (take (length c.args.path.now - 1) c.args.path.now))
+    (c.as_slice-order.ensures.value ∙ c.self.invariant) in
     let q = rw (c.in_ok-search.ensures, c.in_ok-above.ensures.decided, k) at c.explore_first.ensures in
-    let n = at_first t c.len-limits.ensures.limits (length (take (length c.args.path.now - 1) c.args.path.now)) (taken_along [] (ranked t.instance) (take (length c.args.path.now - 1) c.args.path.now)) (get_or c.args.path.now (length c.args.path.now - 1) 0) (node_at (Some (shape t)) c.args.path.now) h c.if-path-last-eq0.true in
-    rw (← e) (IfOk-weaker c.explore_first.result _ _ (λ r g. subst (λ (x : Option SearchTree). IfSome x (λ node. plain_outcome r ≡ told c.args.cap (outcome node))) (sym n) g) q)
+    let n = at_first t c.len-limits.ensures.limits (length (take (length c.args.path.now - 1) c.args.path.now))
+    (taken_along [] (ranked t.instance) (take (length c.args.path.now - 1) c.args.path.now))
+    (get_or c.args.path.now (length c.args.path.now - 1) 0) (node_at (Some (shape t)) c.args.path.now) h
+    c.if-path-last-eq0.true in
+    rw (← e) (IfOk-weaker c.explore_first.result _ _
+    (λ r g. subst (λ (x : Option SearchTree). IfSome x (λ node. plain_outcome r ≡ told c.args.cap (outcome node)))
+    (sym n) g) q)
 
 pub explore_second-requires-clause-above : goal.explore_second-requires-clause-above
 explore_second-requires-clause-above c =
     let e = c.self.view_is in
-    let t : PlainChoiceTree = record { instance = c.self.inside.instance.now; goal = c.self.inside.value; scales = c.self.inside.scales } in
-    let h = end_is t c.len-limits.ensures.limits c.args.path.now (length c.args.path.now - 1) (omega (arith, c.requires.path)) (rw (← e) at c.requires.reached) in
-    let k = c.in_ok-above.ensures.taken ∙ ap (λ us. taken_along [] us (take (length c.args.path.now - 1) c.args.path.now)) (c.as_slice-order.ensures.value ∙ c.self.invariant) in
+    let t : PlainChoiceTree = record {
+      instance = c.self.inside.instance.now;
+      goal = c.self.inside.value;
+      scales = c.self.inside.scales;
+    } in
+    let h = end_is t c.len-limits.ensures.limits c.args.path.now (length c.args.path.now - 1)
+    (omega (arith, c.requires.path)) (rw (← e) at c.requires.reached) in
+    let k = c.in_ok-above.ensures.taken
+    ∙ ap (λ us. taken_along [] us (take (length c.args.path.now - 1) c.args.path.now))
+    (c.as_slice-order.ensures.value ∙ c.self.invariant) in
     rw (c.in_ok-search.ensures, c.in_ok-above.ensures.decided, k) h.above
 
 pub returns : goal.returns
 returns c =
     let e = c.self.view_is in
-    let t : PlainChoiceTree = record { instance = c.self.inside.instance.now; goal = c.self.inside.value; scales = c.self.inside.scales } in
-    let h = end_is t c.len-limits.ensures.limits c.args.path.now (length c.args.path.now - 1) (omega (arith, c.requires.path)) (rw (← e) at c.requires.reached) in
-    let k = c.in_ok-above.ensures.taken ∙ ap (λ us. taken_along [] us (take (length c.args.path.now - 1) c.args.path.now)) (c.as_slice-order.ensures.value ∙ c.self.invariant) in
+    let t : PlainChoiceTree = record {
+      instance = c.self.inside.instance.now;
+      goal = c.self.inside.value;
+      scales = c.self.inside.scales;
+    } in
+    let h = end_is t c.len-limits.ensures.limits c.args.path.now (length c.args.path.now - 1)
+    (omega (arith, c.requires.path)) (rw (← e) at c.requires.reached) in
+    let k = c.in_ok-above.ensures.taken
+    ∙ ap (λ us. taken_along [] us (take (length c.args.path.now - 1) c.args.path.now))
+    (c.as_slice-order.ensures.value ∙ c.self.invariant) in
     let q = rw (c.in_ok-search.ensures, c.in_ok-above.ensures.decided, k) at c.explore_second.ensures in
-    let n = at_second t c.len-limits.ensures.limits (length (take (length c.args.path.now - 1) c.args.path.now)) (taken_along [] (ranked t.instance) (take (length c.args.path.now - 1) c.args.path.now)) (get_or c.args.path.now (length c.args.path.now - 1) 0) (node_at (Some (shape t)) c.args.path.now) h c.if-path-last-eq0.false in
-    rw (← e) (IfOk-weaker c.explore_second.result _ _ (λ r g. subst (λ (x : Option SearchTree). IfSome x (λ node. plain_outcome r ≡ told c.args.cap (outcome node))) (sym n) g) q)
+    let n = at_second t c.len-limits.ensures.limits (length (take (length c.args.path.now - 1) c.args.path.now))
+    (taken_along [] (ranked t.instance) (take (length c.args.path.now - 1) c.args.path.now))
+    (get_or c.args.path.now (length c.args.path.now - 1) 0) (node_at (Some (shape t)) c.args.path.now) h
+    c.if-path-last-eq0.false in
+    rw (← e) (IfOk-weaker c.explore_second.result _ _
+    (λ r g. subst (λ (x : Option SearchTree). IfSome x (λ node. plain_outcome r ≡ told c.args.cap (outcome node)))
+    (sym n) g) q)

@@ -7,13 +7,20 @@ use Rattle.class_search.proofs.Pieces.{left_stands, left_parts}
 use Rattle.class_search.proofs.keeping.KeepingTree.keep.Goals as goal
 
 pub parts-requires : goal.parts-requires
-parts-requires c = left_stands c.args.self.now.instance (node_at (Some (shape c.args.self.now)) c.args.path.now) c.args.left c.in-Some.standing c.in-Some.is c.requires.there c.requires.known
+parts-requires c = left_stands c.args.self.now.instance (node_at (Some (shape c.args.self.now)) c.args.path.now)
+    c.args.left c.in-Some.standing c.in-Some.is c.requires.there c.requires.known
 
 pub pieces_of-requires-clause-known : goal.pieces_of-requires-clause-known
 pieces_of-requires-clause-known c =
-    left_parts c.self.inside.tree.now.instance (node_at (Some (shape c.self.inside.tree.now)) c.args.path.now) c.args.left c.in-Some.standing c.in-Some-2.parts c.in-Some.is
-    (subst (λ (o : Option Parts). IfSome o (ArePartsOf c.in-Some.standing.instance.now (standing_tree c.in-Some.standing))) c.in-Some-2.is c.in_ok-parts.ensures)
-    (subst (λ (t : PlainClassTree). IfSome (node_at (Some (shape t)) c.args.path.now) (λ node. IfSome c.args.left (IsWalkOf t.instance node))) (sym c.self.view_is) c.requires.known)
+    left_parts c.self.inside.tree.now.instance (node_at (Some (shape c.self.inside.tree.now)) c.args.path.now)
+    c.args.left c.in-Some.standing c.in-Some-2.parts c.in-Some.is
+    (subst (λ (o : Option Parts). IfSome o
+    (ArePartsOf c.in-Some.standing.instance.now (standing_tree c.in-Some.standing))) c.in-Some-2.is
+    c.in_ok-parts.ensures)
+    (subst (λ (t : PlainClassTree). IfSome (node_at (Some (shape t)) c.args.path.now)
+    (λ node. IfSome c.args.left (IsWalkOf t.instance node))) (sym c.self.view_is) c.requires.known)
 
 pub pieces_of-requires-clause-there : goal.pieces_of-requires-clause-there
-pieces_of-requires-clause-there c = subst (λ (t : PlainClassTree). IsSome (node_at (Some (shape t)) c.args.path.now)) (sym c.self.view_is) c.requires.there
+pieces_of-requires-clause-there c =
+    subst (λ (t : PlainClassTree). IsSome (node_at (Some (shape t)) c.args.path.now)) (sym c.self.view_is)
+    c.requires.there

@@ -9,11 +9,15 @@ use Rattle.class_search.proofs.keeping.KeepingTreeTree.explore.Goals as goal
 
 pub keep-requires-clause-known : goal.keep-requires-clause-known
 keep-requires-clause-known c =
-    subst (λ (t : PlainClassTree). IfSome (node_at (Some (shape t)) c.args.path.now) (λ node. IfSome c.in_ok-outcome.field-0.left (IsWalkOf t.instance node))) c.self.view_is
-    (explored_left c.self.inside.tree.now.instance (node_at (Some (shape c.self.inside.tree.now)) c.args.path.now) c.args.cap c.in_ok-outcome.field-0 c.in_ok-outcome.ensures)
+    subst (λ (t : PlainClassTree). IfSome (node_at (Some (shape t)) c.args.path.now)
+    (λ node. IfSome c.in_ok-outcome.field-0.left (IsWalkOf t.instance node))) c.self.view_is
+    (explored_left c.self.inside.tree.now.instance (node_at (Some (shape c.self.inside.tree.now)) c.args.path.now)
+    c.args.cap c.in_ok-outcome.field-0 c.in_ok-outcome.ensures)
 
 pub returns : goal.returns
 returns c =
-    subst (λ (t : PlainClassTree). IfSome (outcome_at (shape t) c.args.path.now) (λ v. plain_outcome c.in_ok-outcome.field-0.outcome ≡ told c.args.cap v)) c.self.view_is
-    (explored_told c.self.inside.tree.now.instance (node_at (Some (shape c.self.inside.tree.now)) c.args.path.now) c.args.cap c.in_ok-outcome.field-0
+    subst (λ (t : PlainClassTree). IfSome (outcome_at (shape t) c.args.path.now)
+    (λ v. plain_outcome c.in_ok-outcome.field-0.outcome ≡ told c.args.cap v)) c.self.view_is
+    (explored_told c.self.inside.tree.now.instance (node_at (Some (shape c.self.inside.tree.now)) c.args.path.now)
+    c.args.cap c.in_ok-outcome.field-0
     (plain_outcome c.in_ok-outcome.field-0.outcome) (λ tree h. h.told_so) c.in_ok-outcome.ensures)

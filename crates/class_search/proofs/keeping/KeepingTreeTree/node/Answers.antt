@@ -10,4 +10,6 @@ node-requires c = subst (λ (t : PlainClassTree). IsReachable (shape t) c.args.p
 
 pub returns : goal.returns
 returns c =
-    subst (λ (t : PlainClassTree). IfOk c.node.result (λ r. IfSome (node_at (Some (shape t)) c.args.path.now) (λ node. plain_node r ≡ node_told node))) c.self.view_is c.node.ensures
+    subst (λ (t : PlainClassTree). IfOk c.node.result
+    (λ r. IfSome (node_at (Some (shape t)) c.args.path.now) (λ node. plain_node r ≡ node_told node))) c.self.view_is
+    c.node.ensures

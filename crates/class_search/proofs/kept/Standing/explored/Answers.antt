@@ -10,6 +10,11 @@ use Rattle.class_search.proofs.kept.Standing.explored.Goals as goal
 pub returns-then-walk-cap : goal.returns-then-walk-cap
 returns-then-walk-cap c =
     let s = c.args.self in
-    let m = met_count s.instance.now (reverse s.walk.frames.items) s.state.trail (kind_tree s.instance.now s.state.trail s.walk.node) (map plain_token s.walk.tokens.items) s.walk.count
+    let m = met_count s.instance.now (reverse s.walk.frames.items) s.state.trail
+    (kind_tree s.instance.now s.state.trail s.walk.node) (map plain_token s.walk.tokens.items) s.walk.count
     c.requires.known.walks.met in
-    record { told_so = sym (told_past c.args.cap (outcome (standing_tree s)) (omega (arith, m, c.if-walk-cap.true))); left = tt }
+    record {
+      told_so = sym (told_past c.args.cap (outcome (standing_tree s))
+          (omega (arith, m, c.if-walk-cap.true)));
+      left = tt;
+    }

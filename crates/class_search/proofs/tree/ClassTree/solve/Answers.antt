@@ -6,4 +6,6 @@ use Rattle.class_search.proofs.tree.ClassTree.solve.Goals as goal
 
 pub returns : goal.returns
 returns g c =
-    subst (λ (t : PlainClassTree). IfOk c.solve_shared-2.result (λ r. plain_outcome r ≡ told c.args.settings.now.budget (outcome (shape t)))) c.new-keeping.ensures c.solve_shared-2.ensures
+    subst (λ (t : PlainClassTree). IfOk c.solve_shared-2.result
+    (λ r. plain_outcome r ≡ told c.args.settings.now.budget (outcome (shape t)))) c.new-keeping.ensures
+    c.solve_shared-2.ensures

@@ -9,5 +9,6 @@ returns-clause-moves c =
     let low : c.self.inside.given < length c.self.inside.bytes.now = omega (arith, c.if-self.false, kept) in (
       omega arith,
       simp length-set (omega arith),
-      ap Some (one_given c.self.inside.bytes.now c.args.into.now c.self.inside.given c.args.self.now (sym c.self.view_is) low c.requires),
+      ap Some (one_given c.self.inside.bytes.now c.args.into.now c.self.inside.given c.args.self.now
+          (sym c.self.view_is) low c.requires),
     )

@@ -4,5 +4,6 @@ use Rattle.edge_state.proofs.state.EdgeState.mask.Goals as goal
 
 pub returns : goal.returns
 returns c =
-    by_rel _ _ (c.mask_of.ensures.overlap ∙ c.allows-overlap.ensures) (c.mask_of.ensures.before ∙ c.allows-before.ensures)
+    by_rel _ _ (c.mask_of.ensures.overlap ∙ c.allows-overlap.ensures)
+    (c.mask_of.ensures.before ∙ c.allows-before.ensures)
     (c.mask_of.ensures.after ∙ c.allows-after.ensures)

@@ -13,6 +13,7 @@ invariant_of-self c =
     let within : c.args.boxes ≤ c.self.inside.room = rw (← c.self.view_is) at c.requires.room in
     rw c.clear.ensures.items
     (kept_new _ _ _ _ _ c.self.invariant.edges.dimensions c.requires.count within
-    (omega (arith, c.self.invariant.trail_room, c.clear.ensures.capacity)) (omega (arith, c.fill_others.ensures.length, c.self.invariant.row_room)) c.fill_others.ensures.each
+    (omega (arith, c.self.invariant.trail_room, c.clear.ensures.capacity))
+    (omega (arith, c.fill_others.ensures.length, c.self.invariant.row_room)) c.fill_others.ensures.each
     (c.fill_others.ensures.seconds ∙ (c.self.invariant.seconds
     ∙ ap (λ m. cond (ltb 64 c.self.inside.room) m 0) (sym c.fill_others.ensures.length))))

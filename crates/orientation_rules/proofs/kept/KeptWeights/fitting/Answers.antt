@@ -10,4 +10,5 @@ returns g c v hv on =
     let small : v < length c.self.inside.head.items = rw (← c.self.view_is) at hv in
     let there : c.args.u < length fits = omega (arith, hu, c.self.invariant.kept.fits_count) in
     let same = get_any fits c.args.u [] _ there ∙ sym c.index.ensures in
-    rw (← c.self.view_is) (c.self.invariant.kept.fit c.args.u v hu small (subst (λ (z : List ℕ). row_has z v ≡ true) (sym same) on))
+    rw (← c.self.view_is) (c.self.invariant.kept.fit c.args.u v hu small
+    (subst (λ (z : List ℕ). row_has z v ≡ true) (sym same) on))

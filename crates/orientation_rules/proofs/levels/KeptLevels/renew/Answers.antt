@@ -19,15 +19,19 @@ weigh-requires g c =
               same_dims = c.requires.dims;
               same_boxes = c.requires.boxes;
               dim = c.requires.dim;
-              transitive = transitive_back (excludes c.args.state.now.trail) c.args.dim c.args.instance.now c.requires.transitive Backwards;
-              one_way = one_way (excludes c.args.state.now.trail) c.args.dim c.args.instance.now hi (excludes_symmetric c.args.state.now.trail) c.requires.full Backwards;
+              transitive = transitive_back (excludes c.args.state.now.trail) c.args.dim c.args.instance.now
+                  c.requires.transitive Backwards;
+              one_way = one_way (excludes c.args.state.now.trail) c.args.dim c.args.instance.now hi
+                  (excludes_symmetric c.args.state.now.trail) c.requires.full Backwards;
             },
             record {
               same_dims = c.requires.dims;
               same_boxes = c.requires.boxes;
               dim = c.requires.dim;
-              transitive = transitive_back (excludes c.args.state.now.trail) c.args.dim c.args.instance.now c.requires.transitive Forwards;
-              one_way = one_way (excludes c.args.state.now.trail) c.args.dim c.args.instance.now hi (excludes_symmetric c.args.state.now.trail) c.requires.full Forwards;
+              transitive = transitive_back (excludes c.args.state.now.trail) c.args.dim c.args.instance.now
+                  c.requires.transitive Forwards;
+              one_way = one_way (excludes c.args.state.now.trail) c.args.dim c.args.instance.now hi
+                  (excludes_symmetric c.args.state.now.trail) c.requires.full Forwards;
             },
           ),
         ),
@@ -35,4 +39,5 @@ weigh-requires g c =
     )
 
 pub returns-clause-heads : goal.returns-clause-heads
-returns-clause-heads g c v hv = head_of (excludes c.args.state.now.trail) c.args.dim c.args.instance.now v _ (c.weigh.ensures.weights.heads v hv)
+returns-clause-heads g c v hv =
+    head_of (excludes c.args.state.now.trail) c.args.dim c.args.instance.now v _ (c.weigh.ensures.weights.heads v hv)

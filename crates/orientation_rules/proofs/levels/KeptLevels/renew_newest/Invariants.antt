@@ -6,7 +6,8 @@ abbrev pub invariant-loop-self : goal.invariant-loop-self
 invariant-loop-self g l = record {
   boxes : l.self-inside.boxes ≡ l.fn.self.boxes;
   most : l.self-inside.most ≡ l.fn.self.most;
-  levels : AreKeptLevels l.self-inside.boxes l.self-inside.most l.self-inside.used l.self-inside.work l.self-inside.levels.items;
+  levels : AreKeptLevels l.self-inside.boxes l.self-inside.most l.self-inside.used l.self-inside.work
+      l.self-inside.levels.items;
 }
 
 abbrev pub decreases-loop-self : goal.decreases-loop-self

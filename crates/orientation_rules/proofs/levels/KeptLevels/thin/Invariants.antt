@@ -8,5 +8,6 @@ invariant-loop-k g l = record {
   most : l.self-inside.most ≡ l.fn.self.most;
   work : l.self-inside.work ≡ l.fn.self.weights;
   half : l.half ≡ length l.self-inside.levels.items / 2;
-  levels : AreKeptLevels l.self-inside.boxes l.self-inside.most l.self-inside.used l.self-inside.work l.self-inside.levels.items;
+  levels : AreKeptLevels l.self-inside.boxes l.self-inside.most l.self-inside.used l.self-inside.work
+      l.self-inside.levels.items;
 }

@@ -12,5 +12,6 @@ returns-clause-newest c =
     let same : c.len-count.result ≡ length items = omega (arith, counted) in (
       reverse (take (length items - 1) items),
       ap (λ (p : PlainPath). p.frames) (sym c.self.view_is) ∙ (newest_is items c.index.result.now some
-          ∙ ap (λ x. x ∷ reverse (take (length items - 1) items)) (sym (c.index.ensures ∙ ap (λ k. get_or items (k - 1) c.index.result.now) same))),
+          ∙ ap (λ x. x ∷ reverse (take (length items - 1) items))
+          (sym (c.index.ensures ∙ ap (λ k. get_or items (k - 1) c.index.result.now) same))),
     )

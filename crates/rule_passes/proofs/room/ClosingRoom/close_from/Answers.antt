@@ -8,13 +8,15 @@ invariant_of-self c =
     let room = c.self.inside in
     let d : room.dims ≡ dims c.args.instance.now = rw (← c.self.view_is) at c.requires.room_dims in
     let n : room.boxes ≡ box_count c.args.instance.now = rw (← c.self.view_is) at c.requires.room_boxes in
-    let same = with_items_is room.narrow_kept c.close_with.new.kept (c.close_with.auto.kept ∙ c.as_mut_slice-kept.ensures.len) in
+    let same = with_items_is room.narrow_kept c.close_with.new.kept
+    (c.close_with.auto.kept ∙ c.as_mut_slice-kept.ensures.len) in
     record {
       few = c.self.invariant.few;
       narrow = c.self.invariant.narrow;
       wide = c.self.invariant.wide;
       narrow_levels = λ l. rw (same, d, n) c.close_with.ensures.kept;
-      narrow_memory = λ l. rw (same, d) (c.close_with.ensures.made _ (rw (c.as_mut_slice-kept.ensures.value, ← d) (c.self.invariant.narrow_memory l)));
+      narrow_memory = λ l. rw (same, d)
+          (c.close_with.ensures.made _ (rw (c.as_mut_slice-kept.ensures.value, ← d) (c.self.invariant.narrow_memory l)));
       wide_levels = c.self.invariant.wide_levels;
       wide_memory = c.self.invariant.wide_memory;
     }
@@ -24,7 +26,8 @@ invariant_of-self-2 c =
     let room = c.self.inside in
     let d : room.dims ≡ dims c.args.instance.now = rw (← c.self.view_is) at c.requires.room_dims in
     let n : room.boxes ≡ box_count c.args.instance.now = rw (← c.self.view_is) at c.requires.room_boxes in
-    let same = with_items_is room.wide_kept c.close_with-2.new.kept (c.close_with-2.auto.kept ∙ c.as_mut_slice-kept-2.ensures.len) in
+    let same = with_items_is room.wide_kept c.close_with-2.new.kept
+    (c.close_with-2.auto.kept ∙ c.as_mut_slice-kept-2.ensures.len) in
     record {
       few = c.self.invariant.few;
       narrow = c.self.invariant.narrow;
@@ -32,5 +35,7 @@ invariant_of-self-2 c =
       narrow_levels = c.self.invariant.narrow_levels;
       narrow_memory = c.self.invariant.narrow_memory;
       wide_levels = λ l. rw (same, d, n) c.close_with-2.ensures.kept;
-      wide_memory = λ l. rw (same, d) (c.close_with-2.ensures.made _ (rw (c.as_mut_slice-kept-2.ensures.value, ← d) (c.self.invariant.wide_memory l)));
+      wide_memory = λ l. rw (same, d)
+          (c.close_with-2.ensures.made _
+          (rw (c.as_mut_slice-kept-2.ensures.value, ← d) (c.self.invariant.wide_memory l)));
     }

@@ -10,6 +10,9 @@ use Rattle.set_search.proofs.memory.SetMemory.add.Goals as goal
 pub returns : goal.returns
 returns c =
     let e : map plain_entry c.push.new.self.items ≡ c.args.self.now ++ plain_entry c.args.entry ∷ []
-    = ap (map plain_entry) c.in-Ok.ensures.items ∙ (map-append plain_entry c.self.inside.entries.items (c.args.entry ∷ []) ∙ ap (λ (es : List PlainEntry). es ++ plain_entry c.args.entry ∷ []) c.self.view_is) in
-    subst (λ (es : List PlainEntry). All (IsPut c.args.self.now c.args.entry.boxes (plain_outcome c.args.entry.outcome)) es) (sym e)
+    = ap (map plain_entry) c.in-Ok.ensures.items
+    ∙ (map-append plain_entry c.self.inside.entries.items (c.args.entry ∷ [])
+    ∙ ap (λ (es : List PlainEntry). es ++ plain_entry c.args.entry ∷ []) c.self.view_is) in
+    subst (λ (es : List PlainEntry). All
+    (IsPut c.args.self.now c.args.entry.boxes (plain_outcome c.args.entry.outcome)) es) (sym e)
     (put_behind c.args.self.now c.args.entry.boxes (plain_outcome c.args.entry.outcome))

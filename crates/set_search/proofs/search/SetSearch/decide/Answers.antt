@@ -5,14 +5,17 @@ use Rattle.set_search.proofs.search.SetSearch.decide.Goals as goal
 pub returns-in-Some-clause-outcome : goal.returns-in-Some-clause-outcome
 returns-in-Some-clause-outcome c =
     let v = c.self.view_is in
-    rw (← v) (recalled c.self.inside.whole.now c.self.inside.scales c.self.inside.memory c.of-key.result.boxes c.args.keep.now c.args.budget (plain_outcome c.in-Some.outcome)
+    rw (← v) (recalled c.self.inside.whole.now c.self.inside.scales c.self.inside.memory c.of-key.result.boxes
+    c.args.keep.now c.args.budget (plain_outcome c.in-Some.outcome)
     c.self.invariant.1 c.of-key.ensures (rw (← v) at c.requires.set) (rw c.in-Some.is at c.in_ok-outcome.ensures))
 
 pub returns-in-Some-clause-right : goal.returns-in-Some-clause-right
 returns-in-Some-clause-right c =
     let v = c.self.view_is in
-    rw (← v) (told_right c.self.inside.whole.now c.self.inside.scales c.args.keep.now c.args.budget (plain_outcome c.in-Some.outcome)
-    c.len-limits.ensures.limits (rw (← v) at c.requires.set) c.requires.some (rw (← v) at (returns-in-Some-clause-outcome c)))
+    rw (← v) (told_right c.self.inside.whole.now c.self.inside.scales c.args.keep.now c.args.budget
+    (plain_outcome c.in-Some.outcome)
+    c.len-limits.ensures.limits (rw (← v) at c.requires.set) c.requires.some
+    (rw (← v) at (returns-in-Some-clause-outcome c)))
 
 pub keep_found-requires-clause-found : goal.keep_found-requires-clause-found
 keep_found-requires-clause-found c = rw c.in_ok-outcome-2.ensures.same c.in_ok-outcome-2.ensures.outcome
@@ -20,5 +23,7 @@ keep_found-requires-clause-found c = rw c.in_ok-outcome-2.ensures.same c.in_ok-o
 pub returns-clause-right : goal.returns-clause-right
 returns-clause-right c =
     let v = c.self.view_is in
-    rw (← v) (told_right c.self.inside.whole.now c.self.inside.scales c.args.keep.now c.args.budget (plain_outcome c.in_ok-outcome-2.outcome)
-    c.len-limits.ensures.limits (rw (← v) at c.requires.set) c.requires.some (rw (← v) at c.in_ok-outcome-2.ensures.outcome))
+    rw (← v) (told_right c.self.inside.whole.now c.self.inside.scales c.args.keep.now c.args.budget
+    (plain_outcome c.in_ok-outcome-2.outcome)
+    c.len-limits.ensures.limits (rw (← v) at c.requires.set) c.requires.some
+    (rw (← v) at c.in_ok-outcome-2.ensures.outcome))

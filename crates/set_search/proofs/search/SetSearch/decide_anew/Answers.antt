@@ -41,12 +41,17 @@ index_mut-closer-requires c = omega (arith, c.in_ok-reach_closers.ensures.enough
 
 pub decide_in-requires-clause-room : goal.decide_in-requires-clause-room
 decide_in-requires-clause-room c =
-    let there : length c.args.keep.now - 1 < length c.reach_closers.new.closers.items = omega (arith, c.in_ok-reach_closers.ensures.enough, c.requires.some) in
+    let there : length c.args.keep.now - 1 < length c.reach_closers.new.closers.items =
+    omega (arith, c.in_ok-reach_closers.ensures.enough, c.requires.some) in
     let k = c.in_ok-reach_closers.ensures.rooms (length c.args.keep.now - 1) there in
     let count : length c.args.keep.now - 1 + 1 ≡ length c.args.keep.now = omega (arith, c.requires.some) in
-    let h = c.index_mut-closer.ensures.value ∙ (get_or_default c.reach_closers.new.closers.items (length c.args.keep.now - 1) c.index_mut-closer.result.now no_closer there ∙ (k ∙ ap (λ (d : ℕ). record { dims = d; boxes = length c.args.keep.now - 1 + 1 }) c.dims.ensures.value)) in
+    let h = c.index_mut-closer.ensures.value
+    ∙ (get_or_default c.reach_closers.new.closers.items (length c.args.keep.now - 1) c.index_mut-closer.result.now
+    no_closer there ∙ (k ∙ ap (λ (d : ℕ). record { dims = d; boxes = length c.args.keep.now - 1 + 1 })
+    c.dims.ensures.value)) in
     rw (c.resize.ensures, c.self.invariant.0.same_dims)
-    (subst (λ (n : ℕ). c.index_mut-closer.result.now ≡ record { dims = dims c.self.inside.whole.now; boxes = n }) count h)
+    (subst (λ (n : ℕ). c.index_mut-closer.result.now
+    ≡ record { dims = dims c.self.inside.whole.now; boxes = n }) count h)
 
 pub returns-clause-outcome : goal.returns-clause-outcome
 returns-clause-outcome c =
@@ -55,4 +60,6 @@ returns-clause-outcome c =
     let k = c.set_to.ensures in
     let i = c.self.invariant.0.same in
     let e : c.instance-instance.result.now ≡ subset c.self.inside.whole.now c.args.keep.now = rw (h, k, i) refl in
-    rw (← v) (subst (λ (x : PlainInstance). IfOk c.decide_in.result (λ r. plain_outcome r ≡ told c.args.budget (outcome (class_tree x [] c.self.inside.scales)))) e c.decide_in.ensures.outcome)
+    rw (← v) (subst (λ (x : PlainInstance). IfOk c.decide_in.result
+    (λ r. plain_outcome r ≡ told c.args.budget (outcome (class_tree x [] c.self.inside.scales)))) e
+    c.decide_in.ensures.outcome)

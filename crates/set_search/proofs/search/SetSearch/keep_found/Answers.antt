@@ -12,10 +12,13 @@ invariant_of-self c =
     let instance = c.self.inside.whole.now in
     let verdict = set_verdict instance c.self.inside.scales c.args.keep.now in
     let found = rw (← v) at c.requires.found in
-    let is = decided_told c.args.budget verdict (Yes c.in-Yes.numbers.items c.in-Yes.count) (plain_outcome c.args.found.now) (ap plain_outcome c.in-Yes.is) found in (
+    let is = decided_told c.args.budget verdict (Yes c.in-Yes.numbers.items c.in-Yes.count)
+    (plain_outcome c.args.found.now) (ap plain_outcome c.in-Yes.is) found in (
       c.self.invariant.0,
-      verdicts_put instance c.self.inside.scales c.self.inside.memory c.keep.new.self c.args.key.now.boxes (plain_outcome c.args.found.now) c.self.invariant.1
-          (verdict_made instance c.self.inside.scales c.args.key.now.boxes c.args.keep.now (plain_outcome c.args.found.now) c.requires.boxes (rw (← v) at c.requires.set) is)
+      verdicts_put instance c.self.inside.scales c.self.inside.memory c.keep.new.self c.args.key.now.boxes
+          (plain_outcome c.args.found.now) c.self.invariant.1
+          (verdict_made instance c.self.inside.scales c.args.key.now.boxes c.args.keep.now
+          (plain_outcome c.args.found.now) c.requires.boxes (rw (← v) at c.requires.set) is)
           c.keep.ensures,
     )
 
@@ -25,9 +28,12 @@ invariant_of-self-in-No c =
     let instance = c.self.inside.whole.now in
     let verdict = set_verdict instance c.self.inside.scales c.args.keep.now in
     let found = rw (← v) at c.requires.found in
-    let is = decided_told c.args.budget verdict (No (map plain_token c.in-No.tokens.items) c.in-No.count) (plain_outcome c.args.found.now) (ap plain_outcome c.in-No.is) found in (
+    let is = decided_told c.args.budget verdict (No (map plain_token c.in-No.tokens.items) c.in-No.count)
+    (plain_outcome c.args.found.now) (ap plain_outcome c.in-No.is) found in (
       c.self.invariant.0,
-      verdicts_put instance c.self.inside.scales c.self.inside.memory c.keep-in-No.new.self c.args.key.now.boxes (plain_outcome c.args.found.now) c.self.invariant.1
-          (verdict_made instance c.self.inside.scales c.args.key.now.boxes c.args.keep.now (plain_outcome c.args.found.now) c.requires.boxes (rw (← v) at c.requires.set) is)
+      verdicts_put instance c.self.inside.scales c.self.inside.memory c.keep-in-No.new.self c.args.key.now.boxes
+          (plain_outcome c.args.found.now) c.self.invariant.1
+          (verdict_made instance c.self.inside.scales c.args.key.now.boxes c.args.keep.now
+          (plain_outcome c.args.found.now) c.requires.boxes (rw (← v) at c.requires.set) is)
           c.keep-in-No.ensures,
     )

@@ -1,4 +1,5 @@
-use Rattle.std.proofs.Common.{rules, arith, ◌≡◌, ◌++◌, ◌∷◌, [], ◌∙◌, sym, ap, ap₂, subst, length, vec_len, vec_capacity, Some, IfSome}
+use Rattle.std.proofs.Common.{rules, arith, ◌≡◌, ◌++◌, ◌∷◌, [], ◌∙◌, sym, ap, ap₂, subst, length, vec_len, vec_capacity}
+use Rattle.std.proofs.Common.{Some, IfSome}
 use Rattle.tree_terms.specs.Paths.{outcome_at}
 use Rattle.board_terms.specs.declared.Event.TheVariants as event
 use Rattle.board_terms.specs.Board.{out_path}
@@ -13,8 +14,10 @@ use Rattle.work_share.proofs.board.Board.finish.Goals as goal
 pub put_state-requires : goal.put_state-requires
 put_state-requires g c =
     let b = c.self.inside in
-    let out = subst (λ (v : PlainBoard g.row.T.Denot). out_path c.args.task.number v.state.entries ≡ Some c.args.task.path) (sym c.self.view_is) c.requires.out in
-    let inside = out_inside (g.T.Tree.shape b.tree.now) b.budget b.slots.items b.order.items b.waiting.items b.front.len b.front.count b.front.is_ended b.is_short
+    let out = subst (λ (v : PlainBoard g.row.T.Denot). out_path c.args.task.number v.state.entries
+    ≡ Some c.args.task.path) (sym c.self.view_is) c.requires.out in
+    let inside = out_inside (g.T.Tree.shape b.tree.now) b.budget b.slots.items b.order.items b.waiting.items b.front.len
+    b.front.count b.front.is_ended b.is_short
     b.history.items (vec_capacity b.history) c.self.invariant c.args.task.number c.args.task.path out in
     let size : vec_len b.slots ≡ length b.slots.items = search rules in
     let number = c.number.ensures in
@@ -23,26 +26,36 @@ put_state-requires g c =
 pub advance-self-inside-requires-clause-below : goal.advance-self-inside-requires-clause-below
 advance-self-inside-requires-clause-below g c =
     let b = c.self.inside in
-    let out = subst (λ (v : PlainBoard g.row.T.Denot). out_path c.args.task.number v.state.entries ≡ Some c.args.task.path) (sym c.self.view_is) c.requires.out in
-    let below = finish_below (g.T.Tree.shape b.tree.now) b.budget b.slots.items b.order.items b.waiting.items b.front.len b.front.count b.front.is_ended b.is_short
+    let out = subst (λ (v : PlainBoard g.row.T.Denot). out_path c.args.task.number v.state.entries
+    ≡ Some c.args.task.path) (sym c.self.view_is) c.requires.out in
+    let below = finish_below (g.T.Tree.shape b.tree.now) b.budget b.slots.items b.order.items b.waiting.items
+    b.front.len b.front.count b.front.is_ended b.is_short
     b.history.items (vec_capacity b.history) c.self.invariant c.args.task.number c.args.task.path out c.args.outcome in
-    let slots = c.deref.ensures.value ∙ (c.put_state.ensures.items ∙ ap (λ n. with_slot b.slots.items n (stored.Done c.args.outcome)) c.number.ensures) in
+    let slots = c.deref.ensures.value
+    ∙ (c.put_state.ensures.items ∙ ap (λ n. with_slot b.slots.items n (stored.Done c.args.outcome))
+    c.number.ensures) in
     rw (slots, c.deref-2.ensures.value) below
 
 pub advance-self-inside-requires-clause-known : goal.advance-self-inside-requires-clause-known
 advance-self-inside-requires-clause-known g c =
     let b = c.self.inside in
-    let out = subst (λ (v : PlainBoard g.row.T.Denot). out_path c.args.task.number v.state.entries ≡ Some c.args.task.path) (sym c.self.view_is) c.requires.out in
-    let known = finish_known (g.T.Tree.shape b.tree.now) b.budget b.slots.items b.order.items b.waiting.items b.front.len b.front.count b.front.is_ended b.is_short
+    let out = subst (λ (v : PlainBoard g.row.T.Denot). out_path c.args.task.number v.state.entries
+    ≡ Some c.args.task.path) (sym c.self.view_is) c.requires.out in
+    let known = finish_known (g.T.Tree.shape b.tree.now) b.budget b.slots.items b.order.items b.waiting.items
+    b.front.len b.front.count b.front.is_ended b.is_short
     b.history.items (vec_capacity b.history) c.self.invariant c.args.task.number c.args.task.path out c.args.outcome in
-    let slots = c.deref.ensures.value ∙ (c.put_state.ensures.items ∙ ap (λ n. with_slot b.slots.items n (stored.Done c.args.outcome)) c.number.ensures) in
+    let slots = c.deref.ensures.value
+    ∙ (c.put_state.ensures.items ∙ ap (λ n. with_slot b.slots.items n (stored.Done c.args.outcome))
+    c.number.ensures) in
     rw (slots, c.deref-2.ensures.value) known
 
 pub push_reserved-requires : goal.push_reserved-requires
 push_reserved-requires g c =
     let b = c.self.inside in
-    let out = subst (λ (v : PlainBoard g.row.T.Denot). out_path c.args.task.number v.state.entries ≡ Some c.args.task.path) (sym c.self.view_is) c.requires.out in
-    let room = out_room (g.T.Tree.shape b.tree.now) b.budget b.slots.items b.order.items b.waiting.items b.front.len b.front.count b.front.is_ended b.is_short
+    let out = subst (λ (v : PlainBoard g.row.T.Denot). out_path c.args.task.number v.state.entries
+    ≡ Some c.args.task.path) (sym c.self.view_is) c.requires.out in
+    let room = out_room (g.T.Tree.shape b.tree.now) b.budget b.slots.items b.order.items b.waiting.items b.front.len
+    b.front.count b.front.is_ended b.is_short
     b.history.items (vec_capacity b.history) c.self.invariant c.args.task.number c.args.task.path out in
     let size : vec_len b.history ≡ length b.history.items = search rules in
     omega (arith, room, size)
@@ -50,13 +63,18 @@ push_reserved-requires g c =
 pub invariant_of-self : goal.invariant_of-self
 invariant_of-self g c =
     let b = c.self.inside in
-    let out = subst (λ (v : PlainBoard g.row.T.Denot). out_path c.args.task.number v.state.entries ≡ Some c.args.task.path) (sym c.self.view_is) c.requires.out in
-    let right = subst (λ (v : PlainBoard g.row.T.Denot). IfSome (outcome_at (g.T.Tree.shape v.tree) c.args.task.path) (λ verdict. IsOutcomeOf v.budget verdict (plain_outcome c.args.outcome)))
+    let out = subst (λ (v : PlainBoard g.row.T.Denot). out_path c.args.task.number v.state.entries
+    ≡ Some c.args.task.path) (sym c.self.view_is) c.requires.out in
+    let right = subst (λ (v : PlainBoard g.row.T.Denot). IfSome (outcome_at (g.T.Tree.shape v.tree) c.args.task.path)
+    (λ verdict. IsOutcomeOf v.budget verdict (plain_outcome c.args.outcome)))
     (sym c.self.view_is) c.requires.right in
-    let slots = c.put_state.ensures.items ∙ ap (λ n. with_slot b.slots.items n (stored.Done c.args.outcome)) c.number.ensures in
+    let slots = c.put_state.ensures.items ∙ ap (λ n. with_slot b.slots.items n (stored.Done c.args.outcome))
+    c.number.ensures in
     let front = rw (c.deref.ensures.value, slots, c.deref-2.ensures.value) at c.advance-self-inside.ensures in
-    let kept = finish_kept (g.T.Tree.shape b.tree.now) b.budget b.slots.items b.order.items b.waiting.items b.front.len b.front.count b.front.is_ended b.is_short
-    b.history.items (vec_capacity b.history) c.self.invariant c.args.task.number c.args.task.path out c.args.outcome right
+    let kept = finish_kept (g.T.Tree.shape b.tree.now) b.budget b.slots.items b.order.items b.waiting.items b.front.len
+    b.front.count b.front.is_ended b.is_short
+    b.history.items (vec_capacity b.history) c.self.invariant c.args.task.number c.args.task.path out
+    c.args.outcome right
     c.advance-self-inside.result.len c.advance-self-inside.result.count c.advance-self-inside.result.is_ended front in
     let history = c.push_reserved.ensures.items
     ∙ ap₂ (λ n past. b.history.items ++ event.Finish n past ∷ []) c.number-2.ensures c.is_past-past.ensures in
@@ -65,10 +83,15 @@ invariant_of-self g c =
 pub returns-clause-step : goal.returns-clause-step
 returns-clause-step g c =
     let b = c.self.inside in
-    let out = subst (λ (v : PlainBoard g.row.T.Denot). out_path c.args.task.number v.state.entries ≡ Some c.args.task.path) (sym c.self.view_is) c.requires.out in
-    let right = subst (λ (v : PlainBoard g.row.T.Denot). IfSome (outcome_at (g.T.Tree.shape v.tree) c.args.task.path) (λ verdict. IsOutcomeOf v.budget verdict (plain_outcome c.args.outcome)))
+    let out = subst (λ (v : PlainBoard g.row.T.Denot). out_path c.args.task.number v.state.entries
+    ≡ Some c.args.task.path) (sym c.self.view_is) c.requires.out in
+    let right = subst (λ (v : PlainBoard g.row.T.Denot). IfSome (outcome_at (g.T.Tree.shape v.tree) c.args.task.path)
+    (λ verdict. IsOutcomeOf v.budget verdict (plain_outcome c.args.outcome)))
     (sym c.self.view_is) c.requires.right in
-    let step = finish_step (g.T.Tree.shape b.tree.now) b.budget b.slots.items b.order.items b.waiting.items b.front.len b.front.count b.front.is_ended b.is_short
-    b.history.items (vec_capacity b.history) c.self.invariant c.args.task.number c.args.task.path out c.args.outcome right in
-    let slots = c.put_state.ensures.items ∙ ap (λ n. with_slot b.slots.items n (stored.Done c.args.outcome)) c.number.ensures in
+    let step = finish_step (g.T.Tree.shape b.tree.now) b.budget b.slots.items b.order.items b.waiting.items b.front.len
+    b.front.count b.front.is_ended b.is_short
+    b.history.items (vec_capacity b.history) c.self.invariant c.args.task.number c.args.task.path out
+    c.args.outcome right in
+    let slots = c.put_state.ensures.items ∙ ap (λ n. with_slot b.slots.items n (stored.Done c.args.outcome))
+    c.number.ensures in
     rw (slots, ← c.self.view_is) step

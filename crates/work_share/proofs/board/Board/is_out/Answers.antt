@@ -17,9 +17,12 @@ returns-in-Some-clause-exactly g c =
     let inside = c.in-Some.ensures.lookup.3.0 in
     let number = c.number.ensures in
     let read : slice_get b.slots.items n ≡ Some slot = subst (λ k. slice_get b.slots.items k ≡ Some slot) number
-    (subst (λ ss. slice_get ss c.number.result ≡ Some slot) c.deref.ensures.value (slice_get_read c.deref.result.now (length c.deref.result.now) c.number.result slot refl inside item)) in
-    let out = subst (λ p. MatchBool c.is_out_at.result (entry_of n slot ≡ TaskEntry n p Out) (¬ (entry_of n slot ≡ TaskEntry n p Out))) c.path.ensures (c.is_out_at.ensures n) in
-    rw (← c.self.view_is) (read_out (g.T.Tree.shape b.tree.now) b.budget b.slots.items b.order.items b.waiting.items b.front.len b.front.count b.front.is_ended b.is_short
+    (subst (λ ss. slice_get ss c.number.result ≡ Some slot) c.deref.ensures.value
+    (slice_get_read c.deref.result.now (length c.deref.result.now) c.number.result slot refl inside item)) in
+    let out = subst (λ p. MatchBool c.is_out_at.result (entry_of n slot ≡ TaskEntry n p Out)
+    (¬ (entry_of n slot ≡ TaskEntry n p Out))) c.path.ensures (c.is_out_at.ensures n) in
+    rw (← c.self.view_is) (read_out (g.T.Tree.shape b.tree.now) b.budget b.slots.items b.order.items b.waiting.items
+    b.front.len b.front.count b.front.is_ended b.is_short
     b.history.items (vec_capacity b.history) c.self.invariant n c.args.task.now.path slot c.is_out_at.result read out)
 
 pub returns-in-Some-clause-reached : goal.returns-in-Some-clause-reached
@@ -31,11 +34,15 @@ returns-in-Some-clause-reached g c =
     let inside = c.in-Some.ensures.lookup.3.0 in
     let number = c.number.ensures in
     let read : slice_get b.slots.items n ≡ Some slot = subst (λ k. slice_get b.slots.items k ≡ Some slot) number
-    (subst (λ ss. slice_get ss c.number.result ≡ Some slot) c.deref.ensures.value (slice_get_read c.deref.result.now (length c.deref.result.now) c.number.result slot refl inside item)) in
-    let out = subst (λ p. MatchBool c.is_out_at.result (entry_of n slot ≡ TaskEntry n p Out) (¬ (entry_of n slot ≡ TaskEntry n p Out))) c.path.ensures (c.is_out_at.ensures n) in
-    let all = read_out (g.T.Tree.shape b.tree.now) b.budget b.slots.items b.order.items b.waiting.items b.front.len b.front.count b.front.is_ended b.is_short
+    (subst (λ ss. slice_get ss c.number.result ≡ Some slot) c.deref.ensures.value
+    (slice_get_read c.deref.result.now (length c.deref.result.now) c.number.result slot refl inside item)) in
+    let out = subst (λ p. MatchBool c.is_out_at.result (entry_of n slot ≡ TaskEntry n p Out)
+    (¬ (entry_of n slot ≡ TaskEntry n p Out))) c.path.ensures (c.is_out_at.ensures n) in
+    let all = read_out (g.T.Tree.shape b.tree.now) b.budget b.slots.items b.order.items b.waiting.items b.front.len
+    b.front.count b.front.is_ended b.is_short
     b.history.items (vec_capacity b.history) c.self.invariant n c.args.task.now.path slot c.is_out_at.result read out in
-    λ yes_out. rw (← c.self.view_is) (out_reached (g.T.Tree.shape b.tree.now) b.budget (entries_of b.slots.items b.order.items) n c.args.task.now.path
+    λ yes_out. rw (← c.self.view_is)
+    (out_reached (g.T.Tree.shape b.tree.now) b.budget (entries_of b.slots.items b.order.items) n c.args.task.now.path
     (when_true _ _ yes_out all) c.self.invariant.right)
 
 pub returns-in-None-clause-exactly : goal.returns-in-None-clause-exactly
@@ -46,5 +53,6 @@ returns-in-None-clause-exactly g c =
     let number = c.number.ensures in
     let size = ap length c.deref.ensures.value in
     let outside : length b.slots.items ≤ n = omega (arith, past, number, size) in
-    rw (← c.self.view_is) (none_out (g.T.Tree.shape b.tree.now) b.budget b.slots.items b.order.items b.waiting.items b.front.len b.front.count b.front.is_ended b.is_short
+    rw (← c.self.view_is) (none_out (g.T.Tree.shape b.tree.now) b.budget b.slots.items b.order.items b.waiting.items
+    b.front.len b.front.count b.front.is_ended b.is_short
     b.history.items (vec_capacity b.history) c.self.invariant n c.args.task.now.path outside)

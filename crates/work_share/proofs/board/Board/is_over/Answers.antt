@@ -12,7 +12,8 @@ returns-then-self-2 g c =
     let es = entries_of b.slots.items b.order.items in
     rw (← c.self.view_is) (c.if-self-2.true ∙ elim c.if-self.branch [
       | then-self w ↦ over_short b.budget es b.is_short w.if-self.true
-      | else-self w ↦ over_ended b.budget b.front.len b.front.count es b.is_short b.front.is_ended c.self.invariant.front (sym w.value-is ∙ c.if-self-2.true)
+      | else-self w ↦ over_ended b.budget b.front.len b.front.count es b.is_short b.front.is_ended
+          c.self.invariant.front (sym w.value-is ∙ c.if-self-2.true)
     ])
 
 pub returns-else-self-2 : goal.returns-else-self-2
@@ -20,8 +21,10 @@ returns-else-self-2 g c =
     let b = c.self.inside in
     let es = entries_of b.slots.items b.order.items in
     let len : c.len.result ≡ length b.order.items = search rules in
-    let size : eqb b.front.len c.len.result ≡ eqb b.front.len (length es) = ap (eqb b.front.len) (len ∙ sym (length-map b.order.items (entry_at b.slots.items))) in
+    let size : eqb b.front.len c.len.result ≡ eqb b.front.len (length es) =
+    ap (eqb b.front.len) (len ∙ sym (length-map b.order.items (entry_at b.slots.items))) in
     rw (← c.self.view_is) (size ∙ elim c.if-self.branch [
       | then-self w ↦ absurd (true≢false (sym w.if-self.true ∙ (sym w.value-is ∙ c.if-self-2.false)))
-      | else-self w ↦ over_len b.budget b.front.len b.front.count es b.is_short b.front.is_ended c.self.invariant.front (sym w.value-is ∙ c.if-self-2.false) w.if-self.false
+      | else-self w ↦ over_len b.budget b.front.len b.front.count es b.is_short b.front.is_ended c.self.invariant.front
+          (sym w.value-is ∙ c.if-self-2.false) w.if-self.false
     ])

@@ -13,22 +13,28 @@ use Rattle.work_share.proofs.board.Board.joined.Goals as goal
 pub join_run-requires-clause-below : goal.join_run-requires-clause-below
 join_run-requires-clause-below g c =
     let b = c.self.inside in
-    let keeps = keeps_stored (g.T.Tree.shape b.tree.now) b.budget b.slots.items b.order.items b.is_short b.history.items c.self.invariant.replays in
-    rw c.deref.ensures.value (below_order (g.T.Tree.shape b.tree.now) b.budget b.slots.items b.order.items keeps c.self.invariant.size)
+    let keeps = keeps_stored (g.T.Tree.shape b.tree.now) b.budget b.slots.items b.order.items b.is_short b.history.items
+    c.self.invariant.replays in
+    rw c.deref.ensures.value (below_order (g.T.Tree.shape b.tree.now) b.budget b.slots.items b.order.items keeps
+    c.self.invariant.size)
 
 pub join_run-requires-clause-distinct : goal.join_run-requires-clause-distinct
 join_run-requires-clause-distinct g c =
     let b = c.self.inside in
-    let keeps = keeps_stored (g.T.Tree.shape b.tree.now) b.budget b.slots.items b.order.items b.is_short b.history.items c.self.invariant.replays in
+    let keeps = keeps_stored (g.T.Tree.shape b.tree.now) b.budget b.slots.items b.order.items b.is_short b.history.items
+    c.self.invariant.replays in
     rw c.deref.ensures.value (distinct_order (g.T.Tree.shape b.tree.now) b.budget b.slots.items b.order.items keeps)
 
 pub join_run-requires-clause-over : goal.join_run-requires-clause-over
 join_run-requires-clause-over g c = λ not_ended.
     let b = c.self.inside in
     let es = entries_of b.slots.items b.order.items in
-    let over = subst (λ (v : PlainBoard g.row.T.Denot). is_board_over v.budget v.state ≡ true) (sym c.self.view_is) c.requires.over in
-    let enough = subst (λ (v : PlainBoard g.row.T.Denot). v.state.is_short ≡ false) (sym c.self.view_is) c.requires.enough in
-    let len = over_len b.budget b.front.len b.front.count es b.is_short b.front.is_ended c.self.invariant.front not_ended enough in
+    let over = subst (λ (v : PlainBoard g.row.T.Denot). is_board_over v.budget v.state ≡ true) (sym c.self.view_is)
+    c.requires.over in
+    let enough = subst (λ (v : PlainBoard g.row.T.Denot). v.state.is_short ≡ false) (sym c.self.view_is)
+    c.requires.enough in
+    let len = over_len b.budget b.front.len b.front.count es b.is_short b.front.is_ended c.self.invariant.front
+    not_ended enough in
     let all = eqb-true b.front.len (length es) (len ∙ over) in
     all ∙ (length-map b.order.items (entry_at b.slots.items) ∙ ap length (sym c.deref.ensures.value))
 
@@ -36,8 +42,12 @@ pub returns-clause-outcome : goal.returns-clause-outcome
 returns-clause-outcome g c =
     let b = c.self.inside in
     let tree = g.T.Tree.shape b.tree.now in
-    let keeps = keeps_stored tree b.budget b.slots.items b.order.items b.is_short b.history.items c.self.invariant.replays in
-    let over = subst (λ (v : PlainBoard g.row.T.Denot). is_board_over v.budget v.state ≡ true) (sym c.self.view_is) c.requires.over in
-    let enough = subst (λ (v : PlainBoard g.row.T.Denot). v.state.is_short ≡ false) (sym c.self.view_is) c.requires.enough in
+    let keeps = keeps_stored tree b.budget b.slots.items b.order.items b.is_short b.history.items
+    c.self.invariant.replays in
+    let over = subst (λ (v : PlainBoard g.row.T.Denot). is_board_over v.budget v.state ≡ true) (sym c.self.view_is)
+    c.requires.over in
+    let enough = subst (λ (v : PlainBoard g.row.T.Denot). v.state.is_short ≡ false) (sym c.self.view_is)
+    c.requires.enough in
     let joins = joins_right tree b.budget (stored_state b.slots.items b.order.items b.is_short) keeps over enough in
-    rw (← c.self.view_is) (IfOk-weaker c.join_run.result _ _ (λ r h. (rw c.deref.ensures.value at h) ∙ joins) c.join_run.ensures)
+    rw (← c.self.view_is) (IfOk-weaker c.join_run.result _ _ (λ r h. (rw c.deref.ensures.value at h) ∙ joins)
+    c.join_run.ensures)

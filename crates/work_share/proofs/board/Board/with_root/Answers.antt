@@ -9,12 +9,18 @@ pub invariant_of-result : goal.invariant_of-result
 invariant_of-result g c =
     let root : Slot = record { path = c.new.result; state = Waits } in
     let task : PlainTask = record { path = []; number = 0 } in
-    let slots : c.push.new.self.items ≡ root ∷ [] = c.in_ok-push.ensures.items ∙ ap (λ ss. ss ++ root ∷ []) c.new-slots.ensures.items in
-    let order : c.push-2.new.self.items ≡ 0 ∷ [] = c.in_ok-push-2.ensures.items ∙ ap (λ ns. ns ++ 0 ∷ []) c.new-order.ensures.items in
-    let named : c.new-3.result ≡ task = c.new-3.ensures ∙ ap (λ p. record { path = p; number = 0 }) c.new-2.ensures.items in
+    let slots : c.push.new.self.items ≡ root ∷ [] =
+    c.in_ok-push.ensures.items ∙ ap (λ ss. ss ++ root ∷ []) c.new-slots.ensures.items in
+    let order : c.push-2.new.self.items ≡ 0 ∷ [] =
+    c.in_ok-push-2.ensures.items ∙ ap (λ ns. ns ++ 0 ∷ []) c.new-order.ensures.items in
+    let named : c.new-3.result ≡ task =
+    c.new-3.ensures ∙ ap (λ p. record { path = p; number = 0 }) c.new-2.ensures.items in
     let stack : c.push-3.new.self.items ≡ task ∷ [] =
-    c.in_ok-push-3.ensures.items ∙ (ap (λ ts. ts ++ c.new-3.result ∷ []) c.new-waiting.ensures.items ∙ ap (λ (t : PlainTask). t ∷ []) named) in
+    c.in_ok-push-3.ensures.items ∙ (ap (λ ts. ts ++ c.new-3.result ∷ []) c.new-waiting.ensures.items
+    ∙ ap (λ (t : PlainTask). t ∷ []) named) in
     let history : c.reserve.new.self.items ≡ [] = c.in_ok-reserve.ensures.items ∙ c.new-history.ensures.items in
     let ok = c.in_ok-reserve.ensures.ok in
     let room : 3 ≤ vec_capacity c.reserve.new.self = omega (arith, ok) in
-    rw (slots, order, stack, history, c.new-4.ensures) (start_kept (g.T.Tree.shape c.args.tree.now) c.args.budget root (vec_capacity c.reserve.new.self) c.new.ensures.items refl room)
+    rw (slots, order, stack, history, c.new-4.ensures)
+    (start_kept (g.T.Tree.shape c.args.tree.now) c.args.budget root (vec_capacity c.reserve.new.self)
+    c.new.ensures.items refl room)

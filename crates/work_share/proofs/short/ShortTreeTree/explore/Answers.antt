@@ -7,5 +7,6 @@ pub returns-clause-short : goal.returns-clause-short
 returns-clause-short g c rest e =
     let same : c.as_slice.result.now ≡ c.args.self.now.path = cc (c.as_slice.ensures.value, c.self.view_is) in
     let begins = rw (← same) at e in
-    let is = starts_is Decides-eqb c.args.path.now c.as_slice.result.now c.starts_with.result c.starts_with.ensures.value in
+    let is = starts_is Decides-eqb c.args.path.now c.as_slice.result.now c.starts_with.result
+    c.starts_with.ensures.value in
     absurd (cc (is.1 rest begins, c.if-starts_with.false))
