@@ -11,7 +11,7 @@ use Rattle.document_terms.specs.declared.claim.Claim.TheVariants.{GreatestValue,
 use Rattle.verdict_terms.specs.declared.reason.Reason.{Reason}
 use Rattle.verdict_terms.specs.Reasons.{reason_words}
 use Rattle.verdict_terms.specs.Documents.{verdict_line, reduced_verdict_line}
-use Rattle.front_verdict_terms.specs.Verdicts.{FrontRead, front_verdict_line}
+use Rattle.front_verdict_terms.specs.Verdicts.{front_verdict_line}
 use Rattle.explained_documents.specs.declared.reason.ExplainedReason.{ExplainedReason}
 use Rattle.explained_documents.specs.Documents.{explained_line, reason_words as explained_words_of}
 use Rattle.answer_streams.specs.Audited.{explained_end, verified_front}

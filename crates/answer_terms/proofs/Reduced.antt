@@ -1,7 +1,7 @@
 -- What is answered from the symmetry facts on is shown and true, and when it is undecided.
-use Rattle.std.proofs.Common.{ℕ, Bool, refl, subst, List}
+use Rattle.std.proofs.Common.{ℕ, Bool, refl, subst}
 use Rattle.packing_terms.specs.Packing.{PlainInstance}
-use Rattle.packing_terms.specs.Limits.{IsInstance, IsInternalInstance}
+use Rattle.packing_terms.specs.Limits.{IsInternalInstance}
 use Rattle.packing_terms.proofs.Internal.{written_internal, internal_sides, some_dimension}
 use Rattle.symmetry_terms.specs.Facts.{symmetry_facts}
 use Rattle.symmetry_terms.proofs.Levels.{none_fits_under}

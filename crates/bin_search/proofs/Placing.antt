@@ -20,7 +20,7 @@ use Rattle.tree_terms.specs.OuterTrees.{with_answer}
 use Rattle.packing_terms.proofs.RankLemmas.{ranked_are_boxes, in_ranked}
 use Rattle.tree_terms.proofs.BinNumbers.{index_found}
 use Rattle.tree_terms.proofs.BinSearch.{Holds, IsNext, next_is, next_holds}
-use Rattle.tree_terms.specs.Rising.{AreRising}
+use Rattle.packing_terms.specs.Rising.{AreRising}
 use Rattle.tree_terms.proofs.ChoiceSearch.{insert_rising}
 use Rattle.set_search.proofs.Reaching.{next_box}
 use Rattle.set_search.proofs.Sets.{box_set, places_count}

@@ -9,7 +9,7 @@ use Rattle.packing_terms.specs.OuterRefutation.{Bins, insert_box, has_box}
 use Rattle.packing_terms.specs.Rank.{ranked}
 use Rattle.tree_terms.specs.Trees.{Yes}
 use Rattle.tree_terms.specs.OuterTrees.{set_verdict, with_answer}
-use Rattle.tree_terms.specs.Rising.{AreRising}
+use Rattle.packing_terms.specs.Rising.{AreRising}
 use Rattle.bin_search.specs.declared.node.Placed.{Placed}
 use Rattle.bin_search.specs.declared.node.Change.{Change}
 use Rattle.bin_search.specs.Lists.{lists_of, list_before, restored}

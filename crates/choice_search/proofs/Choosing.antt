@@ -11,7 +11,7 @@ use Rattle.packing_terms.proofs.Boxes.{each_in, each_from, insert_boxes, not_fou
 use Rattle.packing_terms.proofs.WithBoxes.{has_inserted}
 use Rattle.packing_terms.specs.Rank.{ranked}
 use Rattle.packing_terms.proofs.RankLemmas.{ranked_are_boxes}
-use Rattle.tree_terms.specs.Rising.{AreRising}
+use Rattle.packing_terms.specs.Rising.{AreRising}
 use Rattle.tree_terms.proofs.ChoiceSearch.{insert_rising}
 use Rattle.set_search.proofs.Sets.{box_set}
 use Rattle.choice_search.specs.Choices.{IsChosen}

@@ -9,7 +9,7 @@ use Rattle.packing_terms.specs.Rank.{ranked}
 use Rattle.tree_terms.specs.Trees.{SearchTree, Verdict, Yes, No}
 use Rattle.tree_terms.specs.OuterTrees.{is_reached, is_short, set_verdict, choice_tree}
 use Rattle.proof_tree.specs.Plain.{plain_token}
-use Rattle.tree_terms.specs.Rising.{AreRising}
+use Rattle.packing_terms.specs.Rising.{AreRising}
 use Rattle.set_search.specs.Children.{DoesFit}
 use Rattle.choice_search.specs.declared.node.Chosen.{Chosen}
 use Rattle.choice_search.specs.declared.node.NodeKind.{NodeKind}

@@ -1,14 +1,14 @@
 -- A line of the instance, as the reader takes it.
-use Rattle.std.proofs.Common.{◌≡◌, ◌∙◌, ◌⊎◌, inl, inr, ℕ, refl, sym, ap, subst, Bool, true, false, List, Result, Ok}
+use Rattle.std.proofs.Common.{◌≡◌, ◌∙◌, inl, inr, ℕ, refl, sym, ap, Bool, true, false, Result, Ok}
 use Rattle.std.proofs.Common.{Err}
 use Rattle.text_terms.specs.declared.fault.TextFault.{TextFault}
 use Rattle.text_terms.specs.Lines.{Line}
 use Rattle.text_terms.specs.Texts.{Parts, add_line, at_line}
-use Rattle.text_terms.specs.Feeding.{Lexer, ended_line, take_line}
+use Rattle.text_terms.specs.Feeding.{Lexer, ended_line}
 use Rattle.instance_text.specs.declared.reader.ReadTextError.{ReadTextError}
-use Rattle.instance_text.specs.declared.reader.ReadTextError.TheVariants.{Fault, NoMemory}
+use Rattle.instance_text.specs.declared.reader.ReadTextError.TheVariants.{Fault}
 use Rattle.instance_text.specs.Reading.{Steps, Answers, as_read}
-use Rattle.document_refutations.specs.Rereading.{says_result, Reread, described, describing_line, reread_line}
+use Rattle.document_refutations.specs.Rereading.{says_result, described, describing_line, reread_line}
 use Rattle.document_refutations.specs.Rereading.Reread.{Describing, Broken}
 
 -- a line that isn't the result line

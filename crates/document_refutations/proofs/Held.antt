@@ -1,22 +1,18 @@
 -- A verified document of `fit` that says no, read again: its instance and its tokens.
-use Rattle.std.proofs.Common.{◌≡◌, ◌∙◌, ◌≢◌, ℕ, ◌+◌, ◌<◌, ◌≤◌, refl, sym, ap, ap₂, subst, arith, Bool, true, false}
-use Rattle.std.proofs.Common.{cond, codes, List, [], ◌∷◌, ◌++◌, append_assoc, append-nil, length, Option, Some, None}
+use Rattle.std.proofs.Common.{◌≡◌, ◌∙◌, ℕ, ◌+◌, ◌≤◌, refl, sym, ap, ap₂, subst, true, false}
+use Rattle.std.proofs.Common.{cond, codes, List, [], ◌∷◌, ◌++◌, append_assoc, append-nil, None}
 use Rattle.std.proofs.Common.{Result, Ok, Err}
 use Rattle.std.specs.List.{list_any}
-use Rattle.std.specs.Prelude.{◌==◌}
-use Rattle.std.proofs.lemmas.Bool.{or_parts, and_right}
-use Rattle.std.proofs.lemmas.List.Folds.{list_any-append}
+use Rattle.std.proofs.lemmas.Bool.{or_parts}
 use Rattle.packing_terms.specs.Packing.{PlainInstance, dims}
 use Rattle.packing_terms.specs.Tokens.{PlainToken}
 use Rattle.text_terms.specs.declared.fault.TextFault.{TextFault}
 use Rattle.text_terms.specs.Lines.{line_of, cut_line, cut_words, content, is_bad, words_of, same_bytes, text_lines}
-use Rattle.text_terms.specs.Texts.{Parts, no_parts, add_line, by_words, at_line, at_end, kerf_line, first_word}
+use Rattle.text_terms.specs.Texts.{Parts, no_parts, add_line, at_line, at_end}
 use Rattle.text_terms.specs.Texts.{read_lines as read_instance_lines, IsWithinLimits}
-use Rattle.text_terms.specs.Codes.{unknown_word}
 use Rattle.text_terms.specs.Form.{AreClean, filled_lines, HasForm}
 use Rattle.text_terms.specs.Feeding.{new_lexer, lines_fed, numbered_lines}
 use Rattle.text_terms.proofs.Cut.{line_cut}
-use Rattle.text_terms.proofs.FormNumbers.{word_is}
 use Rattle.text_terms.proofs.FormRead.{filled_with, heads, clean_parts}
 use Rattle.text_terms.proofs.FormTold.{lines_have_form}
 use Rattle.text_terms.proofs.Good.{good_start, line_good, bind_ok}

@@ -1,5 +1,5 @@
 -- The instance of a document is within the limits while its lines come.
-use Rattle.std.proofs.Common.{◌≡◌, ℕ, subst, Bool, true, false, not, List, [], ◌∷◌, Result, Ok, Err, codes}
+use Rattle.std.proofs.Common.{◌≡◌, ℕ, subst, Bool, true, false, not, List, [], ◌∷◌, Result, Ok, codes}
 use Rattle.packing_terms.specs.Packing.{PlainInstance, dims}
 use Rattle.packing_terms.specs.Limits.{IsInstance}
 use Rattle.packing_terms.specs.Results.{◌>>=◌}

@@ -1,5 +1,5 @@
 -- What it says that the tests of a line were passed.
-use Rattle.std.proofs.Common.{◌≡◌, ℕ, refl, ap, Bool, true, false, List, Result, Ok, Err, Option, Some, None}
+use Rattle.std.proofs.Common.{◌≡◌, ℕ, refl, ap, Bool, true, false, Result, Ok, Err}
 use Rattle.packing_terms.specs.Packing.{PlainInstance}
 use Rattle.text_terms.specs.declared.fault.TextFault.{TextFault}
 use Rattle.explained_terms.specs.declared.answers.AuditCode.{AuditCode}

@@ -1,7 +1,7 @@
 -- The instance of a verified document has no packing.
 use Rattle.std.proofs.Common.{◌≡◌, ℕ, ◌+◌, refl, sym, ap, subst, ◌∙◌, Bool, true, false, not, List, [], ◌∷◌, Result, Ok}
 use Rattle.std.proofs.Common.{Err, codes}
-use Rattle.packing_terms.specs.Packing.{PlainInstance, dims, Fits}
+use Rattle.packing_terms.specs.Packing.{PlainInstance, dims}
 use Rattle.packing_terms.specs.Limits.{IsInstance}
 use Rattle.packing_terms.specs.Results.{◌>>=◌}
 use Rattle.packing_terms.proofs.Internal.{internal_sides, written_internal}
@@ -12,7 +12,7 @@ use Rattle.text_terms.proofs.Good.{parts_limits, bind_ok}
 use Rattle.verdict_terms.specs.Stages.{is_word, is_result, is_blank}
 use Rattle.explained_terms.specs.Steps.{PlainStep}
 use Rattle.explained_terms.specs.StepLines.{step_of}
-use Rattle.explained_terms.specs.Judging.{AuditNode, at_rest}
+use Rattle.explained_terms.specs.Judging.{AuditNode}
 use Rattle.explained_terms.specs.Auditing.{audited_after, audited_after_all}
 use Rattle.explained_terms.proofs.Explained.{fed_explains}
 use Rattle.explained_terms.proofs.Sound.{none_fits}
@@ -20,7 +20,7 @@ use Rattle.explained_documents.specs.declared.reason.ExplainedReason.{ExplainedR
 use Rattle.explained_documents.specs.Stages.{ExplainedStage, Heading, Reading, Explaining, Ending, Ended, form, require}
 use Rattle.explained_documents.specs.Stages.{are_two, text_fault, end_of_parts, begun, reading_line, tree_step, coded}
 use Rattle.explained_documents.specs.Stages.{grown, late_by, words_line, filled_line, stage_after}
-use Rattle.explained_documents.specs.Documents.{ExplainedRefusal, at_line, at_end, read_lines, explained_verdict}
+use Rattle.explained_documents.specs.Documents.{at_line, at_end, read_lines, explained_verdict}
 use Rattle.explained_documents.specs.Documents.{IsShown, DocumentsAreTrue}
 use Rattle.explained_documents.proofs.Passed.{ok_is, require_ok, coded_ok, end_ok}
 use Rattle.explained_documents.proofs.Limits.{IsWell, stage_well}

@@ -1,17 +1,15 @@
 -- What is told of a line, cut to 12 words of 21 bytes, is taken as the line itself; so the lines
 -- that a text tells give its verdict.
-use Rattle.std.proofs.Common.{◌≡◌, ℕ, ◌+◌, ◌≤◌, refl, sym, ap, ap₂, ◌∙◌, arith, Bool, true, false, cond, not, List, []}
-use Rattle.std.proofs.Common.{◌∷◌, take, map, length, Result, Ok, Err, codes}
-use mathlib.Core.Path.{fun_ext}
-use Rattle.packing_terms.specs.Packing.{PlainInstance, dims}
-use Rattle.packing_terms.specs.Limits.{IsInstance}
+use Rattle.std.proofs.Common.{◌≡◌, ℕ, ◌+◌, ◌≤◌, refl, ap, ap₂, ◌∙◌, arith, Bool, true, false, cond, not, List, []}
+use Rattle.std.proofs.Common.{◌∷◌, length, Result, Ok, Err, codes}
+use Rattle.packing_terms.specs.Packing.{dims}
 use Rattle.packing_terms.specs.Results.{◌>>=◌}
-use Rattle.text_terms.specs.Lines.{Line, line_of, text_lines, cut_line, cut_words, same_bytes}
+use Rattle.text_terms.specs.Lines.{line_of, text_lines, cut_line, cut_words, same_bytes}
 use Rattle.text_terms.specs.Texts.{Parts, no_parts, at_end as end_of, refuse, IsWithinLimits}
-use Rattle.text_terms.specs.Feeding.{NumberedLine, numbered_lines, lines_fed, new_lexer}
+use Rattle.text_terms.specs.Feeding.{numbered_lines}
 use Rattle.text_terms.proofs.Cut.{same_front, words_cut}
 use Rattle.text_terms.proofs.LinesFed.{texts_are_lines}
-use Rattle.verdict_terms.specs.Stages.{is_word, is_blank}
+use Rattle.verdict_terms.specs.Stages.{is_blank}
 use Rattle.verdict_terms.proofs.Cuts.{is_word_cut}
 use Rattle.explained_terms.specs.StepLines.{step_of}
 use Rattle.explained_terms.specs.Auditing.{audited_after}
@@ -20,11 +18,11 @@ use Rattle.explained_documents.specs.declared.reason.ExplainedReason.{ExplainedR
 use Rattle.explained_documents.specs.Stages.{ExplainedStage, Heading, Reading, Explaining, Ending, Ended, form, require}
 use Rattle.explained_documents.specs.Stages.{are_two, text_fault, end_of_parts, begun, reading_line, tree_step, coded}
 use Rattle.explained_documents.specs.Stages.{grown, late_by, words_line, filled_line, stage_after}
-use Rattle.explained_documents.specs.Documents.{ExplainedRefusal, at_line, at_end, read_lines, told_verdict}
+use Rattle.explained_documents.specs.Documents.{at_line, read_lines, told_verdict}
 use Rattle.explained_documents.specs.Documents.{explained_verdict, DocumentsAreFed}
 use Rattle.explained_documents.specs.declared.kind.DocumentKind.{DocumentKind}
 use Rattle.explained_documents.specs.declared.kind.DocumentKind.TheVariants.{Explained, Front, Reduced}
-use Rattle.explained_documents.specs.Kinds.{kind_of_words, kind_of_line, kind_of_lines, kind_told, document_kind}
+use Rattle.explained_documents.specs.Kinds.{kind_of_line, kind_of_lines, kind_told}
 use Rattle.explained_documents.specs.Kinds.{KindsAreTold}
 use Rattle.explained_documents.proofs.Limits.{IsWell, stage_well}
 

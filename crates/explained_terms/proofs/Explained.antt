@@ -1,11 +1,10 @@
 -- Lines that are audited and leave no node are an explanation for each node.
-use Rattle.std.proofs.Common.{◌≡◌, ◌≢◌, ℕ, zero, suc, pred, ◌+◌, ◌<◌, ◌≤◌, ◌⊎◌, inl, inr, refl, sym, ap, subst, ◌∙◌}
-use Rattle.std.proofs.Common.{arith, Bool, true, false, not, cond, ◌&&◌, ◌||◌, ◌==◌, nat_lt, List, [], ◌∷◌, ◌++◌}
-use Rattle.std.proofs.Common.{length, append_assoc, append-nil, map, Option, Some, None, Result, Ok}
+use Rattle.std.proofs.Common.{◌≡◌, ◌≢◌, ℕ, suc, pred, ◌+◌, ◌<◌, ◌≤◌, ◌⊎◌, inl, inr, refl, sym, ap, subst, ◌∙◌}
+use Rattle.std.proofs.Common.{arith, Bool, true, false, not, cond, ◌==◌, nat_lt, List, [], ◌∷◌, ◌++◌}
+use Rattle.std.proofs.Common.{length, append_assoc, append-nil, map, Option, Some, None, Ok}
 use Rattle.std.specs.List.{list_any}
-use Rattle.std.proofs.lemmas.Bool.{true≢false, cases_Bool, and_parts, and_from, or_cases, eqb-true, eq-eqb, ltb-true}
-use Rattle.std.proofs.lemmas.Bool.{ltb-false, lt-ltb, not-true, false_from_ne_true}
-use Rattle.std.proofs.lemmas.List.{length-append}
+use Rattle.std.proofs.lemmas.Bool.{true≢false, and_parts, or_cases, eqb-true, eq-eqb, ltb-true}
+use Rattle.std.proofs.lemmas.Bool.{ltb-false, not-true}
 use Rattle.packing_terms.specs.declared.Rel.{Rel}
 use Rattle.packing_terms.specs.declared.Rel.TheVariants.{Overlap, Before, After}
 use Rattle.packing_terms.specs.declared.Exclusion.{Exclusion}
@@ -18,20 +17,18 @@ use Rattle.packing_terms.specs.Rules.Rule.{Order as OrderRule}
 use Rattle.packing_terms.specs.Tokens.{PlainToken}
 use Rattle.packing_terms.specs.Tokens.PlainToken.{Apart as ApartToken, Order as OrderToken, Rules, TooLarge, Scales}
 use Rattle.packing_terms.specs.Tokens.PlainToken.{Assign, Choose, SetRefuted, ValueShort, GlobalScales}
-use Rattle.packing_terms.proofs.Members.{IsIn}
 use Rattle.packing_terms.proofs.Found.{any_false}
 use Rattle.rule_terms.proofs.Drawn.{ended}
 use Rattle.check_terms.specs.declared.answers.RefuseCode.{RefuseCode}
-use Rattle.check_terms.specs.Judging.{names_box, refusal}
+use Rattle.check_terms.specs.Judging.{refusal}
 use Rattle.check_terms.proofs.Judged.{named, inner_exact}
-use Rattle.explained_terms.specs.declared.answers.AuditCode.{AuditCode}
 use Rattle.explained_terms.specs.Steps.{PlainStep, box_lines, lines_of}
 use Rattle.explained_terms.specs.Steps.PlainStep.{Pair, Apart, Triple, Compose, Cycle, Order, Chain, On, Clash, Plain}
-use Rattle.explained_terms.specs.Explaining.{IsStep, after_rule, with_text, Explains, by_clash, by_side, by_scales}
+use Rattle.explained_terms.specs.Explaining.{IsStep, after_rule, Explains, by_clash, by_side, by_scales}
 use Rattle.explained_terms.specs.Explaining.{by_step, by_apart, by_order}
 use Rattle.explained_terms.specs.Judging.{BegunChain, AuditNode, at_rest, names_boxes, last_of, front_of, leads_to}
 use Rattle.explained_terms.specs.Judging.{goes_on, is_first, part_of, with_box, has_all, chain_changes, step_refusal}
-use Rattle.explained_terms.specs.Judging.{as_audit, on_refusal, chain_child, children_at, refusal_at, audit_refusal}
+use Rattle.explained_terms.specs.Judging.{as_audit, on_refusal, chain_child, children_at, refusal_at}
 use Rattle.explained_terms.specs.Judging.{audit_children}
 use Rattle.explained_terms.specs.Kept.{IsGrown as IsGrownIn, IsSoundAt as IsSoundIn, AreSound as AreSoundIn}
 use Rattle.explained_terms.specs.Auditing.{audited_after_all}

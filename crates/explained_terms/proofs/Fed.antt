@@ -1,10 +1,10 @@
 -- An explanation, audited line by line, takes its node away.
-use Rattle.std.proofs.Common.{◌≡◌, ◌≢◌, ℕ, zero, suc, pred, ◌+◌, ◌<◌, ◌≤◌, ◌⊎◌, inl, inr, refl, sym, ap, subst, ◌∙◌}
-use Rattle.std.proofs.Common.{arith, Bool, true, false, not, cond, ◌&&◌, ◌||◌, ◌==◌, nat_lt, List, [], ◌∷◌, ◌++◌}
-use Rattle.std.proofs.Common.{length, append_assoc, append-nil, map, Option, Some, None, Result, Ok}
+use Rattle.std.proofs.Common.{◌≡◌, ◌≢◌, ℕ, zero, suc, ◌+◌, ◌<◌, ◌≤◌, ◌⊎◌, inl, inr, refl, sym, ap, subst, ◌∙◌}
+use Rattle.std.proofs.Common.{arith, Bool, true, false, not, cond, ◌||◌, ◌==◌, nat_lt, List, [], ◌∷◌, ◌++◌}
+use Rattle.std.proofs.Common.{length, append_assoc, append-nil, map, Option, Some, None}
 use Rattle.std.specs.List.{list_any, AllByRecursion}
-use Rattle.std.proofs.lemmas.Bool.{true≢false, cases_Bool, and_parts, and_from, and_left, or_cases, or_left, or_right}
-use Rattle.std.proofs.lemmas.Bool.{eqb-true, eq-eqb, ltb-true, lt-ltb, not-true, false_from_ne_true, not_from_false}
+use Rattle.std.proofs.lemmas.Bool.{true≢false, and_parts, and_from, or_left, or_right}
+use Rattle.std.proofs.lemmas.Bool.{eqb-true, eq-eqb, ltb-true, lt-ltb, false_from_ne_true, not_from_false}
 use Rattle.std.proofs.lemmas.Bool.{or_from}
 use Rattle.std.proofs.lemmas.List.{length-append}
 use Rattle.packing_terms.specs.Results.{◌>>=◌}
@@ -13,31 +13,29 @@ use Rattle.packing_terms.specs.declared.Rel.TheVariants.{Overlap, Before, After}
 use Rattle.packing_terms.specs.declared.Exclusion.{Exclusion}
 use Rattle.packing_terms.specs.declared.ScaleFn.{ScaleFn}
 use Rattle.packing_terms.specs.Packing.{PlainInstance, dims, box_count, container_side}
-use Rattle.packing_terms.specs.Exclusions.{Exclusions, excludes, exclusion_at, IsSurelyBefore}
+use Rattle.packing_terms.specs.Exclusions.{Exclusions, excludes, exclusion_at}
 use Rattle.packing_terms.specs.Rules.{Rule, Pair, Apart, Triple, Chain, Compose, Cycle, Order, AreBoxes, IsChain}
-use Rattle.packing_terms.specs.Rules.{weight, IsRuleInstance}
+use Rattle.packing_terms.specs.Rules.{weight}
 use Rattle.packing_terms.specs.Tokens.PlainToken.{Apart as ApartToken, Order as OrderToken, TooLarge, Scales}
 use Rattle.packing_terms.specs.Scales.{Exceeds}
-use Rattle.packing_terms.specs.Refutation.{IsNamed, IsTooLarge}
+use Rattle.packing_terms.specs.Refutation.{IsTooLarge}
 use Rattle.packing_terms.proofs.Boxes.{boxes_few}
-use Rattle.rule_terms.specs.Rounds.{is_surely_before}
 use Rattle.rule_terms.specs.Steps.{with_exclusion}
-use Rattle.check_terms.specs.Judging.{names_box, names_dim, names_pair, refusal}
+use Rattle.check_terms.specs.Judging.{names_box, refusal}
 use Rattle.check_terms.proofs.Judged.{named, is_named, inner_exact}
 use Rattle.explained_terms.specs.declared.answers.AuditCode.{AuditCode}
-use Rattle.explained_terms.specs.declared.answers.AuditCode.TheVariants.{Range, Step, Choice, Conflict}
 use Rattle.explained_terms.specs.Steps.{PlainStep, box_lines, lines_of}
 use Rattle.explained_terms.specs.Steps.PlainStep.{On, Clash, Plain, Pair as PairLine, Apart as ApartLine}
 use Rattle.explained_terms.specs.Steps.PlainStep.{Triple as TripleLine, Compose as ComposeLine, Cycle as CycleLine}
 use Rattle.explained_terms.specs.Steps.PlainStep.{Order as OrderLine, Chain as ChainLine}
-use Rattle.explained_terms.specs.Explaining.{IsStep, MayPart, MayOrder, IsClash, after_rule, Explains, by_clash}
+use Rattle.explained_terms.specs.Explaining.{IsStep, after_rule, Explains, by_clash}
 use Rattle.explained_terms.specs.Explaining.{by_side, by_scales, by_step, by_apart, by_order, with_text}
-use Rattle.explained_terms.specs.Judging.{BegunChain, AuditNode, at_rest, unless, names_boxes, applies, is_change}
-use Rattle.explained_terms.specs.Judging.{step_refusal, last_of, front_of, leads_to, goes_on, is_first, part_of}
-use Rattle.explained_terms.specs.Judging.{with_box, has_all, chain_changes, on_refusal, may_part, may_order, is_empty}
-use Rattle.explained_terms.specs.Judging.{as_audit, token_refusal, audit_refusal, chain_child, audit_children}
-use Rattle.explained_terms.specs.Auditing.{left_by, audited_after, audited_after_all}
-use Rattle.explained_terms.proofs.Leaves.{step_by, step_changes}
+use Rattle.explained_terms.specs.Judging.{BegunChain, AuditNode, at_rest, unless}
+use Rattle.explained_terms.specs.Judging.{step_refusal, last_of, front_of, leads_to, goes_on, part_of}
+use Rattle.explained_terms.specs.Judging.{with_box, has_all, chain_changes, on_refusal}
+use Rattle.explained_terms.specs.Judging.{as_audit, audit_refusal, chain_child, audit_children}
+use Rattle.explained_terms.specs.Auditing.{left_by, audited_after_all}
+use Rattle.explained_terms.proofs.Leaves.{step_changes}
 use Rattle.explained_terms.proofs.Tests.{premises_test, names_it, names_that, boxes_test}
 
 pub passes : (b : Bool) (code : AuditCode) (rest : Option AuditCode) → b ≡ true → rest ≡ None

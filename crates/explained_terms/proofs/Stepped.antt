@@ -1,26 +1,25 @@
 -- Every refutation can be explained: what a rule derives, a step adds.
 use Rattle.std.proofs.Common.{◌≡◌, ◌≢◌, ℕ, suc, pred, ◌+◌, ◌<◌, ◌≤◌, ◌⊎◌, inl, inr, refl, sym, ap, ap₂, subst, ◌∙◌}
-use Rattle.std.proofs.Common.{arith, true, false, List, [], ◌∷◌, ◌++◌, append_assoc, append-nil, map, IsTrue}
-use Rattle.std.specs.List.{flat_map}
+use Rattle.std.proofs.Common.{arith, true, false, List, [], ◌∷◌, ◌++◌, append_assoc, IsTrue}
 use Rattle.std.proofs.lemmas.Bool.{true≢false, cases_Bool, cases_lt, or_cases}
 use Rattle.packing_terms.specs.declared.Rel.{Rel}
 use Rattle.packing_terms.specs.declared.Rel.TheVariants.{Overlap, Before, After}
 use Rattle.packing_terms.specs.declared.Exclusion.{Exclusion}
 use Rattle.packing_terms.specs.Packing.{PlainInstance, dims, box_count}
 use Rattle.packing_terms.specs.Relations.{mirror}
-use Rattle.packing_terms.specs.Exclusions.{Exclusions, excludes, exclusion_at, is_of, IsEdge}
-use Rattle.packing_terms.specs.Rules.{Rule, IsRuleInstance, Follows, by_rule, mirrored, dim_of, first_of, second_of}
+use Rattle.packing_terms.specs.Exclusions.{Exclusions, excludes, is_of, IsEdge}
+use Rattle.packing_terms.specs.Rules.{Rule, Follows, by_rule, mirrored, dim_of, first_of, second_of}
 use Rattle.packing_terms.specs.Rules.Rule.{Pair, Apart, Triple, Chain, Compose, Cycle, Order}
-use Rattle.packing_terms.specs.Closure.{IsDerivation, IsDerived, HasConflict, IsSubset, AreDerived}
+use Rattle.packing_terms.specs.Closure.{IsDerivation, IsDerived, IsSubset, AreDerived}
 use Rattle.packing_terms.specs.Tokens.{PlainToken}
 use Rattle.packing_terms.specs.Tokens.PlainToken.{Apart as ApartToken, Order as OrderToken, Rules, TooLarge, Scales}
 use Rattle.packing_terms.specs.Refutation.{Refutes, by_rules, by_side, by_scales, by_apart, by_order, exclusion_in_text}
-use Rattle.packing_terms.specs.Refutation.{IsNamed, MaySplitApart, MaySplitOrder, LeavesOpen}
+use Rattle.packing_terms.specs.Refutation.{LeavesOpen}
 use Rattle.packing_terms.proofs.Sets.{or_true, of_own, mirror_twice, excludes_symmetric}
 use Rattle.packing_terms.proofs.Closures.{derives_from, given_derived}
 use Rattle.packing_terms.proofs.Monotone.{follows_more}
 use Rattle.rule_terms.specs.Steps.{with_exclusion}
-use Rattle.rule_terms.specs.Applied.{Adds, added, mirror_added, IsApplied}
+use Rattle.rule_terms.specs.Applied.{Adds, added, mirror_added}
 use Rattle.rule_terms.proofs.Steps.{open_mirrored}
 use Rattle.rule_terms.proofs.Applied.{with_cases, with_keeps, with_own}
 use Rattle.rule_terms.proofs.TableLaws.{rule_derived}
@@ -32,7 +31,6 @@ use Rattle.explained_terms.specs.Explaining.{IsStep, leaves, after_rule, with_te
 use Rattle.explained_terms.specs.Explaining.{by_side as side_leaf, by_scales as scales_leaf, by_step, by_apart as part}
 use Rattle.explained_terms.specs.Explaining.{by_order as order}
 use Rattle.explained_terms.specs.Stepping.{StepsTo, lines_of_all, IsExplained}
-use Rattle.explained_terms.specs.Judging.{is_change}
 use Rattle.explained_terms.proofs.Leaves.{applied, narrowed_more}
 
 -- ---- tokens among lines

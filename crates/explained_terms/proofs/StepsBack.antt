@@ -1,22 +1,21 @@
 -- The words of a step are read back as the step, and a line that is told in part is the same step.
-use Rattle.std.proofs.Common.{◌≡◌, ℕ, ◌≤◌, ◌||◌, refl, ap, ap₂, ◌∙◌, arith, cond, List, [], ◌∷◌, length, take, map}
+use Rattle.std.proofs.Common.{◌≡◌, ℕ, ◌≤◌, refl, ap, ap₂, ◌∙◌, arith, cond, List, [], ◌∷◌, length, take, map}
 use Rattle.std.proofs.Common.{Option, Some, None, codes}
 use Rattle.std.specs.Fmt.{decimal}
 use Rattle.std.proofs.lemmas.Bool.{le-leb}
-use Rattle.packing_terms.specs.Tokens.{PlainToken}
 use Rattle.packing_terms.specs.Tokens.PlainToken.{Apart as ApartToken, Order as OrderToken, Rules, TooLarge, Scales}
 use Rattle.packing_terms.specs.Tokens.PlainToken.{Assign, Choose, SetRefuted, ValueShort, GlobalScales}
 use Rattle.text_terms.specs.Lines.{cut_words, same_bytes}
 use Rattle.text_terms.proofs.Spelled.{number_decimal}
 use Rattle.text_terms.proofs.Cut.{same_front, number_front}
-use Rattle.document_terms.specs.TokenLines.{most_parameter, at_most, parameter, parameters, in_front, token_of}
+use Rattle.document_terms.specs.TokenLines.{most_parameter, at_most, parameter, parameters, in_front}
 use Rattle.document_terms.specs.TokenLines.{IsParameter}
 use Rattle.document_terms.proofs.Cuts.{cut_rest, cut_by, parameters_many, token_cut}
 use Rattle.document_terms.proofs.TokensBack.{tokens_are_read_back}
 use Rattle.explained_terms.specs.Steps.{PlainStep}
 use Rattle.explained_terms.specs.Steps.PlainStep.{Pair, Apart, Triple, Compose, Cycle, Order, Chain, On, Clash, Plain}
-use Rattle.explained_terms.specs.StepLines.{of_one, of_three, of_four, of_five, as_plain, step_of, step_words}
-use Rattle.explained_terms.specs.StepLines.{HasStepLine, StepsAreReadBack, StepLinesAreTold}
+use Rattle.explained_terms.specs.StepLines.{of_one, of_three, of_four, of_five, as_plain, step_of}
+use Rattle.explained_terms.specs.StepLines.{StepsAreReadBack, StepLinesAreTold}
 
 parameter_back : (n : ℕ) → IsParameter n → parameter (decimal n) ≡ Some n
 parameter_back n h = ap (at_most most_parameter) (number_decimal n (omega (arith, h)))

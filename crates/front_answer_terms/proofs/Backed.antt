@@ -1,5 +1,5 @@
 -- Each corner of a walk is refuted by its tokens, and each point is packed by its places.
-use Rattle.std.proofs.Common.{◌≡◌, ℕ, zero, suc, ◌<◌, ◌≤◌, ◌⊎◌, inl, inr, refl, sym, subst, arith, Bool, true, false}
+use Rattle.std.proofs.Common.{◌≡◌, ℕ, zero, suc, ◌<◌, ◌≤◌, ◌⊎◌, inl, inr, refl, subst, arith, Bool, true, false}
 use Rattle.std.proofs.Common.{List, [], ◌∷◌, ◌++◌}
 use Rattle.std.specs.List.{AllByRecursion}
 use Rattle.std.proofs.lemmas.Bool.{cases_lt}
@@ -10,7 +10,7 @@ use Rattle.packing_terms.specs.Refutation.{Refutes}
 use Rattle.packing_terms.proofs.Internal.{some_box}
 use Rattle.tree_terms.specs.Levels.{PlainLevel, PlacedBy, RefutedBy, SpentAt, PlainReached}
 use Rattle.front_terms.specs.Fronts.{with_container}
-use Rattle.front_walks.specs.Walks.{PlainCorner, PlainPoint, PlainFront, corner_unless_empty, spent_front, whole_front}
+use Rattle.front_walks.specs.Walks.{PlainCorner, PlainPoint, PlainFront, corner_unless_empty, spent_front}
 use Rattle.front_walks.specs.Walks.{width_run, height_run, rest_by, round_by_heights, round_by_widths, round_by}
 use Rattle.front_walks.specs.Walks.{walk_on, walk}
 use Rattle.front_terms.proofs.Sizes.{refuted_size, sides_at}

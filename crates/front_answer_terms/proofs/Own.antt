@@ -1,12 +1,12 @@
 -- The documents of walks are verified.
-use Rattle.std.proofs.Common.{◌≡◌, ℕ, zero, suc, ◌+◌, ◌-◌, ◌*◌, ◌<◌, ◌≤◌, refl, sym, ap, ap₂, subst, ◌∙◌, arith, Bool}
-use Rattle.std.proofs.Common.{true, false, cond, codes, List, [], ◌∷◌, ◌++◌, map, length, Some, Result, Ok, Err, get_or}
+use Rattle.std.proofs.Common.{◌≡◌, ℕ, zero, suc, ◌+◌, ◌-◌, ◌*◌, ◌<◌, ◌≤◌, refl, sym, ap, subst, ◌∙◌, arith, Bool}
+use Rattle.std.proofs.Common.{true, false, cond, codes, List, [], ◌∷◌, ◌++◌, map, length, Result, Ok, Err, get_or}
 use Rattle.std.specs.Prelude.{◌==◌}
-use Rattle.std.specs.List.{AllByRecursion, list_any}
+use Rattle.std.specs.List.{AllByRecursion}
 use Rattle.std.specs.Fmt.{decimal}
 use Rattle.std.proofs.lemmas.Bool.{and_right, eq-eqb, le-leb}
-use Rattle.packing_terms.specs.Packing.{PlainInstance, IsPacking, dims, box_count, written_container}
-use Rattle.packing_terms.specs.Limits.{IsInstance, IsInternalInstance, most_height}
+use Rattle.packing_terms.specs.Packing.{PlainInstance, dims, box_count, written_container}
+use Rattle.packing_terms.specs.Limits.{IsInstance, IsInternalInstance}
 use Rattle.packing_terms.specs.Results.{◌>>=◌}
 use Rattle.packing_terms.specs.Tokens.{PlainToken}
 use Rattle.packing_terms.proofs.Internal.{written_internal}
@@ -14,21 +14,21 @@ use Rattle.text_terms.specs.Lines.{text_lines, line_of, same_bytes}
 use Rattle.text_terms.specs.Codes.{unknown_word}
 use Rattle.text_terms.specs.Texts.{Parts, no_parts, add_line, by_words, kerf_line, at_end, at_line as on_line, is_none}
 use Rattle.text_terms.specs.Texts.{read_lines as read_instance_lines, text_instance}
-use Rattle.text_terms.specs.Spelling.{spaced, lines_text, instance_words, instance_text}
+use Rattle.text_terms.specs.Spelling.{spaced, instance_words, instance_text}
 use Rattle.text_terms.proofs.Spelled.{AreWords, AreLines, line_spaced, lines_spaced}
 use Rattle.text_terms.proofs.Back.{read_back, word_decimal}
 use Rattle.text_terms.proofs.FormNumbers.{word_is}
 use Rattle.text_terms.proofs.Good.{bind_ok}
 use Rattle.verdict_terms.specs.declared.reason.Reason.{Reason}
 use Rattle.verdict_terms.specs.Documents.{document_at_line}
-use Rattle.verdict_terms.specs.Stages.{is_blank, is_result, rest_of, end_of_parts, text_fault}
+use Rattle.verdict_terms.specs.Stages.{is_blank, text_fault}
 use Rattle.verdict_terms.proofs.Taken.{is_same, bound, wanted_is}
 use Rattle.verdict_terms.proofs.FormTold.{any_end}
 use Rattle.verdict_terms.proofs.Passed.{ok_is}
 use Rattle.own_documents.proofs.Filled.{AreFilled, filled_append, filled_instance}
 use Rattle.own_documents.proofs.Written.{HaveLines, internal_bounded, refuted_written}
 use Rattle.own_documents.proofs.Accepted.{decimal_number}
-use Rattle.tree_terms.specs.Rising.{AreRising}
+use Rattle.packing_terms.specs.Rising.{AreRising}
 use Rattle.front_terms.specs.declared.answers.FrontReason.{FrontReason}
 use Rattle.front_terms.specs.declared.answers.FrontVerdict.TheVariants.{Good, Short}
 use Rattle.front_terms.specs.Fronts.{with_container, IsLeastSize, IsClaimed}
@@ -37,19 +37,19 @@ use Rattle.explained_documents.specs.declared.kind.DocumentKind.TheVariants.{Fro
 use Rattle.explained_documents.specs.Kinds.{kind_of_line, kind_of_lines}
 use Rattle.front_answer_terms.specs.Laws.{OwnFrontsAreVerified, OwnFrontsAreFronts}
 use Rattle.front_walks.specs.Walks.{PlainCorner, PlainPoint, PlainFront, sizes, front_walk, size_answer}
-use Rattle.front_terms.specs.Lines.{PlainLine, CornerAt, PointAt, PlaceAt, TreeToken, FrontStage, front_line}
+use Rattle.front_terms.specs.Lines.{PlainLine, TreeToken, FrontStage, front_line}
 use Rattle.front_terms.specs.Lines.{front_lines_after, at_line, is_whole_front, announced}
 use Rattle.front_terms.specs.Verdicts.{verdict_by}
 use Rattle.front_walks.specs.WalkLines.{corner_lines, place_lines, point_lines, step_lines, lines_of, front_lines}
 use Rattle.front_terms.proofs.Good.{AreGood}
 use Rattle.front_terms.proofs.Sizes.{internal_size}
 use Rattle.front_walks.proofs.Decided.{highest_small, right_sizes, walks_are_good, walks_are_fronts}
-use Rattle.front_answer_terms.specs.Texts.{line_words, front_word, front_result, front_document, front_text}
-use Rattle.front_verdict_terms.specs.Verdicts.{FrontClaim, FrontRead, most_points, DocumentStage, Opening, Reading}
-use Rattle.front_verdict_terms.specs.Verdicts.{Fronting, Ended, claim_by, front_claim, front_result_line, line_named}
-use Rattle.front_verdict_terms.specs.Verdicts.{named_line, fronting_line, front_reading_line, front_filled_line}
+use Rattle.front_answer_terms.specs.Texts.{line_words, front_result, front_document, front_text}
+use Rattle.front_verdict_terms.specs.Verdicts.{FrontClaim, most_points, DocumentStage, Opening, Reading}
+use Rattle.front_verdict_terms.specs.Verdicts.{Fronting, Ended, front_claim}
+use Rattle.front_verdict_terms.specs.Verdicts.{front_reading_line, front_filled_line}
 use Rattle.front_verdict_terms.specs.Verdicts.{front_stage_after, read_front_lines, front_document_verdict}
-use Rattle.front_answer_terms.proofs.Backed.{all_append, IsBackedCorner, IsBackedPoint, AreBacked, front_backed}
+use Rattle.front_answer_terms.proofs.Backed.{all_append, IsBackedCorner, IsBackedPoint, front_backed}
 use Rattle.front_answer_terms.proofs.Written.{IsWritten, words_plain, line_read, not_end, in_range}
 
 -- a written line is taken by its words

@@ -1,10 +1,8 @@
 -- The lines of a front, as they are written, are read back.
-use Rattle.std.proofs.Common.{◌≡◌, ℕ, zero, suc, ◌+◌, ◌<◌, ◌≤◌, refl, ap, ◌∙◌, arith, Bool, true, false, codes, List}
-use Rattle.std.proofs.Common.{[], ◌∷◌, ◌++◌, map, length, Option, Some, None, Result, Ok, Err}
+use Rattle.std.proofs.Common.{◌≡◌, ℕ, ◌≤◌, refl, ap, arith, true, false, codes, List}
+use Rattle.std.proofs.Common.{[], ◌∷◌, map, Some, None, Ok}
 use Rattle.std.proofs.lemmas.Bool.{and_from, le-leb}
 use Rattle.std.specs.Fmt.{decimal}
-use Rattle.packing_terms.specs.declared.ScaleFn.{ScaleFn}
-use Rattle.packing_terms.specs.declared.ScaleFn.TheVariants.{Id, Step, Cut, Count}
 use Rattle.packing_terms.specs.Tokens.{PlainToken}
 use Rattle.packing_terms.specs.Tokens.PlainToken.{Apart, Order, Rules, TooLarge, Scales, Assign, Choose, SetRefuted}
 use Rattle.packing_terms.specs.Tokens.PlainToken.{ValueShort, GlobalScales}
@@ -14,7 +12,6 @@ use Rattle.text_terms.proofs.Spelled.{AreWords}
 use Rattle.text_terms.proofs.Back.{word_decimal}
 use Rattle.document_terms.specs.TokenLines.{token_of, token_words, HasLine}
 use Rattle.document_terms.proofs.TokensBack.{tokens_are_read_back}
-use Rattle.verdict_terms.specs.declared.reason.Reason.{Reason}
 use Rattle.verdict_terms.specs.Numbers.{most_coordinate, numbers_line}
 use Rattle.verdict_terms.specs.Stages.{is_word}
 use Rattle.verdict_terms.proofs.Taken.{numbers_line_is, all_wanted_is}

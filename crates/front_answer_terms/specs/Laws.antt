@@ -1,13 +1,12 @@
 -- What is said of the documents of walks.
-use Rattle.std.specs.Prelude.{ℕ, ◌≡◌, Bool, List, length, Ok}
+use Rattle.std.specs.Prelude.{ℕ, ◌≡◌, Bool, length, Ok}
 use Rattle.packing_terms.specs.Packing.{PlainInstance, dims}
 use Rattle.packing_terms.specs.Limits.{IsInstance}
 use Rattle.explained_documents.specs.declared.kind.DocumentKind.TheVariants.{Front}
 use Rattle.explained_documents.specs.Kinds.{document_kind}
-use Rattle.front_terms.specs.Fronts.{IsClaimed}
 use Rattle.front_walks.specs.Walks.{front_walk}
 use Rattle.front_answer_terms.specs.Texts.{front_text}
-use Rattle.front_verdict_terms.specs.Verdicts.{FrontClaim, FrontRead, front_document_verdict}
+use Rattle.front_verdict_terms.specs.Verdicts.{front_document_verdict}
 
 -- the document of a walk is verified with its claim
 abbrev pub OwnFrontsAreVerified : Type 0

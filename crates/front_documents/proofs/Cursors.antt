@@ -1,7 +1,7 @@
 -- The verdict of the lines that are left, line by line.
 use Rattle.std.proofs.Common.{◌≡◌, ℕ, refl, sym, ap, ◌∙◌, subst, Bool, true, false, List, [], ◌∷◌, Result, Ok, Err}
 use Rattle.packing_terms.specs.Results.{◌>>=◌}
-use Rattle.text_terms.specs.Feeding.{NumberedLine, told_now, ended_line, new_lexer}
+use Rattle.text_terms.specs.Feeding.{NumberedLine, ended_line, new_lexer}
 use Rattle.verdict_terms.specs.declared.reason.Reason.{Reason}
 use Rattle.verdict_terms.specs.Documents.{Refusal, document_at_line}
 use Rattle.verdict_terms.specs.Stages.{is_blank}

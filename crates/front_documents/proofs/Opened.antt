@@ -1,6 +1,6 @@
 -- What a line opens where a corner, a point or `end` is wanted.
-use Rattle.std.proofs.Common.{◌≡◌, ℕ, zero, suc, ◌+◌, ◌<◌, ◌≤◌, ◌⊎◌, inl, inr, refl, sym, ap, ◌∙◌, subst, arith, Bool}
-use Rattle.std.proofs.Common.{true, false, not, cond, List, [], ◌∷◌, Option, Some, None, Result, Ok, Err, codes}
+use Rattle.std.proofs.Common.{◌≡◌, ℕ, zero, suc, ◌<◌, ◌≤◌, ◌⊎◌, inl, inr, refl, sym, ap, ◌∙◌, subst, arith, Bool}
+use Rattle.std.proofs.Common.{true, false, cond, List, Option, Some, None, Result, Ok, Err, codes}
 use Rattle.std.specs.Prelude.{◌==◌, ◌&&◌, ◌-◌, nat_le, nat_lt, slice_index}
 use Rattle.std.proofs.lemmas.Bool.{ne_eqb, and_left, and_right, false_from_ne_true, leb-true, leb-false, ltb-true}
 use Rattle.packing_terms.specs.Packing.{PlainInstance, dims, written_container}
@@ -9,22 +9,21 @@ use Rattle.packing_terms.specs.Results.{◌>>=◌}
 use Rattle.packing_terms.specs.Tokens.{PlainToken}
 use Rattle.text_terms.specs.Lines.{Line}
 use Rattle.verdict_terms.specs.declared.reason.Reason.{Reason}
-use Rattle.verdict_terms.specs.declared.reason.Reason.TheVariants.{Token}
 use Rattle.verdict_terms.specs.Reasons.{form}
 use Rattle.verdict_terms.specs.Numbers.{require, most_coordinate}
 use Rattle.verdict_terms.specs.Stages.{is_word}
 use Rattle.front_terms.specs.declared.answers.FrontReason.{FrontReason}
 use Rattle.front_terms.specs.declared.answers.FrontReason.TheVariants.{Tree, Places}
 use Rattle.front_terms.specs.Lines.{PlainLine, CornerAt, PointAt, PlaceAt, TreeToken, FrontStage, form as front_form}
-use Rattle.front_terms.specs.Lines.{range as front_range, wanted, cornered, closing_width, closing_corner}
-use Rattle.front_terms.specs.Lines.{corner_before, corner_line, point_of, point_line, token_line, is_whole_front}
-use Rattle.front_verdict_terms.specs.Verdicts.{DocumentStage, Fronting, Ended, line_named, named_line, told_reason}
+use Rattle.front_terms.specs.Lines.{range as front_range, wanted, closing_width, closing_corner}
+use Rattle.front_terms.specs.Lines.{corner_line, point_line, token_line, is_whole_front}
+use Rattle.front_verdict_terms.specs.Verdicts.{DocumentStage, Ended, line_named, named_line, told_reason}
 use Rattle.front_verdict_terms.specs.Verdicts.{told, early_reason}
 use Rattle.front_check.specs.declared.parts.Part.{Part}
 use Rattle.front_check.specs.declared.parts.Part.TheVariants.{Begun as BegunPart, Corner as CornerPart}
 use Rattle.front_check.specs.declared.parts.Part.TheVariants.{Point as PointPart}
 use Rattle.front_check.specs.declared.parts.Stage.{Stage}
-use Rattle.front_check.specs.Audits.{plain_part, plain_stage, placing, IsPartInside}
+use Rattle.front_check.specs.Audits.{plain_part, plain_stage, IsPartInside}
 use Rattle.front_documents.specs.declared.opening.OpenPart.{OpenPart}
 use Rattle.front_documents.specs.Audits.{claim_of}
 use Rattle.front_documents.specs.Parts.{at_front, IsOpened, taken_by, opened_by, clamped, told_code}

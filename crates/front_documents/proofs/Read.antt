@@ -1,7 +1,7 @@
 -- The lines of a tree and of places, as a document takes them.
 use Rattle.std.proofs.Common.{◌≡◌, ℕ, zero, suc, ◌+◌, ◌*◌, ◌≤◌, ◌<◌, refl, sym, ap, ◌∙◌, subst, arith, Bool, true}
 use Rattle.std.proofs.Common.{false, not, cond, List, [], ◌∷◌, ◌++◌, length, Option, Some, None, Result, Ok, Err, codes}
-use Rattle.std.specs.Prelude.{◌==◌, ◌&&◌, ◌-◌}
+use Rattle.std.specs.Prelude.{◌==◌, ◌-◌}
 use Rattle.std.proofs.lemmas.Bool.{ne_eqb, eq-eqb}
 use Rattle.std.proofs.Math.Bool.{and-false}
 use Rattle.std.proofs.lemmas.List.FromFn.{fill_by_all}
@@ -28,12 +28,10 @@ use Rattle.verdict_terms.specs.Reasons.{form, range}
 use Rattle.verdict_terms.specs.Numbers.{require, are_coordinates}
 use Rattle.verdict_terms.specs.Stages.{is_word, coded}
 use Rattle.verdict_terms.specs.Trees.{map_ok}
-use Rattle.front_terms.specs.declared.answers.FrontReason.{FrontReason}
 use Rattle.front_terms.specs.Fronts.{with_container}
-use Rattle.front_terms.specs.Lines.{PlainLine, CornerAt, PointAt, PlaceAt, TreeToken, FrontStage, form as front_form}
+use Rattle.front_terms.specs.Lines.{PlainLine, CornerAt, PointAt, PlaceAt, TreeToken, form as front_form}
 use Rattle.front_terms.specs.Lines.{grown as front_grown, tested, placed, is_whole_front}
 use Rattle.front_verdict_terms.specs.Verdicts.{DocumentStage, Ended, line_named, named_line, told, front_filled_line}
-use Rattle.front_verdict_terms.specs.Verdicts.{early_reason}
 use Rattle.front_check.specs.Audits.{growing, placing, pointed}
 use Rattle.line_cursor.specs.declared.cursor.Cursor.{Cursor}
 use Rattle.line_cursor.specs.Lines.{lines_left}

@@ -1,7 +1,7 @@
 -- Lines of a front, by their words.
-use Rattle.std.proofs.Common.{◌≡◌, ℕ, suc, ◌<◌, refl, sym, ap, ◌∙◌, arith, Bool, true, false, cond, List, [], ◌∷◌}
+use Rattle.std.proofs.Common.{◌≡◌, ℕ, refl, sym, ap, ◌∙◌, arith, Bool, true, false, cond, List, [], ◌∷◌}
 use Rattle.std.proofs.Common.{length, Option, Some, None, Result, Ok, Err, codes, get_or}
-use Rattle.std.specs.Prelude.{◌==◌, ◌&&◌, nat_le}
+use Rattle.std.specs.Prelude.{◌==◌, nat_le}
 use Rattle.std.proofs.lemmas.Bool.{ne_eqb, and_right}
 use Rattle.packing_terms.specs.Results.{◌>>=◌}
 use Rattle.text_terms.specs.Lines.{same_bytes, number_of}
@@ -9,7 +9,7 @@ use Rattle.text_terms.specs.Texts.{first_word}
 use Rattle.document_terms.specs.TokenLines.{token_of}
 use Rattle.verdict_terms.specs.declared.reason.Reason.{Reason}
 use Rattle.verdict_terms.specs.Reasons.{form, range}
-use Rattle.verdict_terms.specs.Numbers.{wanted, wanted_by, all_wanted, numbers_line, require}
+use Rattle.verdict_terms.specs.Numbers.{wanted_by, all_wanted, numbers_line, require}
 use Rattle.verdict_terms.specs.Stages.{rest_of}
 use Rattle.front_terms.specs.Lines.{PlainLine, CornerAt, PointAt, PlaceAt}
 use Rattle.front_verdict_terms.specs.Verdicts.{FrontClaim, two_by, token_by, line_named, front_claim, most_points}

@@ -3,7 +3,6 @@ use Rattle.std.specs.Prelude.{ℕ, suc, ◌-◌, ◌≤◌, ◌≡◌, ◌++◌,
 use Rattle.std.specs.Prelude.{◌∷◌, Option, Some, None, Result, Ok, Err, codes}
 use Rattle.packing_terms.specs.declared.Exclusion.{Exclusion}
 use Rattle.packing_terms.specs.Packing.{PlainInstance}
-use Rattle.packing_terms.specs.Results.{◌>>=◌}
 use Rattle.box_instances.specs.Sets.{all_boxes}
 use Rattle.text_terms.specs.Lines.{Line}
 use Rattle.check_terms.specs.Checking.{inner_after}
@@ -31,7 +30,7 @@ use Rattle.front_documents.specs.declared.opening.OpenPart.TheVariants.{Corner a
 use Rattle.front_documents.specs.declared.reading.PlaceStop.{PlaceStop}
 use Rattle.front_documents.specs.declared.reading.PlaceStop.TheVariants.{Refused as RefusedPlace}
 use Rattle.front_documents.specs.declared.reading.PlaceStop.TheVariants.{NoMemory as NoPlaceMemory}
-use Rattle.front_documents.specs.Audits.{claim_of, verdict_left, IsVerdict, IsStopped}
+use Rattle.front_documents.specs.Audits.{claim_of, verdict_left, IsVerdict}
 
 -- behind the result line of a claim
 abbrev pub at_front : PlainInstance → Bool → ℕ → FrontStage → DocumentStage

@@ -1,24 +1,12 @@
 -- Lines are good where each is allowed and none is missing.
-use Rattle.std.proofs.Common.{◌≡◌, ℕ, suc, ◌*◌, ◌<◌, ◌≤◌, ◌⊎◌, inl, inr, refl, sym, ap, ◌∙◌, subst, arith, Bool, true}
-use Rattle.std.proofs.Common.{false, List, [], ◌∷◌, ◌++◌, map, length, Result, Ok, Err, append_assoc, length-append}
-use Rattle.std.specs.Prelude.{◌==◌}
-use Rattle.std.proofs.lemmas.Bool.{cases_Bool, eqb-true, eqb-false}
-use Rattle.packing_terms.specs.declared.Exclusion.{Exclusion}
-use Rattle.packing_terms.specs.Packing.{PlainInstance, IsPacking, box_count}
+use Rattle.std.proofs.Common.{◌≡◌, ℕ, suc, refl, ap, ◌∙◌, Bool, true}
+use Rattle.std.proofs.Common.{List, [], ◌∷◌, Result, Ok}
+use Rattle.packing_terms.specs.Packing.{PlainInstance}
 use Rattle.packing_terms.specs.Results.{◌>>=◌}
-use Rattle.packing_terms.specs.Tokens.{PlainToken}
-use Rattle.packing_terms.specs.Refutation.{Refutes}
-use Rattle.check_terms.specs.declared.answers.PlaceVerdict.TheVariants.{Good as GoodPlaces}
-use Rattle.check_terms.specs.declared.answers.RefuseCode.{RefuseCode}
-use Rattle.check_terms.specs.Checking.{inner_after, nodes_after_all}
-use Rattle.check_terms.specs.Placing.{place_verdict}
-use Rattle.check_terms.proofs.Refuting.{inner_refutes}
-use Rattle.check_terms.proofs.Places.{places_tested}
 use Rattle.front_terms.specs.declared.answers.FrontReason.{FrontReason}
 use Rattle.front_terms.specs.declared.answers.FrontVerdict.TheVariants.{Good}
-use Rattle.front_terms.specs.Fronts.{with_container}
-use Rattle.front_terms.specs.Lines.{PlainLine, CornerAt, PointAt, PlaceAt, TreeToken, Cornered, Placing, Pointed}
-use Rattle.front_terms.specs.Lines.{FrontStage, wanted, cornered, grown, at_line, front_line, front_lines_after}
+use Rattle.front_terms.specs.Lines.{PlainLine}
+use Rattle.front_terms.specs.Lines.{FrontStage, at_line, front_line, front_lines_after}
 use Rattle.front_terms.specs.Lines.{is_whole_front, announced}
 use Rattle.front_terms.specs.Verdicts.{front_verdict, verdict_by}
 

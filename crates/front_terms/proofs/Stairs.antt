@@ -9,7 +9,7 @@ use Rattle.std.proofs.Common.{map}
 use Rattle.std.specs.List.{AllByRecursion, Contains}
 use Rattle.std.proofs.lemmas.Bool.{cases_lt}
 use Rattle.packing_terms.specs.Packing.{PlainInstance, Fits, written_container}
-use Rattle.front_terms.specs.Fronts.{AreRising}
+use Rattle.packing_terms.specs.Rising.{AreRising}
 use Rattle.front_terms.specs.Fronts.{with_container, IsReached, IsLeastSize, last_width, IsClaimed}
 use Rattle.front_terms.proofs.Sizes.{fits_wider}
 

@@ -7,9 +7,10 @@
 --       |  #  #  #  #  o  .            not reached: #
 --       |  #  #  #  #  #  #
 --       +------------------- width
-use Rattle.std.specs.Prelude.{ℕ, ◌-◌, ◌<◌, ◌≤◌, Bool, true, false, List, [], ◌∷◌, map}
+use Rattle.std.specs.Prelude.{ℕ, ◌-◌, ◌≤◌, Bool, true, false, List, [], ◌∷◌, map}
 use Rattle.std.specs.List.{AllByRecursion, Contains}
 use Rattle.packing_terms.specs.Packing.{PlainInstance, written_container, Fits}
+use Rattle.packing_terms.specs.Rising.{AreRising}
 
 -- the boxes with their kerfs, and a written container of two sides
 abbrev pub with_container : PlainInstance → ℕ → ℕ → PlainInstance
@@ -29,11 +30,6 @@ pub record IsLeastSize (instance : PlainInstance) (width height : ℕ) : Type 0 
   pub reached : IsReached instance width height
   pub narrower : ¬ IsReached instance (width - 1) height
   pub lower : ¬ IsReached instance width (height - 1)
-
--- the numbers rise
-abbrev pub AreRising : List ℕ → Type 0
-AreRising [] = Unit {0}
-AreRising (v ∷ vs) = AllByRecursion (λ u. v < u) vs × AreRising vs
 
 -- The front: all least pairs of a width and a height, by rising width. So each stands there once.
 pub record IsFront (instance : PlainInstance) (sizes : List (ℕ × ℕ)) : Type 0 where

@@ -1,6 +1,6 @@
 -- What the laws over fronts say.
-use Rattle.std.specs.Prelude.{ℕ, ◌+◌, ◌-◌, ◌*◌, ◌/◌, ◌^◌, ◌≤◌, ◌≡◌, ◌↔◌, Bool, true, false, List, length}
-use Rattle.packing_terms.specs.Packing.{PlainInstance, Fits, dims, box_count}
+use Rattle.std.specs.Prelude.{ℕ, ◌-◌, ◌≤◌, ◌≡◌, Bool, List, length}
+use Rattle.packing_terms.specs.Packing.{PlainInstance, Fits, dims}
 use Rattle.packing_terms.specs.Limits.{IsInternalInstance}
 use Rattle.front_terms.specs.declared.answers.FrontVerdict.TheVariants.{Good}
 use Rattle.front_terms.specs.Fronts.{with_container, IsClaimed}

@@ -16,13 +16,13 @@ use Rattle.document_terms.specs.TokenLines.{token_of}
 use Rattle.document_terms.proofs.Cuts.{cut_rest, token_cut}
 use Rattle.verdict_terms.specs.declared.reason.Reason.{Reason}
 use Rattle.verdict_terms.specs.Reasons.{form, range}
-use Rattle.verdict_terms.specs.Numbers.{require, wanted_by, numbers_line}
+use Rattle.verdict_terms.specs.Numbers.{require, numbers_line}
 use Rattle.verdict_terms.specs.Documents.{document_at_line}
 use Rattle.verdict_terms.specs.Stages.{is_word, text_fault, end_of_parts, is_result, rest_of, is_blank}
 use Rattle.verdict_terms.proofs.Cuts.{numbers_cut, is_word_cut}
 use Rattle.front_terms.specs.Lines.{PlainLine, CornerAt, PointAt, PlaceAt, FrontStage, front_line, is_whole_front}
 use Rattle.front_terms.specs.Lines.{announced}
-use Rattle.front_verdict_terms.specs.Verdicts.{FrontClaim, DocumentStage, Opening, Reading, Fronting, Ended, claim_by}
+use Rattle.front_verdict_terms.specs.Verdicts.{FrontClaim, DocumentStage, Opening, Reading, Fronting, Ended}
 use Rattle.front_verdict_terms.specs.Verdicts.{front_claim, two_by, token_by, line_named, placed_in_range, told}
 use Rattle.front_verdict_terms.specs.Verdicts.{early_reason, named_line, fronting_line, front_reading_line}
 use Rattle.front_verdict_terms.specs.Verdicts.{front_filled_line, front_stage_after, front_document_verdict}

@@ -1,20 +1,20 @@
 -- What is verified of a document of a front is true of its instance.
-use Rattle.std.proofs.Common.{◌≡◌, ℕ, suc, ◌+◌, refl, sym, ap, ◌∙◌, subst, Bool, true, false, cond, not, ◌&&◌, List, []}
-use Rattle.std.proofs.Common.{◌∷◌, length, Option, Some, None, Result, Ok, Err}
-use Rattle.std.specs.Prelude.{◌==◌, nat_le, codes}
+use Rattle.std.proofs.Common.{◌≡◌, ℕ, ◌+◌, refl, sym, subst, Bool, true, false, cond, not, ◌&&◌, List, []}
+use Rattle.std.proofs.Common.{◌∷◌, Option, Some, None, Result, Ok, Err}
+use Rattle.std.specs.Prelude.{◌==◌, codes}
 use Rattle.std.proofs.lemmas.Bool.{eqb-true}
 use Rattle.packing_terms.specs.Packing.{PlainInstance, dims}
 use Rattle.packing_terms.specs.Limits.{IsInstance}
 use Rattle.packing_terms.specs.Results.{◌>>=◌}
 use Rattle.packing_terms.proofs.Internal.{written_internal}
 use Rattle.text_terms.specs.declared.fault.TextFault.{TextFault}
-use Rattle.text_terms.specs.Lines.{Line, text_lines, line_of, same_bytes}
+use Rattle.text_terms.specs.Lines.{Line, text_lines, line_of}
 use Rattle.text_terms.specs.Texts.{Parts, no_parts, add_line, at_end, IsWithinLimits}
 use Rattle.text_terms.proofs.Good.{good_start, line_good, parts_limits}
 use Rattle.verdict_terms.specs.declared.reason.Reason.{Reason}
-use Rattle.verdict_terms.specs.Reasons.{form, range, after}
-use Rattle.verdict_terms.specs.Numbers.{require, wanted}
-use Rattle.verdict_terms.specs.Documents.{Refusal, document_at_line}
+use Rattle.verdict_terms.specs.Reasons.{form}
+use Rattle.verdict_terms.specs.Numbers.{require}
+use Rattle.verdict_terms.specs.Documents.{document_at_line}
 use Rattle.verdict_terms.specs.Stages.{is_word, text_fault, end_of_parts, is_result, rest_of, is_blank}
 use Rattle.front_terms.specs.declared.answers.FrontReason.{FrontReason}
 use Rattle.front_terms.specs.Lines.{PlainLine, FrontStage, front_line, is_whole_front, announced}
@@ -22,9 +22,9 @@ use Rattle.front_terms.specs.Verdicts.{points_named}
 use Rattle.front_terms.proofs.Good.{AreGood, good_verdict}
 use Rattle.front_terms.proofs.Judged.{good_lines_are_true}
 use Rattle.front_verdict_terms.specs.Verdicts.{FrontClaim, FrontRead, DocumentStage, Opening, Reading, Fronting, Ended}
-use Rattle.front_verdict_terms.specs.Verdicts.{front_claim, front_result_line, line_named, placed_in_range, told}
-use Rattle.front_verdict_terms.specs.Verdicts.{named_line, early_reason, fronting_line, front_reading_line}
-use Rattle.front_verdict_terms.specs.Verdicts.{front_filled_line, front_stage_after, front_at_end, read_front_lines}
+use Rattle.front_verdict_terms.specs.Verdicts.{front_claim, front_result_line, line_named, told}
+use Rattle.front_verdict_terms.specs.Verdicts.{named_line, early_reason, front_reading_line}
+use Rattle.front_verdict_terms.specs.Verdicts.{front_filled_line, front_stage_after, read_front_lines}
 use Rattle.front_verdict_terms.specs.Verdicts.{front_document_verdict}
 use Rattle.front_verdict_terms.specs.Laws.{IsTrueFrontOf, VerifiedFrontsAreTrue}
 

@@ -1,5 +1,5 @@
 -- What a verified document of a front says, and that the documents of walks are verified.
-use Rattle.std.specs.Prelude.{ℕ, ◌≡◌, Bool, List, length, Ok}
+use Rattle.std.specs.Prelude.{ℕ, ◌≡◌, List, length, Ok}
 use Rattle.packing_terms.specs.Packing.{PlainInstance, dims}
 use Rattle.packing_terms.specs.Limits.{IsInstance}
 use Rattle.front_terms.specs.Fronts.{IsClaimed}

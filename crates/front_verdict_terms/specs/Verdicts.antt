@@ -1,27 +1,26 @@
 -- The verdict on the document of a front: its claim where it is verified, else the first refused
 -- line, counted from 1, with the reason.
-use Rattle.std.specs.Prelude.{ℕ, suc, ◌+◌, ◌==◌, ◌&&◌, not, cond, Bool, true, false, List, [], ◌∷◌, ◌++◌, length}
+use Rattle.std.specs.Prelude.{ℕ, suc, ◌+◌, ◌==◌, ◌&&◌, not, cond, Bool, true, false, List, [], ◌∷◌, ◌++◌}
 use Rattle.std.specs.Prelude.{Option, Some, None, Result, Ok, Err, nat_le, codes}
 use Rattle.std.specs.Fmt.{decimal}
 use Rattle.packing_terms.specs.Packing.{PlainInstance, dims}
 use Rattle.packing_terms.specs.Results.{◌>>=◌}
-use Rattle.text_terms.specs.Lines.{Line, text_lines, line_of, number_of, same_bytes}
+use Rattle.text_terms.specs.Lines.{Line, text_lines, line_of, same_bytes}
 use Rattle.text_terms.specs.Texts.{Parts, no_parts, add_line, at_end, first_word}
 use Rattle.text_terms.specs.Spelling.{spaced}
-use Rattle.check_terms.specs.declared.answers.PlaceVerdict.{PlaceVerdict}
 use Rattle.check_terms.specs.declared.answers.PlaceVerdict.TheVariants.{Good, Outside, Overlap}
 use Rattle.document_terms.specs.TokenLines.{token_of}
 use Rattle.verdict_terms.specs.declared.reason.Reason.{Reason}
 use Rattle.verdict_terms.specs.declared.reason.Reason.TheVariants.{Token, OutsideAt, OverlapAt, TooShort}
 use Rattle.verdict_terms.specs.Reasons.{form, range, after, reason_words}
-use Rattle.verdict_terms.specs.Numbers.{require, wanted, all_wanted, numbers_line, are_coordinates}
+use Rattle.verdict_terms.specs.Numbers.{require, wanted, numbers_line, are_coordinates}
 use Rattle.verdict_terms.specs.Documents.{Refusal, document_at_line}
 use Rattle.verdict_terms.specs.Stages.{is_word, text_fault, end_of_parts, is_result, rest_of, is_blank}
 use Rattle.packing_terms.specs.Tokens.{PlainToken}
 use Rattle.front_terms.specs.declared.answers.FrontReason.{FrontReason}
 use Rattle.front_terms.specs.declared.answers.FrontReason.TheVariants.{Tree, Places}
-use Rattle.front_terms.specs.Lines.{PlainLine, CornerAt, PointAt, PlaceAt, TreeToken, FrontPart, Begun, Cornered}
-use Rattle.front_terms.specs.Lines.{Placing, Pointed, FrontStage, front_line, is_whole_front, announced}
+use Rattle.front_terms.specs.Lines.{PlainLine, CornerAt, PointAt, PlaceAt, TreeToken, FrontPart, Cornered}
+use Rattle.front_terms.specs.Lines.{Placing, FrontStage, front_line, is_whole_front, announced}
 
 -- the greatest number of points that a result line announces
 abbrev pub most_points : ℕ

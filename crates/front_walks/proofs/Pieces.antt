@@ -1,5 +1,5 @@
 -- Pieces of good lines, put behind one another.
-use Rattle.std.proofs.Common.{◌≡◌, ℕ, suc, ◌*◌, ◌<◌, ◌≤◌, ◌⊎◌, inl, inr, refl, sym, ap, ◌∙◌, subst, arith, Bool, true}
+use Rattle.std.proofs.Common.{◌≡◌, ℕ, suc, ◌*◌, ◌<◌, ◌≤◌, ◌⊎◌, inl, inr, refl, sym, ap, subst, arith, Bool, true}
 use Rattle.std.proofs.Common.{false, List, [], ◌∷◌, ◌++◌, map, length, Result, Ok, Err, append_assoc, length-append}
 use Rattle.std.specs.Prelude.{◌==◌}
 use Rattle.std.proofs.lemmas.Bool.{cases_Bool, eqb-true, eqb-false}
@@ -15,12 +15,9 @@ use Rattle.check_terms.specs.Placing.{place_verdict}
 use Rattle.check_terms.proofs.Refuting.{inner_refutes}
 use Rattle.check_terms.proofs.Places.{places_tested}
 use Rattle.front_terms.specs.declared.answers.FrontReason.{FrontReason}
-use Rattle.front_terms.specs.declared.answers.FrontVerdict.TheVariants.{Good}
 use Rattle.front_terms.specs.Fronts.{with_container}
 use Rattle.front_terms.specs.Lines.{PlainLine, CornerAt, PointAt, PlaceAt, TreeToken, Cornered, Placing, Pointed}
-use Rattle.front_terms.specs.Lines.{FrontStage, wanted, cornered, grown, at_line, front_line, front_lines_after}
-use Rattle.front_terms.specs.Lines.{is_whole_front, announced}
-use Rattle.front_terms.specs.Verdicts.{front_verdict, verdict_by}
+use Rattle.front_terms.specs.Lines.{FrontStage, wanted, cornered, grown, front_line}
 use Rattle.front_terms.proofs.Good.{AreGood}
 use Rattle.front_walks.specs.WalkLines.{place_lines, corner_lines, point_lines}
 

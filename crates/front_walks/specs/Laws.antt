@@ -1,12 +1,11 @@
 -- What the laws over walks say.
-use Rattle.std.specs.Prelude.{ℕ, ◌+◌, ◌-◌, ◌*◌, ◌/◌, ◌^◌, ◌≤◌, ◌≡◌, ◌↔◌, Bool, true, false, List, length}
-use Rattle.packing_terms.specs.Packing.{PlainInstance, Fits, dims, box_count}
+use Rattle.std.specs.Prelude.{ℕ, ◌+◌, ◌-◌, ◌*◌, ◌/◌, ◌^◌, ◌≤◌, ◌≡◌, ◌↔◌, Bool, true, false, length}
+use Rattle.packing_terms.specs.Packing.{PlainInstance, dims, box_count}
 use Rattle.packing_terms.specs.Limits.{IsInternalInstance}
 use Rattle.front_terms.specs.declared.answers.FrontVerdict.TheVariants.{Good}
-use Rattle.front_terms.specs.Fronts.{with_container, IsClaimed}
+use Rattle.front_terms.specs.Fronts.{IsClaimed}
 use Rattle.front_walks.specs.Walks.{PlainFront, sizes, front_walk}
 use Rattle.front_walks.specs.Asked.{HasLargeSize}
-use Rattle.front_terms.specs.Lines.{PlainLine}
 use Rattle.front_terms.specs.Verdicts.{front_verdict, points_named}
 use Rattle.front_walks.specs.WalkLines.{front_lines}
 

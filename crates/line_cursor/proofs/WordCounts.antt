@@ -1,5 +1,5 @@
 -- How many words are held of a line, by their count.
-use Rattle.std.proofs.Common.{◌≡◌, ℕ, suc, ◌<◌, ◌≤◌, refl, false, List, [], ◌∷◌, length, arith}
+use Rattle.std.proofs.Common.{◌≡◌, ℕ, ◌<◌, ◌≤◌, refl, false, List, [], ◌∷◌, length, arith}
 use Rattle.instance_text.specs.Plain.{AreCounted}
 use Rattle.text_terms.specs.Lines.{same_bytes}
 use Rattle.text_terms.specs.Texts.{first_word}

@@ -14,14 +14,14 @@ use Rattle.packing_terms.specs.declared.Rel.{Rel}
 use Rattle.packing_terms.specs.declared.Rel.TheVariants.{Overlap, Before, After}
 use Rattle.packing_terms.specs.declared.Exclusion.{Exclusion}
 use Rattle.packing_terms.specs.Packing.{PlainInstance}
-use Rattle.packing_terms.specs.Exclusions.{Exclusions, excludes, exclusion_at, is_same_rel}
+use Rattle.packing_terms.specs.Exclusions.{Exclusions, excludes, exclusion_at}
 use Rattle.packing_terms.specs.Rules.{Rule, dim_of, first_of, second_of}
 use Rattle.rule_terms.specs.Steps.{with_exclusion}
 use Rattle.rule_terms.specs.Applied.{narrowed_by, narrows, narrowed, is_narrowed}
 use Rattle.relation_table.specs.Masks.{mask_has, IsComposed}
 use Rattle.edge_state.specs.Edges.{PlainEdges}
-use Rattle.explained_terms.specs.Explaining.{leaves, after_rule}
-use Rattle.explained_terms.specs.Judging.{applies, is_change}
+use Rattle.explained_terms.specs.Explaining.{leaves}
+use Rattle.explained_terms.specs.Judging.{applies}
 use Rattle.line_proofs.specs.Taken.{IsRuleTaken}
 
 pub same_narrowed : (es : List Exclusion) (i u v : ℕ) (k l : Rel → Bool) → ((r : Rel) → k r ≡ l r)

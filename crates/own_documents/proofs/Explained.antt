@@ -1,37 +1,34 @@
 -- The document of an explanation is verified, and about its instance.
-use Rattle.std.proofs.Common.{◌≡◌, ◌∙◌, ℕ, ◌+◌, ◌≤◌, refl, sym, ap, ap₂, subst, arith, Bool, true, false, cond, codes}
-use Rattle.std.proofs.Common.{List, [], ◌∷◌, ◌++◌, append-nil, map, length, Option, Some, None, Result, Ok, Err}
+use Rattle.std.proofs.Common.{◌≡◌, ◌∙◌, ℕ, ◌+◌, refl, sym, ap, arith, Bool, true, false, codes}
+use Rattle.std.proofs.Common.{List, [], ◌∷◌, ◌++◌, append-nil, map, length, Option, Some, None, Ok}
 use Rattle.std.proofs.lemmas.List.{map-append}
 use Rattle.packing_terms.specs.Packing.{PlainInstance, dims}
 use Rattle.packing_terms.specs.Limits.{IsInstance}
 use Rattle.packing_terms.specs.Results.{◌>>=◌}
 use Rattle.packing_terms.proofs.Internal.{written_internal}
-use Rattle.text_terms.specs.Lines.{Line, line_of, text_lines, content, words_of, same_bytes}
-use Rattle.text_terms.specs.Texts.{Parts, no_parts, add_line, at_line as on_line, at_end as end_of, first_word, is_none}
+use Rattle.text_terms.specs.Lines.{Line, line_of, text_lines, same_bytes}
+use Rattle.text_terms.specs.Texts.{Parts, no_parts, add_line, at_line as on_line, at_end as end_of, is_none}
 use Rattle.text_terms.specs.Texts.{text_instance, read_lines as read_instance_lines}
 use Rattle.text_terms.specs.Spelling.{spaced, instance_words, instance_text, lines_text}
 use Rattle.text_terms.proofs.Spelled.{AreWords, AreLines, line_spaced, lines_spaced}
 use Rattle.text_terms.proofs.Back.{read_back}
 use Rattle.text_terms.proofs.Good.{bind_ok}
-use Rattle.document_terms.specs.TokenLines.{token_of}
 use Rattle.verdict_terms.specs.Stages.{is_word, is_blank}
 use Rattle.verdict_terms.proofs.FormTold.{any_end}
 use Rattle.verdict_terms.proofs.Passed.{is_word_ok}
 use Rattle.explained_terms.specs.Steps.{PlainStep}
-use Rattle.explained_terms.specs.StepLines.{HasStepLine, step_of, step_words}
-use Rattle.explained_terms.specs.Explaining.{Explains}
+use Rattle.explained_terms.specs.StepLines.{step_of, step_words}
 use Rattle.explained_terms.specs.Judging.{AuditNode, at_rest}
 use Rattle.explained_terms.specs.Auditing.{audited_after, audited_after_all}
 use Rattle.explained_terms.proofs.Fed.{explained_fed}
 use Rattle.explained_terms.proofs.StepsBack.{steps_are_read_back}
-use Rattle.explained_documents.specs.declared.reason.ExplainedReason.{ExplainedReason}
 use Rattle.explained_documents.specs.Stages.{ExplainedStage, Heading, Reading, Explaining, Ending, Ended, form, begun}
-use Rattle.explained_documents.specs.Stages.{grown, tree_step, tree_line, text_fault, end_of_parts, reading_line}
-use Rattle.explained_documents.specs.Stages.{result_line, require, are_two, coded, end_line, late_by, stage_after}
+use Rattle.explained_documents.specs.Stages.{grown, tree_step, text_fault, end_of_parts, reading_line}
+use Rattle.explained_documents.specs.Stages.{require, are_two, coded, stage_after}
 use Rattle.explained_documents.specs.declared.kind.DocumentKind.{DocumentKind}
 use Rattle.explained_documents.specs.declared.kind.DocumentKind.TheVariants.{Explained as ExplainedKind}
 use Rattle.explained_documents.specs.Kinds.{kind_of_line, kind_of_lines}
-use Rattle.explained_documents.specs.Documents.{ExplainedRefusal, at_line, at_end, read_lines, explained_verdict}
+use Rattle.explained_documents.specs.Documents.{at_line, read_lines, explained_verdict}
 use Rattle.explained_documents.proofs.InstanceLines.{no_result, at_line_ok}
 use Rattle.answer_terms.specs.Answers.{Lines}
 use Rattle.answer_terms.specs.Explained.{step_lines, explained_lines, explained_text}

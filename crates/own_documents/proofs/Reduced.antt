@@ -1,11 +1,6 @@
 -- A claim that is answered from the symmetry facts on has a document.
-use Rattle.std.proofs.Common.{◌≡◌, ℕ, sym, subst, List}
-use Rattle.packing_terms.specs.Packing.{PlainInstance}
-use Rattle.packing_terms.specs.Limits.{IsInstance}
-use Rattle.packing_terms.specs.Tokens.{PlainToken}
-use Rattle.document_terms.specs.declared.claim.Claim.{Claim}
+use Rattle.std.proofs.Common.{sym, subst}
 use Rattle.document_terms.specs.declared.claim.SolvingJob.{SolvingJob}
-use Rattle.document_terms.specs.Claims.{job_of}
 use Rattle.verdict_terms.specs.declared.heading.Heading.TheVariants.{Reduced}
 use Rattle.verdict_terms.specs.Form.{MayName}
 use Rattle.verdict_terms.proofs.FormGiven.{documents_have_form}
@@ -15,7 +10,7 @@ use Rattle.answer_terms.specs.Answers.Answer.{Claimed}
 use Rattle.answer_terms.specs.Reduced.{reduced_text, solving_job}
 use Rattle.answer_terms.proofs.Reduced.{reduced_shown}
 use Rattle.own_documents.specs.Own.{OwnReducedDocumentsAreVerified}
-use Rattle.own_documents.proofs.Accepted.{IsHeadedAbout, shown_headed}
+use Rattle.own_documents.proofs.Accepted.{shown_headed}
 
 may_name : (job : ReducedJob) → MayName Reduced (solving_job job)
 may_name Fit = tt

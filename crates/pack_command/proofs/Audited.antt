@@ -32,8 +32,8 @@ use Rattle.answer_streams.specs.declared.audited_fronts.FrontAudited.{FrontAudit
 use Rattle.answer_streams.specs.declared.audited_fronts.FrontAudited.TheVariants.{Verified as VerifiedFront}
 use Rattle.answer_streams.specs.declared.audited_fronts.FrontAudited.TheVariants.{Refused as RefusedFront}
 use Rattle.answer_streams.specs.Verdicts.{plain_verdict, verdict_status}
-use Rattle.answer_streams.specs.Audited.{KindVerdict, ReducedVerdictOf, ExplainedVerdictOf, FrontVerdictOf}
-use Rattle.answer_streams.specs.Audited.{verdict_of_kind, audit_verdict, audit_line, audit_status, IsTrueVerdict}
+use Rattle.answer_streams.specs.Audited.{ReducedVerdictOf, ExplainedVerdictOf, FrontVerdictOf}
+use Rattle.answer_streams.specs.Audited.{verdict_of_kind, audit_verdict, audit_status, IsTrueVerdict}
 use Rattle.answer_streams.specs.Audited.{IsExplainedAs, IsFrontToldAs, IsToldAs}
 use Rattle.answer_streams.proofs.Lined.{front_line}
 use Rattle.pack_command.specs.Asked.{AsksToSolve, AsksTask, AsksNothing, IsLongReading}

@@ -1,5 +1,5 @@
 -- What a document is explained as.
-use Rattle.std.proofs.Common.{◌≡◌, ◌∙◌, ℕ, refl, sym, ap, subst, Bool, true, false, List, [], map, Result, Ok, Err}
+use Rattle.std.proofs.Common.{◌≡◌, ◌∙◌, ℕ, refl, sym, ap, subst, true, false, List, [], Ok, Err}
 use Rattle.packing_terms.specs.Limits.{IsInstance}
 use Rattle.packing_terms.specs.Packing.{PlainInstance}
 use Rattle.packing_terms.specs.Tokens.{PlainToken}
@@ -12,7 +12,7 @@ use Rattle.document_terms.specs.declared.claim.Claim.TheVariants.{GreatestValue,
 use Rattle.verdict_terms.specs.declared.heading.Heading.TheVariants.{Answer}
 use Rattle.verdict_terms.specs.declared.reason.Reason.{Reason}
 use Rattle.verdict_terms.specs.declared.reason.Reason.TheVariants.{NoClaim}
-use Rattle.verdict_terms.specs.Documents.{Refusal, document_verdict, verdict_line}
+use Rattle.verdict_terms.specs.Documents.{document_verdict, verdict_line}
 use Rattle.verdict_terms.proofs.FormGiven.{document_limits}
 use Rattle.verdict_terms.proofs.True.{documents_are_true}
 use Rattle.explained_terms.specs.Steps.{PlainStep, tokens_among}

@@ -1,12 +1,12 @@
 -- What was read and found is the front of the instance.
-use Rattle.std.proofs.Common.{◌≡◌, ℕ, ◌*◌, arith, refl, sym, ap, subst, ◌∙◌, List, [], ◌∷◌, map, length, Ok, Err}
+use Rattle.std.proofs.Common.{◌≡◌, ℕ, arith, sym, ap, subst, ◌∙◌, List, [], ◌∷◌, map, length, Ok, Err}
 use Rattle.std.proofs.Common.{Result, IfOk, String, Global}
 use Rattle.std.specs.declared.option.Option.{Option}
 use Rattle.std.proofs.lemmas.List.{length-map}
 use Rattle.packing_terms.specs.Packing.{PlainInstance, dims, box_count}
 use Rattle.packing_terms.specs.Limits.{IsInstance}
 use Rattle.text_terms.specs.declared.settings.Settings.{Settings}
-use Rattle.front_walks.specs.Walks.{PlainPoint, PlainFront, front_walk}
+use Rattle.front_walks.specs.Walks.{PlainFront, front_walk}
 use Rattle.front_answer_terms.specs.Texts.{front_status, front_text}
 use Rattle.size_front.specs.declared.front.Front.{Front}
 use Rattle.size_front.specs.declared.front.Point.{Point}
@@ -15,7 +15,7 @@ use Rattle.front_streams.specs.Texts.{AreAllPlaced}
 use Rattle.pack_streams.specs.Moves.{Gains}
 use Rattle.pack_streams.specs.Writing.{GainsPart}
 use Rattle.pack_command.specs.Asked.{AsksFront}
-use Rattle.pack_command.specs.Fronts.{front_for, IsFrontAnswered, IsFrontWritten, IsFrontCut, IsOtherRead, AreAllPacked}
+use Rattle.pack_command.specs.Fronts.{IsFrontAnswered, IsFrontWritten, IsFrontCut, IsOtherRead, AreAllPacked}
 use Rattle.pack_command.specs.Inputs.{IsInputRead, IsPartTaken}
 use Rattle.pack_command.proofs.Sized.{walk_packed}
 

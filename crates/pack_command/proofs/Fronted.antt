@@ -1,8 +1,7 @@
 -- What was done for `front` is a written front, and why it ends otherwise.
-use Rattle.std.proofs.Common.{◌≡◌, ℕ, ◌≤◌, ◌<◌, ◌⊎◌, inl, inr, arith, refl, sym, ap, subst, ◌∙◌, List, length, Option}
-use Rattle.std.proofs.Common.{Some, Result, Ok, Err, String, Global}
+use Rattle.std.proofs.Common.{◌≡◌, ℕ, ◌≤◌, ◌⊎◌, inl, inr, arith, refl, ap, ◌∙◌, List, length, Option}
+use Rattle.std.proofs.Common.{Some, String, Global}
 use Rattle.packing_terms.specs.Packing.{PlainInstance, dims}
-use Rattle.text_terms.specs.Texts.{text_instance}
 use Rattle.text_terms.specs.declared.fault.TextFault.{TextFault}
 use Rattle.text_terms.specs.declared.settings.Settings.{Settings}
 use Rattle.answer_terms.specs.declared.job.DocumentJob.{DocumentJob}

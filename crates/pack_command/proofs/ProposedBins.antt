@@ -8,7 +8,7 @@ use Rattle.packing_terms.specs.OuterRefutation.{IsBinRefutation}
 use Rattle.packing_terms.specs.Tokens.{PlainToken}
 use Rattle.packing_terms.specs.Tokens.PlainToken.{TooLarge}
 use Rattle.packing_terms.specs.TooLarge.{IsFirstTooLarge}
-use Rattle.tree_terms.specs.OuterSearch.{bins_in, places_in, AreBinNumbers}
+use Rattle.tree_terms.specs.OuterSearch.{bins_in, places_in}
 use Rattle.text_terms.specs.declared.settings.Settings.{Settings}
 use Rattle.proof_tree.specs.Plain.{plain_tokens}
 use Rattle.document_terms.specs.declared.claim.SolvingJob.TheVariants.{Bins as SolvesBins}

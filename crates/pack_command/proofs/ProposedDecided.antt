@@ -1,5 +1,5 @@
 -- What the answers of the jobs with proposals say.
-use Rattle.std.proofs.Common.{ℕ, ◌≡◌, ◌+◌, ◌≤◌, refl, sym, subst, List, Ok, String, Global}
+use Rattle.std.proofs.Common.{ℕ, ◌≡◌, ◌+◌, ◌≤◌, sym, subst, List, Ok, String, Global}
 use Rattle.std.specs.declared.option.Option.{Option}
 use Rattle.packing_terms.specs.Packing.{PlainInstance}
 use Rattle.packing_terms.specs.Limits.{IsInstance}
@@ -16,7 +16,7 @@ use Rattle.pack_command.specs.Asked.{AsksProposed, IsProposing}
 use Rattle.pack_command.specs.Decides.{IsExactlyFit}
 use Rattle.pack_command.specs.Inputs.{IsInputRead}
 use Rattle.pack_command.specs.Own.{IsOwnDocument}
-use Rattle.pack_command.specs.Proposed.{IsProposed, IsProposedSolution, IsProposedAnswered, IsProposedWritten}
+use Rattle.pack_command.specs.Proposed.{IsProposed, IsProposedAnswered, IsProposedWritten}
 use Rattle.pack_command.specs.Proposed.{IsProposedCut, IsProposedDecided, IsAmple}
 use Rattle.pack_command.proofs.OneJob.{proposed_settings, proposed_job}
 use Rattle.pack_command.proofs.ProposedBins.{bins_own, bins_proposed_decided, bins_within}

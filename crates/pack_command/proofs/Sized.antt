@@ -1,30 +1,27 @@
 -- What the answer of `front` says of the instance, and that its document is verified.
-use Rattle.std.proofs.Common.{◌≡◌, ℕ, zero, suc, ◌+◌, ◌-◌, ◌*◌, ◌/◌, ◌^◌, ◌<◌, ◌≤◌, inl, inr, arith, refl, sym, ap, ap₂}
-use Rattle.std.proofs.Common.{subst, ◌∙◌, Bool, true, false, List, [], ◌∷◌, map, length, Option, Some, Ok, Err, String}
+use Rattle.std.proofs.Common.{◌≡◌, ℕ, zero, suc, ◌+◌, ◌-◌, ◌≤◌, arith, refl, sym, ap, ap₂}
+use Rattle.std.proofs.Common.{subst, ◌∙◌, Bool, true, false, List, [], ◌∷◌, length, Option, String}
 use Rattle.std.proofs.Common.{Global}
 use Rattle.std.specs.Prelude.{◌↔◌}
 use Rattle.std.specs.List.{AllByRecursion}
 use Rattle.std.specs.Prelude.{◌==◌}
 use Rattle.std.proofs.lemmas.Bool.{true≢false, ne_eqb}
-use Rattle.packing_terms.specs.Packing.{PlainInstance, dims, box_count, written_container, IsPacking}
+use Rattle.packing_terms.specs.Packing.{PlainInstance, dims}
 use Rattle.packing_terms.specs.Limits.{IsInstance, IsInternalInstance}
-use Rattle.packing_terms.specs.Refutation.{Refutes}
 use Rattle.packing_terms.proofs.Internal.{written_internal}
-use Rattle.text_terms.specs.Texts.{text_instance}
 use Rattle.text_terms.specs.declared.settings.Settings.{Settings}
-use Rattle.front_terms.specs.Fronts.{with_container, IsLeastSize, IsFront, IsClaimed}
-use Rattle.front_walks.specs.Walks.{PlainCorner, PlainPoint, PlainFront, sizes, front_walk, size_answer}
-use Rattle.front_walks.specs.Asked.{HasLargeSize}
+use Rattle.front_terms.specs.Fronts.{IsLeastSize, IsFront, IsClaimed}
+use Rattle.front_walks.specs.Walks.{PlainCorner, PlainPoint, sizes, front_walk, size_answer}
 use Rattle.front_walks.proofs.Decided.{right_sizes, walks_are_fronts}
 use Rattle.front_walks.proofs.Spent.{spent_exactly, enough}
-use Rattle.front_answer_terms.specs.Texts.{front_answer, front_status, front_text}
-use Rattle.front_answer_terms.proofs.Backed.{IsBackedCorner, IsBackedPoint, AreBacked, front_backed}
+use Rattle.front_answer_terms.specs.Texts.{front_status}
+use Rattle.front_answer_terms.proofs.Backed.{IsBackedCorner, IsBackedPoint, front_backed}
 use Rattle.front_answer_terms.proofs.Own.{own_fronts_are_verified, own_fronts_are_fronts}
 use Rattle.answer_streams.specs.Audited.{FrontVerdictOf, verdict_of_kind}
 use Rattle.pack_streams.specs.Moves.{Gains}
 use Rattle.pack_command.specs.Answered.{class_bound}
-use Rattle.pack_command.specs.Asked.{AsksFront, IsFronting}
-use Rattle.pack_command.specs.Fronts.{front_for, IsFrontWritten, IsFrontAnswered, AreAllPacked, AreAllRefuted}
+use Rattle.pack_command.specs.Asked.{IsFronting}
+use Rattle.pack_command.specs.Fronts.{front_for, IsFrontWritten, AreAllPacked, AreAllRefuted}
 use Rattle.pack_command.specs.Fronts.{IsFrontDecided, IsOwnFront}
 use Rattle.pack_command.proofs.Written.{taken_all}
 use Rattle.pack_command.proofs.OneJob.{front_settings}

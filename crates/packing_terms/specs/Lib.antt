@@ -21,3 +21,4 @@ pub mod ExcessLaw
 pub mod Rank
 pub mod Generator
 pub mod Results
+pub mod Rising

@@ -1,11 +1,10 @@
 -- What an outcome behind a proposal is worth.
-use Rattle.std.proofs.Common.{◌≡◌, ℕ, ◌+◌, ◌-◌, ◌*◌, ◌/◌, ◌^◌, ◌<◌, ◌≤◌, refl, sym, ◌∙◌, subst, arith, Bool, true}
-use Rattle.std.proofs.Common.{false, nat_lt, ltb, if◌then◌else◌, List, [], map}
+use Rattle.std.proofs.Common.{◌≡◌, ℕ, ◌-◌, ◌<◌, ◌≤◌, refl, sym, ◌∙◌, subst, Bool, true}
+use Rattle.std.proofs.Common.{false, ltb, if◌then◌else◌, List, [], map}
 use Rattle.std.proofs.lemmas.Bool.{ltb-true}
-use Rattle.packing_terms.specs.Packing.{PlainInstance, Fits, dims, box_count, IsPacking}
+use Rattle.packing_terms.specs.Packing.{PlainInstance}
 use Rattle.packing_terms.specs.Limits.{IsInternalInstance}
 use Rattle.packing_terms.specs.Refutation.{Refutes}
-use Rattle.packing_terms.specs.Tokens.{PlainToken}
 use Rattle.packing_terms.proofs.Internal.{internal_sides}
 use Rattle.packing_terms.proofs.Refuted.{none_fits}
 use Rattle.scale_terms.proofs.Excess.{excess_law}

@@ -1,5 +1,5 @@
 -- Tokens that were fed one by one.
-use Rattle.std.proofs.Common.{◌≡◌, ℕ, zero, suc, ◌+◌, ◌<◌, ◌≤◌, ◌∙◌, refl, sym, ap, arith, List, [], ◌∷◌, ◌++◌, length}
+use Rattle.std.proofs.Common.{◌≡◌, ℕ, ◌+◌, ◌<◌, ◌∙◌, refl, sym, ap, List, [], ◌∷◌, ◌++◌, length}
 use Rattle.std.proofs.Common.{map, take, get_or}
 use Rattle.std.proofs.lemmas.List.FromFn.{fill_by_all}
 use Rattle.std.proofs.lemmas.List.{map_push, take_more}
@@ -8,7 +8,7 @@ use Rattle.packing_terms.specs.Packing.{PlainInstance, no_box, box_count}
 use Rattle.packing_terms.specs.Goals.{subset}
 use Rattle.packing_terms.specs.Tokens.{PlainToken}
 use Rattle.box_instances.specs.Sets.{all_boxes}
-use Rattle.check_terms.specs.Checking.{Checked, starting, checked_after, checked_after_all, inner_after, is_whole}
+use Rattle.check_terms.specs.Checking.{Checked, starting, checked_after, checked_after_all, inner_after}
 use Rattle.proof_tree.specs.declared.token.Token.{Token}
 use Rattle.proof_tree.specs.Plain.{plain_token}
 use Rattle.refutation_check.specs.Refuters.{PlainRefuter, fed}

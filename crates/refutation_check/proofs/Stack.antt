@@ -1,6 +1,6 @@
 -- The open nodes after a token.
 use Rattle.std.proofs.Common.{◌≡◌, ℕ, suc, ◌+◌, ◌-◌, ◌*◌, ◌≤◌, ◌<◌, refl, sym, ap, subst, ◌∙◌, arith, List, [], ◌∷◌}
-use Rattle.std.proofs.Common.{◌++◌, length, drop, take, reverse, map, Option, Some, None}
+use Rattle.std.proofs.Common.{◌++◌, length, take, reverse, map, Option, Some, None}
 use Rattle.std.proofs.lemmas.List.{append_assoc, reverse-append, take_all, length-append, length-take}
 use lib.Seq.{take-append-le, take-take}
 use Rattle.std.proofs.Math.Nat.{min-eq_left}

@@ -2,7 +2,7 @@
 --
 --     list of the state, oldest first:   | closure of the parent | the node's own exclusions, and what follows ..
 --                                                       n.mark ^
-use Rattle.std.specs.Prelude.{ℕ, ◌+◌, ◌-◌, ◌*◌, ◌/◌, ◌≤◌, ◌≡◌, IsTrue, List, [], ◌∷◌, ◌++◌, length, drop, take, reverse}
+use Rattle.std.specs.Prelude.{ℕ, ◌+◌, ◌-◌, ◌*◌, ◌≤◌, ◌≡◌, IsTrue, List, [], ◌∷◌, ◌++◌, length, take, reverse}
 use Rattle.std.specs.Prelude.{Bool, true, false, Option, Some, None}
 use Rattle.packing_terms.specs.declared.Exclusion.{Exclusion}
 use Rattle.packing_terms.specs.declared.Rel.TheVariants.{Overlap, Before, After}

@@ -4,7 +4,7 @@ use Rattle.std.proofs.lemmas.List.{length-map}
 use Rattle.packing_terms.specs.Packing.{PlainInstance, IsPacking, dims, box_count, no_box}
 use Rattle.packing_terms.specs.Rules.{AreBoxes}
 use Rattle.packing_terms.specs.Goals.{subset, IsBoxSet}
-use Rattle.tree_terms.specs.Rising.{AreRising}
+use Rattle.packing_terms.specs.Rising.{AreRising}
 use Rattle.tree_terms.proofs.ChoiceSearch.{rising_index, below_at}
 
 pub box_set : (instance : PlainInstance) (vs : List ℕ) → AreBoxes instance vs → AreRising vs → IsBoxSet instance vs

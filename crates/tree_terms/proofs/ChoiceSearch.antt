@@ -26,7 +26,7 @@ use Rattle.tree_terms.specs.OuterSearch.{AreTakenNumbers, IsChoiceSearch}
 use Rattle.packing_terms.proofs.RankLemmas.{ranked_are_boxes, in_ranked}
 use Rattle.tree_terms.proofs.BinNumbers.{filter_boxes, range_boxes}
 use Rattle.tree_terms.proofs.BinSearch.{set_right}
-use Rattle.tree_terms.specs.Rising.{AreRising}
+use Rattle.packing_terms.specs.Rising.{AreRising}
 
 pub insert_rising : (v : ℕ) (us : List ℕ) → AllByRecursion (λ u. v ≢ u) us → AreRising us → AreRising (insert_box v us)
 insert_rising v [] away r = (tt, tt)

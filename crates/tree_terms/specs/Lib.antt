@@ -3,7 +3,6 @@ pub mod Joined
 pub mod InnerTree
 pub mod ClassTree
 pub mod OuterTrees
-pub mod Rising
 pub mod Levels
 pub mod RunEnds
 pub mod Search

@@ -1,5 +1,4 @@
-use Rattle.std.proofs.Common.{◌∙◌, sym, ap, arith}
-use Rattle.document_refutations.specs.Rereading.{says_result}
+use Rattle.std.proofs.Common.{◌∙◌, sym, arith}
 use Rattle.document_refutations.proofs.Numbers.{number_is, found_at, found_last, found_none}
 use Rattle.document_refutations.proofs.position.result_line.Goals as goal
 

@@ -1,4 +1,4 @@
-use Rattle.std.proofs.Common.{◌∙◌, sym, ap}
+use Rattle.std.proofs.Common.{◌∙◌, sym}
 use Rattle.document_refutations.proofs.Describing.{line_taken, line_refused}
 use Rattle.document_refutations.proofs.reading.describe.Goals as goal
 

@@ -1,4 +1,4 @@
-use Rattle.std.proofs.Common.{◌≡◌, ◌∙◌, sym, ap}
+use Rattle.std.proofs.Common.{◌∙◌, sym, ap}
 use Rattle.document_refutations.specs.Rereading.{plain_reading}
 use Rattle.document_refutations.proofs.Held.{not_unheaded, not_described, not_broken, refutation_is}
 use Rattle.document_refutations.proofs.refutation.read_refutation.Goals as goal

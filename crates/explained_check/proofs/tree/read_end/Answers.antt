@@ -1,5 +1,3 @@
-use Rattle.std.proofs.Common.{◌≡◌, sym, subst, true, false}
-use Rattle.explained_check.specs.Audits.{IsNextTaken}
 use Rattle.explained_check.proofs.Verdicts.{ended}
 use Rattle.explained_check.proofs.tree.read_end.Goals as goal
 

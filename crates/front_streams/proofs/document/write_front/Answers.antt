@@ -1,6 +1,4 @@
 use Rattle.pack_streams.proofs.Writers.{more, same}
-use Rattle.size_front.specs.Plain.{plain_front}
-use Rattle.std.proofs.Common.{map, length, ◌∙◌, ap}
 use Rattle.front_streams.proofs.DocumentTexts.{front_pieces}
 use Rattle.front_streams.proofs.document.write_front.Goals as goal
 

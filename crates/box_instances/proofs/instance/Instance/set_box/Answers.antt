@@ -2,7 +2,7 @@ use Rattle.std.proofs.Common.{arith, ◌+◌, ◌<◌, ◌∙◌, refl, sym, ap,
 use Rattle.std.proofs.Common.{get_or}
 use Rattle.std.proofs.lemmas.List.{length-map}
 use Rattle.packing_terms.specs.Packing.{PlainInstance, PlainBox, dims}
-use Rattle.packing_terms.specs.Limits.{IsBox, IsInternalInstance}
+use Rattle.packing_terms.specs.Limits.{IsBox}
 use Rattle.box_instances.specs.Plain.{plain_box}
 use Rattle.box_instances.specs.Working.{IsHeld}
 use Rattle.box_instances.proofs.Boxes.{box_within, box_at}
