@@ -9,27 +9,18 @@ ghost use Rattle.line_proofs.specs.Plain.{plain_step};
 ghost use Rattle.line_proofs.specs.StepTexts.{step_line};
 
 use crate::Step;
-use pack_streams::{Sink, WriteFault, write_number, write_on};
+use pack_streams::{Sink, WriteFault, write_on, write_spaced};
 use proof_tree::write_token_on;
 
 // Each call below writes where no fault came before, and else does nothing.
 type Written = Result<(), WriteFault>;
-
-// Writes a number after a space.
-fn write_next<K: Sink>(sink: &mut K, so_far: Written, number: u32) -> Written
-    ensures { Continues (K.written sink.old) (K.written sink.new) (K.faults sink.old)
-        (K.faults sink.new) (32 ∷ decimal number) so_far result }
-{
-    let spaced = write_on(sink, so_far, b" ");
-    write_number(sink, spaced, number as u64)
-}
 
 // Writes one number after a space.
 fn write_one<K: Sink>(sink: &mut K, so_far: Written, number: u32) -> Written
     ensures { Continues (K.written sink.old) (K.written sink.new) (K.faults sink.old)
         (K.faults sink.new) (after_spaces (decimal number ∷ [])) so_far result }
 {
-    write_next(sink, so_far, number)
+    write_spaced(sink, so_far, number as u64)
 }
 
 // Writes two numbers, each after a space.
@@ -38,7 +29,7 @@ fn write_two<K: Sink>(sink: &mut K, so_far: Written, first: u32, second: u32) ->
         (K.faults sink.new)
         (after_spaces (decimal first ∷ decimal second ∷ [])) so_far result }
 {
-    let begun = write_next(sink, so_far, first);
+    let begun = write_spaced(sink, so_far, first as u64);
     write_one(sink, begun, second)
 }
 
@@ -54,7 +45,7 @@ fn write_three<K: Sink>(
         (K.faults sink.new)
         (after_spaces (decimal first ∷ decimal second ∷ decimal third ∷ [])) so_far result }
 {
-    let begun = write_next(sink, so_far, first);
+    let begun = write_spaced(sink, so_far, first as u64);
     write_two(sink, begun, second, third)
 }
 
@@ -72,7 +63,7 @@ fn write_four<K: Sink>(
         (after_spaces (decimal first ∷ decimal second ∷ decimal third ∷ decimal fourth ∷ []))
         so_far result }
 {
-    let begun = write_next(sink, so_far, first);
+    let begun = write_spaced(sink, so_far, first as u64);
     write_three(sink, begun, second, third, fourth)
 }
 
@@ -92,7 +83,7 @@ fn write_five<K: Sink>(
         ∷ decimal fifth ∷ []))
         so_far result }
 {
-    let begun = write_next(sink, so_far, first);
+    let begun = write_spaced(sink, so_far, first as u64);
     write_four(sink, begun, second, third, fourth, fifth)
 }
 

@@ -7,4 +7,4 @@ returns-then-value-eq1 g c = same _ _ _ _ _ _ _ _ (value_none c.args.value c.if-
 
 pub returns : goal.returns
 returns g c = same _ _ _ _ _ _ _ _ (value_is c.args.value c.if-value-eq1.false)
-    (more _ _ _ _ _ _ _ _ _ _ _ c.write_on-spaced.ensures.goes_on c.write_next.ensures)
+    (more _ _ _ _ _ _ _ _ _ _ _ c.write_on-spaced.ensures.goes_on c.write_spaced.ensures.goes_on)
