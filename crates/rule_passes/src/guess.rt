@@ -72,12 +72,19 @@ fn next_boxes<const K: usize>(state: &EdgeState, dim: u32, x: u32, forwards: boo
 }
 
 impl Guess {
-    /// Nothing is thought of any chain, nor ever where that isn't wanted.
-    pub fn new(alloc: Global, is_wanted: bool) -> Result<Guess, NoMemory> {
-        let Ok(risen) = vec![in alloc; (0usize, 0u32); MOST_RISEN] else {
+    /// Nothing is thought of any chain. Nor ever is for so few boxes at most, or where that isn't
+    /// wanted: then no lists are taken.
+    pub fn new(alloc: Global, boxes: u32, is_early: bool) -> Result<Guess, NoMemory> {
+        let is_wanted = is_early & (boxes > FEW_BOXES);
+        let (rises, marks) = if is_wanted {
+            (MOST_RISEN, MOST_CLOSINGS)
+        } else {
+            (0, 0)
+        };
+        let Ok(risen) = vec![in alloc; (0usize, 0u32); rises] else {
             return Err(NoMemory);
         };
-        let Ok(closings) = vec![in alloc; (Mark::first(), 0usize); MOST_CLOSINGS] else {
+        let Ok(closings) = vec![in alloc; (Mark::first(), 0usize); marks] else {
             return Err(NoMemory);
         };
         Ok(Guess {

@@ -105,7 +105,7 @@ impl ClosingRoom {
     {
         let narrow_kept = levels_of::<1>(alloc, count_if(dims, boxes <= 64), boxes)?;
         let wide_kept = levels_of::<2>(alloc, count_if(dims, boxes > 64), boxes)?;
-        let guess = Guess::new(alloc, is_early)?;
+        let guess = Guess::new(alloc, boxes, is_early)?;
         Ok(ClosingRoom {
             dims,
             boxes,

@@ -5,7 +5,7 @@ ghost use Rattle.packing_terms.specs.OuterRefutation.{insert_box};
 ghost use Rattle.tree_terms.specs.OuterTrees.{set_verdict, yes_numbers};
 ghost use Rattle.set_search.specs.Children.{IsChild, IsFoundSet};
 
-use crate::insert::with_box;
+use crate::insert::fill_with;
 use crate::search::{MOST_BUDGET, SetSearch};
 use box_instances::NoMemory;
 use proof_tree::{Outcome, Token};
@@ -46,10 +46,12 @@ impl<'a> SetSearch<'a> {
         if left == 0 {
             return Ok(Child::Past);
         }
-        let set = with_box(alloc, keep, v)?;
+        let mut set = self.take_spare(alloc);
+        fill_with(&mut set, keep, v)?;
         match self.decide(alloc, set.as_slice(), left - 1)? {
             Outcome::Past => Ok(Child::Past),
             Outcome::No { tokens, count } => {
+                self.put_spare(set);
                 let own = 1 + count;
                 Ok(Child::Refuted { tokens, own })
             }

@@ -18,6 +18,7 @@ use proof_tree::Outcome;
 use rule_closure::Closer;
 use std::alloc::Global;
 use std::marker::Model;
+use std::mem;
 
 /// The greatest budget.
 pub const MOST_BUDGET: u64 = 10_000_000;
@@ -38,6 +39,8 @@ pub struct SetSearch<'a> {
     state: EdgeState,
     closers: Vec<Closer>,
     memory: SetMemory,
+    // Room for a set with one box more, which goes out with a set that fits.
+    spare: Vec<u32>,
 }
 
 impl<'a> Model for SetSearch<'a> {
@@ -92,7 +95,22 @@ impl<'a> SetSearch<'a> {
             state,
             closers: Vec::new(alloc),
             memory: SetMemory::new(alloc),
+            spare: Vec::new(alloc),
         })
+    }
+
+    // Room for a set, which holds anything.
+    pub(crate) fn take_spare(&mut self, alloc: Global) -> Vec<u32>
+        ensures { self.new ≡ self.old }
+    {
+        mem::replace(&mut self.spare, Vec::new(alloc))
+    }
+
+    // Keeps the room of a set that isn't needed any more.
+    pub(crate) fn put_spare(&mut self, set: Vec<u32>)
+        ensures { self.new ≡ self.old }
+    {
+        self.spare = set;
     }
 
     // Decides a set by a search.
