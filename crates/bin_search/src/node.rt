@@ -25,7 +25,8 @@ pub struct Placed {
 }
 
 // What the step into a child changed: the number of the node's children visited by then, the last
-// of which it is, and its changed bin with the answer as they stood before, where the bin isn't new.
+// of which it is, and its changed bin with the answer as they stood before, where the bin isn't
+// new.
 #[derive(Drop)]
 pub struct Change {
     pub visited: usize,

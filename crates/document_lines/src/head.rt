@@ -138,8 +138,8 @@ fn take_text(alloc: Global, reader: &mut InstanceReader, line: &LineLexer) -> Re
     Err(stop)
 }
 
-/// Takes the lines of a document up to its result line: the heading with the job, the instance text,
-/// the claim.
+/// Takes the lines of a document up to its result line: the heading with the job, the instance
+/// text, the claim.
 ///
 /// It takes lines up to the result line.
 #[derive(Drop)]

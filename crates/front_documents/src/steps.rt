@@ -21,7 +21,8 @@ use std::alloc::Global;
 fn read_rest(bytes: &[u8], at: &mut Cursor, complete: bool, points: u32) -> FrontAudit
     requires { IsAmong bytes.now at.old }
     ensures { (instance : PlainInstance)
-        → IsVerdict (verdict_left bytes.now at.old (Ended instance (claim_of complete points))) result }
+        → IsVerdict (verdict_left bytes.now at.old (Ended instance (claim_of complete points)))
+        result }
 {
     if next_taken(bytes, at) {
         return FrontAudit::Refused {

@@ -77,8 +77,8 @@ impl Bounds {
         }
     }
 
-    /// The level right beside an end: the one above the refuted level, or, where that is the lowest,
-    /// the one below the placed level. None comes exactly where that is the highest too.
+    /// The level right beside an end: the one above the refuted level, or, where that is the
+    /// lowest, the one below the placed level. None comes exactly where that is the highest too.
     pub fn level_beside(&self) -> Option<u64>
         ensures asked { MatchOption result (IsNarrow (plain_bounds self.now))
             (IsAsked (plain_bounds self.now)) }

@@ -47,8 +47,8 @@ fn values_are_closed_by_proposals(rt: HostRuntime) -> Result<(), Fail> {
     Ok(())
 }
 
-// That four are too many is refuted by a tree with branchings: without them the answer is two values,
-// and 4 between them is the one beside both.
+// That four are too many is refuted by a tree with branchings: without them the answer is two
+// values, and 4 between them is the one beside both.
 #[test]
 fn values_beside_a_tree_past_the_budget_are_two(rt: HostRuntime) -> Result<(), Fail> {
     let alloc = rt.alloc();
@@ -82,8 +82,8 @@ fn no_box_is_worth_nothing(rt: HostRuntime) -> Result<(), Fail> {
     Ok(())
 }
 
-// A coordinate that is one too high leaves the container or meets a box; the numbers don't rise; a box
-// isn't there; a coordinate is too many; and no box needs no coordinate.
+// A coordinate that is one too high leaves the container or meets a box; the numbers don't rise; a
+// box isn't there; a coordinate is too many; and no box needs no coordinate.
 #[test]
 fn choices_with_a_fault_are_refused(rt: HostRuntime) -> Result<(), Fail> {
     let alloc = rt.alloc();

@@ -26,7 +26,8 @@ pub(crate) fn is_there(state: &EdgeState, e: Exclusion) -> bool
 
 /// Whether three boxes are distinct.
 pub(crate) fn are_three(u: u32, v: u32, x: u32) -> bool
-    ensures yes { IsTrue result → (n : ℕ) → u < n → v < n → x < n → AreBoxesAmong n (u ∷ v ∷ x ∷ []) }
+    ensures yes { IsTrue result → (n : ℕ) → u < n → v < n → x < n
+        → AreBoxesAmong n (u ∷ v ∷ x ∷ []) }
     ensures no { (n : ℕ) → AreBoxesAmong n (u ∷ v ∷ x ∷ []) → IsTrue result }
 {
     (u != v) & (u != x) & (v != x)
@@ -34,7 +35,8 @@ pub(crate) fn are_three(u: u32, v: u32, x: u32) -> bool
 
 // Whether four boxes are distinct.
 fn are_four(a: u32, b: u32, c: u32, d: u32) -> bool
-    ensures yes { IsTrue result → (n : ℕ) → a < n → b < n → c < n → d < n → AreBoxesAmong n (a ∷ b ∷ c ∷ d ∷ []) }
+    ensures yes { IsTrue result → (n : ℕ) → a < n → b < n → c < n → d < n
+        → AreBoxesAmong n (a ∷ b ∷ c ∷ d ∷ []) }
     ensures no { (n : ℕ) → AreBoxesAmong n (a ∷ b ∷ c ∷ d ∷ []) → IsTrue result }
 {
     (a != b) & (a != c) & (a != d) & are_three(b, c, d)
@@ -105,7 +107,8 @@ fn seek_triple(
 ) -> Result<(), NoMemory>
     requires placed { IsPlaced instance.now state.old e }
     ensures { OnOk result (IsSought instance.now state.old state.new (plain_steps lines.old.items)
-        (plain_steps lines.new.items) e (λ rule. (x : ℕ) × (x < box_count instance.now) × (rule ≡ Triple e.dim e.u e.v x))) }
+        (plain_steps lines.new.items) e
+        (λ rule. (x : ℕ) × (x < box_count instance.now) × (rule ≡ Triple e.dim e.u e.v x))) }
 {
     for x in 0..instance.len() {
         triple_with(instance, state, lines, e, x)?;
@@ -144,7 +147,8 @@ fn seek_compose(
 ) -> Result<(), NoMemory>
     requires placed { IsPlaced instance.now state.old e }
     ensures { OnOk result (IsSought instance.now state.old state.new (plain_steps lines.old.items)
-        (plain_steps lines.new.items) e (λ rule. (x : ℕ) × (x < box_count instance.now) × (rule ≡ Compose e.dim e.u x e.v))) }
+        (plain_steps lines.new.items) e
+        (λ rule. (x : ℕ) × (x < box_count instance.now) × (rule ≡ Compose e.dim e.u x e.v))) }
 {
     for x in 0..instance.len() {
         compose_with(instance, state, lines, e, x)?;
@@ -187,7 +191,8 @@ fn cycles_with(
     requires placed { IsPlaced instance.now state.old e }
     requires a { a < box_count instance.now }
     ensures { OnOk result (IsSought instance.now state.old state.new (plain_steps lines.old.items)
-        (plain_steps lines.new.items) e (λ rule. (c : ℕ) × (c < box_count instance.now) × (rule ≡ Cycle e.dim a e.u c e.v))) }
+        (plain_steps lines.new.items) e
+        (λ rule. (c : ℕ) × (c < box_count instance.now) × (rule ≡ Cycle e.dim a e.u c e.v))) }
 {
     for c in 0..instance.len() {
         cycle_with(instance, state, lines, e, a, c)?;
@@ -243,7 +248,9 @@ fn seek_cycle(
 ) -> Result<(), NoMemory>
     requires placed { IsPlaced instance.now state.old e }
     ensures { OnOk result (IsSought instance.now state.old state.new (plain_steps lines.old.items)
-        (plain_steps lines.new.items) e (λ rule. (a : ℕ) × (a < box_count instance.now) × ((c : ℕ) × (c < box_count instance.now) × (rule ≡ Cycle e.dim a e.u c e.v)))) }
+        (plain_steps lines.new.items) e
+        (λ rule. (a : ℕ) × (a < box_count instance.now)
+        × ((c : ℕ) × (c < box_count instance.now) × (rule ≡ Cycle e.dim a e.u c e.v)))) }
 {
     for a in 0..instance.len() {
         cycles_from(instance, state, lines, e, a)?;
@@ -286,7 +293,8 @@ fn orders_with(
     requires placed { IsPlaced instance.now state.old e }
     requires a { a < box_count instance.now }
     ensures { OnOk result (IsSought instance.now state.old state.new (plain_steps lines.old.items)
-        (plain_steps lines.new.items) e (λ rule. (d : ℕ) × (d < box_count instance.now) × (rule ≡ Order e.dim a e.v e.u d))) }
+        (plain_steps lines.new.items) e
+        (λ rule. (d : ℕ) × (d < box_count instance.now) × (rule ≡ Order e.dim a e.v e.u d))) }
 {
     for d in 0..instance.len() {
         order_with(instance, state, lines, e, a, d)?;
@@ -339,7 +347,9 @@ fn seek_order(
 ) -> Result<(), NoMemory>
     requires placed { IsPlaced instance.now state.old e }
     ensures { OnOk result (IsSought instance.now state.old state.new (plain_steps lines.old.items)
-        (plain_steps lines.new.items) e (λ rule. (a : ℕ) × (a < box_count instance.now) × ((d : ℕ) × (d < box_count instance.now) × (rule ≡ Order e.dim a e.v e.u d)))) }
+        (plain_steps lines.new.items) e
+        (λ rule. (a : ℕ) × (a < box_count instance.now)
+        × ((d : ℕ) × (d < box_count instance.now) × (rule ≡ Order e.dim a e.v e.u d)))) }
 {
     for a in 0..instance.len() {
         orders_from(instance, state, lines, e, a)?;

@@ -216,8 +216,8 @@ pub(crate) fn beyond_triples<const K: usize>(
     free.minus(near).without(x)
 }
 
-/// The boxes d at which CYCLE may exclude something at `b`, d, whatever the third box is: those that
-/// are joined with `a` and not with `b`.
+/// The boxes d at which CYCLE may exclude something at `b`, d, whatever the third box is: those
+/// that are joined with `a` and not with `b`.
 #[inline]
 pub(crate) fn cycle_fourths<const K: usize>(
     instance: &Instance,

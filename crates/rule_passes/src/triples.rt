@@ -74,8 +74,8 @@ fn triple_over(
     triple_at(instance, state, dim, u, v, x)
 }
 
-// TRIPLE with two boxes, for each third of a row whose side isn't less than the least with which the
-// three are too long.
+// TRIPLE with two boxes, for each third of a row whose side isn't less than the least with which
+// the three are too long.
 #[inline(always)]
 fn triples_among<const K: usize>(
     instance: &Instance,

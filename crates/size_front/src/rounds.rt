@@ -78,7 +78,8 @@ fn push_point(front: &mut Front, width: u32, height: u32, places: Vec<u32>) -> R
 // Ends a walk where a decision was spent: the corner at which it stands closes it.
 fn end_spent(front: &mut Front, stand: Stand) -> Result<(), NoMemory>
     ensures { OnOk result (plain_front front.new
-        ≡ joined front.old (spent_front stand.refuted stand.height (plain_tokens stand.tokens.items))) }
+        ≡ joined front.old (spent_front stand.refuted stand.height
+        (plain_tokens stand.tokens.items))) }
 {
     front.complete = false;
     push_corner(front, stand.refuted, stand.height, stand.tokens)
