@@ -16,7 +16,8 @@ use std::sync::Wait;
 use std::thread::Threads;
 use work_share::{Gate, Settings, solve_shared};
 
-// What a tree gives under the budget. One worker decides sets with what is kept from value to value.
+// What a tree gives under the budget. One worker decides sets with what is kept from value to
+// value.
 fn explore<R: Threads + Wait + Sync, G: Gate + Sync>(
     rt: &R,
     alloc: Global,

@@ -9,6 +9,7 @@ ghost use Rattle.class_search.specs.Right.{IsRight, Decides, IsYesOrNo};
 
 use crate::exploring::searched;
 use crate::rank::ranked_pairs;
+use crate::search::Search;
 use box_instances::{Instance, NoMemory};
 use edge_state::EdgeState;
 use proof_tree::Outcome;
@@ -80,9 +81,13 @@ impl Decider {
     {
         // For the proof alone: tells the limits of the instance.
         let _limits = instance.len();
-        let pairs = self.pairs.as_slice();
+        let search = Search {
+            alloc,
+            instance,
+            pairs: self.pairs.as_slice(),
+        };
         let (state, closer) = (&mut self.state, &mut self.closer);
         state.reset();
-        searched(alloc, instance, pairs, state, closer, budget, scales)
+        searched(&search, state, closer, budget, scales)
     }
 }

@@ -8,6 +8,7 @@ ghost use Rattle.class_search.specs.Right.{IsRight, Decides, IsYesOrNo};
 
 use crate::exploring::searched;
 use crate::rank::ranked_pairs;
+use crate::search::Search;
 use crate::{ClassTree, Decider};
 use box_instances::{Instance, NoMemory};
 use edge_state::EdgeState;
@@ -65,15 +66,12 @@ pub fn decide_in(
     // For the proof alone: tells the limits of the instance.
     let _limits = instance.len();
     let pairs = ranked_pairs(alloc, instance)?;
-    searched(
+    let search = Search {
         alloc,
         instance,
-        pairs.as_slice(),
-        state,
-        closer,
-        budget,
-        scales,
-    )
+        pairs: pairs.as_slice(),
+    };
+    searched(&search, state, closer, budget, scales)
 }
 
 /// Whether an instance fits, decided by its class tree under the budget of the settings, by as many

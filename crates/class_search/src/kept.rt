@@ -7,6 +7,7 @@ ghost use Rattle.proof_tree.specs.Plain.{plain_token};
 ghost use Rattle.work_share.specs.Outcomes.{plain_outcome};
 ghost use Rattle.class_search.specs.Kept.{IsStanding, standing_tree, IsKeptOf, ArePartsOf, IsExplored};
 
+use crate::search::Search;
 use crate::walk::{End, Walk, go_on};
 use box_instances::{Instance, NoMemory};
 use edge_state::EdgeState;
@@ -87,7 +88,12 @@ impl<'a> Standing<'a> {
                 left: None,
             });
         }
-        match go_on(alloc, instance, pairs, &mut state, &mut closer, walk, cap)? {
+        let search = Search {
+            alloc,
+            instance,
+            pairs,
+        };
+        match go_on(&search, &mut state, &mut closer, walk, cap)? {
             End::Whole(outcome) => Ok(Explored {
                 outcome,
                 left: None,
@@ -176,24 +182,18 @@ impl Refuted {
 
 impl<'a> Kept<'a> {
     // What the tree of its node gives under a cap, and the walk where the cap was spent.
-    pub fn explored(
-        self,
-        alloc: Global,
-        instance: &Instance,
-        pairs: &[(u32, u32)],
-        cap: u64,
-    ) -> Result<Explored<'a>, NoMemory>
-        requires pairs { pairs.now ≡ ranked_pairs instance.now }
-        requires known { (tree : SearchTree) × IsKeptOf instance.now tree self }
-        ensures { (tree : SearchTree) → IsKeptOf instance.now tree self.entry
-            → IfOk result (IsExplored instance.now tree cap) }
+    pub fn explored(self, search: &Search<'_>, cap: u64) -> Result<Explored<'a>, NoMemory>
+        requires pairs { search.now.pairs.now ≡ ranked_pairs search.now.instance.now }
+        requires known { (tree : SearchTree) × IsKeptOf search.now.instance.now tree self }
+        ensures { (tree : SearchTree) → IsKeptOf search.now.instance.now tree self.entry
+            → IfOk result (IsExplored search.now.instance.now tree cap) }
     {
         match self {
             Kept::Refuted(refuted) => Ok(Explored {
                 outcome: refuted.told(cap),
                 left: None,
             }),
-            Kept::Standing(standing) => standing.explored(alloc, pairs, cap),
+            Kept::Standing(standing) => standing.explored(search.alloc, search.pairs, cap),
         }
     }
 }

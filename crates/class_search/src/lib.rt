@@ -14,6 +14,7 @@ mod places;
 mod rank;
 mod root;
 mod same;
+mod search;
 mod splits;
 mod tree;
 mod visit;

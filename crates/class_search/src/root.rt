@@ -9,6 +9,7 @@ ghost use Rattle.packing_terms.specs.Rank.{ranked_pairs};
 ghost use Rattle.tree_terms.specs.ClassTree.{first_too_large_box, exceeding_where, class_tree};
 ghost use Rattle.class_search.specs.Rooted.{is_larger, IsExcessToken, IsArrival};
 
+use crate::search::Search;
 use crate::visit::{NodeKind, next_kind};
 use box_instances::Instance;
 use conservative_scales::first_exceeding;
@@ -77,57 +78,53 @@ fn scales_token(alloc: Global, instance: &Instance, scales: bool) -> Option<Toke
 
 // The root of a class tree none of whose boxes is longer than the container. It closes the state.
 fn visit_fitting_root(
-    alloc: Global,
-    instance: &Instance,
-    pairs: &[(u32, u32)],
+    search: &Search<'_>,
     scales: bool,
     state: &mut EdgeState,
     closer: &mut Closer,
 ) -> Arrival
-    requires limits { IsInternalInstance instance.now }
-    requires dims { state.old.dims ≡ dims instance.now }
-    requires boxes { state.old.boxes ≡ box_count instance.now }
+    requires limits { IsInternalInstance search.now.instance.now }
+    requires dims { state.old.dims ≡ dims search.now.instance.now }
+    requires boxes { state.old.boxes ≡ box_count search.now.instance.now }
     requires room { closer.old ≡ record { dims = state.old.dims; boxes = state.old.boxes } }
-    requires pairs { pairs.now ≡ ranked_pairs instance.now }
-    requires none { first_too_large_box instance.now ≡ None }
+    requires pairs { search.now.pairs.now ≡ ranked_pairs search.now.instance.now }
+    requires none { first_too_large_box search.now.instance.now ≡ None }
     ensures sizes { state.new ≡ record state.old { trail = state.new.trail } }
     ensures closer { closer.new ≡ closer.old }
-    ensures root { IsArrival instance.now (Some (class_tree instance.now state.old.trail scales))
-        state.new.trail result }
+    ensures root { IsArrival search.now.instance.now
+        (Some (class_tree search.now.instance.now state.old.trail scales)) state.new.trail result }
 {
-    match closer.close(instance, state) {
+    match closer.close(search.instance, state) {
         Closed::Conflict => Arrival::Inner(NodeKind::Conflict),
-        Closed::Stable => match scales_token(alloc, instance, scales) {
+        Closed::Stable => match scales_token(search.alloc, search.instance, scales) {
             Some(token) => Arrival::RefutedRoot(token),
-            None => Arrival::Inner(next_kind(instance, pairs, state, 0)),
+            None => Arrival::Inner(next_kind(search, state, 0)),
         },
     }
 }
 
 // The root of a class tree. It closes the state, but where a box is longer than the container.
 pub(crate) fn visit_class_root(
-    alloc: Global,
-    instance: &Instance,
-    pairs: &[(u32, u32)],
+    search: &Search<'_>,
     scales: bool,
     state: &mut EdgeState,
     closer: &mut Closer,
 ) -> Arrival
-    requires limits { IsInternalInstance instance.now }
-    requires dims { state.old.dims ≡ dims instance.now }
-    requires boxes { state.old.boxes ≡ box_count instance.now }
+    requires limits { IsInternalInstance search.now.instance.now }
+    requires dims { state.old.dims ≡ dims search.now.instance.now }
+    requires boxes { state.old.boxes ≡ box_count search.now.instance.now }
     requires room { closer.old ≡ record { dims = state.old.dims; boxes = state.old.boxes } }
-    requires pairs { pairs.now ≡ ranked_pairs instance.now }
+    requires pairs { search.now.pairs.now ≡ ranked_pairs search.now.instance.now }
     ensures sizes { state.new ≡ record state.old { trail = state.new.trail } }
     ensures closer { closer.new ≡ closer.old }
-    ensures root { IsArrival instance.now (Some (class_tree instance.now state.old.trail scales))
-        state.new.trail result }
+    ensures root { IsArrival search.now.instance.now
+        (Some (class_tree search.now.instance.now state.old.trail scales)) state.new.trail result }
 {
-    match first_too_large(instance) {
+    match first_too_large(search.instance) {
         Some((v, dim)) => Arrival::RefutedRoot(Token::TooLarge {
             box_no: v + 1,
             dim: dim + 1,
         }),
-        None => visit_fitting_root(alloc, instance, pairs, scales, state, closer),
+        None => visit_fitting_root(search, scales, state, closer),
     }
 }

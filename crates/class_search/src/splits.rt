@@ -1,5 +1,5 @@
 //! The splits of unsettled pairs, and their children.
-ghost use Rattle.std.specs.Prelude.{◌≡◌, ◌≢◌, ◌<◌, None, true, false};
+ghost use Rattle.std.specs.Prelude.{◌≡◌, ◌<◌};
 ghost use Rattle.packing_terms.specs.Exclusions.{excludes};
 ghost use Rattle.tree_terms.specs.InnerTree.{is_apart_somewhere, order_dim, apart_dim, chosen_split};
 ghost use Rattle.proof_tree.specs.Plain.{plain_token};

@@ -17,6 +17,7 @@ use crate::kept::{Explored, Kept, Refuted, Standing};
 use crate::rank::ranked_pairs;
 use crate::root::{Arrival, visit_class_root};
 use crate::same::{are_same_exclusions, are_same_instances};
+use crate::search::Search;
 use crate::visit::visit_root;
 use crate::walk::{Walk, descend, told};
 use box_instances::{Instance, NoMemory};
@@ -139,12 +140,16 @@ impl<'a> ClassTree<'a> {
     {
         // For the proof alone: tells the limits of the instance.
         let _limits = self.instance.len();
-        let pairs = self.pairs.as_slice();
+        let search = Search {
+            alloc,
+            instance: self.instance,
+            pairs: self.pairs.as_slice(),
+        };
         if path.is_empty() {
-            return visit_class_root(alloc, self.instance, pairs, self.scales, state, closer);
+            return visit_class_root(&search, self.scales, state, closer);
         }
-        let root = visit_root(self.instance, pairs, state, closer);
-        Arrival::Inner(descend(self.instance, pairs, state, closer, root, path))
+        let root = visit_root(&search, state, closer);
+        Arrival::Inner(descend(&search, state, closer, root, path))
     }
 
     // A walk that begins at the node of a path, or what the root gives that its own tests refute.
@@ -183,7 +188,12 @@ impl<'a> ClassTree<'a> {
         ensures { IfOk result (λ e. IfSome (node_at (Some (shape self.now)) path.now)
             (λ node. IsExplored self.now.instance node cap e)) }
     {
-        kept.explored(alloc, self.instance, self.pairs.as_slice(), cap)
+        let search = Search {
+            alloc,
+            instance: self.instance,
+            pairs: self.pairs.as_slice(),
+        };
+        kept.explored(&search, cap)
     }
 
     // What the tree below the node at a path gives under a cap.
@@ -195,16 +205,12 @@ impl<'a> ClassTree<'a> {
         let mut state = self.start_state(alloc)?;
         let mut closer = Closer::new(alloc, self.instance.dims(), self.instance.len())?;
         let arrival = self.come_to(alloc, &mut state, &mut closer, path);
-        let (instance, pairs) = (self.instance, self.pairs.as_slice());
-        explored(
+        let search = Search {
             alloc,
-            instance,
-            pairs,
-            &mut state,
-            &mut closer,
-            arrival,
-            cap,
-        )
+            instance: self.instance,
+            pairs: self.pairs.as_slice(),
+        };
+        explored(&search, &mut state, &mut closer, arrival, cap)
     }
 }
 

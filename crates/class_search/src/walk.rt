@@ -14,9 +14,10 @@ ghost use Rattle.class_search.specs.Splits.{added, with_all};
 ghost use Rattle.class_search.specs.Walks.{child_in, size_of_both, walk_tree, IsWalk, IsEndOf};
 
 use crate::places::places_of;
+use crate::search::Search;
 use crate::splits::{Child, Split};
 use crate::visit::{NodeKind, visit_child};
-use box_instances::{Instance, NoMemory};
+use box_instances::NoMemory;
 use edge_state::{EdgeState, Mark};
 use proof_tree::{Outcome, Token};
 use rule_closure::Closer;
@@ -110,23 +111,22 @@ fn child_in(frame: &Frame) -> Child
 // Goes from a split, whose closed state this is, into the child that comes next, and puts the split
 // on the way.
 fn go_into(
-    instance: &Instance,
-    pairs: &[(u32, u32)],
+    search: &Search<'_>,
     state: &mut EdgeState,
     closer: &mut Closer,
     frames: &mut Vec<Frame>,
     frame: Frame,
 ) -> Result<NodeKind, NoMemory>
-    requires limits { IsInternalInstance instance.now }
-    requires dims { state.old.dims ≡ dims instance.now }
-    requires boxes { state.old.boxes ≡ box_count instance.now }
+    requires limits { IsInternalInstance search.now.instance.now }
+    requires dims { state.old.dims ≡ dims search.now.instance.now }
+    requires boxes { state.old.boxes ≡ box_count search.now.instance.now }
     requires room { closer.old ≡ record { dims = state.old.dims; boxes = state.old.boxes } }
-    requires pairs { pairs.now ≡ ranked_pairs instance.now }
-    requires divided { IsDivided instance.now state.old.trail frame.split frame.rank }
+    requires pairs { search.now.pairs.now ≡ ranked_pairs search.now.instance.now }
+    requires divided { IsDivided search.now.instance.now state.old.trail frame.split frame.rank }
     ensures sizes { state.new ≡ record state.old { trail = state.new.trail } }
     ensures closer { closer.new ≡ closer.old }
     ensures frames { OnOk result (frames.new.items ≡ frames.old.items ++ frame ∷ []) }
-    ensures met { IfOk result (IsMet instance.now
+    ensures met { IfOk result (IsMet search.now.instance.now
         (with_all (added frame.split (child_in frame.first)) state.old.trail) state.new.trail) }
 {
     let (split, rank) = (frame.split, frame.rank);
@@ -134,32 +134,31 @@ fn go_into(
     let Ok(()) = frames.push(frame) else {
         return Err(NoMemory);
     };
-    Ok(visit_child(instance, pairs, state, closer, split, rank, child))
+    Ok(visit_child(search, state, closer, split, rank, child))
 }
 
 // Goes on with a walk under a cap, depth first. This is the closed state of the node where it
 // stands.
 pub(crate) fn go_on(
-    alloc: Global,
-    instance: &Instance,
-    pairs: &[(u32, u32)],
+    search: &Search<'_>,
     state: &mut EdgeState,
     closer: &mut Closer,
     walk: Walk,
     cap: u64,
 ) -> Result<End, NoMemory>
-    requires limits { IsInternalInstance instance.now }
-    requires dims { state.old.dims ≡ dims instance.now }
-    requires boxes { state.old.boxes ≡ box_count instance.now }
+    requires limits { IsInternalInstance search.now.instance.now }
+    requires dims { state.old.dims ≡ dims search.now.instance.now }
+    requires boxes { state.old.boxes ≡ box_count search.now.instance.now }
     requires room { closer.old ≡ record { dims = state.old.dims; boxes = state.old.boxes } }
-    requires pairs { pairs.now ≡ ranked_pairs instance.now }
-    requires fit { SidesFit instance.now }
-    requires known { IsWalk instance.now state.old.trail walk }
+    requires pairs { search.now.pairs.now ≡ ranked_pairs search.now.instance.now }
+    requires fit { SidesFit search.now.instance.now }
+    requires known { IsWalk search.now.instance.now state.old.trail walk }
     requires within { walk.count ≤ cap }
     ensures sizes { state.new ≡ record state.old { trail = state.new.trail } }
     ensures closer { closer.new ≡ closer.old }
     ensures end { IfOk result
-        (IsEndOf instance.now state.new.trail cap (walk_tree instance.now state.old.trail walk)) }
+        (IsEndOf search.now.instance.now state.new.trail cap
+        (walk_tree search.now.instance.now state.old.trail walk)) }
 {
     let Walk {
         mut frames,
@@ -181,7 +180,7 @@ pub(crate) fn go_on(
                     });
                 }
                 NodeKind::Settled => {
-                    let numbers = places_of(alloc, instance, state)?;
+                    let numbers = places_of(search.alloc, search.instance, state)?;
                     return Ok(End::Whole(Outcome::Yes { numbers, count }));
                 }
                 NodeKind::Divided { split, rank } => {
@@ -203,7 +202,7 @@ pub(crate) fn go_on(
                         rank,
                         first: None,
                     };
-                    let met = go_into(instance, pairs, state, closer, &mut frames, frame)?;
+                    let met = go_into(search, state, closer, &mut frames, frame)?;
                     place = Place::Met(met);
                 }
             },
@@ -216,7 +215,7 @@ pub(crate) fn go_on(
                     place = Place::Over(size.behind(first));
                 } else {
                     frame.first = Some(size);
-                    let met = go_into(instance, pairs, state, closer, &mut frames, frame)?;
+                    let met = go_into(search, state, closer, &mut frames, frame)?;
                     place = Place::Met(met);
                 }
             }
@@ -226,33 +225,32 @@ pub(crate) fn go_on(
 
 // Goes from a node down a path. Both nodes are told by their kind and their closed state.
 pub(crate) fn descend(
-    instance: &Instance,
-    pairs: &[(u32, u32)],
+    search: &Search<'_>,
     state: &mut EdgeState,
     closer: &mut Closer,
     node: NodeKind,
     path: &[u32],
 ) -> NodeKind
-    requires limits { IsInternalInstance instance.now }
-    requires dims { state.old.dims ≡ dims instance.now }
-    requires boxes { state.old.boxes ≡ box_count instance.now }
+    requires limits { IsInternalInstance search.now.instance.now }
+    requires dims { state.old.dims ≡ dims search.now.instance.now }
+    requires boxes { state.old.boxes ≡ box_count search.now.instance.now }
     requires room { closer.old ≡ record { dims = state.old.dims; boxes = state.old.boxes } }
-    requires pairs { pairs.now ≡ ranked_pairs instance.now }
-    requires known { IsKind instance.now state.old.trail node }
-    requires there { IsSome (node_at (Some (kind_tree instance.now state.old.trail node))
+    requires pairs { search.now.pairs.now ≡ ranked_pairs search.now.instance.now }
+    requires known { IsKind search.now.instance.now state.old.trail node }
+    requires there { IsSome (node_at (Some (kind_tree search.now.instance.now state.old.trail node))
         path.now) }
     ensures sizes { state.new ≡ record state.old { trail = state.new.trail } }
     ensures closer { closer.new ≡ closer.old }
-    ensures node { node_at (Some (kind_tree instance.now state.old.trail node)) path.now
-        ≡ Some (kind_tree instance.now state.new.trail result) }
-    ensures known { IsKind instance.now state.new.trail result }
+    ensures node { node_at (Some (kind_tree search.now.instance.now state.old.trail node)) path.now
+        ≡ Some (kind_tree search.now.instance.now state.new.trail result) }
+    ensures known { IsKind search.now.instance.now state.new.trail result }
 {
     let mut node = node;
     for number in path {
         match node {
             NodeKind::Divided { split, rank } => {
                 let child = Child::numbered(*number);
-                node = visit_child(instance, pairs, state, closer, split, rank, child);
+                node = visit_child(search, state, closer, split, rank, child);
             }
             NodeKind::Conflict => unreachable!(),
             NodeKind::Settled => unreachable!(),

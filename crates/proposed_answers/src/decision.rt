@@ -20,13 +20,13 @@ use std::sync::Wait;
 use std::thread::Threads;
 use work_share::{Gate, Settings};
 
-/// What a proposal shows of an instance, with no tree behind it: places that are a packing a yes, and
-/// tokens that are a refutation a no. `Past` comes where the proposal fails its test, and where there
-/// is none.
+/// What a proposal shows of an instance, with no tree behind it: places that are a packing a yes,
+/// and tokens that are a refutation a no. `Past` comes where the proposal fails its test, and where
+/// there is none.
 ///
 /// Proposed places are tested by `check_places`, proposed tokens by `Refuter`. A yes has a count of
-/// 0, and a no that of the splits in its tokens. Proposed places have one coordinate for each box and
-/// dimension.
+/// 0, and a no that of the splits in its tokens. Proposed places have one coordinate for each box
+/// and dimension.
 pub fn answer_of(
     alloc: Global,
     instance: &Instance,
@@ -61,9 +61,9 @@ pub fn answer_of(
 /// the budget of the settings, with as many workers as these say.
 ///
 /// Proposed places are tested by `check_places`, proposed tokens by `Refuter`. The outcome is a
-/// function of the instance, the proposal, the budget and the choice of scales: the number of workers
-/// has no part in it. A yes by a proposal has a count of 0, and a no that of the splits in its
-/// tokens. Proposed places have one coordinate for each box and dimension.
+/// function of the instance, the proposal, the budget and the choice of scales: the number of
+/// workers has no part in it. A yes by a proposal has a count of 0, and a no that of the splits in
+/// its tokens. Proposed places have one coordinate for each box and dimension.
 pub fn decide_behind<R: Threads + Wait + Sync, G: Gate + Sync>(
     rt: &R,
     alloc: Global,
@@ -86,11 +86,11 @@ pub fn decide_behind<R: Threads + Wait + Sync, G: Gate + Sync>(
 
 /// Whether an instance fits, by proposals first and then by the class tree under the budget.
 ///
-/// A yes comes only with a packing, and a no only with a refutation of the instance. `Past` comes only
-/// where the class tree has more branchings than the budget: where it has at most so many, the answer
-/// is yes or no. Which packing, which refutation and how few branchings isn't promised, but the
-/// proposal is made by one worker that doesn't know how many there are, and behind a proposal the
-/// outcome is what `decide_behind` says.
+/// A yes comes only with a packing, and a no only with a refutation of the instance. `Past` comes
+/// only where the class tree has more branchings than the budget: where it has at most so many, the
+/// answer is yes or no. Which packing, which refutation and how few branchings isn't promised, but
+/// the proposal is made by one worker that doesn't know how many there are, and behind a proposal
+/// the outcome is what `decide_behind` says.
 pub fn decide_proposed<R: Threads + Wait + Sync, G: Gate + Sync>(
     rt: &R,
     alloc: Global,

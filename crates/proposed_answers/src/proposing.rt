@@ -15,7 +15,8 @@ const PLACE_STEPS: u64 = 40_000;
 // instances that it refutes takes 617,000.
 const MOST_SPLITS: u64 = 700_000;
 
-// A split is the dearer the more pairs of boxes there are, so for more than 14 boxes they are fewer.
+// A split is the dearer the more pairs of boxes there are, so for more than 14 boxes they are
+// fewer.
 const PAIR_VISITS: u64 = 140_000_000;
 
 /// The most splits of the search for a refutation of an instance.

@@ -84,8 +84,8 @@ fn improved(
     Ok(bounds.after(level, Level::Fits(numbers)))
 }
 
-// The bounds from first ones on: the value above the placed one comes first, since the proposed boxes
-// are most often the best, and then those from both ends on.
+// The bounds from first ones on: the value above the placed one comes first, since the proposed
+// boxes are most often the best, and then those from both ends on.
 fn closed<R: Threads + Wait + Sync, G: Gate + Sync>(
     rt: &R,
     alloc: Global,
@@ -117,11 +117,11 @@ fn closed<R: Threads + Wait + Sync, G: Gate + Sync>(
 /// The greatest value of a set of boxes that fits, with both certificates, by proposals first.
 ///
 /// It begins at 0 and one more than all boxes are worth, and narrows these by the first branchings
-/// of the choice trees. Then come proposed boxes that pass their test, the value above what they are
-/// worth, and the values between, from both ends on, each decided by its choice tree under the
+/// of the choice trees. Then come proposed boxes that pass their test, the value above what they
+/// are worth, and the values between, from both ends on, each decided by its choice tree under the
 /// budget. `Between` comes only where the trees of both values beside the two have more branchings
-/// than the budget: the one above the placed value and the one below the refuted value. Which boxes,
-/// which refutation and how many values are decided isn't promised.
+/// than the budget: the one above the placed value and the one below the refuted value. Which
+/// boxes, which refutation and how many values are decided isn't promised.
 pub fn greatest_value_proposed<R: Threads + Wait + Sync, G: Gate + Sync>(
     rt: &R,
     alloc: Global,

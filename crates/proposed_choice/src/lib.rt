@@ -1,5 +1,5 @@
-//! The greatest value by proposals first: boxes that are proposed and tested, and the values between
-//! what they are worth and what is refuted, each decided by its choice tree.
+//! The greatest value by proposals first: boxes that are proposed and tested, and the values
+//! between what they are worth and what is refuted, each decided by its choice tree.
 #![tactic(auto)]
 
 mod greatest;

@@ -12,8 +12,8 @@ use std::sync::Wait;
 use std::thread::Threads;
 use work_share::{Gate, Settings};
 
-/// The bounds after the answer at a level that may be asked: at the value that lies so far below the
-/// top.
+/// The bounds after the answer at a level that may be asked: at the value that lies so far below
+/// the top.
 pub(crate) fn ask_level<R: Threads + Wait + Sync, G: Gate + Sync>(
     rt: &R,
     alloc: Global,

@@ -15,8 +15,9 @@ const LIGHT_PART: u64 = 16;
 
 const WHOLE_PART: u64 = 2;
 
-/// How much is done at a level: a part of the described tree, whose root the scale functions refute;
-/// a proposal with few splits alone; or the tree under the budget, and then a proposal with more.
+/// How much is done at a level: a part of the described tree, whose root the scale functions
+/// refute; a proposal with few splits alone; or the tree under the budget, and then a proposal with
+/// more.
 ///
 /// The tree comes before the dear proposal, since of 16 texts more heights are decided by it: those
 /// near the optimum, of which the light one finds no refutation, take the tree 2 to 4 s, and the

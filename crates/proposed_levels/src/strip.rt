@@ -69,12 +69,12 @@ fn narrowed<R: Threads + Wait + Sync, G: Gate + Sync>(
 /// container's last side isn't looked at.
 ///
 /// It begins at bounds that the first branchings of the heights' trees give, whose roots the scale
-/// functions refute, and narrows them by light proposals. Each height that is left between is decided
-/// by its class tree under the budget, and then by a proposal. `Between` comes only where the trees of both heights beside the
-/// two have more branchings than the budget: the one above the refuted height and the one below the
-/// placed height. `NoneFits` comes exactly where a box is longer than the container in a dimension
-/// other than the last, and names the first. Which packing, which refutation and how many heights
-/// are decided isn't promised.
+/// functions refute, and narrows them by light proposals. Each height that is left between is
+/// decided by its class tree under the budget, and then by a proposal. `Between` comes only where
+/// the trees of both heights beside the two have more branchings than the budget: the one above the
+/// refuted height and the one below the placed height. `NoneFits` comes exactly where a box is
+/// longer than the container in a dimension other than the last, and names the first. Which
+/// packing, which refutation and how many heights are decided isn't promised.
 pub fn least_height_proposed<R: Threads + Wait + Sync, G: Gate + Sync>(
     rt: &R,
     alloc: Global,

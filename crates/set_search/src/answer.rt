@@ -5,8 +5,8 @@ ghost use Rattle.tree_terms.specs.OuterTrees.{coordinates_at};
 
 use box_instances::{Instance, NoMemory};
 
-/// Appends the coordinates of the box at an index of a set, from the answer of the set's tree. Where
-/// memory is refused, the list is as before.
+/// Appends the coordinates of the box at an index of a set, from the answer of the set's tree.
+/// Where memory is refused, the list is as before.
 pub fn push_coordinates(
     instance: &Instance,
     k: usize,

@@ -1,9 +1,11 @@
 -- The front, taken on by one entry, and kept where an entry behind it changes.
 use Rattle.std.proofs.Common.{◌≡◌, ℕ, zero, suc, ◌+◌, ◌<◌, ◌≤◌, refl, sym, ap, ◌∙◌, subst, arith, List, [], ◌∷◌, ◌++◌}
-use Rattle.std.proofs.Common.{length, take, drop, Bool, true, false, if◌then◌else◌, get_or, ◌==◌, ◌-◌}
+use Rattle.std.proofs.Common.{length, take, drop, Bool, true, false, if◌then◌else◌, get_or, ◌==◌, ◌-◌, add-one, Option}
+use Rattle.std.proofs.Common.{Some}
 use Rattle.std.proofs.lemmas.Bool.{true≢false}
-use Rattle.std.proofs.lemmas.Option.{slice_get_read}
-use Rattle.std.proofs.lemmas.List.{take_more, drop_more}
+use Rattle.std.specs.Prelude.{slice_get}
+use Rattle.std.proofs.lemmas.Option.{slice_get_read, slice_get_within, same_Some}
+use Rattle.std.proofs.lemmas.List.{take_more, drop_more, length-map}
 use Rattle.board_terms.specs.Board.{PlainEntry, SplitEntry, TaskEntry, PlainTaskState, Waits, Out, Done, at_first}
 use Rattle.board_terms.specs.Board.{state_waits, waits_as, is_out}
 use Rattle.board_terms.specs.Kept.{AreBelow}
@@ -11,9 +13,11 @@ use Rattle.board_terms.proofs.Outs.{out_is}
 use Rattle.work_share.specs.declared.slot.Slot.{Slot}
 use Rattle.work_share.specs.declared.slot.Piece.{Piece}
 use Rattle.work_share.specs.declared.slot.Piece.TheVariants.{Open, Refuted}
-use Rattle.work_share.specs.Slots.{entry_of, entry_or, entries_of}
+use Rattle.work_share.specs.Slots.{entry_of, entry_or, entry_at, entries_of}
+use Rattle.work_share.specs.Links.{behind_at, order_of, IsLinked}
 use Rattle.work_share.specs.Fronts.{piece_of, IsRefutedPiece, AreRefuted, count_in, counted, Ends, EndsWithFirst}
 use Rattle.work_share.specs.Fronts.{IsOpen, StandsAt, HasFront, HasFrontTo, IsFront}
+use Rattle.work_share.proofs.Links.{chain_next}
 
 -- ---- one entry more
 
@@ -173,11 +177,47 @@ below_at n [] k a l = absurd (omega (arith, l))
 below_at n (x ∷ order) zero a l = a.0
 below_at n (x ∷ order) (suc k) a l = below_at n order k a.1 (omega (arith, l))
 
--- what an index reads of the stored entries
-pub stored_at : (slots : List Slot) (order : List ℕ) (k : ℕ) (slot : Slot) (d : PlainEntry)
-    → AreBelow (length slots) order → k < length order
-    → slot ≡ get_or slots (get_or order k 0) slot
-    → get_or (entries_of slots order) k d ≡ entry_of (get_or order k 0) slot
-stored_at slots [] k slot d a l e = absurd (omega (arith, l))
-stored_at slots (n ∷ order) zero slot d a l e = ap (entry_or n) (slice_get_read slots (length slots) n slot refl a.0 e)
-stored_at slots (n ∷ order) (suc k) slot d a l e = stored_at slots order k slot d a.1 (omega (arith, l)) e
+-- a number of the order
+pub below_there : (n : ℕ) (order : List ℕ) (k m : ℕ) → AreBelow n order → slice_get order k ≡ Some m → m < n
+below_there n [] k m a e = absurd (cc e)
+below_there n (x ∷ order) zero m a e = subst (λ y. y < n) (same_Some x m e) a.0
+below_there n (x ∷ order) (suc k) m a e = below_there n order k m a.1 e
+
+-- its entry
+pub entry_there : (slots : List Slot) (order : List ℕ) (k n : ℕ) (d : PlainEntry) → slice_get order k ≡ Some n
+    → get_or (entries_of slots order) k d ≡ entry_at slots n
+entry_there slots [] k n d e = absurd (cc e)
+entry_there slots (x ∷ order) zero n d e = ap (entry_at slots) (same_Some x n e)
+entry_there slots (x ∷ order) (suc k) n d e = entry_there slots order k n d e
+
+pub entry_read : (slots : List Slot) (n : ℕ) (slot : Slot) → n < length slots → slot ≡ get_or slots n slot
+    → entry_at slots n ≡ entry_of n slot
+entry_read slots n slot l is = ap (entry_or n) (slice_get_read slots (length slots) n slot refl l is)
+
+-- ---- a position of the order, by the number that stands there
+
+module _ (slots : List Slot) (len n : ℕ) (behind : Option ℕ) (linked : IsLinked slots len behind)
+    (is : behind ≡ Some n) where
+  linked_there : slice_get (order_of slots) len ≡ Some n
+  linked_there = sym linked.here ∙ is
+
+  pub linked_inside : len < length (entries_of slots (order_of slots))
+  linked_inside = subst (λ k. len < k) (sym (length-map (order_of slots) (entry_at slots)))
+      (slice_get_within (order_of slots) len n linked_there)
+
+  pub linked_below : AreBelow (length slots) (order_of slots) → n < length slots
+  linked_below below = below_there (length slots) (order_of slots) len n below linked_there
+
+  pub linked_entry : (d : PlainEntry) → get_or (entries_of slots (order_of slots)) len d ≡ entry_at slots n
+  linked_entry d = entry_there slots (order_of slots) len n d linked_there
+
+  pub linked_piece : (p : Piece) → p ≡ piece_of (entry_at slots n)
+      → p ≡ piece_of (get_or (entries_of slots (order_of slots)) len no_entry)
+  linked_piece p e = e ∙ ap piece_of (sym (linked_entry no_entry))
+
+  pub linked_more : (after : Option ℕ) → after ≡ behind_at slots n → IsLinked slots (len + 1) after
+  linked_more after e = record {
+    chain = linked.chain;
+    here = e ∙ (chain_next slots (Some 0) (order_of slots) len n linked.chain linked_there
+        ∙ ap (slice_get (order_of slots)) (sym (add-one len)));
+  }

@@ -6,12 +6,13 @@ use Rattle.tree_terms.specs.Trees.{SearchTree}
 use Rattle.board_terms.specs.declared.Event.{Event}
 use Rattle.board_terms.specs.Board.{BoardState, board_start, PlainTask}
 use Rattle.board_terms.specs.Replay.{happens, replay}
-use Rattle.board_terms.specs.Kept.{AreDistinct, AreBelow, OutsAreApart}
+use Rattle.board_terms.specs.Kept.{AreDistinct, AreBelow, OutsAreApart, AreTasksRight}
 use Rattle.board_terms.proofs.Outs.{outs_apart}
 use Rattle.board_terms.proofs.Replays.{Keeps, keeps_replay}
 use Rattle.work_share.specs.declared.slot.Slot.{Slot}
 use Rattle.work_share.specs.Slots.{entry_at, entries_of}
-use Rattle.work_share.specs.Boards.{stored_state, IsKept}
+use Rattle.work_share.specs.Fronts.{IsFront}
+use Rattle.work_share.specs.Boards.{stored_state, waiting_tasks, owed, IsKept}
 use Rattle.work_share.proofs.Stored.{numbers_are}
 
 pub keeps_stored : (tree : SearchTree) (budget : ℕ) (slots : List Slot) (order : List ℕ) (short : Bool)
@@ -67,3 +68,30 @@ kept_roomier tree budget slots order stack len count ended short history capacit
   owes = k.owes;
   room = let r = k.room in omega (arith, r, l);
 }
+
+-- slots that stand for the same entries
+pub kept_same : (tree : SearchTree) (budget : ℕ) (slots others : List Slot) (order : List ℕ) (stack : List PlainTask)
+    (len count : ℕ) (ended short : Bool)
+    (history : List Event) (capacity : ℕ) → IsKept tree budget slots order stack len count ended short history capacity
+    → entries_of others order ≡ entries_of slots order → length others ≡ length slots
+    → IsKept tree budget others order stack len count ended short history capacity
+kept_same tree budget slots others order stack len count ended short history capacity k e l = record {
+  replays = k.replays ∙ ap (λ es. record { entries = es; is_short = short }) (sym e);
+  apart = subst OutsAreApart (sym e) k.apart;
+  right = subst (AreTasksRight tree budget) (sym e) k.right;
+  size = l ∙ k.size;
+  all = k.all;
+  stacked = k.stacked ∙ ap (λ es. reverse (waiting_tasks es)) (sym e);
+  front = subst (λ es. IsFront budget es len count ended) (sym e) k.front;
+  owes = let o = ap owed e in let old = k.owes in omega (arith, o, old);
+  room = k.room;
+}
+
+-- an order that is the same
+pub kept_ordered : (tree : SearchTree) (budget : ℕ) (slots : List Slot) (order others : List ℕ) (stack : List PlainTask)
+    (len count : ℕ) (ended short : Bool)
+    (history : List Event) (capacity : ℕ) → IsKept tree budget slots order stack len count ended short history capacity
+    → others ≡ order
+    → IsKept tree budget slots others stack len count ended short history capacity
+kept_ordered tree budget slots order others stack len count ended short history capacity k e =
+    subst (λ ns. IsKept tree budget slots ns stack len count ended short history capacity) (sym e) k

@@ -1,4 +1,6 @@
 pub mod Stored
+pub mod Links
+pub mod Stacks
 pub mod Fronts
 pub mod Advance
 pub mod Waiting
@@ -12,3 +14,4 @@ pub mod Finishing
 pub mod Outside
 pub mod Inserted
 pub mod Splitting
+pub mod Dividing

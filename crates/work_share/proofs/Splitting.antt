@@ -11,8 +11,8 @@ use Rattle.tree_terms.specs.Trees.{SearchTree, node_at}
 use Rattle.tree_terms.specs.Paths.{Splits, node_told}
 use Rattle.board_terms.specs.declared.Event.{Event}
 use Rattle.board_terms.specs.declared.Event.TheVariants as event
-use Rattle.board_terms.specs.Board.{PlainEntry, SplitEntry, TaskEntry, PlainTask, Out, Done, Waits, is_out, out_path}
-use Rattle.board_terms.specs.Board.{at_first, waits, children_from, split_into}
+use Rattle.board_terms.specs.Board.{PlainEntry, SplitEntry, TaskEntry, PlainTask, Out, is_out, out_path, at_first}
+use Rattle.board_terms.specs.Board.{children_from, split_into}
 use Rattle.board_terms.specs.Steps.{divided, Divides}
 use Rattle.board_terms.specs.Kept.{IsNotIn, AreDistinct, AreBelow}
 use Rattle.board_terms.proofs.Lists.{below_left, below_right, below_append, below_more}
@@ -26,7 +26,7 @@ use Rattle.work_share.specs.Slots.{entry_at, entries_of, entries_from, with_slot
 use Rattle.work_share.specs.Fronts.{piece_of, IsRefutedPiece, AreRefuted, IsFront, HasFrontTo}
 use Rattle.work_share.specs.Boards.{stored_state, waiting_tasks, owed, owed_short, IsIn, IsKept}
 use Rattle.work_share.proofs.Stored.{length_with_slot, put_at, put_beside}
-use Rattle.work_share.proofs.Waiting.{waiting_append, waiting_none, owed_append}
+use Rattle.work_share.proofs.Waiting.{waiting_append, owed_append}
 use Rattle.work_share.proofs.Advance.{out_open, front_known}
 use Rattle.work_share.proofs.Standing.{out_there}
 use Rattle.work_share.proofs.Finishing.{out_reached}
@@ -37,16 +37,6 @@ use Rattle.work_share.proofs.Kept.{keeps_stored, apart_stored, distinct_order, b
 
 -- ---- what stands in the front
 
-refuted_waits : (e : PlainEntry) → IsRefutedPiece (piece_of e) → waits e ≡ false
-refuted_waits (SplitEntry number path token own children) r = refl
-refuted_waits (TaskEntry number path Waits) r = absurd r
-refuted_waits (TaskEntry number path Out) r = refl
-refuted_waits (TaskEntry number path (Done o)) r = refl
-
-none_waiting : (es : List PlainEntry) → AreRefuted es → waiting_tasks es ≡ []
-none_waiting [] r = refl
-none_waiting (e ∷ es) r = ap₂ (λ xs ys. xs ++ ys) (waiting_none e (refuted_waits e r.0)) (none_waiting es r.1)
-
 open_apart : (slots : List Slot) (n : ℕ) (order : List ℕ) → piece_of (entry_at slots n) ≡ Open
     → AreRefuted (entries_of slots order) → IsNotIn n order
 open_apart slots n [] p r = tt
@@ -55,7 +45,7 @@ open_apart slots n (m ∷ order) p r = (
   open_apart slots n order p r.1,
 )
 
-distinct_rest : (n : ℕ) (pre post : List ℕ) → AreDistinct (pre ++ n ∷ post) → IsNotIn n post
+pub distinct_rest : (n : ℕ) (pre post : List ℕ) → AreDistinct (pre ++ n ∷ post) → IsNotIn n post
 distinct_rest n [] post d = d.0
 distinct_rest n (x ∷ pre) post d = distinct_rest n pre post d.1
 
@@ -189,9 +179,6 @@ module _ (tree : SearchTree) (budget : ℕ) (slots : List Slot) (order : List �
   front_is : AreRefuted (entries_of slots (take len order))
   front_is = subst AreRefuted (take-map (entry_at slots) len order) kept.front.known.refuted
 
-  pub split_before : waiting_tasks (entries_of slots (take len order)) ≡ []
-  split_before = none_waiting (entries_of slots (take len order)) front_is
-
   pub split_apart : IsNotIn n (take len order)
   split_apart = open_apart slots n (take len order) (out_is_open n p (entry_at slots n) there.1) front_is
 
@@ -209,27 +196,15 @@ module _ (tree : SearchTree) (budget : ℕ) (slots : List Slot) (order : List �
         go (inl l) = l
         go (inr l) = absurd (not_in_no n order there.0 (subst (λ ns. IsNotIn n ns) (take_all position order l) passed))
 
-    parts : order ≡ take position order ++ n ∷ drop (position + 1) order
+    pub parts : order ≡ take position order ++ n ∷ drop (position + 1) order
     parts =
         sym (take-append-drop position order)
         ∙ (ap (λ ns. take position order ++ ns) (drop_more order position 0 position_inside)
         ∙ ap (λ k. take position order ++ k ∷ drop (position + 1) order) (here position_inside))
 
-    front_parts : take (position + 1) order ≡ take position order ++ n ∷ []
+    pub front_parts : take (position + 1) order ≡ take position order ++ n ∷ []
     front_parts = take_more order position 0 position_inside
         ∙ ap (λ k. take position order ++ k ∷ []) (here position_inside)
-
-    pub waiting_enough : length (waiting_tasks (entries_of slots (take position order))) ≤ length stack
-    waiting_enough =
-        let all : waiting_tasks (entries_of slots order) ≡ waiting_tasks (entries_of slots (take position order))
-        ++ waiting_tasks (entries_of slots (drop position order)) =
-        ap (λ ns. waiting_tasks (entries_of slots ns)) (sym (take-append-drop position order))
-        ∙ (ap waiting_tasks (map-append (entry_at slots) (take position order) (drop position order))
-        ∙ waiting_append (entries_of slots (take position order)) (entries_of slots (drop position order))) in
-        let a = ap length all ∙ length-append (waiting_tasks (entries_of slots (take position order)))
-        (waiting_tasks (entries_of slots (drop position order))) in
-        let b = ap length kept.stacked ∙ length-reverse (waiting_tasks (entries_of slots order)) in
-        omega (arith, a, b)
 
     module _ (token : Token) (own c : ℕ) (made : List Slot)
         (children : entries_from (length slots) made ≡ children_from p 0 c (length slots)) where

@@ -1,12 +1,13 @@
 -- A new board is kept.
 use Rattle.std.proofs.Common.{◌≡◌, ℕ, zero, suc, ◌<◌, ◌≤◌, inl, refl, sym, ap, ◌∙◌, subst, arith, [], ◌∷◌, reverse}
-use Rattle.std.proofs.Common.{false}
+use Rattle.std.proofs.Common.{Some, None, false}
 use Rattle.tree_terms.specs.Trees.{SearchTree}
 use Rattle.board_terms.specs.Board.{BoardState}
 use Rattle.board_terms.specs.Replay.{replay}
 use Rattle.work_share.specs.declared.slot.Slot.{Slot}
 use Rattle.work_share.specs.declared.slot.SlotState.TheVariants.{Waits}
 use Rattle.work_share.specs.Slots.{entry_as}
+use Rattle.work_share.specs.Links.{IsLinked}
 use Rattle.work_share.specs.Fronts.{IsFront}
 use Rattle.work_share.specs.Boards.{stored_state, waiting_tasks, owed, IsIn, IsKept}
 use Rattle.work_share.proofs.Kept.{keeps_stored, apart_stored}
@@ -38,3 +39,6 @@ start_kept tree budget root capacity path state room =
     first : (n : ℕ) → n < 1 → IsIn n (0 ∷ [])
     first zero l = inl refl
     first (suc n) l = absurd (omega (arith, l))
+
+pub start_linked : (root : Slot) → root.behind ≡ None → IsLinked (root ∷ []) 0 (Some 0)
+start_linked root none = record { chain = (refl, none); here = refl }

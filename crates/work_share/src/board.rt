@@ -14,8 +14,9 @@ ghost use Rattle.work_share.specs.Tasks.{reply_of, IfJob, is_past};
 use crate::children::{children_of, put_children};
 use crate::front::{Front, advance};
 use crate::joining::join_run;
-use crate::order::position_of;
+use crate::link::behind_at;
 use crate::slot::{Slot, SlotState, put_state};
+use crate::stack::count_left;
 use crate::task::{Take, Task};
 use crate::tree::Tree;
 use board_terms::Event;
@@ -37,10 +38,8 @@ pub struct Board<'a, T: Tree> {
     tree: &'a T,
     alloc: Global,
     budget: u64,
-    // By number.
+    // By number, each linked to the one behind it in prefix order.
     slots: Vec<Slot>,
-    // The numbers in prefix order.
-    order: Vec<usize>,
     // The tasks that wait, the leftmost last.
     waiting: Vec<Task>,
     front: Front,
@@ -50,6 +49,7 @@ pub struct Board<'a, T: Tree> {
 
 impl<'a, T: Tree> Model for Board<'a, T> {
     ghost use Rattle.std.specs.Prelude.{vec_capacity};
+    ghost use Rattle.work_share.specs.Links.{order_of, IsLinked};
     ghost use Rattle.work_share.specs.Boards.{PlainBoard, stored_state, IsKept};
 
     ghost Value = { PlainBoard T };
@@ -57,12 +57,13 @@ impl<'a, T: Tree> Model for Board<'a, T> {
     ghost view = { λ b. record {
       tree = b.tree.now;
       budget = b.budget;
-      state = stored_state b.slots.items b.order.items b.is_short;
+      state = stored_state b.slots.items (order_of b.slots.items) b.is_short;
     } };
 
-    ghost invariant = { λ b. IsKept (T.shape b.tree.now) b.budget b.slots.items b.order.items
-        b.waiting.items b.front.len b.front.count b.front.is_ended b.is_short
-        b.history.items (vec_capacity b.history) };
+    ghost invariant = { λ b. IsKept (T.shape b.tree.now) b.budget b.slots.items
+        (order_of b.slots.items) b.waiting.items b.front.len b.front.count b.front.is_ended
+        b.is_short b.history.items (vec_capacity b.history)
+        × IsLinked b.slots.items b.front.len b.front.behind };
 }
 
 // Whether an outcome is "past the budget".
@@ -79,28 +80,24 @@ pub(crate) fn is_past(outcome: &Outcome) -> bool
 // Makes room for so many children, and for all events of their tasks.
 fn reserve_for(
     slots: &mut Vec<Slot>,
-    order: &mut Vec<usize>,
     waiting: &mut Vec<Task>,
     history: &mut Vec<Event>,
     children: usize,
 ) -> Result<(), AllocError>
     requires few { children < 2 ^ 32 }
-    requires known { vec_len history.old ≤ 2 * vec_len order.old + 1 }
+    requires known { vec_len history.old ≤ 2 * vec_len slots.old + 1 }
     ensures slots { slots.new.items ≡ slots.old.items }
-    ensures order { order.new.items ≡ order.old.items }
     ensures waiting { waiting.new.items ≡ waiting.old.items }
     ensures history { history.new.items ≡ history.old.items }
     ensures kept { vec_capacity history.old ≤ vec_capacity history.new }
     ensures slots_room { OnOk result (vec_len slots.new + children ≤ vec_capacity slots.new) }
-    ensures order_room { OnOk result (vec_len order.new + children ≤ vec_capacity order.new) }
     ensures waiting_room { OnOk result (vec_len waiting.new + children ≤ vec_capacity waiting.new) }
     ensures history_room { OnOk result
-        (2 * (vec_len order.new + children) + 1 ≤ vec_capacity history.new) }
+        (2 * (vec_len slots.new + children) + 1 ≤ vec_capacity history.new) }
 {
     slots.reserve(children)?;
-    order.reserve(children)?;
     waiting.reserve(children)?;
-    let events = 2 * (order.len() + children) + 1;
+    let events = 2 * (slots.len() + children) + 1;
     history.reserve(events - history.len())
 }
 
@@ -130,9 +127,8 @@ impl<'a, T: Tree> Board<'a, T> {
         slots.push(Slot {
             path: Vec::new(alloc),
             state: SlotState::Waits,
+            behind: None,
         })?;
-        let mut order = Vec::new(alloc);
-        order.push(0)?;
         let mut waiting = Vec::new(alloc);
         waiting.push(Task::new(Vec::new(alloc), 0))?;
         let mut history = Vec::new(alloc);
@@ -142,9 +138,8 @@ impl<'a, T: Tree> Board<'a, T> {
             alloc,
             budget,
             slots,
-            order,
             waiting,
-            front: Front::new(0, 0, false),
+            front: Front::new(0, 0, false, Some(0)),
             is_short: false,
             history,
         })
@@ -155,7 +150,7 @@ impl<'a, T: Tree> Board<'a, T> {
     pub fn is_over(&self) -> bool
         ensures { result ≡ is_board_over self.now.budget self.now.state }
     {
-        self.is_short || self.front.is_ended || self.front.len == self.order.len()
+        self.is_short || self.front.is_ended || self.front.len == self.slots.len()
     }
 
     /// Hands out the leftmost task that waits, unless the board is over.
@@ -219,19 +214,20 @@ impl<'a, T: Tree> Board<'a, T> {
             return Err(task);
         }
         let number = task.number() as usize;
-        let Ok(made) = children_of(self.alloc, task.path(), children, self.order.len()) else {
+        let behind = behind_at(&self.slots, number);
+        let Ok(made) = children_of(self.alloc, task.path(), children, self.slots.len(), behind)
+        else {
             return Err(task);
         };
         let Ok(()) = reserve_for(
             &mut self.slots,
-            &mut self.order,
             &mut self.waiting,
             &mut self.history,
             children as usize,
         ) else {
             return Err(task);
         };
-        let position = position_of(&self.slots, &self.order, self.front.len, number);
+        let left = count_left(&self.waiting, task.path());
         let state = SlotState::Split {
             token,
             own,
@@ -239,13 +235,13 @@ impl<'a, T: Tree> Board<'a, T> {
         };
         put_children(
             &mut self.slots,
-            &mut self.order,
             &mut self.waiting,
-            position,
+            number,
+            left,
             state,
             made,
         );
-        self.front = advance(&self.slots, &self.order, self.budget, self.front);
+        self.front = advance(&self.slots, self.budget, self.front);
         self.history.push_reserved(Event::Split {
             number: task.number(),
         });
@@ -270,7 +266,7 @@ impl<'a, T: Tree> Board<'a, T> {
             task.number() as usize,
             SlotState::Done(outcome),
         );
-        self.front = advance(&self.slots, &self.order, self.budget, self.front);
+        self.front = advance(&self.slots, self.budget, self.front);
         self.history.push_reserved(Event::Finish {
             number: task.number(),
             past,
@@ -327,11 +323,10 @@ impl<'a, T: Tree> Board<'a, T> {
     {
         let Board {
             slots,
-            order,
             budget,
             front,
             ..
         } = self;
-        join_run(alloc, slots, &order, budget, front)
+        join_run(alloc, slots, budget, front)
     }
 }

@@ -1,5 +1,5 @@
 //! The joining of a finished run.
-ghost use Rattle.std.specs.Prelude.{◌≡◌, ◌≤◌, ◌<◌, ◌++◌, ℕ, List, length, map, IfOk, OnOk, true, false};
+ghost use Rattle.std.specs.Prelude.{◌≡◌, ◌≤◌, ◌<◌, ◌++◌, ℕ, List, length, map, IfOk, OnOk, Some, true, false};
 ghost use Rattle.packing_terms.specs.Tokens.{PlainToken};
 ghost use Rattle.tree_terms.specs.Trees.{No, join, told};
 ghost use Rattle.board_terms.specs.Kept.{AreBelow, AreDistinct};
@@ -7,10 +7,12 @@ ghost use Rattle.board_terms.specs.Runs.{Run, run_of, with_entry};
 ghost use Rattle.work_share.specs.Outcomes.{plain_outcome};
 ghost use Rattle.proof_tree.specs.Plain.{plain_token};
 ghost use Rattle.work_share.specs.Slots.{entry_of, entries_of};
+ghost use Rattle.work_share.specs.Links.{order_of, IsChain, IsLinked};
 ghost use Rattle.work_share.specs.Fronts.{IsFront, Ends, piece_of};
 ghost use Rattle.work_share.specs.Joining.{tokens_told, tokens_in, entry_tokens};
 
 use crate::front::Front;
+use crate::link::behind_at;
 use crate::slot::{Slot, SlotState};
 use box_instances::NoMemory;
 use proof_tree::{Outcome, Token};
@@ -56,8 +58,9 @@ fn push_told(tokens: &mut Vec<Token>, outcome: Outcome) -> Result<(), AllocError
 
 // Moves the tokens of a finished entry behind others.
 fn push_tokens(tokens: &mut Vec<Token>, slot: &mut Slot) -> Result<(), AllocError>
-    ensures { OnOk result ((number : ℕ) → map plain_token tokens.new.items
+    ensures tokens { OnOk result ((number : ℕ) → map plain_token tokens.new.items
         ≡ map plain_token tokens.old.items ++ tokens_in (entry_of number slot.old)) }
+    ensures link { slot.new.behind ≡ slot.old.behind }
 {
     match mem::replace(&mut slot.state, SlotState::Out) {
         SlotState::Done(outcome) => push_told(tokens, outcome),
@@ -75,19 +78,21 @@ fn push_tokens(tokens: &mut Vec<Token>, slot: &mut Slot) -> Result<(), AllocErro
 }
 
 // The tokens of all entries in their order.
-fn join_tokens(
-    alloc: Global,
-    mut slots: Vec<Slot>,
-    order: &[usize],
-) -> Result<Vec<Token>, AllocError>
-    requires below { AreBelow (length slots.items) order.now }
-    requires distinct { AreDistinct order.now }
+fn join_tokens(alloc: Global, mut slots: Vec<Slot>) -> Result<Vec<Token>, AllocError>
+    requires below { AreBelow (length slots.items) (order_of slots.items) }
+    requires distinct { AreDistinct (order_of slots.items) }
+    requires size { length slots.items ≡ length (order_of slots.items) }
+    requires chain { IsChain slots.items (Some 0) (order_of slots.items) }
     ensures { IfOk result (λ tokens. map plain_token tokens.items
-        ≡ entry_tokens (entries_of slots.items order.now)) }
+        ≡ entry_tokens (entries_of slots.items (order_of slots.items))) }
 {
     let mut tokens = Vec::new(alloc);
-    for number in order {
-        push_tokens(&mut tokens, &mut slots[*number])?;
+    let mut behind = Some(0);
+    let len = slots.len();
+    for _position in 0..len {
+        let Some(number) = behind else { unreachable!() };
+        behind = behind_at(&slots, number);
+        push_tokens(&mut tokens, &mut slots[number])?;
     }
     Ok(tokens)
 }
@@ -96,22 +101,26 @@ fn join_tokens(
 pub(crate) fn join_run(
     alloc: Global,
     mut slots: Vec<Slot>,
-    order: &[usize],
     budget: u64,
     front: Front,
 ) -> Result<Outcome, NoMemory>
-    requires below { AreBelow (length slots.items) order.now }
-    requires distinct { AreDistinct order.now }
-    requires front { IsFront budget (entries_of slots.items order.now) front.len front.count
-        front.is_ended }
-    requires over { front.is_ended ≡ false → front.len ≡ length order.now }
+    requires below { AreBelow (length slots.items) (order_of slots.items) }
+    requires distinct { AreDistinct (order_of slots.items) }
+    requires size { length slots.items ≡ length (order_of slots.items) }
+    requires linked { IsLinked slots.items front.len front.behind }
+    requires front { IsFront budget (entries_of slots.items (order_of slots.items)) front.len
+        front.count front.is_ended }
+    requires over { front.is_ended ≡ false → front.len ≡ length slots.items }
     ensures { IfOk result (λ r. plain_outcome r
-        ≡ told budget (run_of budget (entries_of slots.items order.now)).verdict) }
+        ≡ told budget (run_of budget (entries_of slots.items (order_of slots.items))).verdict) }
 {
     if front.is_ended {
-        return Ok(end_run(&mut slots[order[front.len]], budget, front.count));
+        let Some(number) = front.behind else {
+            unreachable!()
+        };
+        return Ok(end_run(&mut slots[number], budget, front.count));
     }
-    match join_tokens(alloc, slots, order) {
+    match join_tokens(alloc, slots) {
         Ok(tokens) => Ok(Outcome::No {
             tokens,
             count: front.count,

@@ -7,10 +7,11 @@ mod exploring;
 mod front;
 mod gate;
 mod joining;
-mod order;
+mod link;
 mod sharing;
 mod short;
 mod slot;
+mod stack;
 mod task;
 mod tree;
 

@@ -1,17 +1,19 @@
 //! The entries of a board as they are stored, each at the index of its number.
 ghost use Rattle.std.specs.Prelude.{◌≡◌, ◌<◌, ℕ, MatchBool, vec_len, vec_capacity};
-ghost use Rattle.board_terms.specs.Board.{TaskEntry, Out as PlainOut, waits};
+ghost use Rattle.board_terms.specs.Board.{TaskEntry, Out as PlainOut};
 ghost use Rattle.work_share.specs.Outcomes.{plain_outcome};
 ghost use Rattle.work_share.specs.Slots.{entry_of, with_slot};
 ghost use Rattle.work_share.specs.Fronts.{piece_of, outcome_piece};
 
 use proof_tree::{Outcome, Token};
 
-// An entry: its path, and what stands there.
+// An entry: its path, what stands there, and the number of the entry behind it in prefix order, if
+// there is one.
 #[derive(Drop)]
 pub(crate) struct Slot {
     pub path: Vec<u32>,
     pub state: SlotState,
+    pub behind: Option<usize>,
 }
 
 #[derive(Drop)]
@@ -57,13 +59,6 @@ impl Slot {
             SlotState::Done(outcome) => piece_of_outcome(outcome),
             SlotState::Split { own, .. } => Piece::Refuted(*own),
         }
-    }
-
-    // Whether the entry is a task that waits.
-    pub fn waits(&self) -> bool
-        ensures { (number : ℕ) → result ≡ waits (entry_of number self.now) }
-    {
-        matches!(self.state, SlotState::Waits)
     }
 
     // Whether the entry is the task of this path, and out.

@@ -7,9 +7,9 @@ use Rattle.class_search.proofs.exploring.searched.Goals as goal
 
 pub returns-clause-outcome : goal.returns-clause-outcome
 returns-clause-outcome c =
+    let instance = c.args.search.now.instance.now in
+    let root = rw c.requires.full at c.visit_class_root-arrival.ensures.root in
     IfOk-weaker c.explored.result _ _
-    (λ r h. arrival_told c.args.instance.now (Some (class_tree c.args.instance.now [] c.args.scales))
-    c.visit_class_root-arrival.new.state.trail
-    c.visit_class_root-arrival.result c.args.budget (plain_outcome r)
-    (rw c.requires.full at c.visit_class_root-arrival.ensures.root) h)
+    (λ r h. arrival_told instance (Some (class_tree instance [] c.args.scales))
+    c.visit_class_root-arrival.new.state.trail c.visit_class_root-arrival.result c.args.budget (plain_outcome r) root h)
     c.explored.ensures.outcome

@@ -6,9 +6,9 @@ use Rattle.class_search.proofs.visit.visit_root.Goals as goal
 
 pub returns-in-Conflict-clause-met : goal.returns-in-Conflict-clause-met
 returns-in-Conflict-clause-met c = record {
-  grown = extends_grows c.args.instance.now _ _ c.close.ensures.extends;
-  tree = conflict_node c.args.instance.now (some_dimension c.args.instance.now c.requires.limits) _
-      c.in-Conflict.ensures.closed.conflict;
+  grown = extends_grows c.args.search.now.instance.now _ _ c.close.ensures.extends;
+  tree = conflict_node c.args.search.now.instance.now
+      (some_dimension c.args.search.now.instance.now c.requires.limits) _ c.in-Conflict.ensures.closed.conflict;
   known = tt;
 }
 
@@ -17,10 +17,11 @@ next_kind-requires-clause-settled c = λ j l m. absurd (omega (arith, l))
 
 pub next_kind-requires-clause-divided : goal.next_kind-requires-clause-divided
 next_kind-requires-clause-divided c =
-    may_split c.args.instance.now (some_dimension c.args.instance.now c.requires.limits) _ _ c.in-Stable.ensures.closed
+    let instance = c.args.search.now.instance.now in
+    may_split instance (some_dimension instance c.requires.limits) _ _ c.in-Stable.ensures.closed
 
 pub returns-in-Stable-clause-met : goal.returns-in-Stable-clause-met
 returns-in-Stable-clause-met c =
-    next_met c.args.instance.now (some_dimension c.args.instance.now c.requires.limits) _ _ c.next_kind.result
-    (extends_grows c.args.instance.now _ _ c.close.ensures.extends)
-    c.in-Stable.ensures.closed c.next_kind.ensures
+    let instance = c.args.search.now.instance.now in
+    next_met instance (some_dimension instance c.requires.limits) _ _ c.next_kind.result
+    (extends_grows instance _ _ c.close.ensures.extends) c.in-Stable.ensures.closed c.next_kind.ensures

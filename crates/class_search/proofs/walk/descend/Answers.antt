@@ -9,22 +9,24 @@ use Rattle.class_search.proofs.walk.descend.Goals as goal
 
 pub loop-number-preserved : goal.loop-number-preserved
 loop-number-preserved c =
+    let instance = c.args.search.now.instance.now in
+    let path = c.args.path.now in
+    let split = c.in-Divided.split in
+    let rank = c.in-Divided.rank in
+    let met = c.visit_child-node.ensures in
     let before = rw c.in-Divided.is at c.loop-number.invariant.node in
     let way = subst IsSome before c.requires.there in
-    let rest = drop_more c.args.path.now c.loop-number.number-index 0 c.loop-number-test.true in
+    let rest = drop_more path c.loop-number.number-index 0 c.loop-number-test.true in
+    let tree = kind_tree instance c.loop-number.state.trail (Divided split rank) in
     record {
       node = before
-          ∙ (ap (λ (p : List ℕ). node_at
-          (Some (kind_tree c.args.instance.now c.loop-number.state.trail
-          (Divided c.in-Divided.split c.in-Divided.rank))) p) rest
-          ∙ path_next c.args.instance.now c.loop-number.state.trail c.in-Divided.split c.in-Divided.rank
-          (get_or c.args.path.now c.loop-number.number-index 0)
-          (drop (c.loop-number.number-index + 1) c.args.path.now) c.visit_child-node.new.state.trail
-          c.visit_child-node.result (rw c.numbered-child.ensures at c.visit_child-node.ensures.met) (rw rest at way));
-      known = c.visit_child-node.ensures.met.known;
-      same_dims = ap (λ (s : PlainEdges). s.dims) c.visit_child-node.ensures.sizes ∙ c.loop-number.invariant.same_dims;
-      same_boxes = ap (λ (s : PlainEdges). s.boxes) c.visit_child-node.ensures.sizes
-          ∙ c.loop-number.invariant.same_boxes;
-      same_room = ap (λ (s : PlainEdges). s.room) c.visit_child-node.ensures.sizes ∙ c.loop-number.invariant.same_room;
-      same_closer = c.visit_child-node.ensures.closer ∙ c.loop-number.invariant.same_closer;
+          ∙ (ap (λ (p : List ℕ). node_at (Some tree) p) rest
+          ∙ path_next instance c.loop-number.state.trail split rank (get_or path c.loop-number.number-index 0)
+          (drop (c.loop-number.number-index + 1) path) c.visit_child-node.new.state.trail
+          c.visit_child-node.result (rw c.numbered-child.ensures at met.met) (rw rest at way));
+      known = met.met.known;
+      same_dims = ap (λ (s : PlainEdges). s.dims) met.sizes ∙ c.loop-number.invariant.same_dims;
+      same_boxes = ap (λ (s : PlainEdges). s.boxes) met.sizes ∙ c.loop-number.invariant.same_boxes;
+      same_room = ap (λ (s : PlainEdges). s.room) met.sizes ∙ c.loop-number.invariant.same_room;
+      same_closer = met.closer ∙ c.loop-number.invariant.same_closer;
     }

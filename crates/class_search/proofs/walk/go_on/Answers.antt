@@ -13,35 +13,38 @@ use Rattle.class_search.proofs.walk.go_on.Goals as goal
 
 pub places_of-requires-clause-settled : goal.places_of-requires-clause-settled
 places_of-requires-clause-settled c =
-    pairs_settled c.args.instance.now c.loop-place.state.trail
-    (rw (c.in-Met.is, c.in-Settled.is) at c.loop-place.invariant.stands).known.settled
+    let stands = rw (c.in-Met.is, c.in-Settled.is) at c.loop-place.invariant.stands in
+    pairs_settled c.args.search.now.instance.now c.loop-place.state.trail stands.known.settled
 
 pub returns-in-Settled-clause-end : goal.returns-in-Settled-clause-end
 returns-in-Settled-clause-end c =
+    let instance = c.args.search.now.instance.now in
+    let whole = walk_tree instance c.args.state.now.trail c.args.walk in
     let stands = rw (c.in-Met.is, c.in-Settled.is) at c.loop-place.invariant.stands in
-    settled_told c.args.instance.now (walk_tree c.args.instance.now c.args.state.now.trail c.args.walk)
-    (reverse c.loop-place.frames.items) c.loop-place.state.trail
-    (map plain_token c.loop-place.tokens.items) c.loop-place.count c.args.cap c.in_ok-numbers-in-Settled.numbers.items
-    stands.met stands.root (ap (λ ns. Yes ns 0) (sym c.in_ok-numbers-in-Settled.ensures))
-    c.loop-place.invariant.within
+    settled_told instance whole (reverse c.loop-place.frames.items) c.loop-place.state.trail
+    (map plain_token c.loop-place.tokens.items) c.loop-place.count c.args.cap
+    c.in_ok-numbers-in-Settled.numbers.items stands.met stands.root
+    (ap (λ ns. Yes ns 0) (sym c.in_ok-numbers-in-Settled.ensures)) c.loop-place.invariant.within
 
 pub returns-then-count-cap-clause-end : goal.returns-then-count-cap-clause-end
 returns-then-count-cap-clause-end c =
+    let instance = c.args.search.now.instance.now in
+    let whole = walk_tree instance c.args.state.now.trail c.args.walk in
     let stands = rw (c.in-Met.is, c.in-Divided.is) at c.loop-place.invariant.stands in
-    let past = split_count c.args.instance.now (walk_tree c.args.instance.now c.args.state.now.trail c.args.walk)
-    (reverse c.loop-place.frames.items) c.loop-place.state.trail
+    let past = split_count instance whole (reverse c.loop-place.frames.items) c.loop-place.state.trail
     (map plain_token c.loop-place.tokens.items) c.loop-place.count c.in-Divided.split c.in-Divided.rank stands in
     (record { met = stands.met; known = stands.known }, stands.root, omega (arith, past, c.if-count-cap.true))
 
 pub loop-place-preserved-in-Divided : goal.loop-place-preserved-in-Divided
 loop-place-preserved-in-Divided c =
+    let instance = c.args.search.now.instance.now in
+    let whole = walk_tree instance c.args.state.now.trail c.args.walk in
+    let fs = reverse c.loop-place.frames.items in
+    let ts = map plain_token c.loop-place.tokens.items in
+    let met = c.in_ok-met-in-Divided in
     let stands = rw (c.in-Met.is, c.in-Divided.is) at c.loop-place.invariant.stands in
-    let f : Frame = record {
-      split = c.in-Divided.split;
-      mark = c.mark.result;
-      rank = c.in-Divided.rank;
-      first = None;
-    } in
+    let f : Frame =
+    record { split = c.in-Divided.split; mark = c.mark.result; rank = c.in-Divided.rank; first = None } in
     rw (
       c.in-Ok-push.ensures.items,
       c.in_ok-met-in-Divided.ensures.frames,
@@ -50,31 +53,30 @@ loop-place-preserved-in-Divided c =
       reverse_last c.loop-place.frames.items f,
       c.mark.ensures,
     ) (record {
-      stands = met_first c.args.instance.now (walk_tree c.args.instance.now c.args.state.now.trail c.args.walk)
-          (reverse c.loop-place.frames.items) c.loop-place.state.trail c.go_into.new.state.trail
-          (map plain_token c.loop-place.tokens.items) c.loop-place.count c.in-Divided.split c.in-Divided.rank
-          c.in_ok-met-in-Divided.met stands c.in_ok-met-in-Divided.ensures.met;
+      stands = met_first instance whole fs c.loop-place.state.trail c.go_into.new.state.trail ts
+          c.loop-place.count c.in-Divided.split c.in-Divided.rank met.met stands met.ensures.met;
       within = omega (arith, c.loop-place.invariant.within, c.if-count-cap.false);
-      same_dims = ap (λ (s : PlainEdges). s.dims) c.in_ok-met-in-Divided.ensures.sizes
-          ∙ c.loop-place.invariant.same_dims;
-      same_boxes = ap (λ (s : PlainEdges). s.boxes) c.in_ok-met-in-Divided.ensures.sizes
-          ∙ c.loop-place.invariant.same_boxes;
-      sizes = same_sizes c.args.state.now c.loop-place.state c.go_into.new.state c.loop-place.invariant.sizes
-          c.in_ok-met-in-Divided.ensures.sizes;
-      same_closer = c.in_ok-met-in-Divided.ensures.closer ∙ c.loop-place.invariant.same_closer;
+      same_dims = ap (λ (s : PlainEdges). s.dims) met.ensures.sizes ∙ c.loop-place.invariant.same_dims;
+      same_boxes = ap (λ (s : PlainEdges). s.boxes) met.ensures.sizes ∙ c.loop-place.invariant.same_boxes;
+      sizes = same_sizes c.args.state.now c.loop-place.state c.go_into.new.state
+          c.loop-place.invariant.sizes met.ensures.sizes;
+      same_closer = met.ensures.closer ∙ c.loop-place.invariant.same_closer;
     })
 
 pub behind-requires-clause-tokens : goal.behind-requires-clause-tokens
 behind-requires-clause-tokens c =
     let e = ap reverse c.in-Some.ensures.items ∙ reverse_last c.pop.new.self.items c.in-Some.frame in
     let stands = rw (e, c.in-Over.is) at c.loop-place.invariant.stands in
-    let whole = walk_tree c.args.instance.now c.args.state.now.trail c.args.walk in
+    let instance = c.args.search.now.instance.now in
+    let whole = walk_tree instance c.args.state.now.trail c.args.walk in
+    let fs = reverse c.pop.new.self.items in
     let ts = map plain_token c.loop-place.tokens.items in
-    let both = met_both c.args.instance.now whole c.in-Some.frame (reverse c.pop.new.self.items)
-    c.loop-place.state.trail ts c.loop-place.count c.in-Over.size c.in-Some-first.first c.in-Some-first.is stands in
-    let w = size_within c.args.instance.now whole (reverse c.pop.new.self.items)
-    (oldest c.in-Some.frame.mark c.loop-place.state.trail) ts c.loop-place.count
-    (size_of_both c.in-Some-first.first c.in-Over.size) both in
+    let es = c.loop-place.state.trail in
+    let first = c.in-Some-first.first in
+    let both = met_both instance whole c.in-Some.frame fs es ts c.loop-place.count c.in-Over.size
+    first c.in-Some-first.is stands in
+    let w = size_within instance whole fs (oldest c.in-Some.frame.mark es) ts c.loop-place.count
+    (size_of_both first c.in-Over.size) both in
     let l = w.0 in
     let n = length-map c.loop-place.tokens.items plain_token in
     let small = c.loop-place.tokens.small in
@@ -84,17 +86,19 @@ pub loop-place-preserved-in-Some-first : goal.loop-place-preserved-in-Some-first
 loop-place-preserved-in-Some-first c =
     let e = ap reverse c.in-Some.ensures.items ∙ reverse_last c.pop.new.self.items c.in-Some.frame in
     let stands = rw (e, c.in-Over.is) at c.loop-place.invariant.stands in
+    let instance = c.args.search.now.instance.now in
+    let whole = walk_tree instance c.args.state.now.trail c.args.walk in
+    let fs = reverse c.pop.new.self.items in
+    let ts = map plain_token c.loop-place.tokens.items in
+    let es = c.loop-place.state.trail in
+    let undone : PlainEdges = record c.loop-place.state { trail = oldest c.in-Some.frame.mark es } in
     rw (c.behind.ensures, c.undo.ensures) (record {
-      stands = met_both c.args.instance.now (walk_tree c.args.instance.now c.args.state.now.trail c.args.walk)
-          c.in-Some.frame (reverse c.pop.new.self.items) c.loop-place.state.trail
-          (map plain_token c.loop-place.tokens.items) c.loop-place.count c.in-Over.size c.in-Some-first.first
-          c.in-Some-first.is stands;
+      stands = met_both instance whole c.in-Some.frame fs es ts c.loop-place.count c.in-Over.size
+          c.in-Some-first.first c.in-Some-first.is stands;
       within = c.loop-place.invariant.within;
       same_dims = c.loop-place.invariant.same_dims;
       same_boxes = c.loop-place.invariant.same_boxes;
-      sizes = same_sizes c.args.state.now c.loop-place.state
-          (record c.loop-place.state { trail = oldest c.in-Some.frame.mark c.loop-place.state.trail })
-          c.loop-place.invariant.sizes refl;
+      sizes = same_sizes c.args.state.now c.loop-place.state undone c.loop-place.invariant.sizes refl;
       same_closer = c.loop-place.invariant.same_closer;
     })
 
@@ -102,26 +106,28 @@ pub loop-place-preserved : goal.loop-place-preserved
 loop-place-preserved c =
     let e = ap reverse c.in-Some.ensures.items ∙ reverse_last c.pop.new.self.items c.in-Some.frame in
     let stands = rw (e, c.in-Over.is) at c.loop-place.invariant.stands in
-    let met = rw c.undo.ensures at c.in_ok-met-in-Over.ensures.met in
-    let f : Frame = record {
-      split = c.in-Some.frame.split;
-      mark = c.in-Some.frame.mark;
-      rank = c.in-Some.frame.rank;
-      first = Some c.in-Over.size;
-    } in
+    let instance = c.args.search.now.instance.now in
+    let whole = walk_tree instance c.args.state.now.trail c.args.walk in
+    let fs = reverse c.pop.new.self.items in
+    let ts = map plain_token c.loop-place.tokens.items in
+    let es = c.loop-place.state.trail in
+    let frame = c.in-Some.frame in
+    let undone = c.undo.new.self in
+    let new = c.go_into-in_default-first.new.state in
+    let met = c.in_ok-met-in-Over in
+    let here = rw c.undo.ensures at c.in_ok-met-in-Over.ensures.met in
+    let f : Frame =
+    record { split = frame.split; mark = frame.mark; rank = frame.rank; first = Some c.in-Over.size } in
     rw (c.in_ok-met-in-Over.ensures.frames, reverse_last c.pop.new.self.items f) (record {
-      stands = met_second c.args.instance.now (walk_tree c.args.instance.now c.args.state.now.trail c.args.walk)
-          c.in-Some.frame (reverse c.pop.new.self.items) c.loop-place.state.trail
-          c.go_into-in_default-first.new.state.trail (map plain_token c.loop-place.tokens.items) c.loop-place.count
-          c.in-Over.size c.in_ok-met-in-Over.met (c.in_default-first.is) stands met;
+      stands = met_second instance whole frame fs es new.trail ts c.loop-place.count c.in-Over.size met.met
+          c.in_default-first.is stands here;
       within = c.loop-place.invariant.within;
-      same_dims = ap (λ (s : PlainEdges). s.dims) c.in_ok-met-in-Over.ensures.sizes
+      same_dims = ap (λ (s : PlainEdges). s.dims) met.ensures.sizes
           ∙ (ap (λ (s : PlainEdges). s.dims) c.undo.ensures ∙ c.loop-place.invariant.same_dims);
-      same_boxes = ap (λ (s : PlainEdges). s.boxes) c.in_ok-met-in-Over.ensures.sizes
+      same_boxes = ap (λ (s : PlainEdges). s.boxes) met.ensures.sizes
           ∙ (ap (λ (s : PlainEdges). s.boxes) c.undo.ensures ∙ c.loop-place.invariant.same_boxes);
-      sizes = same_sizes c.args.state.now c.loop-place.state c.go_into-in_default-first.new.state
-          c.loop-place.invariant.sizes
-          (same_sizes c.loop-place.state c.undo.new.self c.go_into-in_default-first.new.state
-          (sizes_of c.loop-place.state c.undo.new.self _ c.undo.ensures) c.in_ok-met-in-Over.ensures.sizes);
-      same_closer = c.in_ok-met-in-Over.ensures.closer ∙ c.loop-place.invariant.same_closer;
+      sizes = same_sizes c.args.state.now c.loop-place.state new c.loop-place.invariant.sizes
+          (same_sizes c.loop-place.state undone new (sizes_of c.loop-place.state undone _ c.undo.ensures)
+          met.ensures.sizes);
+      same_closer = met.ensures.closer ∙ c.loop-place.invariant.same_closer;
     })

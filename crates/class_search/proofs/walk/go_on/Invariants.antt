@@ -5,8 +5,8 @@ use Rattle.class_search.proofs.walk.go_on.Given as goal
 
 abbrev pub invariant-loop-place : goal.invariant-loop-place
 invariant-loop-place l = record {
-  stands : IsAtPlace l.instance (walk_tree l.instance l.fn.state.trail l.fn.walk) (reverse l.frames.items) l.state.trail
-      (map plain_token l.tokens.items) l.count l.place;
+  stands : IsAtPlace l.search.instance.now (walk_tree l.search.instance.now l.fn.state.trail l.fn.walk)
+      (reverse l.frames.items) l.state.trail (map plain_token l.tokens.items) l.count l.place;
   within : l.count ≤ l.cap;
   same_dims : l.state.dims ≡ l.fn.state.dims;
   same_boxes : l.state.boxes ≡ l.fn.state.boxes;

@@ -1,0 +1,30 @@
+//! The order of the entries: each is linked to the one behind it in prefix order.
+ghost use Rattle.std.specs.Prelude.{◌≡◌, ◌<◌, length, vec_len, vec_capacity};
+ghost use Rattle.work_share.specs.Links.{link_to, behind_at, with_link};
+
+use crate::slot::Slot;
+
+// The link to the first of so many entries, numbered from this one on, or to what is behind them.
+pub(crate) fn link_to(number: usize, more: usize, behind: Option<usize>) -> Option<usize>
+    ensures { result ≡ link_to number more behind }
+{
+    if more == 0 { behind } else { Some(number) }
+}
+
+// The number of the entry behind the one of this number.
+pub(crate) fn behind_at(slots: &[Slot], number: usize) -> Option<usize>
+    requires { number < length slots.now }
+    ensures { result ≡ behind_at slots.now number }
+{
+    slots[number].behind
+}
+
+// Links the entry of a number to another one.
+pub(crate) fn put_link(slots: &mut Vec<Slot>, number: usize, link: Option<usize>)
+    requires { number < vec_len slots.old }
+    ensures items { slots.new.items ≡ with_link slots.old.items number link }
+    ensures len { vec_len slots.new ≡ vec_len slots.old }
+    ensures capacity { vec_capacity slots.new ≡ vec_capacity slots.old }
+{
+    slots[number].behind = link;
+}
