@@ -1,7 +1,7 @@
 -- A task is split.
 use Rattle.std.proofs.Common.{◌≡◌, ℕ, zero, suc, ◌+◌, ◌*◌, ◌-◌, ◌<◌, ◌≤◌, ◌⊎◌, inl, inr, refl, sym, ap, ap₂, ◌∙◌, subst}
 use Rattle.std.proofs.Common.{arith, List, [], ◌∷◌, ◌++◌, length, reverse, take, drop, get_or, append_assoc, Option}
-use Rattle.std.proofs.Common.{Some, None, Bool, false, IfSome, IsSome}
+use Rattle.std.proofs.Common.{Some, None, Bool, IfSome, IsSome}
 use Rattle.std.specs.List.{range_with_len}
 use Rattle.std.proofs.lemmas.Bool.{true≢false, cases_lt, eq-eqb}
 use Rattle.std.proofs.lemmas.List.{length-append, length_push, length-map, map-append, take-append-drop, take_more}
