@@ -211,8 +211,8 @@ module _ (slots : List Slot) (len n : ℕ) (behind : Option ℕ) (linked : IsLin
   pub linked_entry : (d : PlainEntry) → get_or (entries_of slots (order_of slots)) len d ≡ entry_at slots n
   linked_entry d = entry_there slots (order_of slots) len n d linked_there
 
-  pub linked_piece : (p : Piece) → p ≡ piece_of (entry_at slots n)
-      → p ≡ piece_of (get_or (entries_of slots (order_of slots)) len no_entry)
+  pub linked_piece : (p : Piece) → p ≡ piece_of (entry_at slots n) → p
+      ≡ piece_of (get_or (entries_of slots (order_of slots)) len no_entry)
   linked_piece p e = e ∙ ap piece_of (sym (linked_entry no_entry))
 
   pub linked_more : (after : Option ℕ) → after ≡ behind_at slots n → IsLinked slots (len + 1) after

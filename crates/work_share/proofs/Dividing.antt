@@ -58,18 +58,22 @@ not_before : (order : List ℕ) (len k n : ℕ) → IsNotIn n (take len order) �
 not_before [] len k n a l e m = absurd (omega (arith, l))
 not_before (x ∷ order) zero k n a l e m = absurd (omega (arith, m))
 not_before (x ∷ order) (suc len) zero n a l e m = a.0 (sym e)
-not_before (x ∷ order) (suc len) (suc k) n a l e m =
-    not_before order len k n a.1 (omega (arith, l)) e (omega (arith, m))
+not_before (x ∷ order) (suc len) (suc k) n a l e m = not_before order len k n a.1 (omega (arith, l)) e
+    (omega (arith, m))
 
 get_front : (xs ys : List ℕ) (i : ℕ) → i < length xs → slice_get (xs ++ ys) i ≡ slice_get xs i
 get_front [] ys i l = absurd (omega (arith, l))
 get_front (x ∷ xs) ys zero l = refl
 get_front (x ∷ xs) ys (suc i) l = get_front xs ys i (omega (arith, l))
 
+-- a stack with others below so many of its tasks
+abbrev with_tasks : List PlainTask → ℕ → List PlainTask → List PlainTask
+with_tasks stack left tasks = take (length stack - left) stack ++ (tasks ++ drop (length stack - left) stack)
+
 module _ (tree : SearchTree) (budget : ℕ) (slots : List Slot) (order : List ℕ) (stack : List PlainTask) (len count : ℕ)
     (ended short : Bool)
-    (history : List Event) (capacity : ℕ)
-    (kept : IsKept tree budget slots order stack len count ended short history capacity) (n : ℕ) (p : List ℕ)
+    (history : List Event) (capacity : ℕ) (kept : IsKept tree budget slots order stack len count ended short history
+    capacity) (n : ℕ) (p : List ℕ)
     (out : out_path n (entries_of slots order) ≡ Some p) (token : Token) (own c : ℕ) (made : List Slot) where
   abbrev relinked : List Slot
   relinked = with_link slots n (link_to (length slots) c (behind_at slots n))
@@ -96,170 +100,145 @@ module _ (tree : SearchTree) (budget : ℕ) (slots : List Slot) (order : List �
   place = find n order there.0
 
   -- where the task stands
-  module _ (k : ℕ) (passed : IsNotIn n (take k order)) (here : get_or order k 0 ≡ n) where
-    inside : k < length order
-    inside = position_inside tree budget relinked order stack len count ended short history capacity kept_here n p
-        out_here k passed (λ _. here)
+  abbrev k : ℕ
+  k = place.index
 
-    order_parts : order ≡ take k order ++ n ∷ drop (k + 1) order
-    order_parts = parts tree budget relinked order stack len count ended short history capacity kept_here n p out_here k
-        passed (λ _. here)
+  passed : IsNotIn n (take k order)
+  passed = place.passed
 
-    front_is : take (k + 1) order ≡ take k order ++ n ∷ []
-    front_is = front_parts tree budget relinked order stack len count ended short history capacity kept_here n p
-        out_here k passed (λ _. here)
+  here : get_or order k 0 ≡ n
+  here = place.here
 
-    below : AreBelow (length slots) (take k order ++ n ∷ drop (k + 1) order)
-    below = subst (λ ns. AreBelow (length slots) ns) order_parts
-        (split_below tree budget slots order stack len count ended short history capacity kept n p out)
+  inside : k < length order
+  inside = position_inside tree budget relinked order stack len count ended short history capacity kept_here n p
+      out_here k passed (λ _. here)
 
-    distinct : AreDistinct (take k order ++ n ∷ drop (k + 1) order)
-    distinct = subst AreDistinct order_parts
-        (distinct_order tree budget slots order (keeps_stored tree budget slots order short history kept.replays))
+  order_parts : order ≡ take k order ++ n ∷ drop (k + 1) order
+  order_parts = parts tree budget relinked order stack len count ended short history capacity kept_here n p out_here k
+      passed (λ _. here)
 
-    -- what stands left of the task
-    left_is : count_left p (reverse stack) ≡ length (waiting_tasks (entries_of relinked (take k order)))
-    left_is =
-        let pre = entries_of relinked (take k order) in
-        let post = entries_of relinked (drop (k + 1) order) in
-        let keeps = keeps_stored tree budget relinked order short history kept_here.replays in
-        let all : entries_of relinked order ≡ pre ++ TaskEntry n p Out ∷ post =
-        ap (entries_of relinked) order_parts ∙ entry_parts (take k order) in
-        let waiting : reverse stack ≡ waiting_tasks pre ++ waiting_tasks post =
-        ap reverse kept_here.stacked ∙ (reverse-reverse (waiting_tasks (entries_of relinked order))
-        ∙ (ap waiting_tasks all ∙ waiting_append pre (TaskEntry n p Out ∷ post))) in
-        ap (count_left p) waiting ∙ left_counted n p pre post
-        (subst (λ es. AreFromLeft (task_paths es)) all keeps.order)
-      where
-        entry_parts : (ns : List ℕ) → entries_of relinked (ns ++ n ∷ drop (k + 1) order) ≡ entries_of relinked ns
-            ++ TaskEntry n p Out ∷ entries_of relinked (drop (k + 1) order)
-        entry_parts ns = map-append (entry_at relinked) ns (n ∷ drop (k + 1) order)
-            ∙ ap (λ e. entries_of relinked ns ++ e ∷ entries_of relinked (drop (k + 1) order)) there.1
+  front_is : take (k + 1) order ≡ take k order ++ n ∷ []
+  front_is = front_parts tree budget relinked order stack len count ended short history capacity kept_here n p out_here
+      k passed (λ _. here)
 
-    -- the front stands before the task
-    before : len ≤ k
-    before = go (cases_lt k len)
-      where
-        go : (k < len) ⊎ (len ≤ k) → len ≤ k
-        go (inl l) = absurd (not_before order len k n
-            (split_apart tree budget relinked order stack len count ended short history capacity kept_here n p out_here)
-            inside here l)
-        go (inr l) = l
+  below : AreBelow (length slots) (take k order ++ n ∷ drop (k + 1) order)
+  below = subst (λ ns. AreBelow (length slots) ns) order_parts
+      (split_below tree budget slots order stack len count ended short history capacity kept n p out)
 
-    module _ (children : entries_from (length slots) made ≡ children_from p 0 c (length slots))
-        (links : links_of made ≡ links_from (length slots) c (behind_at slots n))
-        (chain : IsChain slots (Some 0) order) where
-      abbrev new_order : List ℕ
-      new_order = take (k + 1) order ++ (range_with_len (length relinked) c ++ drop (k + 1) order)
+  distinct : AreDistinct (take k order ++ n ∷ drop (k + 1) order)
+  distinct = subst AreDistinct order_parts (distinct_order tree budget slots order
+      (keeps_stored tree budget slots order short history kept.replays))
 
-      children_here : entries_from (length relinked) made ≡ children_from p 0 c (length relinked)
-      children_here = subst (λ m. entries_from m made ≡ children_from p 0 c m) (sym size) children
+  -- what stands left of the task
+  left_is : count_left p (reverse stack) ≡ length (waiting_tasks (entries_of relinked (take k order)))
+  left_is =
+      let pre = entries_of relinked (take k order) in
+      let post = entries_of relinked (drop (k + 1) order) in
+      let keeps = keeps_stored tree budget relinked order short history kept_here.replays in
+      let all : entries_of relinked order ≡ pre ++ TaskEntry n p Out ∷ post = ap (entries_of relinked) order_parts
+      ∙ entry_parts (take k order) in
+      let waiting : reverse stack ≡ waiting_tasks pre ++ waiting_tasks post =
+      ap reverse kept_here.stacked ∙ (reverse-reverse (waiting_tasks (entries_of relinked order))
+      ∙ (ap waiting_tasks all ∙ waiting_append pre (TaskEntry n p Out ∷ post))) in
+      ap (count_left p) waiting ∙ left_counted n p pre post (subst (λ es. AreFromLeft (task_paths es)) all keeps.order)
+    where
+      entry_parts : (ns : List ℕ) → entries_of relinked (ns ++ n ∷ drop (k + 1) order)
+          ≡ entries_of relinked ns ++ TaskEntry n p Out ∷ entries_of relinked (drop (k + 1) order)
+      entry_parts ns = map-append (entry_at relinked) ns (n ∷ drop (k + 1) order)
+          ∙ ap (λ e. entries_of relinked ns ++ e ∷ entries_of relinked (drop (k + 1) order)) there.1
 
-      new_chain : IsChain divided (Some 0) new_order
-      new_chain =
-          let post = drop (k + 1) order in
-          let b = below_right (length slots) (take k order) (n ∷ post) below in
-          let h = chain_inserted slots made n c (stored.Split token own c) (take k order) post b.0
-          (length_with_slot relinked n (stored.Split token own c) ∙ size)
-          (below_left (length slots) (take k order) (n ∷ post) below) b.1 passed
-          (distinct_rest n (take k order) post distinct) links
-          (subst (λ ns. IsChain slots (Some 0) ns) order_parts chain) in
-          let numbers : take k order ++ n ∷ (range_with_len (length slots) c ++ post) ≡ new_order =
-          sym (append_assoc (take k order) (n ∷ []) (range_with_len (length slots) c ++ post))
-          ∙ ap₂ (λ ns m. ns ++ (range_with_len m c ++ post)) (sym front_is) (sym size) in
-          subst (λ ns. IsChain divided (Some 0) ns) numbers h
+  -- the front stands before the task
+  before : len ≤ k
+  before = go (cases_lt k len)
+    where
+      go : (k < len) ⊎ (len ≤ k) → len ≤ k
+      go (inl l) = absurd (not_before order len k n
+          (split_apart tree budget relinked order stack len count ended short history capacity kept_here n p out_here)
+          inside here l)
+      go (inr l) = l
 
-      new_size : length divided ≡ length new_order
-      new_size = split_size tree budget relinked order stack len count ended short history capacity kept_here n p
-          out_here k passed (λ _. here) token own c made children_here
-
-      order_is : order_of divided ≡ new_order
-      order_is = followed divided (Some 0) new_order (length divided) new_chain (let s = new_size in omega (arith, s))
-
-      number_stays : slice_get (order_of divided) len ≡ slice_get order len
-      number_stays =
-          let i = inside in
-          let b = before in
-          let room : len < length (take (k + 1) order) =
-          (let l = length-take-le (k + 1) order (omega (arith, i)) in omega (arith, l, b)) in
-          ap (λ ns. slice_get ns len) order_is
-          ∙ (get_front (take (k + 1) order) (range_with_len (length relinked) c ++ drop (k + 1) order) len room
-          ∙ (sym (get_front (take (k + 1) order) (drop (k + 1) order) len room)
-          ∙ ap (λ ns. slice_get ns len) (take-append-drop (k + 1) order)))
-
-      new_below : AreBelow (length divided) (order_of divided)
-      new_below = subst (λ ns. AreBelow (length divided) ns) (sym order_is)
-          (split_new_below tree budget relinked order stack len count ended short history capacity kept_here n p
-          out_here k passed (λ _. here) token own c made children_here)
-
-      new_known : HasFrontTo budget (entries_of divided (order_of divided)) len count ended
-      new_known = subst (λ ns. HasFrontTo budget (entries_of divided ns) len count ended) (sym order_is)
-          (split_known tree budget relinked order stack len count ended short history capacity kept_here n p out_here k
-          passed (λ _. here) token own c made children_here)
-
-      module _ (right : IfSome (node_at (Some tree) p)
-          (λ node. node_told node ≡ Splits (plain_token token) own c)) where
-        new_step : Divides tree (stored_state slots order short) n (stored_state divided (order_of divided) short)
-        new_step =
-            subst (λ ns. Divides tree (stored_state slots order short) n (stored_state divided ns short)) (sym order_is)
-            (subst (λ es. Divides tree (record { entries = es; is_short = short }) n
-            (stored_state divided new_order short)) same
-            (split_step tree budget relinked order stack len count ended short history capacity kept_here n p out_here k
-            passed (λ _. here) token own c made children_here right))
-
-        new_kept : (new_stack : List PlainTask) (new_capacity left : ℕ) → left ≡ count_left p (reverse stack)
-            → new_stack ≡ take (length stack - left) stack
-            ++ (reverse (waiting_tasks (children_from p 0 c (length slots))) ++ drop (length stack - left) stack)
-            → 2 * (length order + c) + 1 ≤ new_capacity
-            → (new_len new_count : ℕ) (new_ended : Bool)
-            → IsFront budget (entries_of divided (order_of divided)) new_len new_count new_ended
-            → IsKept tree budget divided (order_of divided) new_stack new_len new_count new_ended short
-            (history ++ event.Split n ∷ []) new_capacity
-        new_kept new_stack new_capacity left counted stacked roomy new_len new_count new_ended front =
-            let stacked_here = stacked ∙ ap₂
-            (λ j m. take (length stack - j) stack
-            ++ (reverse (waiting_tasks (children_from p 0 c m)) ++ drop (length stack - j) stack))
-            (counted ∙ left_is) (sym size) in
-            subst (λ ns. IsKept tree budget divided ns new_stack new_len new_count new_ended short
-            (history ++ event.Split n ∷ []) new_capacity) (sym order_is)
-            (split_kept tree budget relinked order stack len count ended short history capacity kept_here n p out_here k
-            passed (λ _. here) token own c made children_here right
-            new_stack new_capacity stacked_here roomy new_len new_count new_ended
-            (subst (λ ns. IsFront budget (entries_of divided ns) new_len new_count new_ended) order_is front))
-
-  -- the task, where it stands
   module _ (children : entries_from (length slots) made ≡ children_from p 0 c (length slots))
       (links : links_of made ≡ links_from (length slots) c (behind_at slots n))
       (chain : IsChain slots (Some 0) order) where
-    pub divide_below : AreBelow (length divided) (order_of divided)
-    divide_below = new_below place.index place.passed place.here children links chain
+    abbrev new_order : List ℕ
+    new_order = take (k + 1) order ++ (range_with_len (length relinked) c ++ drop (k + 1) order)
+
+    children_here : entries_from (length relinked) made ≡ children_from p 0 c (length relinked)
+    children_here = subst (λ m. entries_from m made ≡ children_from p 0 c m) (sym size) children
+
+    new_chain : IsChain divided (Some 0) new_order
+    new_chain =
+        let post = drop (k + 1) order in
+        let b = below_right (length slots) (take k order) (n ∷ post) below in
+        let h = chain_inserted slots made n c (stored.Split token own c) (take k order) post b.0
+        (length_with_slot relinked n (stored.Split token own c) ∙ size)
+        (below_left (length slots) (take k order) (n ∷ post) below) b.1 passed
+        (distinct_rest n (take k order) post distinct) links
+        (subst (λ ns. IsChain slots (Some 0) ns) order_parts chain) in
+        let numbers : take k order ++ n ∷ (range_with_len (length slots) c ++ post) ≡ new_order =
+        sym (append_assoc (take k order) (n ∷ []) (range_with_len (length slots) c ++ post))
+        ∙ ap₂ (λ ns m. ns ++ (range_with_len m c ++ post)) (sym front_is) (sym size) in
+        subst (λ ns. IsChain divided (Some 0) ns) numbers h
+
+    new_size : length divided ≡ length new_order
+    new_size = split_size tree budget relinked order stack len count ended short history capacity kept_here n p
+        out_here k passed (λ _. here) token own c made children_here
+
+    order_is : order_of divided ≡ new_order
+    order_is = followed divided (Some 0) new_order (length divided) new_chain (let s = new_size in omega (arith, s))
 
     pub divide_size : length divided ≡ length (order_of divided)
-    divide_size =
-        let e = order_is place.index place.passed place.here children links chain in
-        new_size place.index place.passed place.here children links chain ∙ ap length (sym e)
+    divide_size = new_size ∙ ap length (sym order_is)
+
+    number_stays : slice_get (order_of divided) len ≡ slice_get order len
+    number_stays =
+        let i = inside in
+        let b = before in
+        let room : len < length (take (k + 1) order) =
+        (let l = length-take-le (k + 1) order (omega (arith, i)) in omega (arith, l, b)) in
+        ap (λ ns. slice_get ns len) order_is
+        ∙ (get_front (take (k + 1) order) (range_with_len (length relinked) c ++ drop (k + 1) order) len room
+        ∙ (sym (get_front (take (k + 1) order) (drop (k + 1) order) len room)
+        ∙ ap (λ ns. slice_get ns len) (take-append-drop (k + 1) order)))
 
     pub divide_linked : (number : Option ℕ) → number ≡ slice_get order len → IsLinked divided len number
     divide_linked number e = record {
-      chain = subst (λ ns. IsChain divided (Some 0) ns)
-          (sym (order_is place.index place.passed place.here children links chain))
-          (new_chain place.index place.passed place.here children links chain);
-      here = e ∙ sym (number_stays place.index place.passed place.here children links chain);
+      chain = subst (λ ns. IsChain divided (Some 0) ns) (sym order_is) new_chain;
+      here = e ∙ sym number_stays;
     }
 
+    pub divide_below : AreBelow (length divided) (order_of divided)
+    divide_below = subst (λ ns. AreBelow (length divided) ns) (sym order_is)
+        (split_new_below tree budget relinked order stack len count ended short history capacity kept_here n p out_here
+        k passed (λ _. here) token own c made children_here)
+
     pub divide_known : HasFrontTo budget (entries_of divided (order_of divided)) len count ended
-    divide_known = new_known place.index place.passed place.here children links chain
+    divide_known = subst (λ ns. HasFrontTo budget (entries_of divided ns) len count ended) (sym order_is)
+        (split_known tree budget relinked order stack len count ended short history capacity kept_here n p out_here k
+        passed (λ _. here) token own c made children_here)
 
     module _ (right : IfSome (node_at (Some tree) p) (λ node. node_told node ≡ Splits (plain_token token) own c)) where
       pub divide_step : Divides tree (stored_state slots order short) n (stored_state divided (order_of divided) short)
-      divide_step = new_step place.index place.passed place.here children links chain right
+      divide_step =
+          subst (λ ns. Divides tree (stored_state slots order short) n (stored_state divided ns short)) (sym order_is)
+          (subst (λ es. Divides tree (record { entries = es; is_short = short }) n
+          (stored_state divided new_order short)) same
+          (split_step tree budget relinked order stack len count ended short history capacity kept_here n p out_here k
+          passed (λ _. here) token own c made children_here right))
 
       pub divide_kept : (new_stack : List PlainTask) (new_capacity left : ℕ) → left ≡ count_left p (reverse stack)
-          → new_stack ≡ take (length stack - left) stack
-          ++ (reverse (waiting_tasks (children_from p 0 c (length slots))) ++ drop (length stack - left) stack)
+          → new_stack ≡ with_tasks stack left (reverse (waiting_tasks (children_from p 0 c (length slots))))
           → 2 * (length order + c) + 1 ≤ new_capacity
           → (new_len new_count : ℕ) (new_ended : Bool)
           → IsFront budget (entries_of divided (order_of divided)) new_len new_count new_ended
           → IsKept tree budget divided (order_of divided) new_stack new_len new_count new_ended short
           (history ++ event.Split n ∷ []) new_capacity
-      divide_kept = new_kept place.index place.passed place.here children links chain right
+      divide_kept new_stack new_capacity left counted stacked roomy new_len new_count new_ended front =
+          let stacked_here = stacked ∙ ap₂ (λ j m. with_tasks stack j (reverse (waiting_tasks (children_from p 0 c m))))
+          (counted ∙ left_is) (sym size) in
+          subst (λ ns. IsKept tree budget divided ns new_stack new_len new_count new_ended short
+          (history ++ event.Split n ∷ []) new_capacity) (sym order_is)
+          (split_kept tree budget relinked order stack len count ended short history capacity kept_here n p out_here k
+          passed (λ _. here) token own c made children_here right
+          new_stack new_capacity stacked_here roomy new_len new_count new_ended
+          (subst (λ ns. IsFront budget (entries_of divided ns) new_len new_count new_ended) order_is front))

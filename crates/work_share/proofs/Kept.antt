@@ -88,8 +88,8 @@ kept_same tree budget slots others order stack len count ended short history cap
 }
 
 -- an order that is the same
-pub kept_ordered : (tree : SearchTree) (budget : ℕ) (slots : List Slot) (order others : List ℕ) (stack : List PlainTask)
-    (len count : ℕ) (ended short : Bool)
+pub kept_ordered : (tree : SearchTree) (budget : ℕ) (slots : List Slot) (order others : List ℕ)
+    (stack : List PlainTask) (len count : ℕ) (ended short : Bool)
     (history : List Event) (capacity : ℕ) → IsKept tree budget slots order stack len count ended short history capacity
     → others ≡ order
     → IsKept tree budget slots others stack len count ended short history capacity

@@ -1,4 +1,4 @@
--- The order of stored entries: what links lead through, and what a change of links or of states leaves of it.
+-- The order of stored entries: what links lead through, and how it changes with slots.
 use Rattle.std.proofs.Common.{◌≡◌, ℕ, zero, suc, ◌+◌, ◌<◌, ◌≤◌, inl, inr, refl, sym, ap, ap₂, ◌∙◌, subst, arith}
 use Rattle.std.proofs.Common.{add-one, List, [], ◌∷◌, ◌++◌, length, append_assoc, get_or, set, Option, Some, None}
 use Rattle.std.proofs.Common.{if◌then◌else◌}
@@ -18,8 +18,8 @@ use Rattle.work_share.proofs.Stored.{length_with_slot}
 
 -- ---- a slot with another link
 
-pub with_link_is : (slots : List Slot) (n : ℕ) (link : Option ℕ) (slot : Slot) → n < length slots
-    → slot ≡ get_or slots n slot
+pub with_link_is : (slots : List Slot) (n : ℕ) (link : Option ℕ) (slot : Slot) → n < length slots → slot
+    ≡ get_or slots n slot
     → set slots n (record slot { behind = link }) ≡ with_link slots n link
 with_link_is [] n link slot l e = absurd (omega (arith, l))
 with_link_is (x ∷ slots) zero link slot l e = ap (λ (s : Slot). record s { behind = link } ∷ slots) e
@@ -30,14 +30,14 @@ length_with_link [] n link = refl
 length_with_link (x ∷ slots) zero link = refl
 length_with_link (x ∷ slots) (suc n) link = ap suc (length_with_link slots n link)
 
-pub link_same : (slots : List Slot) (n : ℕ) (link : Option ℕ) → n < length slots
-    → behind_at (with_link slots n link) n ≡ link
+pub link_same : (slots : List Slot) (n : ℕ) (link : Option ℕ) → n < length slots → behind_at (with_link slots n link) n
+    ≡ link
 link_same [] n link l = absurd (omega (arith, l))
 link_same (x ∷ slots) zero link l = refl
 link_same (x ∷ slots) (suc n) link l = link_same slots n link (omega (arith, l))
 
-pub link_other : (slots : List Slot) (n m : ℕ) (link : Option ℕ) → ¬ (m ≡ n)
-    → behind_at (with_link slots n link) m ≡ behind_at slots m
+pub link_other : (slots : List Slot) (n m : ℕ) (link : Option ℕ) → ¬ (m ≡ n) → behind_at (with_link slots n link) m
+    ≡ behind_at slots m
 link_other [] n m link d = refl
 link_other (x ∷ slots) zero zero link d = absurd (d refl)
 link_other (x ∷ slots) zero (suc m) link d = refl
@@ -56,12 +56,12 @@ entry_linked (x ∷ slots) (suc n) (suc m) k link = entry_linked slots n m k lin
 pub entries_linked : (slots : List Slot) (n : ℕ) (link : Option ℕ) (order : List ℕ)
     → entries_of (with_link slots n link) order ≡ entries_of slots order
 entries_linked slots n link [] = refl
-entries_linked slots n link (m ∷ order) =
-    ap₂ (λ e es. e ∷ es) (entry_linked slots n m m link) (entries_linked slots n link order)
+entries_linked slots n link (m ∷ order) = ap₂ (λ e es. e ∷ es) (entry_linked slots n m m link)
+    (entries_linked slots n link order)
 
 -- a state changes no link
-pub link_stays : (slots : List Slot) (n m : ℕ) (state : SlotState)
-    → behind_at (with_slot slots n state) m ≡ behind_at slots m
+pub link_stays : (slots : List Slot) (n m : ℕ) (state : SlotState) → behind_at (with_slot slots n state) m
+    ≡ behind_at slots m
 link_stays [] n m state = refl
 link_stays (x ∷ slots) zero zero state = refl
 link_stays (x ∷ slots) zero (suc m) state = refl
@@ -78,8 +78,8 @@ link_set (x ∷ slots) zero (suc m) old new l is e = refl
 link_set (x ∷ slots) (suc n) zero old new l is e = refl
 link_set (x ∷ slots) (suc n) (suc m) old new l is e = link_set slots n m old new (omega (arith, l)) is e
 
-pub link_read : (slots : List Slot) (n : ℕ) (slot : Slot) → n < length slots → slot ≡ get_or slots n slot
-    → slot.behind ≡ behind_at slots n
+pub link_read : (slots : List Slot) (n : ℕ) (slot : Slot) → n < length slots → slot ≡ get_or slots n slot → slot.behind
+    ≡ behind_at slots n
 link_read slots n slot l is = sym (ap behind_in (slice_get_read slots (length slots) n slot refl l is))
 
 -- ---- what links lead through
@@ -90,8 +90,8 @@ followed slots start [] zero h l = refl
 followed slots start [] (suc more) h l = ap (follow slots (suc more)) h
 followed slots start (n ∷ order) zero h l = absurd (omega (arith, l))
 followed slots start (n ∷ order) (suc more) h l =
-    ap (follow slots (suc more)) h.0
-    ∙ ap (λ ns. n ∷ ns) (followed slots (behind_at slots n) order more h.1 (omega (arith, l)))
+    ap (follow slots (suc more)) h.0 ∙ ap (λ ns. n ∷ ns)
+    (followed slots (behind_at slots n) order more h.1 (omega (arith, l)))
 
 -- slots with the same links
 pub follow_same : (slots others : List Slot) (more : ℕ) (start : Option ℕ)
@@ -112,8 +112,8 @@ chain_same slots others start (n ∷ order) same h = (
       (chain_same slots others (behind_at slots n) order (λ m i. same m (inr i)) h.1),
 )
 
-chain_head : (slots : List Slot) (start : Option ℕ) (order : List ℕ) → IsChain slots start order
-    → start ≡ slice_get order 0
+chain_head : (slots : List Slot) (start : Option ℕ) (order : List ℕ) → IsChain slots start order → start
+    ≡ slice_get order 0
 chain_head slots start [] h = h
 chain_head slots start (n ∷ order) h = h.0
 
@@ -139,8 +139,8 @@ linked_stays slots n state position number h =
     let order = order_stays slots n state in
     record {
       chain = subst (λ ns. IsChain (with_slot slots n state) (Some 0) ns) (sym order)
-          (chain_same slots (with_slot slots n state) (Some 0) (order_of slots)
-          (λ m _. link_stays slots n m state) h.chain);
+          (chain_same slots (with_slot slots n state) (Some 0) (order_of slots) (λ m _. link_stays slots n m state)
+          h.chain);
       here = h.here ∙ ap (λ ns. slice_get ns position) (sym order);
     }
 
@@ -165,8 +165,8 @@ head_link : (x y : Option ℕ) (xs ys : List (Option ℕ)) → x ∷ xs ≡ y �
 head_link x y xs ys e = (cc, cc)
 
 -- the links of slots behind others, up to what is behind them
-chain_made : (xs ys : List Slot) (c : ℕ) (behind : Option ℕ) (post : List ℕ)
-    → links_of ys ≡ links_from (length xs) c behind → IsChain (xs ++ ys) behind post
+chain_made : (xs ys : List Slot) (c : ℕ) (behind : Option ℕ) (post : List ℕ) → links_of ys
+    ≡ links_from (length xs) c behind → IsChain (xs ++ ys) behind post
     → IsChain (xs ++ ys) (link_to (length xs) c behind) (range_with_len (length xs) c ++ post)
 chain_made xs ys zero behind post l h = h
 chain_made xs [] (suc c) behind post l h = absurd (cc l)

@@ -1,10 +1,9 @@
--- How many tasks that wait stand left of a path: counted from the leftmost on, those in front of the task of that path.
-use Rattle.std.proofs.Common.{◌≡◌, ℕ, suc, ◌+◌, ◌-◌, ◌<◌, ◌≤◌, ◌⊎◌, inl, inr, refl, sym, ap, ap₂, ◌∙◌, subst, arith}
-use Rattle.std.proofs.Common.{List, [], ◌∷◌, ◌++◌, length, reverse, take, drop, get_or, true, false, if◌then◌else◌, eqb}
-use Rattle.std.proofs.Common.{ltb}
+-- The tasks that wait on the left of a path are those in front of its task.
+use Rattle.std.proofs.Common.{◌≡◌, ℕ, ◌+◌, ◌≤◌, ◌⊎◌, inl, inr, refl, sym, ap, ◌∙◌, subst, arith, List, [], ◌∷◌, ◌++◌}
+use Rattle.std.proofs.Common.{length, drop, true, false, if◌then◌else◌, eqb, ltb}
 use Rattle.std.proofs.lemmas.Bool.{eqb-true, eqb-false, eq-eqb, ne_eqb}
 use Rattle.std.proofs.lemmas.Bool.Decides.{nat_tests}
-use Rattle.std.proofs.lemmas.List.{take_more, drop_more, drop_all, reverse-append}
+use Rattle.std.proofs.lemmas.List.{drop_all}
 use Rattle.board_terms.specs.Board.{PlainEntry, SplitEntry, TaskEntry, PlainTask, Waits, Out, Done}
 use Rattle.board_terms.specs.Kept.{leads_left, IsLeftOf, AreFromLeft, task_paths}
 use Rattle.board_terms.proofs.Left.{left_rest, from_left_rest}
@@ -12,17 +11,7 @@ use Rattle.board_terms.proofs.Changes.{paths_append}
 use Rattle.work_share.specs.Boards.{waiting_tasks}
 use Rattle.work_share.specs.Stacks.{count_left}
 
--- ---- two paths, child by child
-
-pub left_same : (p q : List ℕ) (k : ℕ) → k < length p → k < length q → get_or p k 0 ≡ get_or q k 0
-    → leads_left (drop k p) (drop k q) ≡ leads_left (drop (k + 1) p) (drop (k + 1) q)
-left_same p q k lp lq e =
-    ap₂ leads_left (drop_more p k 0 lp) (drop_more q k 0 lq) ∙ rw (eq-eqb (get_or p k 0) (get_or q k 0) e) refl
-
-pub left_parts : (p q : List ℕ) (k : ℕ) → k < length p → k < length q → ¬ (get_or p k 0 ≡ get_or q k 0)
-    → leads_left (drop k p) (drop k q) ≡ ltb (get_or p k 0) (get_or q k 0)
-left_parts p q k lp lq d =
-    ap₂ leads_left (drop_more p k 0 lp) (drop_more q k 0 lq) ∙ rw (ne_eqb (get_or p k 0) (get_or q k 0) d) refl
+-- ---- two paths
 
 left_none : (p : List ℕ) → leads_left p [] ≡ false
 left_none [] = refl
@@ -40,27 +29,11 @@ left_once : (p q : List ℕ) → leads_left p q ≡ true → leads_left q p ≡ 
 left_once [] q h = left_none q
 left_once (i ∷ p) [] h = refl
 left_once (i ∷ p) (j ∷ q) h =
-    elim (eqb i j) as (λ b. eqb i j ≡ b → (if b then leads_left p q else ltb i j) ≡ true
-    → leads_left (j ∷ q) (i ∷ p) ≡ false) [
+    elim (eqb i j) as (λ b. eqb i j ≡ b → (if b then leads_left p q else ltb i j) ≡ true → leads_left (j ∷ q) (i ∷ p)
+    ≡ false) [
       | true ↦ λ e f. rw (eq-eqb j i (sym (eqb-true i j e))) (left_once p q f)
       | false ↦ λ e f. rw (ne_eqb j i (λ x. eqb-false i j e (sym x))) (less_once i j f)
     ] refl h
-
--- ---- the tasks of a stack, from its top on
-
-pub count_from : (path : List ℕ) (stack : List PlainTask) (count below : ℕ) (t : PlainTask) → count < length stack
-    → below ≡ length stack - count - 1
-    → t ≡ get_or stack below t → count_left path (reverse (take (length stack - count) stack))
-    ≡ (if leads_left t.path path then suc (count_left path (reverse (take (length stack - (count + 1)) stack))) else 0)
-count_from path stack count below t l b is =
-    let at : length stack - count ≡ below + 1 = omega (arith, l, b) in
-    let then_at : below ≡ length stack - (count + 1) = omega (arith, l, b) in
-    let inside : below < length stack = omega (arith, l, b) in
-    let parts : reverse (take (length stack - count) stack) ≡ t ∷ reverse (take (length stack - (count + 1)) stack) =
-    ap (λ k. reverse (take k stack)) at
-    ∙ (ap reverse (take_more stack below t inside) ∙ (reverse-append (take below stack) (get_or stack below t ∷ [])
-    ∙ ap₂ (λ (x : PlainTask) k. x ∷ reverse (take k stack)) (sym is) then_at)) in
-    ap (count_left path) parts
 
 -- ---- the tasks in front of an entry
 

@@ -1,4 +1,4 @@
--- The order of the entries of a board: each is linked to the one behind it in prefix order, by that one's number.
+-- The order of the entries of a board: each is linked to the one behind it, by its number.
 use Rattle.std.specs.Prelude.{ℕ, zero, suc, ◌==◌, ◌≡◌, if◌then◌else◌, List, [], ◌∷◌, length, Option, Some, None}
 use Rattle.std.specs.Prelude.{slice_get}
 use Rattle.work_share.specs.declared.slot.Slot.{Slot}

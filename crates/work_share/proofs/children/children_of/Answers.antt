@@ -26,8 +26,9 @@ loop-k-preserved c =
     c.in_ok-push-2.ensures.items ∙ ap (λ (t : PlainTask). c.loop-k.tasks.items ++ t ∷ [])
     (c.new.ensures ∙ ap (λ p. record { path = p; number = c.args.first + k }) c.in_ok-child_path-2.ensures) in
     let left : c.args.children - k - 1 ≡ c.args.children - (k + 1) = omega arith in
-    let links : links_of c.push.new.self.items ≡ links_of c.loop-k.slots.items
-    ++ link_to (c.args.first + k + 1) (c.args.children - (k + 1)) c.args.behind ∷ [] =
+    let links : links_of c.push.new.self.items
+    ≡ links_of c.loop-k.slots.items ++ link_to (c.args.first + k + 1) (c.args.children - (k + 1))
+    c.args.behind ∷ [] =
     ap links_of c.in_ok-push.ensures.items
     ∙ (links_push c.loop-k.slots.items slot
     ∙ ap (λ x. links_of c.loop-k.slots.items ++ x ∷ [])

@@ -43,9 +43,8 @@ pub returns-then-more-budget-clause-front : goal.returns-then-more-budget-clause
 returns-then-more-budget-clause-front c =
     let es = entries_of c.args.slots.now (order_of c.args.slots.now) in
     let above = c.if-more-budget.true in
-    rw c.new-then-more-budget.ensures
-    (front_ends c.args.budget es no_entry c.loop-len.len c.loop-len.count (Refuted c.in-Refuted.more)
-    c.loop-len.invariant.known
+    rw c.new-then-more-budget.ensures (front_ends c.args.budget es no_entry c.loop-len.len c.loop-len.count
+    (Refuted c.in-Refuted.more) c.loop-len.invariant.known
     (linked_inside c.args.slots.now c.loop-len.len c.in-Some.number c.loop-len.behind c.loop-len.invariant.linked
     c.in-Some.is)
     (linked_piece c.args.slots.now c.loop-len.len c.in-Some.number c.loop-len.behind c.loop-len.invariant.linked

@@ -43,8 +43,8 @@ end_run-requires-clause-ends c number =
     let slot = c.index_mut.result.now in
     let at = ends_at c.args.budget c.args.front.len c.args.front.count es no_entry
     (ended_front c.requires.front c.if-front.true) in
-    let inside = linked_below c.args.slots.items c.args.front.len c.in-Some.number c.args.front.behind c.requires.linked
-    c.in-Some.is c.requires.below in
+    let inside = linked_below c.args.slots.items c.args.front.len c.in-Some.number c.args.front.behind
+    c.requires.linked c.in-Some.is c.requires.below in
     let is = linked_entry c.args.slots.items c.args.front.len c.in-Some.number c.args.front.behind c.requires.linked
     c.in-Some.is no_entry ∙ entry_read slots n slot inside c.index_mut.ensures.value in
     subst (Ends c.args.budget c.args.front.count) (ap piece_of is ∙ piece_any n number slot) at.1
@@ -56,8 +56,8 @@ returns-then-front c =
     let n = c.in-Some.number in
     let slot = c.index_mut.result.now in
     let f = ended_front c.requires.front c.if-front.true in
-    let inside = linked_below c.args.slots.items c.args.front.len c.in-Some.number c.args.front.behind c.requires.linked
-    c.in-Some.is c.requires.below in
+    let inside = linked_below c.args.slots.items c.args.front.len c.in-Some.number c.args.front.behind
+    c.requires.linked c.in-Some.is c.requires.below in
     let is = linked_entry c.args.slots.items c.args.front.len c.in-Some.number c.args.front.behind c.requires.linked
     c.in-Some.is no_entry ∙ entry_read slots n slot inside c.index_mut.ensures.value in
     let rest = run_of c.args.budget (drop (c.args.front.len + 1) es) in

@@ -16,21 +16,23 @@ use Rattle.work_share.proofs.joining.join_tokens.Goals as goal
 pub behind_at-behind-requires : goal.behind_at-behind-requires
 behind_at-behind-requires c =
     let order = order_of c.args.slots.items in
-    let there : slice_get order c.loop-position._position ≡ Some c.in-Some.number =
-    sym c.loop-position.invariant.here ∙ c.in-Some.is in
+    let there : slice_get order c.loop-position._position ≡ Some c.in-Some.number = sym c.loop-position.invariant.here
+    ∙ c.in-Some.is in
     let size = ap length c.deref.ensures.value ∙ c.loop-position.invariant.size in
     subst (λ k. c.in-Some.number < k) (sym size)
-    (below_there (length c.args.slots.items) order c.loop-position._position c.in-Some.number c.requires.below there)
+    (below_there (length c.args.slots.items) order c.loop-position._position c.in-Some.number c.requires.below
+    there)
 
 pub index_mut-requires : goal.index_mut-requires
 index_mut-requires c =
     let order = order_of c.args.slots.items in
-    let there : slice_get order c.loop-position._position ≡ Some c.in-Some.number =
-    sym c.loop-position.invariant.here ∙ c.in-Some.is in
+    let there : slice_get order c.loop-position._position ≡ Some c.in-Some.number = sym c.loop-position.invariant.here
+    ∙ c.in-Some.is in
     let size : vec_len c.loop-position.slots ≡ length c.args.slots.items =
     search (rules, c.loop-position.invariant.size) in
     subst (λ k. c.in-Some.number < k) (sym size)
-    (below_there (length c.args.slots.items) order c.loop-position._position c.in-Some.number c.requires.below there)
+    (below_there (length c.args.slots.items) order c.loop-position._position c.in-Some.number c.requires.below
+    there)
 
 pub loop-position-preserved : goal.loop-position-preserved
 loop-position-preserved c =
@@ -52,14 +54,14 @@ loop-position-preserved c =
     (slice_get_within order k n there) (subst (λ m. old ≡ get_or slots m old) (sym number) value)
     c.in_ok-push_tokens.ensures.tokens c.loop-position.invariant.left in
     record {
-      left = subst (λ m. map plain_token c.push_tokens.new.tokens.items
-          ++ entry_tokens (entries_of (set slots m new) (drop (k + 1) order))
+      left = subst (λ m. map plain_token c.push_tokens.new.tokens.items ++ entry_tokens
+          (entries_of (set slots m new) (drop (k + 1) order))
           ≡ entry_tokens (entries_of c.args.slots.items order)) number more;
       size = length-set slots n new ∙ size;
       links = λ m. link_set slots n m old new inside value c.push_tokens.ensures.link
           ∙ c.loop-position.invariant.links m;
-      here = c.behind_at-behind.ensures
-          ∙ (ap (λ ss. behind_at ss n) c.deref.ensures.value ∙ (c.loop-position.invariant.links n
+      here = c.behind_at-behind.ensures ∙ (ap (λ ss. behind_at ss n) c.deref.ensures.value
+          ∙ (c.loop-position.invariant.links n
           ∙ (chain_next c.args.slots.items (Some 0) order k n c.requires.chain there
           ∙ ap (slice_get order) (sym (add-one k)))));
     }

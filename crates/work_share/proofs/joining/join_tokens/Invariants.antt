@@ -8,8 +8,8 @@ use Rattle.work_share.proofs.joining.join_tokens.Given as goal
 
 abbrev pub invariant-loop-position : goal.invariant-loop-position
 invariant-loop-position l = record {
-  left : map plain_token l.tokens.items
-      ++ entry_tokens (entries_of l.slots.items (drop l._position (order_of l.initial.slots.items)))
+  left : map plain_token l.tokens.items ++ entry_tokens
+      (entries_of l.slots.items (drop l._position (order_of l.initial.slots.items)))
       ≡ entry_tokens (entries_of l.initial.slots.items (order_of l.initial.slots.items));
   size : length l.slots.items ≡ length l.initial.slots.items;
   links : (m : ℕ) → behind_at l.slots.items m ≡ behind_at l.initial.slots.items m;

@@ -37,11 +37,11 @@ advance-self-inside-requires-clause-below g c =
     let done = stored.Done c.args.outcome in
     let out = subst (λ (v : PlainBoard g.row.T.Denot). out_path n v.state.entries ≡ Some c.args.task.path)
     (sym c.self.view_is) c.requires.out in
-    let slots = c.deref.ensures.value
-    ∙ (c.put_state.ensures.items ∙ ap (λ k. with_slot b.slots.items k done) c.number.ensures) in
+    let slots = c.deref.ensures.value ∙ (c.put_state.ensures.items
+    ∙ ap (λ k. with_slot b.slots.items k done) c.number.ensures) in
     let order = order_stays b.slots.items n done in
-    let below = finish_below (g.T.Tree.shape b.tree.now) b.budget b.slots.items (order_of b.slots.items) b.waiting.items
-    b.front.len b.front.count b.front.is_ended b.is_short
+    let below = finish_below (g.T.Tree.shape b.tree.now) b.budget b.slots.items (order_of b.slots.items)
+    b.waiting.items b.front.len b.front.count b.front.is_ended b.is_short
     b.history.items (vec_capacity b.history) c.self.invariant.0 n c.args.task.path out c.args.outcome in
     rw slots (subst (λ ns. AreBelow (length (with_slot b.slots.items n done)) ns) (sym order) below)
 
@@ -52,8 +52,8 @@ advance-self-inside-requires-clause-size g c =
     let done = stored.Done c.args.outcome in
     let out = subst (λ (v : PlainBoard g.row.T.Denot). out_path n v.state.entries ≡ Some c.args.task.path)
     (sym c.self.view_is) c.requires.out in
-    let slots = c.deref.ensures.value
-    ∙ (c.put_state.ensures.items ∙ ap (λ k. with_slot b.slots.items k done) c.number.ensures) in
+    let slots = c.deref.ensures.value ∙ (c.put_state.ensures.items
+    ∙ ap (λ k. with_slot b.slots.items k done) c.number.ensures) in
     let order = order_stays b.slots.items n done in
     rw slots (length_with_slot b.slots.items n done ∙ (c.self.invariant.0.size ∙ ap length (sym order)))
 
@@ -64,8 +64,8 @@ advance-self-inside-requires-clause-linked g c =
     let done = stored.Done c.args.outcome in
     let out = subst (λ (v : PlainBoard g.row.T.Denot). out_path n v.state.entries ≡ Some c.args.task.path)
     (sym c.self.view_is) c.requires.out in
-    let slots = c.deref.ensures.value
-    ∙ (c.put_state.ensures.items ∙ ap (λ k. with_slot b.slots.items k done) c.number.ensures) in
+    let slots = c.deref.ensures.value ∙ (c.put_state.ensures.items
+    ∙ ap (λ k. with_slot b.slots.items k done) c.number.ensures) in
     let order = order_stays b.slots.items n done in
     rw slots (linked_stays b.slots.items n done b.front.len b.front.behind c.self.invariant.1)
 
@@ -76,11 +76,11 @@ advance-self-inside-requires-clause-known g c =
     let done = stored.Done c.args.outcome in
     let out = subst (λ (v : PlainBoard g.row.T.Denot). out_path n v.state.entries ≡ Some c.args.task.path)
     (sym c.self.view_is) c.requires.out in
-    let slots = c.deref.ensures.value
-    ∙ (c.put_state.ensures.items ∙ ap (λ k. with_slot b.slots.items k done) c.number.ensures) in
+    let slots = c.deref.ensures.value ∙ (c.put_state.ensures.items
+    ∙ ap (λ k. with_slot b.slots.items k done) c.number.ensures) in
     let order = order_stays b.slots.items n done in
-    let known = finish_known (g.T.Tree.shape b.tree.now) b.budget b.slots.items (order_of b.slots.items) b.waiting.items
-    b.front.len b.front.count b.front.is_ended b.is_short
+    let known = finish_known (g.T.Tree.shape b.tree.now) b.budget b.slots.items (order_of b.slots.items)
+    b.waiting.items b.front.len b.front.count b.front.is_ended b.is_short
     b.history.items (vec_capacity b.history) c.self.invariant.0 n c.args.task.path out c.args.outcome in
     rw slots (subst (λ ns. HasFrontTo b.budget (entries_of (with_slot b.slots.items n done) ns) b.front.len
     b.front.count b.front.is_ended) (sym order) known)
@@ -138,8 +138,8 @@ returns-clause-step g c =
     (sym c.self.view_is) c.requires.right in
     let step = finish_step (g.T.Tree.shape b.tree.now) b.budget b.slots.items (order_of b.slots.items) b.waiting.items
     b.front.len b.front.count b.front.is_ended b.is_short
-    b.history.items (vec_capacity b.history) c.self.invariant.0 c.args.task.number c.args.task.path out
-    c.args.outcome right in
+    b.history.items (vec_capacity b.history) c.self.invariant.0 c.args.task.number c.args.task.path out c.args.outcome
+    right in
     let slots = c.put_state.ensures.items ∙ ap (λ n. with_slot b.slots.items n (stored.Done c.args.outcome))
     c.number.ensures in
     let order = order_stays b.slots.items c.args.task.number (stored.Done c.args.outcome) in

@@ -41,11 +41,10 @@ returns-in-Some-clause-reached g c =
     (¬ (entry_of n slot ≡ TaskEntry n p Out))) c.path.ensures (c.is_out_at.ensures n) in
     let all = read_out (g.T.Tree.shape b.tree.now) b.budget b.slots.items (order_of b.slots.items) b.waiting.items
     b.front.len b.front.count b.front.is_ended b.is_short
-    b.history.items (vec_capacity b.history) c.self.invariant.0 n c.args.task.now.path slot
-    c.is_out_at.result read out in
-    λ yes_out. rw (← c.self.view_is)
-    (out_reached (g.T.Tree.shape b.tree.now) b.budget (entries_of b.slots.items (order_of b.slots.items)) n
-    c.args.task.now.path
+    b.history.items (vec_capacity b.history) c.self.invariant.0 n c.args.task.now.path slot c.is_out_at.result read
+    out in
+    λ yes_out. rw (← c.self.view_is) (out_reached (g.T.Tree.shape b.tree.now) b.budget
+    (entries_of b.slots.items (order_of b.slots.items)) n c.args.task.now.path
     (when_true _ _ yes_out all) c.self.invariant.0.right)
 
 pub returns-in-None-clause-exactly : goal.returns-in-None-clause-exactly

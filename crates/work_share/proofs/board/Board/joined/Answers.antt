@@ -49,6 +49,6 @@ returns-clause-outcome g c =
     c.requires.over in
     let enough = subst (λ (v : PlainBoard g.row.T.Denot). v.state.is_short ≡ false) (sym c.self.view_is)
     c.requires.enough in
-    let joins = joins_right tree b.budget (stored_state b.slots.items (order_of b.slots.items) b.is_short) keeps
-    over enough in
+    let joins = joins_right tree b.budget (stored_state b.slots.items (order_of b.slots.items) b.is_short) keeps over
+    enough in
     rw (← c.self.view_is) (IfOk-weaker c.join_run.result _ _ (λ r h. h ∙ joins) c.join_run.ensures)

@@ -69,8 +69,8 @@ put_children-requires-clause-slots_room g c =
     let made = c.in-Ok.made in
     let size : vec_len b.slots ≡ length b.slots.items = search rules in
     let fresh : c.len.result ≡ length b.slots.items = c.len.ensures ∙ size in
-    let behind : c.behind_at-behind.result ≡ behind_at b.slots.items n =
-    c.behind_at-behind.ensures ∙ ap₂ behind_at c.deref.ensures.value c.number-number.ensures in
+    let behind : c.behind_at-behind.result ≡ behind_at b.slots.items n = c.behind_at-behind.ensures
+    ∙ ap₂ behind_at c.deref.ensures.value c.number-number.ensures in
     let children : entries_from (length b.slots.items) made.slots.items
     ≡ children_from p 0 c.args.children (length b.slots.items) =
     subst (λ k. entries_from k made.slots.items ≡ children_from p 0 c.args.children k) fresh
@@ -99,8 +99,8 @@ put_children-requires-clause-waiting_room g c =
     let made = c.in-Ok.made in
     let size : vec_len b.slots ≡ length b.slots.items = search rules in
     let fresh : c.len.result ≡ length b.slots.items = c.len.ensures ∙ size in
-    let behind : c.behind_at-behind.result ≡ behind_at b.slots.items n =
-    c.behind_at-behind.ensures ∙ ap₂ behind_at c.deref.ensures.value c.number-number.ensures in
+    let behind : c.behind_at-behind.result ≡ behind_at b.slots.items n = c.behind_at-behind.ensures
+    ∙ ap₂ behind_at c.deref.ensures.value c.number-number.ensures in
     let children : entries_from (length b.slots.items) made.slots.items
     ≡ children_from p 0 c.args.children (length b.slots.items) =
     subst (λ k. entries_from k made.slots.items ≡ children_from p 0 c.args.children k) fresh
@@ -129,8 +129,8 @@ advance-self-inside-requires-clause-below g c =
     let made = c.in-Ok.made in
     let size : vec_len b.slots ≡ length b.slots.items = search rules in
     let fresh : c.len.result ≡ length b.slots.items = c.len.ensures ∙ size in
-    let behind : c.behind_at-behind.result ≡ behind_at b.slots.items n =
-    c.behind_at-behind.ensures ∙ ap₂ behind_at c.deref.ensures.value c.number-number.ensures in
+    let behind : c.behind_at-behind.result ≡ behind_at b.slots.items n = c.behind_at-behind.ensures
+    ∙ ap₂ behind_at c.deref.ensures.value c.number-number.ensures in
     let children : entries_from (length b.slots.items) made.slots.items
     ≡ children_from p 0 c.args.children (length b.slots.items) =
     subst (λ k. entries_from k made.slots.items ≡ children_from p 0 c.args.children k) fresh
@@ -145,16 +145,16 @@ advance-self-inside-requires-clause-below g c =
     c.in-Ok.ensures.tasks ∙ ap₂ (λ q k. reverse (waiting_tasks (children_from q 0 c.args.children k)))
     c.path.ensures fresh in
     let slots : c.put_children.new.slots.items
-    ≡ with_slot (with_link b.slots.items n (link_to (length b.slots.items) c.args.children (behind_at b.slots.items n)))
-    n (stored.Split c.args.token c.args.own c.args.children) ++ made.slots.items =
+    ≡ with_slot (with_link b.slots.items n (link_to (length b.slots.items) c.args.children
+    (behind_at b.slots.items n))) n (stored.Split c.args.token c.args.own c.args.children) ++ made.slots.items =
     c.put_children.ensures.slots
-    ∙ (ap₂ (λ ss k. with_slot (with_link ss k made.link) k (stored.Split c.args.token c.args.own c.args.children)
-    ++ made.slots.items) c.reserve_for.ensures.slots c.number-number.ensures
-    ∙ ap (λ l. with_slot (with_link b.slots.items n l) n (stored.Split c.args.token c.args.own c.args.children)
-    ++ made.slots.items) link) in
-    rw (c.deref-3.ensures.value, slots)
-    (divide_below (g.T.Tree.shape b.tree.now) b.budget b.slots.items (order_of b.slots.items) b.waiting.items
-    b.front.len b.front.count b.front.is_ended b.is_short
+    ∙ (ap₂ (λ ss k. with_slot (with_link ss k made.link) k
+    (stored.Split c.args.token c.args.own c.args.children) ++ made.slots.items) c.reserve_for.ensures.slots
+    c.number-number.ensures
+    ∙ ap (λ l. with_slot (with_link b.slots.items n l) n
+    (stored.Split c.args.token c.args.own c.args.children) ++ made.slots.items) link) in
+    rw (c.deref-3.ensures.value, slots) (divide_below (g.T.Tree.shape b.tree.now) b.budget b.slots.items
+    (order_of b.slots.items) b.waiting.items b.front.len b.front.count b.front.is_ended b.is_short
     b.history.items (vec_capacity b.history) c.self.invariant.0
     n p out c.args.token c.args.own c.args.children made.slots.items children links c.self.invariant.1.chain)
 
@@ -168,8 +168,8 @@ advance-self-inside-requires-clause-size g c =
     let made = c.in-Ok.made in
     let size : vec_len b.slots ≡ length b.slots.items = search rules in
     let fresh : c.len.result ≡ length b.slots.items = c.len.ensures ∙ size in
-    let behind : c.behind_at-behind.result ≡ behind_at b.slots.items n =
-    c.behind_at-behind.ensures ∙ ap₂ behind_at c.deref.ensures.value c.number-number.ensures in
+    let behind : c.behind_at-behind.result ≡ behind_at b.slots.items n = c.behind_at-behind.ensures
+    ∙ ap₂ behind_at c.deref.ensures.value c.number-number.ensures in
     let children : entries_from (length b.slots.items) made.slots.items
     ≡ children_from p 0 c.args.children (length b.slots.items) =
     subst (λ k. entries_from k made.slots.items ≡ children_from p 0 c.args.children k) fresh
@@ -184,16 +184,16 @@ advance-self-inside-requires-clause-size g c =
     c.in-Ok.ensures.tasks ∙ ap₂ (λ q k. reverse (waiting_tasks (children_from q 0 c.args.children k)))
     c.path.ensures fresh in
     let slots : c.put_children.new.slots.items
-    ≡ with_slot (with_link b.slots.items n (link_to (length b.slots.items) c.args.children (behind_at b.slots.items n)))
-    n (stored.Split c.args.token c.args.own c.args.children) ++ made.slots.items =
+    ≡ with_slot (with_link b.slots.items n (link_to (length b.slots.items) c.args.children
+    (behind_at b.slots.items n))) n (stored.Split c.args.token c.args.own c.args.children) ++ made.slots.items =
     c.put_children.ensures.slots
-    ∙ (ap₂ (λ ss k. with_slot (with_link ss k made.link) k (stored.Split c.args.token c.args.own c.args.children)
-    ++ made.slots.items) c.reserve_for.ensures.slots c.number-number.ensures
-    ∙ ap (λ l. with_slot (with_link b.slots.items n l) n (stored.Split c.args.token c.args.own c.args.children)
-    ++ made.slots.items) link) in
-    rw (c.deref-3.ensures.value, slots)
-    (divide_size (g.T.Tree.shape b.tree.now) b.budget b.slots.items (order_of b.slots.items) b.waiting.items
-    b.front.len b.front.count b.front.is_ended b.is_short
+    ∙ (ap₂ (λ ss k. with_slot (with_link ss k made.link) k
+    (stored.Split c.args.token c.args.own c.args.children) ++ made.slots.items) c.reserve_for.ensures.slots
+    c.number-number.ensures
+    ∙ ap (λ l. with_slot (with_link b.slots.items n l) n
+    (stored.Split c.args.token c.args.own c.args.children) ++ made.slots.items) link) in
+    rw (c.deref-3.ensures.value, slots) (divide_size (g.T.Tree.shape b.tree.now) b.budget b.slots.items
+    (order_of b.slots.items) b.waiting.items b.front.len b.front.count b.front.is_ended b.is_short
     b.history.items (vec_capacity b.history) c.self.invariant.0
     n p out c.args.token c.args.own c.args.children made.slots.items children links c.self.invariant.1.chain)
 
@@ -207,8 +207,8 @@ advance-self-inside-requires-clause-linked g c =
     let made = c.in-Ok.made in
     let size : vec_len b.slots ≡ length b.slots.items = search rules in
     let fresh : c.len.result ≡ length b.slots.items = c.len.ensures ∙ size in
-    let behind : c.behind_at-behind.result ≡ behind_at b.slots.items n =
-    c.behind_at-behind.ensures ∙ ap₂ behind_at c.deref.ensures.value c.number-number.ensures in
+    let behind : c.behind_at-behind.result ≡ behind_at b.slots.items n = c.behind_at-behind.ensures
+    ∙ ap₂ behind_at c.deref.ensures.value c.number-number.ensures in
     let children : entries_from (length b.slots.items) made.slots.items
     ≡ children_from p 0 c.args.children (length b.slots.items) =
     subst (λ k. entries_from k made.slots.items ≡ children_from p 0 c.args.children k) fresh
@@ -223,16 +223,16 @@ advance-self-inside-requires-clause-linked g c =
     c.in-Ok.ensures.tasks ∙ ap₂ (λ q k. reverse (waiting_tasks (children_from q 0 c.args.children k)))
     c.path.ensures fresh in
     let slots : c.put_children.new.slots.items
-    ≡ with_slot (with_link b.slots.items n (link_to (length b.slots.items) c.args.children (behind_at b.slots.items n)))
-    n (stored.Split c.args.token c.args.own c.args.children) ++ made.slots.items =
+    ≡ with_slot (with_link b.slots.items n (link_to (length b.slots.items) c.args.children
+    (behind_at b.slots.items n))) n (stored.Split c.args.token c.args.own c.args.children) ++ made.slots.items =
     c.put_children.ensures.slots
-    ∙ (ap₂ (λ ss k. with_slot (with_link ss k made.link) k (stored.Split c.args.token c.args.own c.args.children)
-    ++ made.slots.items) c.reserve_for.ensures.slots c.number-number.ensures
-    ∙ ap (λ l. with_slot (with_link b.slots.items n l) n (stored.Split c.args.token c.args.own c.args.children)
-    ++ made.slots.items) link) in
-    rw (c.deref-3.ensures.value, slots)
-    (divide_linked (g.T.Tree.shape b.tree.now) b.budget b.slots.items (order_of b.slots.items) b.waiting.items
-    b.front.len b.front.count b.front.is_ended b.is_short
+    ∙ (ap₂ (λ ss k. with_slot (with_link ss k made.link) k
+    (stored.Split c.args.token c.args.own c.args.children) ++ made.slots.items) c.reserve_for.ensures.slots
+    c.number-number.ensures
+    ∙ ap (λ l. with_slot (with_link b.slots.items n l) n
+    (stored.Split c.args.token c.args.own c.args.children) ++ made.slots.items) link) in
+    rw (c.deref-3.ensures.value, slots) (divide_linked (g.T.Tree.shape b.tree.now) b.budget b.slots.items
+    (order_of b.slots.items) b.waiting.items b.front.len b.front.count b.front.is_ended b.is_short
     b.history.items (vec_capacity b.history) c.self.invariant.0
     n p out c.args.token c.args.own c.args.children made.slots.items children links c.self.invariant.1.chain
     b.front.behind c.self.invariant.1.here)
@@ -247,8 +247,8 @@ advance-self-inside-requires-clause-known g c =
     let made = c.in-Ok.made in
     let size : vec_len b.slots ≡ length b.slots.items = search rules in
     let fresh : c.len.result ≡ length b.slots.items = c.len.ensures ∙ size in
-    let behind : c.behind_at-behind.result ≡ behind_at b.slots.items n =
-    c.behind_at-behind.ensures ∙ ap₂ behind_at c.deref.ensures.value c.number-number.ensures in
+    let behind : c.behind_at-behind.result ≡ behind_at b.slots.items n = c.behind_at-behind.ensures
+    ∙ ap₂ behind_at c.deref.ensures.value c.number-number.ensures in
     let children : entries_from (length b.slots.items) made.slots.items
     ≡ children_from p 0 c.args.children (length b.slots.items) =
     subst (λ k. entries_from k made.slots.items ≡ children_from p 0 c.args.children k) fresh
@@ -263,16 +263,16 @@ advance-self-inside-requires-clause-known g c =
     c.in-Ok.ensures.tasks ∙ ap₂ (λ q k. reverse (waiting_tasks (children_from q 0 c.args.children k)))
     c.path.ensures fresh in
     let slots : c.put_children.new.slots.items
-    ≡ with_slot (with_link b.slots.items n (link_to (length b.slots.items) c.args.children (behind_at b.slots.items n)))
-    n (stored.Split c.args.token c.args.own c.args.children) ++ made.slots.items =
+    ≡ with_slot (with_link b.slots.items n (link_to (length b.slots.items) c.args.children
+    (behind_at b.slots.items n))) n (stored.Split c.args.token c.args.own c.args.children) ++ made.slots.items =
     c.put_children.ensures.slots
-    ∙ (ap₂ (λ ss k. with_slot (with_link ss k made.link) k (stored.Split c.args.token c.args.own c.args.children)
-    ++ made.slots.items) c.reserve_for.ensures.slots c.number-number.ensures
-    ∙ ap (λ l. with_slot (with_link b.slots.items n l) n (stored.Split c.args.token c.args.own c.args.children)
-    ++ made.slots.items) link) in
-    rw (c.deref-3.ensures.value, slots)
-    (divide_known (g.T.Tree.shape b.tree.now) b.budget b.slots.items (order_of b.slots.items) b.waiting.items
-    b.front.len b.front.count b.front.is_ended b.is_short
+    ∙ (ap₂ (λ ss k. with_slot (with_link ss k made.link) k
+    (stored.Split c.args.token c.args.own c.args.children) ++ made.slots.items) c.reserve_for.ensures.slots
+    c.number-number.ensures
+    ∙ ap (λ l. with_slot (with_link b.slots.items n l) n
+    (stored.Split c.args.token c.args.own c.args.children) ++ made.slots.items) link) in
+    rw (c.deref-3.ensures.value, slots) (divide_known (g.T.Tree.shape b.tree.now) b.budget b.slots.items
+    (order_of b.slots.items) b.waiting.items b.front.len b.front.count b.front.is_ended b.is_short
     b.history.items (vec_capacity b.history) c.self.invariant.0
     n p out c.args.token c.args.own c.args.children made.slots.items children links c.self.invariant.1.chain)
 
@@ -301,8 +301,8 @@ invariant_of-self-2 g c =
     let made = c.in-Ok.made in
     let size : vec_len b.slots ≡ length b.slots.items = search rules in
     let fresh : c.len.result ≡ length b.slots.items = c.len.ensures ∙ size in
-    let behind : c.behind_at-behind.result ≡ behind_at b.slots.items n =
-    c.behind_at-behind.ensures ∙ ap₂ behind_at c.deref.ensures.value c.number-number.ensures in
+    let behind : c.behind_at-behind.result ≡ behind_at b.slots.items n = c.behind_at-behind.ensures
+    ∙ ap₂ behind_at c.deref.ensures.value c.number-number.ensures in
     let children : entries_from (length b.slots.items) made.slots.items
     ≡ children_from p 0 c.args.children (length b.slots.items) =
     subst (λ k. entries_from k made.slots.items ≡ children_from p 0 c.args.children k) fresh
@@ -317,28 +317,29 @@ invariant_of-self-2 g c =
     c.in-Ok.ensures.tasks ∙ ap₂ (λ q k. reverse (waiting_tasks (children_from q 0 c.args.children k)))
     c.path.ensures fresh in
     let slots : c.put_children.new.slots.items
-    ≡ with_slot (with_link b.slots.items n (link_to (length b.slots.items) c.args.children (behind_at b.slots.items n)))
-    n (stored.Split c.args.token c.args.own c.args.children) ++ made.slots.items =
+    ≡ with_slot (with_link b.slots.items n (link_to (length b.slots.items) c.args.children
+    (behind_at b.slots.items n))) n (stored.Split c.args.token c.args.own c.args.children) ++ made.slots.items =
     c.put_children.ensures.slots
-    ∙ (ap₂ (λ ss k. with_slot (with_link ss k made.link) k (stored.Split c.args.token c.args.own c.args.children)
-    ++ made.slots.items) c.reserve_for.ensures.slots c.number-number.ensures
-    ∙ ap (λ l. with_slot (with_link b.slots.items n l) n (stored.Split c.args.token c.args.own c.args.children)
-    ++ made.slots.items) link) in
+    ∙ (ap₂ (λ ss k. with_slot (with_link ss k made.link) k
+    (stored.Split c.args.token c.args.own c.args.children) ++ made.slots.items) c.reserve_for.ensures.slots
+    c.number-number.ensures
+    ∙ ap (λ l. with_slot (with_link b.slots.items n l) n
+    (stored.Split c.args.token c.args.own c.args.children) ++ made.slots.items) link) in
     let right = subst (λ (v : PlainBoard g.row.T.Denot). IfSome (node_at (Some (g.T.Tree.shape v.tree)) p)
     (λ node. node_told node ≡ Splits (plain_token c.args.token) c.args.own c.args.children))
     (sym c.self.view_is) c.requires.told in
     let waiting = c.reserve_for.ensures.waiting in
     let left : c.count_left-left.result ≡ count_left p (reverse b.waiting.items) =
-    c.count_left-left.ensures.count ∙ ap₂ (λ q ts. count_left q (reverse ts)) c.path-2.ensures
-    (c.deref-2.ensures.value ∙ waiting) in
+    c.count_left-left.ensures.count ∙ ap₂ (λ q ts. count_left q (reverse ts)) c.path-2.ensures (c.deref-2.ensures.value
+    ∙ waiting) in
     let old_len : vec_len c.reserve_for.new.waiting ≡ length b.waiting.items = search (rules, waiting) in
     let stacked : c.put_children.new.waiting.items ≡ _ = c.put_children.ensures.waiting
-    ∙ (ap₂ (λ k ts. take (k - c.count_left-left.result) ts
-    ++ (made.tasks.items ++ drop (k - c.count_left-left.result) ts)) old_len waiting
-    ∙ ap (λ ts. take (length b.waiting.items - c.count_left-left.result) b.waiting.items
-    ++ (ts ++ drop (length b.waiting.items - c.count_left-left.result) b.waiting.items)) tasks) in
-    let slots_len : vec_len c.reserve_for.new.slots ≡ length b.slots.items =
-    search (rules, c.reserve_for.ensures.slots) in
+    ∙ (ap₂ (λ k ts. take (k - c.count_left-left.result)
+    ts ++ (made.tasks.items ++ drop (k - c.count_left-left.result) ts)) old_len waiting
+    ∙ ap (λ ts. take (length b.waiting.items - c.count_left-left.result)
+    b.waiting.items ++ (ts ++ drop (length b.waiting.items - c.count_left-left.result) b.waiting.items)) tasks) in
+    let slots_len : vec_len c.reserve_for.new.slots
+    ≡ length b.slots.items = search (rules, c.reserve_for.ensures.slots) in
     let old_size = c.self.invariant.0.size in
     let roomy : 2 * (length (order_of b.slots.items) + c.args.children) + 1 ≤ vec_capacity c.reserve_for.new.history =
     let r = c.in-Ok-reserve_for.ensures.history_room in omega (arith, r, slots_len, old_size) in
@@ -348,8 +349,8 @@ invariant_of-self-2 g c =
     b.front.len b.front.count b.front.is_ended b.is_short
     b.history.items (vec_capacity b.history) c.self.invariant.0
     n p out c.args.token c.args.own c.args.children made.slots.items children links c.self.invariant.1.chain right
-    c.put_children.new.waiting.items (vec_capacity c.reserve_for.new.history) c.count_left-left.result left
-    stacked roomy
+    c.put_children.new.waiting.items (vec_capacity c.reserve_for.new.history) c.count_left-left.result left stacked
+    roomy
     c.advance-self-inside.result.len c.advance-self-inside.result.count c.advance-self-inside.result.is_ended front in
     let history = c.push_reserved.ensures.items ∙ ap₂ (λ h k. h ++ event.Split k ∷ []) c.reserve_for.ensures.history
     c.number.ensures in
@@ -365,8 +366,8 @@ returns-clause-step g c =
     let made = c.in-Ok.made in
     let size : vec_len b.slots ≡ length b.slots.items = search rules in
     let fresh : c.len.result ≡ length b.slots.items = c.len.ensures ∙ size in
-    let behind : c.behind_at-behind.result ≡ behind_at b.slots.items n =
-    c.behind_at-behind.ensures ∙ ap₂ behind_at c.deref.ensures.value c.number-number.ensures in
+    let behind : c.behind_at-behind.result ≡ behind_at b.slots.items n = c.behind_at-behind.ensures
+    ∙ ap₂ behind_at c.deref.ensures.value c.number-number.ensures in
     let children : entries_from (length b.slots.items) made.slots.items
     ≡ children_from p 0 c.args.children (length b.slots.items) =
     subst (λ k. entries_from k made.slots.items ≡ children_from p 0 c.args.children k) fresh
@@ -381,13 +382,14 @@ returns-clause-step g c =
     c.in-Ok.ensures.tasks ∙ ap₂ (λ q k. reverse (waiting_tasks (children_from q 0 c.args.children k)))
     c.path.ensures fresh in
     let slots : c.put_children.new.slots.items
-    ≡ with_slot (with_link b.slots.items n (link_to (length b.slots.items) c.args.children (behind_at b.slots.items n)))
-    n (stored.Split c.args.token c.args.own c.args.children) ++ made.slots.items =
+    ≡ with_slot (with_link b.slots.items n (link_to (length b.slots.items) c.args.children
+    (behind_at b.slots.items n))) n (stored.Split c.args.token c.args.own c.args.children) ++ made.slots.items =
     c.put_children.ensures.slots
-    ∙ (ap₂ (λ ss k. with_slot (with_link ss k made.link) k (stored.Split c.args.token c.args.own c.args.children)
-    ++ made.slots.items) c.reserve_for.ensures.slots c.number-number.ensures
-    ∙ ap (λ l. with_slot (with_link b.slots.items n l) n (stored.Split c.args.token c.args.own c.args.children)
-    ++ made.slots.items) link) in
+    ∙ (ap₂ (λ ss k. with_slot (with_link ss k made.link) k
+    (stored.Split c.args.token c.args.own c.args.children) ++ made.slots.items) c.reserve_for.ensures.slots
+    c.number-number.ensures
+    ∙ ap (λ l. with_slot (with_link b.slots.items n l) n
+    (stored.Split c.args.token c.args.own c.args.children) ++ made.slots.items) link) in
     let right = subst (λ (v : PlainBoard g.row.T.Denot). IfSome (node_at (Some (g.T.Tree.shape v.tree)) p)
     (λ node. node_told node ≡ Splits (plain_token c.args.token) c.args.own c.args.children))
     (sym c.self.view_is) c.requires.told in

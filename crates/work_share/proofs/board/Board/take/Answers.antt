@@ -16,8 +16,8 @@ use Rattle.work_share.proofs.board.Board.take.Goals as goal
 pub put_state-requires : goal.put_state-requires
 put_state-requires g c =
     let b = c.self.inside in
-    let inside = take_inside (g.T.Tree.shape b.tree.now) b.budget b.slots.items (order_of b.slots.items) b.waiting.items
-    c.pop.new.self.items b.front.len b.front.count b.front.is_ended b.is_short
+    let inside = take_inside (g.T.Tree.shape b.tree.now) b.budget b.slots.items (order_of b.slots.items)
+    b.waiting.items c.pop.new.self.items b.front.len b.front.count b.front.is_ended b.is_short
     b.history.items (vec_capacity b.history) c.self.invariant.0 c.in-Some.task c.in-Some.ensures.items in
     let size : vec_len b.slots ≡ length b.slots.items = search rules in
     let number = c.number.ensures in
@@ -48,8 +48,8 @@ returns-in-None-clause-step g c =
     let empty : vec_len b.waiting ≡ 0 = c.in-None.ensures.cases.0 in
     let size : length b.waiting.items ≡ 0 = search (rules, empty) in
     let none : waiting_tasks es ≡ [] =
-    sym (reverse-reverse (waiting_tasks es))
-    ∙ ap reverse (sym c.self.invariant.0.stacked ∙ nil_from_length b.waiting.items size) in
+    sym (reverse-reverse (waiting_tasks es)) ∙ ap reverse (sym c.self.invariant.0.stacked
+    ∙ nil_from_length b.waiting.items size) in
     (sym c.if-is_over.ensures, rw (← c.self.view_is) (none_is es none), rw (← c.self.view_is) refl)
 
 pub returns-in-Some-clause-step : goal.returns-in-Some-clause-step
