@@ -1,5 +1,5 @@
 //! A child of an outer tree whose set grew by one box.
-ghost use Rattle.std.specs.Prelude.{◌≡◌, IfOk};
+ghost use Rattle.std.specs.Prelude.{◌≡◌, ◌≤◌, IfOk, length};
 ghost use Rattle.packing_terms.specs.Goals.{IsBoxSet};
 ghost use Rattle.packing_terms.specs.OuterRefutation.{insert_box};
 ghost use Rattle.tree_terms.specs.OuterTrees.{set_verdict, yes_numbers};
@@ -48,6 +48,19 @@ impl<'a> SetSearch<'a> {
         }
         let mut set = self.take_spare(alloc);
         fill_with(&mut set, keep, v)?;
+        self.grown(alloc, set, left)
+    }
+
+    // The same of a set that is given, with something left. The memory of one that is refuted is
+    // kept for the next.
+    fn grown(&mut self, alloc: Global, set: Vec<u32>, left: u64) -> Result<Child, NoMemory>
+        requires some { 1 ≤ length set.items }
+        requires set { IsBoxSet self.old.instance set.items }
+        requires left { 1 ≤ left }
+        ensures same { self.new ≡ self.old }
+        ensures child { IfOk result (λ child.
+            IsChild self.old.instance self.old.scales left set.items child) }
+    {
         match self.decide(alloc, set.as_slice(), left - 1)? {
             Outcome::Past => Ok(Child::Past),
             Outcome::No { tokens, count } => {

@@ -1,54 +1,7 @@
-use Rattle.std.proofs.Common.{◌-◌, ◌≤◌, refl, sym, ap, subst, ◌∙◌, arith, List, [], ℕ, length, map}
-use Rattle.packing_terms.specs.Goals.{subset}
-use Rattle.packing_terms.specs.Packing.{IsPacking}
-use Rattle.packing_terms.specs.OuterRefutation.{insert_box}
+use Rattle.std.proofs.Common.{◌≤◌, sym, subst, List, ℕ, length}
 use Rattle.packing_terms.proofs.WithBoxes.{inserted_some}
-use Rattle.tree_terms.specs.Trees.{Yes, No, told}
-use Rattle.tree_terms.specs.OuterTrees.{set_verdict}
-use Rattle.work_share.specs.Outcomes.{plain_outcome}
-use Rattle.proof_tree.specs.Plain.{plain_token}
-use Rattle.class_search.specs.Right.{IsRight}
-use Rattle.set_search.proofs.Verdicts.{told_same}
 use Rattle.set_search.proofs.search.SetSearch.grow.Goals as goal
 
-pub decide-requires-clause-some : goal.decide-requires-clause-some
-decide-requires-clause-some c =
-    subst (λ (us : List ℕ). 1 ≤ length us) (sym (c.as_slice.ensures.value ∙ c.in_ok-set.ensures))
-    (inserted_some c.args.v c.args.keep.now)
-
-pub returns-in-No-clause-child : goal.returns-in-No-clause-child
-returns-in-No-clause-child c =
-    let e = c.as_slice.ensures.value ∙ c.in_ok-set.ensures in
-    let y = told_same (c.args.left - 1)
-    (set_verdict c.args.self.now.instance c.args.self.now.scales (insert_box c.args.v c.args.keep.now))
-    (No (map plain_token c.in-No.tokens.items) c.in-No.count)
-    (ap plain_outcome (sym c.in-No.is)
-    ∙ (c.in_ok-decide.ensures.outcome
-    ∙ ap (λ us. told (c.args.left - 1) (set_verdict c.args.self.now.instance c.args.self.now.scales us)) e)) in
-    record {
-      cost = c.in-No.count;
-      is = y.same;
-      counted = refl;
-      within = (let l = y.within in omega (arith, l, c.if-left-eq0.false));
-    }
-
-pub returns-in-Yes-clause-child : goal.returns-in-Yes-clause-child
-returns-in-Yes-clause-child c =
-    let e = c.as_slice.ensures.value ∙ c.in_ok-set.ensures in
-    let y = told_same (c.args.left - 1)
-    (set_verdict c.args.self.now.instance c.args.self.now.scales (insert_box c.args.v c.args.keep.now))
-    (Yes c.in-Yes.numbers.items c.in-Yes.count)
-    (ap plain_outcome (sym c.in-Yes.is)
-    ∙ (c.in_ok-decide.ensures.outcome
-    ∙ ap (λ us. told (c.args.left - 1) (set_verdict c.args.self.now.instance c.args.self.now.scales us)) e)) in
-    let pack : IsPacking (subset c.args.self.now.instance c.as_slice.result.now) c.in-Yes.numbers.items
-    = subst (λ r. IsRight (subset c.args.self.now.instance c.as_slice.result.now) [] (plain_outcome r)) c.in-Yes.is
-    c.in_ok-decide.ensures.right in
-    record {
-      same = c.in_ok-set.ensures;
-      cost = c.in-Yes.count;
-      is = y.same;
-      counted = refl;
-      within = (let l = y.within in omega (arith, l, c.if-left-eq0.false));
-      packing = subst (λ (us : List ℕ). IsPacking (subset c.args.self.now.instance us) c.in-Yes.numbers.items) e pack;
-    }
+pub grown-requires-clause-some : goal.grown-requires-clause-some
+grown-requires-clause-some c =
+    subst (λ (us : List ℕ). 1 ≤ length us) (sym c.in_ok-fill_with.ensures) (inserted_some c.args.v c.args.keep.now)

@@ -1,0 +1,47 @@
+use Rattle.std.proofs.Common.{◌-◌, refl, sym, ap, subst, ◌∙◌, arith, List, [], ℕ, map}
+use Rattle.packing_terms.specs.Goals.{subset}
+use Rattle.packing_terms.specs.Packing.{IsPacking}
+use Rattle.tree_terms.specs.Trees.{Yes, No, told}
+use Rattle.tree_terms.specs.OuterTrees.{set_verdict}
+use Rattle.work_share.specs.Outcomes.{plain_outcome}
+use Rattle.proof_tree.specs.Plain.{plain_token}
+use Rattle.class_search.specs.Right.{IsRight}
+use Rattle.set_search.proofs.Verdicts.{told_same}
+use Rattle.set_search.proofs.search.SetSearch.grown.Goals as goal
+
+pub returns-in-No-clause-child : goal.returns-in-No-clause-child
+returns-in-No-clause-child c =
+    let e = c.as_slice.ensures.value in
+    let y = told_same (c.args.left - 1)
+    (set_verdict c.args.self.now.instance c.args.self.now.scales c.args.set.items)
+    (No (map plain_token c.in-No.tokens.items) c.in-No.count)
+    (ap plain_outcome (sym c.in-No.is)
+    ∙ (c.in_ok-decide.ensures.outcome
+    ∙ ap (λ us. told (c.args.left - 1) (set_verdict c.args.self.now.instance c.args.self.now.scales us)) e)) in
+    record {
+      cost = c.in-No.count;
+      is = y.same;
+      counted = refl;
+      within = (let l = y.within in omega (arith, l, c.requires.left));
+    }
+
+pub returns-in-Yes-clause-child : goal.returns-in-Yes-clause-child
+returns-in-Yes-clause-child c =
+    let e = c.as_slice.ensures.value in
+    let y = told_same (c.args.left - 1)
+    (set_verdict c.args.self.now.instance c.args.self.now.scales c.args.set.items)
+    (Yes c.in-Yes.numbers.items c.in-Yes.count)
+    (ap plain_outcome (sym c.in-Yes.is)
+    ∙ (c.in_ok-decide.ensures.outcome
+    ∙ ap (λ us. told (c.args.left - 1) (set_verdict c.args.self.now.instance c.args.self.now.scales us)) e)) in
+    let pack : IsPacking (subset c.args.self.now.instance c.as_slice.result.now) c.in-Yes.numbers.items
+    = subst (λ r. IsRight (subset c.args.self.now.instance c.as_slice.result.now) [] (plain_outcome r)) c.in-Yes.is
+    c.in_ok-decide.ensures.right in
+    record {
+      same = refl;
+      cost = c.in-Yes.count;
+      is = y.same;
+      counted = refl;
+      within = (let l = y.within in omega (arith, l, c.requires.left));
+      packing = subst (λ (us : List ℕ). IsPacking (subset c.args.self.now.instance us) c.in-Yes.numbers.items) e pack;
+    }
