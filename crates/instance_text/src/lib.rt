@@ -7,9 +7,11 @@ mod held;
 mod lexer;
 mod parts;
 mod reader;
+mod word;
 mod writing;
 
 pub use lexer::{LexStep, LineLexer};
 pub use reader::{InstanceReader, ReadTextError, read_instance};
 pub use text_terms::TextFault;
+pub use word::is_same;
 pub use writing::write_instance;

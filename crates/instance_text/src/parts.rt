@@ -1,7 +1,6 @@
 //! What one line adds to the parts of an instance, or the code of its fault.
 ghost use Rattle.std.specs.Prelude.{◌≡◌, ◌≢◌, ◌<◌, ◌≤◌, ◌+◌, ◌-◌, ◌^◌, ◌⊎◌, ◌∷◌, [], ℕ, Bool, false, IsTrue, MatchBool, List, length, take, drop, min, map, replicate, slice_index_or};
 ghost use Rattle.packing_terms.specs.Limits.{most_boxes, most_side};
-ghost use Rattle.text_terms.specs.Lines.{same_bytes};
 ghost use Rattle.text_terms.specs.Texts.{ranged_number, numbers_of, kerf_limits, side_limits, value_of, times_of, has_times_alone, ending_of, format_line, container_line, kerf_line, box_line, is_box_length, add_line};
 ghost use Rattle.text_terms.specs.Feeding.{ended_line};
 ghost use Rattle.box_instances.specs.Plain.{plain_box};
@@ -10,6 +9,7 @@ ghost use Rattle.instance_text.specs.Reading.{with_added, IsReadAs, parts_of, pl
 
 use crate::codes;
 use crate::lexer::LineLexer;
+use crate::word::is_same;
 use box_instances::{BoxItem, MOST_BOXES, MOST_KERF, MOST_SIDE, MOST_VALUE, Sides};
 use std::alloc::Global;
 use text_terms::read_number;
@@ -46,13 +46,6 @@ fn number_within(word: &[u8], low: u32, high: u32) -> Result<u32, u8>
             }
         }
     }
-}
-
-// Whether the words are the same.
-fn is_word(word: &[u8], key: &[u8]) -> bool
-    ensures { result ≡ same_bytes word.now key.now }
-{
-    word == key
 }
 
 // So many equal numbers.
@@ -120,7 +113,7 @@ fn value_from(line: &LineLexer, from: u32) -> Result<u64, u8>
     if line.word_count() == from {
         return Ok(1);
     }
-    if !is_word(line.word(from), b"value") {
+    if !is_same(line.word(from), b"value") {
         return Err(codes::UNKNOWN_WORD);
     }
     let value = number_within(line.word(from + 1), 0, MOST_VALUE)?;
@@ -137,7 +130,7 @@ fn times_from(line: &LineLexer, room: u32, from: u32) -> Result<u32, u8>
     if line.word_count() <= from {
         return Ok(1);
     }
-    if !is_word(line.word(from), b"times") {
+    if !is_same(line.word(from), b"times") {
         return Err(codes::UNKNOWN_WORD);
     }
     let times = number_within(line.word(from + 1), 1, MOST_BOXES as u32)?;
@@ -159,7 +152,7 @@ fn has_times_alone(line: &LineLexer, format: u32, from: u32) -> bool
     if line.word_count() != from + 2 {
         return false;
     }
-    is_word(line.word(from), b"times")
+    is_same(line.word(from), b"times")
 }
 
 // What the words after the sides give, from this one on.
@@ -347,16 +340,16 @@ pub(crate) fn read_line(
         return Ok(Added::Nothing);
     }
     let word = line.word(0);
-    if is_word(word, b"format") {
+    if is_same(word, b"format") {
         return format_added(format, line);
     }
-    if is_word(word, b"container") {
+    if is_same(word, b"container") {
         return container_added(alloc, format, container, line);
     }
-    if is_word(word, b"box") {
+    if is_same(word, b"box") {
         return box_added(alloc, format, container, kerf, boxes, line);
     }
-    if format == 2 && is_word(word, b"kerf") {
+    if format == 2 && is_same(word, b"kerf") {
         return kerf_added(alloc, container, has_kerf, boxes, line);
     }
     Err(codes::UNKNOWN_WORD)

@@ -5,4 +5,5 @@ mod cursor;
 mod words;
 
 pub use cursor::{Cursor, next_filled};
-pub use words::{is_blank, is_first, is_result, is_same, is_word};
+pub use instance_text::is_same;
+pub use words::{is_blank, is_first, is_result, is_word};

@@ -5,14 +5,7 @@ ghost use Rattle.text_terms.specs.Texts.{first_word};
 ghost use Rattle.text_terms.specs.Feeding.{ended_line};
 ghost use Rattle.verdict_terms.specs.Stages.{is_blank, is_result, is_word};
 
-use instance_text::LineLexer;
-
-/// Whether the words are the same.
-pub fn is_same(word: &[u8], key: &[u8]) -> bool
-    ensures { result ≡ same_bytes word.now key.now }
-{
-    word == key
-}
+use instance_text::{LineLexer, is_same};
 
 /// Whether the line has neither a bad byte nor words.
 pub fn is_blank(line: &LineLexer) -> bool

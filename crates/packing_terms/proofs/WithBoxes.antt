@@ -8,11 +8,11 @@ use Rattle.std.proofs.lemmas.List.{length-append, get_or_append_left, get_or-app
 use Rattle.std.proofs.lemmas.List.FromFn.{length-map-range_with_len, get_or-map-range_with_len}
 use Rattle.packing_terms.specs.OuterRefutation.{Bins, insert_box, has_box, with_box, placements}
 
-left_out : (a b c : Bool) → (b || (a || c)) ≡ (a || (b || c))
-left_out true true c = refl
-left_out true false c = refl
-left_out false true c = refl
-left_out false false c = refl
+or_exchanged : (a b c : Bool) → (b || (a || c)) ≡ (a || (b || c))
+or_exchanged true true c = refl
+or_exchanged true false c = refl
+or_exchanged false true c = refl
+or_exchanged false false c = refl
 
 pub has_inserted : (u v : ℕ) (us : List ℕ) → has_box u (insert_box v us) ≡ (eqb v u || has_box u us)
 has_inserted u v [] = refl
@@ -21,7 +21,7 @@ has_inserted u v (x ∷ us) = go (ltb v x) (has_inserted u v us)
     go : (b : Bool) → has_box u (insert_box v us) ≡ (eqb v u || has_box u us)
         → has_box u (if b then v ∷ x ∷ us else x ∷ insert_box v us) ≡ (eqb v u || (eqb x u || has_box u us))
     go true rest = refl
-    go false rest = ap (λ b. eqb x u || b) rest ∙ left_out (eqb v u) (eqb x u) (has_box u us)
+    go false rest = ap (λ b. eqb x u || b) rest ∙ or_exchanged (eqb v u) (eqb x u) (has_box u us)
 
 pub inserted_length : (v : ℕ) (us : List ℕ) → length (insert_box v us) ≡ suc (length us)
 inserted_length v [] = refl
@@ -44,13 +44,13 @@ any_with u v (us ∷ bins) zero l =
     ∙ or_assoc (eqb v u) (has_box u us) (list_any (has_box u) bins)
 any_with u v (us ∷ bins) (suc b) l =
     ap (λ x. has_box u us || x) (any_with u v bins b (omega (arith, l)))
-    ∙ left_out (eqb v u) (has_box u us) (list_any (has_box u) bins)
+    ∙ or_exchanged (eqb v u) (has_box u us) (list_any (has_box u) bins)
 
 pub any_new : (u v : ℕ) (bins : Bins)
     → list_any (has_box u) (bins ++ (v ∷ []) ∷ []) ≡ (eqb v u || list_any (has_box u) bins)
 any_new u v [] = or_assoc (eqb v u) false false
 any_new u v (us ∷ bins) = ap (λ x. has_box u us || x) (any_new u v bins)
-    ∙ left_out (eqb v u) (has_box u us) (list_any (has_box u) bins)
+    ∙ or_exchanged (eqb v u) (has_box u us) (list_any (has_box u) bins)
 
 -- the bins by index
 pub with_length : (bins : Bins) (b v : ℕ) → length (with_box bins b v) ≡ length bins

@@ -1,6 +1,5 @@
 //! The token that a line is.
 ghost use Rattle.std.specs.Prelude.{◌≡◌, ◌<◌, ◌≤◌, ◌+◌, length, drop, slice_index_or, option_map, []};
-ghost use Rattle.text_terms.specs.Lines.{same_bytes};
 ghost use Rattle.text_terms.specs.Feeding.{ended_line};
 ghost use Rattle.document_terms.specs.TokenLines.{parameter, parameters, named_function, functions, of_none, set_token, line_token};
 ghost use Rattle.proof_tree.specs.Plain.{plain_token};
@@ -8,7 +7,7 @@ ghost use Rattle.proof_tree.specs.Kinds.{kind_of, of_kind, only, two_only, three
 
 use crate::Token;
 use conservative_scales::ScaleTuple;
-use instance_text::LineLexer;
+use instance_text::{LineLexer, is_same};
 use packing_terms::ScaleFn;
 use std::alloc::Global;
 use text_terms::read_number;
@@ -35,45 +34,38 @@ pub(crate) struct Named {
     next: u32,
 }
 
-// Whether the words are the same.
-fn is_word(word: &[u8], key: &[u8]) -> bool
-    ensures { result ≡ same_bytes word.now key.now }
-{
-    word == key
-}
-
 // The kind of the token lines with this first word.
 fn kind_of(word: &[u8]) -> Option<Kind>
     ensures { result ≡ kind_of word.now }
 {
-    if is_word(word, b"a") {
+    if is_same(word, b"a") {
         return Some(Kind::Apart);
     }
-    if is_word(word, b"d") {
+    if is_same(word, b"d") {
         return Some(Kind::Order);
     }
-    if is_word(word, b"x") {
+    if is_same(word, b"x") {
         return Some(Kind::Rules);
     }
-    if is_word(word, b"t") {
+    if is_same(word, b"t") {
         return Some(Kind::TooLarge);
     }
-    if is_word(word, b"v") {
+    if is_same(word, b"v") {
         return Some(Kind::Scales);
     }
-    if is_word(word, b"b") {
+    if is_same(word, b"b") {
         return Some(Kind::Assign);
     }
-    if is_word(word, b"c") {
+    if is_same(word, b"c") {
         return Some(Kind::Choose);
     }
-    if is_word(word, b"s") {
+    if is_same(word, b"s") {
         return Some(Kind::SetRefuted);
     }
-    if is_word(word, b"w") {
+    if is_same(word, b"w") {
         return Some(Kind::ValueShort);
     }
-    if is_word(word, b"g") {
+    if is_same(word, b"g") {
         return Some(Kind::GlobalScales);
     }
     None
@@ -137,13 +129,13 @@ fn named_at(line: &LineLexer, k: u32) -> Option<ScaleFn>
     // For the proof alone: tells the limits of the line's words.
     let _count = line.word_count();
     let name = line.word(k);
-    if is_word(name, b"step") {
+    if is_same(name, b"step") {
         return Some(ScaleFn::Step(parameter_at(line, k + 1)?));
     }
-    if is_word(name, b"cut") {
+    if is_same(name, b"cut") {
         return Some(ScaleFn::Cut(parameter_at(line, k + 1)?));
     }
-    if is_word(name, b"count") {
+    if is_same(name, b"count") {
         return Some(ScaleFn::Count(parameter_at(line, k + 1)?));
     }
     None
@@ -155,7 +147,7 @@ fn function_at(line: &LineLexer, k: u32) -> Option<Named>
     ensures { IsFunctionAt line.now.held.words k result }
 {
     let count = line.word_count();
-    if is_word(line.word(k), b"id") {
+    if is_same(line.word(k), b"id") {
         return Some(Named {
             function: ScaleFn::Id,
             next: k + 1,
