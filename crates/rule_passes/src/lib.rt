@@ -10,10 +10,12 @@ mod guess;
 mod lines;
 mod orders;
 mod pairs;
+mod rising;
 mod room;
 mod rows;
 mod settle;
 mod sides;
+mod telling;
 mod triples;
 mod work;
 

@@ -1,0 +1,122 @@
+//! Weights that rise: two boxes are ordered, and so are those that the chains of the second go on to.
+ghost use Rattle.edge_state.specs.BitRows.{HoldsBoxes};
+
+use crate::guess::{Guess, PLACES, place_of};
+use edge_state::{BitRow, EdgeState, Rel};
+
+/// The boxes that a chain goes on to from x: forwards, or backwards.
+#[inline]
+pub(crate) fn next_boxes<const K: usize>(
+    state: &EdgeState,
+    dim: u32,
+    x: u32,
+    forwards: bool,
+) -> BitRow<K>
+    requires { HoldsBoxes K state.now.boxes }
+{
+    if dim >= state.dims() || x >= state.boxes() {
+        return BitRow::empty();
+    }
+    let near = state.row_in::<K>(dim, x, Rel::Overlap);
+    let before = state.row_in::<K>(dim, x, Rel::Before);
+    let after = state.row_in::<K>(dim, x, Rel::After);
+    if forwards {
+        before.minus(near).minus(after)
+    } else {
+        after.minus(near).minus(before)
+    }
+}
+
+impl Guess {
+    // Raises the boxes that a chain of x goes on to. It stops at one through which a chain is too
+    // long.
+    fn hand_on<const K: usize>(
+        &mut self,
+        state: &EdgeState,
+        dim: u32,
+        x: u32,
+        forwards: bool,
+        rest: &mut BitRow<K>,
+    ) -> Option<u32>
+        requires { HoldsBoxes K state.now.boxes }
+    {
+        let shift = if forwards { 0 } else { PLACES };
+        let weight = self.weight_at(place_of(dim, x).wrapping_add(shift));
+        let mut row: BitRow<K> = next_boxes(state, dim, x, forwards);
+        for _ in 0..state.boxes() {
+            let Some(y) = row.first() else {
+                return None;
+            };
+            row = row.without(y);
+            let place = place_of(dim, y);
+            let more = weight.saturating_add(self.own_at(place));
+            if self.rise(place.wrapping_add(shift), more) {
+                *rest = rest.with(y);
+                if self.is_long(dim, place) {
+                    return Some(y);
+                }
+            }
+        }
+        None
+    }
+
+    // Raises a box, and those that its chains go on to.
+    fn raise<const K: usize>(
+        &mut self,
+        state: &EdgeState,
+        dim: u32,
+        b: u32,
+        weight: u32,
+        forwards: bool,
+    ) -> Option<u32>
+        requires { HoldsBoxes K state.now.boxes }
+    {
+        let place = place_of(dim, b);
+        let shift = if forwards { 0 } else { PLACES };
+        if b >= state.boxes() || !self.rise(place.wrapping_add(shift), weight) {
+            return None;
+        }
+        if self.is_long(dim, place) {
+            return Some(b);
+        }
+        let none: BitRow<K> = BitRow::empty();
+        let mut rest = none.with(b);
+        for _ in 0..1_024 {
+            let Some(x) = rest.first() else {
+                return None;
+            };
+            rest = rest.without(x);
+            if let Some(y) = self.hand_on(state, dim, x, forwards, &mut rest) {
+                return Some(y);
+            }
+        }
+        None
+    }
+
+    /// Two boxes are ordered. Answers a box through which a chain is thought to be too long.
+    #[inline(always)]
+    pub(crate) fn link<const K: usize>(
+        &mut self,
+        state: &EdgeState,
+        dim: u32,
+        a: u32,
+        b: u32,
+    ) -> Option<u32>
+        requires { HoldsBoxes K state.now.boxes }
+    {
+        let first = place_of(dim, a);
+        let second = place_of(dim, b);
+        let head = self.weight_at(first).saturating_add(self.own_at(second));
+        if head > self.weight_at(second) {
+            if let Some(x) = self.raise::<K>(state, dim, b, head, true) {
+                return Some(x);
+            }
+        }
+        let back = self.weight_at(second.wrapping_add(PLACES));
+        let tail = back.saturating_add(self.own_at(first));
+        if tail > self.weight_at(first.wrapping_add(PLACES)) {
+            return self.raise::<K>(state, dim, a, tail, false);
+        }
+        None
+    }
+}
