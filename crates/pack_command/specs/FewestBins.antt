@@ -18,8 +18,8 @@ use Rattle.text_terms.specs.declared.settings.Settings.{Settings}
 
 -- The least number of bins over all packings, with each box's bin and place and tokens that refute
 -- one bin less. No number of bins that was decided has more branchings than the budget.
-pub record IsLeast (instance : PlainInstance) (settings : Settings) (sunk_old sunk_new : Option (List ℕ)) (status : ℕ) :
-    Type 0 where
+pub record IsFewest (instance : PlainInstance) (settings : Settings) (sunk_old sunk_new : Option (List ℕ))
+    (status : ℕ) : Type 0 where
   pub status_is : status ≡ 0
   pub bins : ℕ
   pub least : IsLeastBins instance bins
@@ -32,7 +32,7 @@ pub record IsLeast (instance : PlainInstance) (settings : Settings) (sunk_old su
 
 -- Two numbers of bins between which the least one lies: a refuted one and a placed one, with both
 -- certificates. Some number of bins that was decided has more branchings than the budget.
-pub record IsBetween (instance : PlainInstance) (settings : Settings) (sunk_old sunk_new : Option (List ℕ))
+pub record AreBinsBetween (instance : PlainInstance) (settings : Settings) (sunk_old sunk_new : Option (List ℕ))
     (status : ℕ) : Type 0 where
   pub status_is : status ≡ 3
   pub refuted : ℕ
@@ -47,7 +47,7 @@ pub record IsBetween (instance : PlainInstance) (settings : Settings) (sunk_old 
   pub written : Gains sunk_old sunk_new (answer_text instance (Claimed (BinsBetween refuted placed) numbers tokens))
 
 -- There is no least number of bins, because of the first box that exceeds the container.
-pub record IsNone (instance : PlainInstance) (sunk_old sunk_new : Option (List ℕ)) (status : ℕ) : Type 0 where
+pub record HasNoBins (instance : PlainInstance) (sunk_old sunk_new : Option (List ℕ)) (status : ℕ) : Type 0 where
   pub status_is : status ≡ 1
   pub none : ¬ ((bins : ℕ) × IsLeastBins instance bins)
   pub box_no : ℕ
@@ -58,5 +58,5 @@ pub record IsNone (instance : PlainInstance) (sunk_old sunk_new : Option (List �
 -- one of the three
 abbrev pub AreBinsDecided : PlainInstance → Settings → (sunk_old sunk_new : Option (List ℕ)) → ℕ → Type 0
 AreBinsDecided instance settings sunk_old sunk_new status =
-    IsLeast instance settings sunk_old sunk_new status
-    ⊎ (IsBetween instance settings sunk_old sunk_new status ⊎ IsNone instance sunk_old sunk_new status)
+    IsFewest instance settings sunk_old sunk_new status
+    ⊎ (AreBinsBetween instance settings sunk_old sunk_new status ⊎ HasNoBins instance sunk_old sunk_new status)

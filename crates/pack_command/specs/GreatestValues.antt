@@ -30,7 +30,7 @@ pub record IsGreatest (instance : PlainInstance) (settings : Settings) (sunk_old
 
 -- Two values between which the greatest one lies: a placed one and a refuted one, with both
 -- certificates. Some value that was decided has more branchings than the budget.
-pub record IsBetween (instance : PlainInstance) (settings : Settings) (sunk_old sunk_new : Option (List ℕ))
+pub record AreValuesBetween (instance : PlainInstance) (settings : Settings) (sunk_old sunk_new : Option (List ℕ))
     (status : ℕ) : Type 0 where
   pub status_is : status ≡ 3
   pub placed : ℕ
@@ -47,4 +47,4 @@ pub record IsBetween (instance : PlainInstance) (settings : Settings) (sunk_old 
 -- one of the two
 abbrev pub IsValueDecided : PlainInstance → Settings → (sunk_old sunk_new : Option (List ℕ)) → ℕ → Type 0
 IsValueDecided instance settings sunk_old sunk_new status =
-    IsGreatest instance settings sunk_old sunk_new status ⊎ IsBetween instance settings sunk_old sunk_new status
+    IsGreatest instance settings sunk_old sunk_new status ⊎ AreValuesBetween instance settings sunk_old sunk_new status

@@ -38,9 +38,9 @@ use Rattle.pack_streams.specs.Moves.{Gains}
 use Rattle.pack_streams.specs.Writing.{GainsPart}
 use Rattle.pack_command.specs.Answered.{branchings}
 use Rattle.pack_command.specs.Asked.{AsksProposed}
-use Rattle.pack_command.specs.FewestBins.{IsNone as HasNoBins}
+use Rattle.pack_command.specs.FewestBins.{HasNoBins}
 use Rattle.pack_command.specs.Inputs.{IsWholeInput, IsPartTaken, IsInputRead}
-use Rattle.pack_command.specs.Strips.{IsNone}
+use Rattle.pack_command.specs.Strips.{HasNoStrip}
 use Rattle.pack_command.specs.declared.stop.Stop.{Stop}
 use Rattle.pack_command.specs.declared.stop.Stop.TheVariants.{Words, TooLong, Text, Dimensions, ReadFault, WriteFault}
 use Rattle.pack_command.specs.declared.stop.Stop.TheVariants.{NoMemory}
@@ -220,7 +220,7 @@ pub record IsProposedBetween (instance : PlainInstance) (settings : Settings) (s
 abbrev pub IsProposedStripDecided : PlainInstance → Settings → (sunk_old sunk_new : Option (List ℕ)) → ℕ → Type 0
 IsProposedStripDecided instance settings sunk_old sunk_new status =
     IsProposedLeast instance sunk_old sunk_new status
-    ⊎ (IsProposedBetween instance settings sunk_old sunk_new status ⊎ IsNone instance sunk_old sunk_new status)
+    ⊎ (IsProposedBetween instance settings sunk_old sunk_new status ⊎ HasNoStrip instance sunk_old sunk_new status)
 
 -- ---- what the answer of `bins` says
 

@@ -21,7 +21,7 @@ use Rattle.text_terms.specs.declared.settings.Settings.{Settings}
 
 -- The least height over all packings, with places that are a packing in it and tokens that refute
 -- the height below. No height that was decided has more branchings than the budget.
-pub record IsLeast (heading : Heading) (instance : PlainInstance) (settings : Settings)
+pub record IsLeastStrip (heading : Heading) (instance : PlainInstance) (settings : Settings)
     (sunk_old sunk_new : Option (List ℕ)) (status : ℕ) : Type 0 where
   pub status_is : status ≡ 0
   pub height : ℕ
@@ -35,7 +35,7 @@ pub record IsLeast (heading : Heading) (instance : PlainInstance) (settings : Se
 
 -- Two heights between which the least one lies: a refuted one and a placed one, with both
 -- certificates. Some height that was decided has more branchings than the budget.
-pub record IsBetween (heading : Heading) (instance : PlainInstance) (settings : Settings)
+pub record IsStripBetween (heading : Heading) (instance : PlainInstance) (settings : Settings)
     (sunk_old sunk_new : Option (List ℕ)) (status : ℕ) : Type 0 where
   pub status_is : status ≡ 3
   pub refuted : ℕ
@@ -52,7 +52,7 @@ pub record IsBetween (heading : Heading) (instance : PlainInstance) (settings : 
 
 -- There is no least height, because of the first box that exceeds the container in a dimension
 -- other than the last.
-pub record IsNoneUnder (heading : Heading) (instance : PlainInstance) (sunk_old sunk_new : Option (List ℕ))
+pub record HasNoStripUnder (heading : Heading) (instance : PlainInstance) (sunk_old sunk_new : Option (List ℕ))
     (status : ℕ) : Type 0 where
   pub status_is : status ≡ 1
   pub none : ¬ ((height : ℕ) × IsLeastHeight instance height)
@@ -62,12 +62,12 @@ pub record IsNoneUnder (heading : Heading) (instance : PlainInstance) (sunk_old 
   pub written : Gains sunk_old sunk_new (headed_text heading instance (none_answer NoHeight (box_no, dim)))
 
 -- the same under the heading of answers
-abbrev pub IsNone : PlainInstance → (sunk_old sunk_new : Option (List ℕ)) → ℕ → Type 0
-IsNone instance sunk_old sunk_new status = IsNoneUnder Answered instance sunk_old sunk_new status
+abbrev pub HasNoStrip : PlainInstance → (sunk_old sunk_new : Option (List ℕ)) → ℕ → Type 0
+HasNoStrip instance sunk_old sunk_new status = HasNoStripUnder Answered instance sunk_old sunk_new status
 
 -- one of the three
 abbrev pub IsStripDecided : Heading → PlainInstance → Settings → (sunk_old sunk_new : Option (List ℕ)) → ℕ → Type 0
 IsStripDecided heading instance settings sunk_old sunk_new status =
-    IsLeast heading instance settings sunk_old sunk_new status
-    ⊎ (IsBetween heading instance settings sunk_old sunk_new status
-    ⊎ IsNoneUnder heading instance sunk_old sunk_new status)
+    IsLeastStrip heading instance settings sunk_old sunk_new status
+    ⊎ (IsStripBetween heading instance settings sunk_old sunk_new status
+    ⊎ HasNoStripUnder heading instance sunk_old sunk_new status)
