@@ -119,19 +119,23 @@ fn run_row(alloc: Global, row: &Row, rounds: u32, total: &mut Total) -> Result<(
     Ok(run_rounds(alloc, &tree, row, rounds, total)?)
 }
 
-// 42 rounds over six rows with four budgets each: 1008 schedules. In some a yes is finished before
-// another on its left, and in some the budget is passed by the leftmost run while tasks wait.
-#[test]
-fn random_schedules_give_the_outcome_of_one_thread(rt: HostRuntime) -> Result<(), Fail> {
-    let alloc = rt.alloc();
+fn run_rows(alloc: Global, rounds: u32) -> Result<Total, Fail> {
     let mut total = Total {
         right: 0,
         overtaken: 0,
         past_early: 0,
     };
     for row in &ROWS {
-        run_row(alloc, row, 42, &mut total)?;
+        run_row(alloc, row, rounds, &mut total)?;
     }
+    Ok(total)
+}
+
+// 42 rounds over six rows with four budgets each: 1008 schedules. In some a yes is finished before
+// another on its left, and in some the budget is passed by the leftmost run while tasks wait.
+#[test]
+fn random_schedules_give_the_outcome_of_one_thread(rt: HostRuntime) -> Result<(), Fail> {
+    let total = run_rows(rt.alloc(), 42)?;
     assert!(rt; total.right == 1008);
     assert!(rt; total.overtaken > 50);
     assert!(rt; total.past_early > 100);

@@ -153,38 +153,60 @@ fn run_deep(alloc: Global, tree: &ClassTree<'_>) -> Result<Option<Outcome>, NoMe
     join(alloc, board)
 }
 
+// Whether a run came to the refutation of one thread, which has so many branchings.
+fn is_refuted(
+    alloc: Global,
+    tree: &ClassTree<'_>,
+    joined: Option<Outcome>,
+    branchings: u64,
+) -> Result<bool, NoMemory> {
+    let Some(outcome) = joined else {
+        return Ok(false);
+    };
+    let Outcome::No { count, .. } = &outcome else {
+        return Ok(false);
+    };
+    Ok(*count == branchings && is_same(&outcome, &tree.explore(alloc, &[], branchings)?))
+}
+
+// Whether the run that splits down to depth 8 comes to the refutation of one thread.
+fn is_refuted_deep(alloc: Global, instance: &Instance) -> Result<bool, NoMemory> {
+    let tree = ClassTree::new(alloc, instance, false)?;
+    let joined = run_deep(alloc, &tree)?;
+    is_refuted(alloc, &tree, joined, 5039)
+}
+
 #[test]
 fn a_tree_that_is_split_to_depth_8_is_the_same(rt: HostRuntime) -> Result<(), Fail> {
-    let alloc = rt.alloc();
-    let instance = instance_of(alloc, &EIGHT)?;
-    let tree = ClassTree::new(alloc, &instance, false)?;
-    let joined = run_deep(alloc, &tree)?.unwrap_or(Outcome::Past);
-    assert!(rt; is_same(&joined, &tree.explore(alloc, &[], 5039)?));
-    let is_no = matches!(joined, Outcome::No { count: 5039, .. });
-    assert!(rt; is_no);
+    let instance = instance_of(rt.alloc(), &EIGHT)?;
+    assert!(rt; is_refuted_deep(rt.alloc(), &instance)?);
     Ok(())
+}
+
+// Whether the run that finishes the second child first does.
+fn is_refuted_backwards(alloc: Global, instance: &Instance) -> Result<bool, NoMemory> {
+    let tree = ClassTree::new(alloc, instance, false)?;
+    let joined = run_whole(alloc, &tree)?;
+    is_refuted(alloc, &tree, joined, 5)
 }
 
 #[test]
 fn pieces_in_any_order_join_to_the_refutation(rt: HostRuntime) -> Result<(), Fail> {
-    let alloc = rt.alloc();
-    let instance = instance_of(alloc, &FOUR)?;
-    let tree = ClassTree::new(alloc, &instance, false)?;
-    let joined = run_whole(alloc, &tree)?.unwrap_or(Outcome::Past);
-    assert!(rt; is_same(&joined, &tree.explore(alloc, &[], 5)?));
-    let is_no = matches!(joined, Outcome::No { count: 5, .. });
-    assert!(rt; is_no);
+    let instance = instance_of(rt.alloc(), &FOUR)?;
+    assert!(rt; is_refuted_backwards(rt.alloc(), &instance)?);
     Ok(())
+}
+
+// Whether the run under a budget of 2 is past it.
+fn is_past(alloc: Global, instance: &Instance) -> Result<bool, NoMemory> {
+    let joined = run_past(alloc, &ClassTree::new(alloc, instance, false)?)?;
+    Ok(matches!(&joined, Some(Outcome::Past)))
 }
 
 #[test]
 fn a_leftmost_run_past_the_budget_ends_the_search(rt: HostRuntime) -> Result<(), Fail> {
-    let alloc = rt.alloc();
-    let instance = instance_of(alloc, &FOUR)?;
-    let tree = ClassTree::new(alloc, &instance, false)?;
-    let joined = run_past(alloc, &tree)?;
-    let is_past = matches!(joined, Some(Outcome::Past));
-    assert!(rt; is_past);
+    let instance = instance_of(rt.alloc(), &FOUR)?;
+    assert!(rt; is_past(rt.alloc(), &instance)?);
     Ok(())
 }
 

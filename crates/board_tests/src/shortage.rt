@@ -1,7 +1,7 @@
 //! A worker that is short of memory, at each moment of a run.
 use crate::rows::{FOUR, instance_of};
 use crate::runner::{Met, drive};
-use box_instances::NoMemory;
+use box_instances::{Instance, NoMemory};
 use class_search::ClassTree;
 use std::alloc::Global;
 use std::test::Fail;
@@ -30,13 +30,24 @@ fn stays_short(alloc: Global, tree: &ClassTree<'_>, moment: usize) -> Result<boo
     Ok(!was_short && is_noted && board.is_short() && board.is_over() && notes == 1)
 }
 
+// Whether that is so at each moment.
+fn stays_short_at_each(alloc: Global, tree: &ClassTree<'_>) -> Result<bool, NoMemory> {
+    for moment in 0..=NUMBERS.len() {
+        if !stays_short(alloc, tree, moment)? {
+            return Ok(false);
+        }
+    }
+    Ok(true)
+}
+
+// The same of the tree of an instance.
+fn its_tree_stays_short(alloc: Global, instance: &Instance) -> Result<bool, NoMemory> {
+    stays_short_at_each(alloc, &ClassTree::new(alloc, instance, false)?)
+}
+
 #[test]
 fn a_shortage_ends_the_search_at_each_moment(rt: HostRuntime) -> Result<(), Fail> {
-    let alloc = rt.alloc();
-    let instance = instance_of(alloc, &FOUR)?;
-    let tree = ClassTree::new(alloc, &instance, false)?;
-    for moment in 0..=NUMBERS.len() {
-        assert!(rt; stays_short(alloc, &tree, moment)?, "at {moment}");
-    }
+    let instance = instance_of(rt.alloc(), &FOUR)?;
+    assert!(rt; its_tree_stays_short(rt.alloc(), &instance)?);
     Ok(())
 }

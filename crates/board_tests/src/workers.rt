@@ -2,7 +2,7 @@
 //! thread.
 use crate::compare::is_same;
 use crate::rows::{EIGHT, LATE, ROWS, Row, instance_of};
-use box_instances::NoMemory;
+use box_instances::{Instance, NoMemory};
 use class_search::ClassTree;
 use proof_tree::Outcome;
 use std::alloc::Global;
@@ -274,16 +274,24 @@ impl Gate for Hold {
     }
 }
 
-#[test]
-fn two_tasks_are_explored_at_the_same_time(rt: HostRuntime) -> Result<(), Fail> {
-    let alloc = rt.alloc();
-    let instance = instance_of(alloc, &EIGHT)?;
-    let tree = ClassTree::new(alloc, &instance, EIGHT.scales)?;
+// Whether two workers of the tree of an instance meet so.
+fn do_meet<R: Threads + Wait + Sync>(
+    rt: &R,
+    alloc: Global,
+    instance: &Instance,
+) -> Result<bool, NoMemory> {
+    let tree = ClassTree::new(alloc, instance, EIGHT.scales)?;
     let hold = Hold {
         is_explored: AtomicU64::new(0),
         was_met: AtomicU64::new(0),
     };
-    share(&rt, alloc, &tree, 5039, 2, &hold)?;
-    assert!(rt; hold.was_met.load(Ordering::SeqCst) == 1);
+    share(rt, alloc, &tree, 5039, 2, &hold)?;
+    Ok(hold.was_met.load(Ordering::SeqCst) == 1)
+}
+
+#[test]
+fn two_tasks_are_explored_at_the_same_time(rt: HostRuntime) -> Result<(), Fail> {
+    let instance = instance_of(rt.alloc(), &EIGHT)?;
+    assert!(rt; do_meet(&rt, rt.alloc(), &instance)?);
     Ok(())
 }

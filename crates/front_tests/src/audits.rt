@@ -37,8 +37,13 @@ fn lines(alloc: Global, width: u32, last: u32, missing: usize) -> Result<Vec<Fro
     Ok(lines)
 }
 
-// The verdict on these lines, as all of a front of two points.
-fn verdict(alloc: Global, lines: &[FrontLine]) -> Result<FrontVerdict, Fail> {
+// The verdict on such lines, as all of a front of two points.
+fn verdict(alloc: Global, width: u32, last: u32, missing: usize) -> Result<FrontVerdict, Fail> {
+    let lines = lines(alloc, width, last, missing)?;
+    audited(alloc, &lines)
+}
+
+fn audited(alloc: Global, lines: &[FrontLine]) -> Result<FrontVerdict, Fail> {
     let pair = pair(alloc)?;
     if pair.dims() != 2 {
         return Ok(FrontVerdict::Short);
@@ -48,30 +53,30 @@ fn verdict(alloc: Global, lines: &[FrontLine]) -> Result<FrontVerdict, Fail> {
 
 #[test]
 fn good_lines_and_those_that_end_early(rt: HostRuntime) -> Result<(), Fail> {
-    let alloc = rt.alloc();
-    assert!(rt; verdict(alloc, &lines(alloc, 3, 2, 0)?)? == FrontVerdict::Good);
+    assert!(rt; verdict(rt.alloc(), 3, 2, 0)? == FrontVerdict::Good);
     for missing in 1..10 {
-        assert!(rt; verdict(alloc, &lines(alloc, 3, 2, missing)?)? == FrontVerdict::Short);
+        assert!(rt; verdict(rt.alloc(), 3, 2, missing)? == FrontVerdict::Short);
     }
     Ok(())
 }
 
+const NARROW: FrontVerdict = FrontVerdict::Refused {
+    index: 7,
+    reason: FrontReason::Tree(RefuseCode::Range),
+};
+
+const CROSSING: FrontVerdict = FrontVerdict::Refused {
+    index: 9,
+    reason: FrontReason::Places(PlaceVerdict::Overlap {
+        first: 0,
+        second: 1,
+    }),
+};
+
 // The corner of width 2 is refuted, and the point behind it is too wide for it.
 #[test]
 fn the_first_line_that_is_not_allowed_is_named(rt: HostRuntime) -> Result<(), Fail> {
-    let alloc = rt.alloc();
-    let narrow = FrontVerdict::Refused {
-        index: 7,
-        reason: FrontReason::Tree(RefuseCode::Range),
-    };
-    assert!(rt; verdict(alloc, &lines(alloc, 2, 2, 0)?)? == narrow);
-    let crossing = FrontVerdict::Refused {
-        index: 9,
-        reason: FrontReason::Places(PlaceVerdict::Overlap {
-            first: 0,
-            second: 1,
-        }),
-    };
-    assert!(rt; verdict(alloc, &lines(alloc, 3, 1, 0)?)? == crossing);
+    assert!(rt; verdict(rt.alloc(), 2, 2, 0)? == NARROW);
+    assert!(rt; verdict(rt.alloc(), 3, 1, 0)? == CROSSING);
     Ok(())
 }

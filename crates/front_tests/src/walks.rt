@@ -1,7 +1,11 @@
 //! Walks along a front, with one worker and with two.
 use crate::texts::pair;
+use box_instances::Instance;
 use size_front::{Corner, Point, least_sizes};
+use std::alloc::Global;
+use std::sync::Wait;
 use std::test::Fail;
+use std::thread::Threads;
 use work_share::{NoGate, Settings};
 
 fn settings(workers: u32, budget: u64) -> Settings {
@@ -34,31 +38,46 @@ fn are_points(points: &[Point]) -> bool {
         && is_point(&points[1], 4, 1, &[0, 0, 2, 0])
 }
 
+// Whether so many workers come to both points, with the corners before them.
+fn is_whole<R: Threads + Wait + Sync>(
+    rt: &R,
+    alloc: Global,
+    pair: &Instance,
+    workers: u32,
+) -> Result<bool, Fail> {
+    if pair.dims() != 2 {
+        return Ok(false);
+    }
+    let front = least_sizes(rt, alloc, pair, &settings(workers, 2), &NoGate)?;
+    Ok(front.complete && are_corners(&front.corners) && are_points(&front.points))
+}
+
 #[test]
 fn a_pair_has_two_least_sizes(rt: HostRuntime) -> Result<(), Fail> {
-    let alloc = rt.alloc();
-    let pair = pair(alloc)?;
-    assert!(rt; pair.dims() == 2);
-    for workers in [1, 2] {
-        let front = least_sizes(&rt, alloc, &pair, &settings(workers, 2), &NoGate)?;
-        assert!(rt; front.complete);
-        assert!(rt; are_corners(&front.corners));
-        assert!(rt; are_points(&front.points));
-    }
+    let pair = pair(rt.alloc())?;
+    assert!(rt; is_whole(&rt, rt.alloc(), &pair, 1)?);
+    assert!(rt; is_whole(&rt, rt.alloc(), &pair, 2)?);
     Ok(())
 }
 
-// The whole container takes two branchings.
+// Whether so many workers come to nothing. The whole container takes two branchings.
+fn is_spent<R: Threads + Wait + Sync>(
+    rt: &R,
+    alloc: Global,
+    pair: &Instance,
+    workers: u32,
+) -> Result<bool, Fail> {
+    if pair.dims() != 2 {
+        return Ok(false);
+    }
+    let front = least_sizes(rt, alloc, pair, &settings(workers, 1), &NoGate)?;
+    Ok(!front.complete && front.points.is_empty() && front.corners.is_empty())
+}
+
 #[test]
 fn a_budget_that_is_spent_ends_the_walk(rt: HostRuntime) -> Result<(), Fail> {
-    let alloc = rt.alloc();
-    let pair = pair(alloc)?;
-    assert!(rt; pair.dims() == 2);
-    for workers in [1, 2] {
-        let front = least_sizes(&rt, alloc, &pair, &settings(workers, 1), &NoGate)?;
-        assert!(rt; !front.complete);
-        assert!(rt; front.points.is_empty());
-        assert!(rt; front.corners.is_empty());
-    }
+    let pair = pair(rt.alloc())?;
+    assert!(rt; is_spent(&rt, rt.alloc(), &pair, 1)?);
+    assert!(rt; is_spent(&rt, rt.alloc(), &pair, 2)?);
     Ok(())
 }

@@ -1,6 +1,6 @@
 //! Tests of instances: their faults, their parts, their copies, the rank of their boxes, and those
 //! that are made of a number.
-use box_instances::{BoxItem, Instance, InstanceFault, Sides, make};
+use box_instances::{BoxItem, Instance, InstanceFault, NoMemory, Sides, make};
 use std::alloc::{AllocError, Global};
 use std::test::Fail;
 
@@ -197,9 +197,7 @@ fn a_copy_with_kerf_tells_written_and_working_sides(rt: HostRuntime) -> Result<(
 // Boxes that have the volumes 9, 18, 8 and 18 with the kerfs 1 and 0.
 const RANKED: [[u32; 2]; 4] = [[2, 3], [1, 9], [3, 2], [2, 6]];
 
-#[test]
-fn equal_volumes_are_ranked_by_number(rt: HostRuntime) -> Result<(), Fail> {
-    let alloc = rt.alloc();
+fn ranked_boxes(alloc: Global) -> Result<Vec<BoxItem>, AllocError> {
     let mut boxes = Vec::new(alloc);
     for sides in RANKED {
         boxes.push(BoxItem {
@@ -207,21 +205,40 @@ fn equal_volumes_are_ranked_by_number(rt: HostRuntime) -> Result<(), Fail> {
             value: 1,
         })?;
     }
-    let instance = made(alloc, &[10, 9], Some(&[1, 0]), boxes)??;
+    Ok(boxes)
+}
+
+#[test]
+fn equal_volumes_are_ranked_by_number(rt: HostRuntime) -> Result<(), Fail> {
+    let boxes = ranked_boxes(rt.alloc())?;
+    let instance = made(rt.alloc(), &[10, 9], Some(&[1, 0]), boxes)??;
     assert!(rt; instance.volume() == 9 + 18 + 8 + 18 && instance.sides_fit());
-    assert!(rt; instance.rank_order(alloc)?.as_slice() == [1, 3, 0, 2].as_slice());
+    assert!(rt; instance.rank_order(rt.alloc())?.as_slice() == [1, 3, 0, 2].as_slice());
+    Ok(())
+}
+
+// The same with the last side 0, and that with the greatest one.
+fn copied_low(alloc: Global) -> Result<Instance, Fail> {
+    Ok(copied(alloc)?.with_last_side(alloc, 0)?)
+}
+
+fn copied_high(alloc: Global) -> Result<Instance, Fail> {
+    Ok(copied_low(alloc)?.with_last_side(alloc, 128_000_000)?)
+}
+
+#[test]
+fn another_last_side_is_told(rt: HostRuntime) -> Result<(), Fail> {
+    let low = copied_low(rt.alloc())?;
+    assert!(rt; parts_of(&low, 1, 1) == Some(([2, 0, 2, 4, 6], 7)));
     Ok(())
 }
 
 #[test]
 fn another_last_side_leaves_the_rest(rt: HostRuntime) -> Result<(), Fail> {
-    let alloc = rt.alloc();
-    let low = copied(alloc)?.with_last_side(alloc, 0)?;
-    assert!(rt; parts_of(&low, 1, 1) == Some(([2, 0, 2, 4, 6], 7)));
-    let high = low.with_last_side(alloc, 128_000_000)?;
+    let high = copied_high(rt.alloc())?;
+    let first = [100_000, 900_000, 1_000_000, 900_000, 1_000_000];
     assert!(rt; parts_of(&high, 1, 1) == Some(([2, 128_000_000, 128_000_002, 4, 6], 7)));
-    let first = parts_of(&high, 1, 0);
-    assert!(rt; first == Some(([100_000, 900_000, 1_000_000, 900_000, 1_000_000], 7)));
+    assert!(rt; parts_of(&high, 1, 0) == Some((first, 7)));
     Ok(())
 }
 
@@ -253,12 +270,15 @@ const MADE_BY_1: [[u32; 2]; 7] = [
     [61, 226],
 ];
 
+// Whether the instance that is made of a number has these boxes and this volume.
+fn is_made(alloc: Global, number: u32, boxes: &[[u32; 2]], volume: u128) -> Result<bool, NoMemory> {
+    let instance = make(alloc, number)?;
+    Ok(has_made_boxes(&instance, boxes) && instance.volume() == volume)
+}
+
 #[test]
 fn instances_are_made(rt: HostRuntime) -> Result<(), Fail> {
-    let alloc = rt.alloc();
-    let first = make(alloc, 0)?;
-    assert!(rt; has_made_boxes(&first, &[[219, 239]]) && first.volume() == 52_341);
-    let second = make(alloc, 1)?;
-    assert!(rt; has_made_boxes(&second, MADE_BY_1.as_slice()) && second.volume() == 76_542);
+    assert!(rt; is_made(rt.alloc(), 0, &[[219, 239]], 52_341)?);
+    assert!(rt; is_made(rt.alloc(), 1, &MADE_BY_1, 76_542)?);
     Ok(())
 }

@@ -6,8 +6,16 @@ use std::test::Fail;
 
 const GOOD: PlaceVerdict = PlaceVerdict::Good;
 
-// Containers, kerfs, the sides of the boxes, the places, and the verdict.
-const VERDICTS: [(&[u32], &[u32], &[&[u32]], &[u32], PlaceVerdict); 12] = [
+// A container, kerfs, the sides of the boxes, the places, and the verdict.
+type Case = (
+    &'static [u32],
+    &'static [u32],
+    &'static [&'static [u32]],
+    &'static [u32],
+    PlaceVerdict,
+);
+
+const VERDICTS: [Case; 12] = [
     // Touching is allowed without a kerf, and the last unit of the container may be filled.
     (&[10, 10], &[0, 0], &[&[6, 4], &[6, 6]], &[0, 0, 0, 4], GOOD),
     (
@@ -125,14 +133,24 @@ fn instance_of(
     Ok(Instance::with_kerf(container, kerf, items)?)
 }
 
+// The verdict of places, where there is one coordinate for each box and dimension.
+fn verdict_of(instance: &Instance, places: &[u32]) -> Option<PlaceVerdict> {
+    if places.len() != instance.len() as usize * instance.dims() as usize {
+        return None;
+    }
+    Some(check_places(instance, places))
+}
+
+fn is_told(alloc: Global, case: &Case) -> Result<bool, Fail> {
+    let (container, kerf, boxes, places, verdict) = *case;
+    let instance = instance_of(alloc, container, kerf, boxes)?;
+    Ok(verdict_of(&instance, places) == Some(verdict))
+}
+
 #[test]
 fn each_verdict_is_the_first_that_fails(rt: HostRuntime) -> Result<(), Fail> {
-    let alloc = rt.alloc();
-    for (container, kerf, boxes, places, verdict) in VERDICTS {
-        let instance = instance_of(alloc, container, kerf, boxes)?;
-        let count = instance.len() as usize * instance.dims() as usize;
-        assert!(rt; places.len() == count);
-        assert!(rt; check_places(&instance, places) == verdict);
+    for case in &VERDICTS {
+        assert!(rt; is_told(rt.alloc(), case)?);
     }
     Ok(())
 }

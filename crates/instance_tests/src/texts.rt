@@ -56,16 +56,19 @@ fn the_first_faulty_line_is_told_with_its_code(rt: HostRuntime) -> Result<(), Fa
     Ok(())
 }
 
-#[test]
-fn there_are_at_most_128_boxes(rt: HostRuntime) -> Result<(), Fail> {
-    let alloc = rt.alloc();
+// What a text of so many boxes is told as.
+fn boxes_told(alloc: Global, count: u32) -> Result<(u64, u8), AllocError> {
     let mut text = Vec::from_slice(alloc, b"format 1\ncontainer 5 5\n")?;
-    for _ in 0..128 {
+    for _ in 0..count {
         text.extend_from_slice(b"box 1 1\n")?;
     }
-    assert!(rt; told(alloc, &text) == (128, 0));
-    text.extend_from_slice(b"box 1 1\n")?;
-    assert!(rt; told(alloc, &text) == (131, 9));
+    Ok(told(alloc, &text))
+}
+
+#[test]
+fn there_are_at_most_128_boxes(rt: HostRuntime) -> Result<(), Fail> {
+    assert!(rt; boxes_told(rt.alloc(), 128)? == (128, 0));
+    assert!(rt; boxes_told(rt.alloc(), 129)? == (131, 9));
     Ok(())
 }
 
@@ -75,6 +78,13 @@ fn a_text_of_spaces_is_one_blank_line(rt: HostRuntime) -> Result<(), Fail> {
     let spaces = vec![in alloc; 32u8; 1048576]?;
     assert!(rt; told(alloc, &spaces) == (2, 7));
     Ok(())
+}
+
+// What a text of these lines and those behind them is told as.
+fn told_behind(alloc: Global, head: &[u8], lines: &[u8]) -> Result<(u64, u8), AllocError> {
+    let mut text = Vec::from_slice(alloc, head)?;
+    text.extend_from_slice(lines)?;
+    Ok(told(alloc, &text))
 }
 
 // Lines behind a line `format 1` and a line `container 5 5`, each with what the text is told as.
@@ -105,9 +115,8 @@ const THIRD_LINES: [(&[u8], u64, u8); 20] = [
 fn the_tests_of_a_line_have_their_order(rt: HostRuntime) -> Result<(), Fail> {
     let alloc = rt.alloc();
     for (line, number, code) in THIRD_LINES {
-        let mut text = Vec::from_slice(alloc, b"format 1\ncontainer 5 5\n")?;
-        text.extend_from_slice(line)?;
-        assert!(rt; told(alloc, &text) == (number, code));
+        let head = b"format 1\ncontainer 5 5\n";
+        assert!(rt; told_behind(alloc, head, line)? == (number, code));
     }
     Ok(())
 }
@@ -149,9 +158,8 @@ const FORMAT_2: [(&[u8], u64, u8); 24] = [
 fn a_kerf_and_repeats_are_read_in_format_2(rt: HostRuntime) -> Result<(), Fail> {
     let alloc = rt.alloc();
     for (lines, number, code) in FORMAT_2 {
-        let mut text = Vec::from_slice(alloc, b"format 2\ncontainer 5 7\n")?;
-        text.extend_from_slice(lines)?;
-        assert!(rt; told(alloc, &text) == (number, code));
+        let head = b"format 2\ncontainer 5 7\n";
+        assert!(rt; told_behind(alloc, head, lines)? == (number, code));
     }
     Ok(())
 }
@@ -210,8 +218,7 @@ const ORDERS: [(&[u8], u64, u8); 30] = [
 fn each_line_left_out_doubled_or_swapped_gives_its_code(rt: HostRuntime) -> Result<(), Fail> {
     let alloc = rt.alloc();
     for (order, number, code) in ORDERS {
-        let text = of_lines(alloc, order)?;
-        assert!(rt; told(alloc, &text) == (number, code));
+        assert!(rt; told(alloc, &of_lines(alloc, order)?) == (number, code));
     }
     Ok(())
 }
@@ -268,16 +275,19 @@ fn format_2_is_written_exactly_where_some_kerf_is_not_0(rt: HostRuntime) -> Resu
     Ok(())
 }
 
+// Whether a text whose writing fails behind eleven bytes leaves these.
+fn leaves(alloc: Global, text: &[u8], front: &[u8]) -> Result<bool, Fail> {
+    let instance = read_instance(alloc, text)?;
+    let plan = Vec::from_slice(alloc, &[WriteStep::Take(11), WriteStep::Fail])?;
+    let mut sink = MemorySink::new(alloc, 1000, plan)?;
+    let is_fault = write_instance(&instance, &mut sink) == Err(WriteFault);
+    Ok(is_fault && sink.written() == front)
+}
+
 #[test]
 fn a_write_fault_leaves_a_part_from_the_front(rt: HostRuntime) -> Result<(), Fail> {
-    let alloc = rt.alloc();
-    let instance = read_instance(alloc, b"format 1\ncontainer 9 8\nbox 1 2\n")?;
-    let mut plan = Vec::new(alloc);
-    plan.push(WriteStep::Take(11))?;
-    plan.push(WriteStep::Fail)?;
-    let mut sink = MemorySink::new(alloc, 1000, plan)?;
-    assert!(rt; write_instance(&instance, &mut sink) == Err(WriteFault));
-    assert!(rt; sink.written() == b"format 1\nco".as_slice());
+    let text = b"format 1\ncontainer 9 8\nbox 1 2\n";
+    assert!(rt; leaves(rt.alloc(), text, b"format 1\nco")?);
     Ok(())
 }
 
@@ -298,40 +308,75 @@ fn has_word(lexer: &LineLexer, k: u32, word: &[u8]) -> bool {
     false
 }
 
+// Lines, how many words each has, the number of one of them and that word, and whether there is a
+// bad byte.
+const LEXED: [(&[u8], u32, u32, &[u8], bool); 7] = [
+    (SPACED, 3, 0, b"ab", false),
+    (SPACED, 3, 1, b"c12345678901234567890", false),
+    (SPACED, 3, 2, b"d", false),
+    (b"1 2 3 4 5 6 7 8 9 10 11 12 13 14\r", 13, 11, b"12", false),
+    (b"a b\r\r", 2, 0, b"a", true),
+    (b"a b\r#", 2, 0, b"a", true),
+    (b"a b#\r\r", 2, 0, b"a", false),
+];
+
+const SPACED: &[u8] = b"ab \tc12345678901234567890x d # e \xff\r";
+
+fn is_lexed(line: &[u8], words: u32, k: u32, word: &[u8], is_bad: bool) -> bool {
+    let lexer = lexer_after(line);
+    let is_counted = lexer.line_number() == 1 && lexer.word_count() == words;
+    is_counted && lexer.bad_byte() == is_bad && has_word(&lexer, k, word)
+}
+
 #[test]
 fn a_lexer_tells_its_line(rt: HostRuntime) -> Result<(), Fail> {
-    let line = lexer_after(b"ab \tc12345678901234567890x d # e \xff\r");
-    assert!(rt; (line.line_number(), line.word_count()) == (1, 3));
-    assert!(rt; !line.bad_byte());
-    assert!(rt; has_word(&line, 0, b"ab"));
-    assert!(rt; has_word(&line, 1, b"c12345678901234567890"));
-    assert!(rt; has_word(&line, 2, b"d"));
-    let long = lexer_after(b"1 2 3 4 5 6 7 8 9 10 11 12 13 14\r");
-    assert!(rt; long.word_count() == 13);
-    assert!(rt; has_word(&long, 11, b"12"));
-    assert!(rt; lexer_after(b"a\r\r").bad_byte());
-    assert!(rt; lexer_after(b"a\r#").bad_byte());
-    assert!(rt; !lexer_after(b"#\r\r").bad_byte());
-    let mut empty = LineLexer::new();
-    assert!(rt; empty.finish() == LexStep::More);
-    assert!(rt; empty.feed(b'\n') == LexStep::Line);
-    assert!(rt; (empty.line_number(), empty.word_count()) == (1, 0));
+    for (line, words, k, word, is_bad) in LEXED {
+        assert!(rt; is_lexed(line, words, k, word, is_bad));
+    }
     Ok(())
+}
+
+// Whether an empty line ends with its line feed alone.
+fn ends_with_its_line_feed() -> bool {
+    let mut lexer = LineLexer::new();
+    let is_open = lexer.finish() == LexStep::More;
+    let is_ended = lexer.feed(b'\n') == LexStep::Line;
+    is_open && is_ended && lexer.line_number() == 1 && lexer.word_count() == 0
+}
+
+#[test]
+fn an_empty_line_is_told_at_its_line_feed(rt: HostRuntime) -> Result<(), Fail> {
+    assert!(rt; ends_with_its_line_feed());
+    Ok(())
+}
+
+// Whether a reader that met a box before the format keeps that error.
+fn keeps_its_error(alloc: Global) -> bool {
+    let error = ReadTextError::Fault(TextFault { line: 1, code: 5 });
+    let mut reader = InstanceReader::new(alloc);
+    let is_told = reader.line(&lexer_after(b"box 1 1")) == Err(error);
+    let is_kept = reader.line(&lexer_after(b"format 1")) == Err(error);
+    is_told && is_kept && reader.finish(2).err() == Some(error)
 }
 
 #[test]
 fn a_reader_keeps_its_error(rt: HostRuntime) -> Result<(), Fail> {
-    let alloc = rt.alloc();
+    assert!(rt; keeps_its_error(rt.alloc()));
+    Ok(())
+}
+
+// How many boxes a reader of four lines, one of them empty, ends with.
+fn read_line_by_line(alloc: Global) -> Result<u32, Fail> {
     let mut reader = InstanceReader::new(alloc);
-    let error = ReadTextError::Fault(TextFault { line: 1, code: 5 });
-    assert!(rt; reader.line(&lexer_after(b"box 1 1")) == Err(error));
-    assert!(rt; reader.line(&lexer_after(b"format 1")) == Err(error));
-    assert!(rt; reader.finish(2).err() == Some(error));
-    let mut other = InstanceReader::new(alloc);
-    assert!(rt; other.line(&lexer_after(b"format 1")) == Ok(()));
-    assert!(rt; other.line(&lexer_after(b"")) == Ok(()));
-    assert!(rt; other.line(&lexer_after(b"container 3 3")) == Ok(()));
-    assert!(rt; other.line(&lexer_after(b"box 1 1")) == Ok(()));
-    assert!(rt; other.finish(4)?.len() == 1);
+    reader.line(&lexer_after(b"format 1"))?;
+    reader.line(&lexer_after(b""))?;
+    reader.line(&lexer_after(b"container 3 3"))?;
+    reader.line(&lexer_after(b"box 1 1"))?;
+    Ok(reader.finish(4)?.len())
+}
+
+#[test]
+fn a_reader_takes_its_lines_one_by_one(rt: HostRuntime) -> Result<(), Fail> {
+    assert!(rt; read_line_by_line(rt.alloc())? == 1);
     Ok(())
 }

@@ -1,6 +1,5 @@
 //! Tests of the rules of pairs, triples and chains.
-ghost use Rattle.std.specs.Prelude.{◌≡◌, ◌<◌, [], ◌∷◌, IfOk};
-ghost use Rattle.packing_terms.specs.Packing.{dims, box_count};
+ghost use Rattle.std.specs.Prelude.{◌≡◌, [], ◌∷◌, IfOk};
 ghost use Rattle.packing_terms.specs.declared.Rel.TheVariants.{Overlap, After};
 ghost use Rattle.packing_terms.specs.Exclusions.{exclusion_at};
 
@@ -14,35 +13,63 @@ use std::alloc::Global;
 use std::process::Abort;
 use std::test::Fail;
 
+// Whether PAIR takes something away from two boxes in a dimension, and what is left of them.
+fn left_by_pair(
+    instance: &Instance,
+    state: &mut EdgeState,
+    dim: u32,
+    u: u32,
+    v: u32,
+) -> Option<(bool, u8)> {
+    if instance.dims() != 2 || instance.len() != 2 || state.dims() != 2 || state.boxes() != 2 {
+        return None;
+    }
+    if dim >= 2 || u >= 2 || v >= 2 || u == v {
+        return None;
+    }
+    let is_changed = apply_pair(instance, state, dim, u, v);
+    Some((is_changed, state.mask(dim, u, v).bits()))
+}
+
 #[test]
 fn boxes_too_long_together_overlap(rt: HostRuntime) -> Result<(), Fail> {
     let instance = instance_of(&rt, rt.alloc(), &[[6, 6], [5, 4]])?;
     let mut state = state_without(&rt, rt.alloc(), 2, 2, &[], 0)?;
-    assert!(rt; apply_pair(&instance, &mut state, 0, 0, 1));
-    assert!(rt; state.mask(0, 0, 1).bits() == 1);
-    assert!(rt; !apply_pair(&instance, &mut state, 0, 1, 0));
-    assert!(rt; !apply_pair(&instance, &mut state, 1, 0, 1));
-    assert!(rt; state.mask(1, 0, 1).bits() == 7);
+    assert!(rt; left_by_pair(&instance, &mut state, 0, 0, 1) == Some((true, 1)));
+    assert!(rt; left_by_pair(&instance, &mut state, 0, 1, 0) == Some((false, 1)));
+    assert!(rt; left_by_pair(&instance, &mut state, 1, 0, 1) == Some((false, 7)));
     Ok(())
 }
 
+// What APART leaves of two boxes in the first of three dimensions, where it takes something away.
+fn left_by_apart(
+    rt: &impl Abort,
+    alloc: Global,
+    gone: &[(u32, u32, u32, Rel)],
+    skipped: usize,
+) -> Result<Option<u8>, Fail> {
+    let mut state = state_without(rt, alloc, 3, 2, gone, skipped)?;
+    if !apply_apart(&mut state, 0, 0, 1) {
+        return Ok(None);
+    }
+    let left = state.mask(0, 0, 1).bits();
+    assert!(rt; !apply_apart(&mut state, 0, 1, 0));
+    Ok(Some(left))
+}
+
+const JOINED: [(u32, u32, u32, Rel); 4] = [
+    (1, 0, 1, Rel::Before),
+    (1, 0, 1, Rel::After),
+    (2, 0, 1, Rel::Before),
+    (2, 0, 1, Rel::After),
+];
+
 #[test]
 fn boxes_joined_elsewhere_are_apart(rt: HostRuntime) -> Result<(), Fail> {
-    let joined = [
-        (1, 0, 1, Rel::Before),
-        (1, 0, 1, Rel::After),
-        (2, 0, 1, Rel::Before),
-        (2, 0, 1, Rel::After),
-    ];
-    for skipped in 0..4 {
-        let mut state = state_without(&rt, rt.alloc(), 3, 2, &joined, skipped)?;
-        assert!(rt; !apply_apart(&mut state, 0, 0, 1));
-        assert!(rt; state.mask(0, 0, 1).bits() == 7);
+    for skipped in 0..JOINED.len() {
+        assert!(rt; left_by_apart(&rt, rt.alloc(), &JOINED, skipped)? == None);
     }
-    let mut state = state_without(&rt, rt.alloc(), 3, 2, &joined, 4)?;
-    assert!(rt; apply_apart(&mut state, 0, 0, 1));
-    assert!(rt; state.mask(0, 0, 1).bits() == 6);
-    assert!(rt; !apply_apart(&mut state, 0, 1, 0));
+    assert!(rt; left_by_apart(&rt, rt.alloc(), &JOINED, JOINED.len())? == Some(6));
     Ok(())
 }
 
@@ -55,10 +82,10 @@ fn left_by_triple(
     dim: u32,
     gone: &[(u32, u32, u32, Rel)],
     skipped: usize,
-) -> Result<Option<u8>, Fail>
-    requires sizes { (dims instance.now ≡ 2) × (box_count instance.now ≡ 3) }
-    requires dim { dim < 2 }
-{
+) -> Result<Option<u8>, Fail> {
+    if instance.dims() != 2 || instance.len() != 3 || dim >= 2 {
+        return Ok(None);
+    }
     let mut state = state_without(rt, alloc, 2, 3, gone, skipped)?;
     if !apply_triple(instance, &mut state, dim, 0, 1, 2) {
         return Ok(None);
@@ -66,16 +93,31 @@ fn left_by_triple(
     Ok(Some(state.mask(dim, 0, 1).bits()))
 }
 
+// Whether TRIPLE takes nothing away while one of the premises is left out.
+fn needs_each(
+    rt: &impl Abort,
+    alloc: Global,
+    instance: &Instance,
+    gone: &[(u32, u32, u32, Rel)],
+) -> Result<bool, Fail> {
+    for skipped in 0..gone.len() {
+        if left_by_triple(rt, alloc, instance, 0, gone, skipped)?.is_some() {
+            return Ok(false);
+        }
+    }
+    Ok(true)
+}
+
+const APART: [(u32, u32, u32, Rel); 2] = [(0, 0, 2, Rel::Overlap), (0, 1, 2, Rel::Overlap)];
+
+const SHORT: [(u32, u32, u32, Rel); 2] = [(1, 0, 2, Rel::Overlap), (1, 1, 2, Rel::Overlap)];
+
 #[test]
 fn two_of_three_boxes_too_long_together_overlap(rt: HostRuntime) -> Result<(), Fail> {
     let instance = instance_of(&rt, rt.alloc(), &[[4, 4], [4, 3], [3, 3]])?;
-    let apart = [(0, 0, 2, Rel::Overlap), (0, 1, 2, Rel::Overlap)];
-    for skipped in 0..2 {
-        assert!(rt; left_by_triple(&rt, rt.alloc(), &instance, 0, &apart, skipped)? == None);
-    }
-    assert!(rt; left_by_triple(&rt, rt.alloc(), &instance, 0, &apart, 2)? == Some(1));
-    let short = [(1, 0, 2, Rel::Overlap), (1, 1, 2, Rel::Overlap)];
-    assert!(rt; left_by_triple(&rt, rt.alloc(), &instance, 1, &short, 2)? == None);
+    assert!(rt; needs_each(&rt, rt.alloc(), &instance, &APART)?);
+    assert!(rt; left_by_triple(&rt, rt.alloc(), &instance, 0, &APART, 2)? == Some(1));
+    assert!(rt; left_by_triple(&rt, rt.alloc(), &instance, 1, &SHORT, 2)? == None);
     Ok(())
 }
 

@@ -1,21 +1,165 @@
 //! Tests of states: masks and their mirrors, undoing, and rows of one word and of two.
+ghost use Rattle.std.specs.Prelude.{◌≡◌, true};
+ghost use Rattle.packing_terms.specs.Exclusions.{IsEdgeAmong};
+
 use edge_state::{BitRow, EdgeState, Excluded, Rel};
+use std::alloc::Global;
 use std::test::Fail;
 
+// A dimension and two boxes.
+type Edge = (u32, u32, u32);
+
+// What is asked of a state, and what is answered: whether a relation is excluded, what is left of a
+// pair, whether it is surely before or joined; and of the row of a box and a relation how many
+// there are, the first one, and whether one is there.
+#[derive(Clone, Copy)]
+enum Step {
+    Excludes(Edge, Rel, Excluded),
+    Leaves(Edge, u8),
+    IsBefore(Edge, bool),
+    IsJoined(Edge, bool),
+    Counts(u32, u32, Rel, u32),
+    Begins(u32, u32, Rel, u32),
+    Has(u32, u32, Rel, u32, bool),
+}
+
+use Step::{Begins, Counts, Excludes, Has, IsBefore, IsJoined, Leaves};
+
+// Whether there are such a dimension and two such boxes.
+fn is_edge(state: &EdgeState, edge: Edge) -> bool
+    ensures { result ≡ true → IsEdgeAmong state.now.dims state.now.boxes edge.0 edge.1 edge.2 }
+{
+    let (dim, u, v) = edge;
+    dim < state.dims() && u < state.boxes() && v < state.boxes() && u != v
+}
+
+// What a pair answers.
+fn pair_answers(state: &mut EdgeState, step: Step, edge: Edge) -> bool {
+    let (dim, u, v) = edge;
+    if !is_edge(state, edge) {
+        return false;
+    }
+    match step {
+        Excludes(_, rel, answer) => state.exclude(dim, u, v, rel) == answer,
+        Leaves(_, bits) => state.mask(dim, u, v).bits() == bits,
+        IsBefore(_, answer) => state.sure_before(dim, u, v) == answer,
+        IsJoined(_, answer) => state.joined(dim, u, v) == answer,
+        _ => false,
+    }
+}
+
+// The row of a box, where there are such a dimension and such a box.
+fn row_of(state: &EdgeState, dim: u32, u: u32, rel: Rel) -> Option<BitRow<2>> {
+    if dim >= state.dims() || u >= state.boxes() {
+        return None;
+    }
+    Some(state.row(dim, u, rel))
+}
+
+// What a row answers.
+fn row_answers(row: BitRow<2>, step: Step) -> bool {
+    match step {
+        Counts(_, _, _, count) => row.count() == count,
+        Begins(_, _, _, first) => row.first() == Some(first),
+        Has(_, _, _, number, answer) => number < 128 && row.has(number) == answer,
+        _ => false,
+    }
+}
+
+fn answers(state: &mut EdgeState, step: Step) -> bool {
+    match step {
+        Excludes(edge, _, _) | Leaves(edge, _) | IsBefore(edge, _) | IsJoined(edge, _) => {
+            pair_answers(state, step, edge)
+        }
+        Counts(dim, u, rel, _) | Begins(dim, u, rel, _) | Has(dim, u, rel, _, _) => {
+            match row_of(state, dim, u, rel) {
+                Some(row) => row_answers(row, step),
+                None => false,
+            }
+        }
+    }
+}
+
+// The first step that is answered otherwise by a state of so many boxes in two dimensions.
+fn first_wrong(alloc: Global, boxes: u32, steps: &[Step]) -> Result<Option<usize>, Fail> {
+    if boxes == 0 || boxes > 128 {
+        return Ok(Some(0));
+    }
+    let mut state = EdgeState::new(alloc, 2, boxes)?;
+    for k in 0..steps.len() {
+        if !answers(&mut state, steps[k]) {
+            return Ok(Some(k));
+        }
+    }
+    Ok(None)
+}
+
+// Exclusions are told, and mirrored.
+const PAIRS: [Step; 9] = [
+    Excludes((0, 0, 1), Rel::Overlap, Excluded::New),
+    Excludes((0, 0, 1), Rel::Overlap, Excluded::Already),
+    Leaves((0, 1, 0), 6),
+    Excludes((0, 0, 1), Rel::Before, Excluded::New),
+    Leaves((0, 1, 0), 2),
+    Excludes((0, 1, 0), Rel::Before, Excluded::Empty),
+    Excludes((0, 1, 0), Rel::Before, Excluded::Empty),
+    Leaves((1, 0, 1), 7),
+    Leaves((0, 0, 2), 7),
+];
+
+// Pairs become surely before, or joined.
+const SURE: [Step; 10] = [
+    Excludes((0, 0, 1), Rel::Overlap, Excluded::New),
+    IsBefore((0, 0, 1), false),
+    Excludes((0, 0, 1), Rel::After, Excluded::New),
+    IsBefore((0, 0, 1), true),
+    IsBefore((0, 1, 0), false),
+    Excludes((1, 0, 1), Rel::Before, Excluded::New),
+    IsJoined((1, 0, 1), false),
+    Excludes((1, 0, 1), Rel::After, Excluded::New),
+    IsJoined((1, 1, 0), true),
+    IsJoined((0, 0, 1), false),
+];
+
+// A row has the boxes that are left.
+const ROW: [Step; 5] = [
+    Counts(0, 1, Rel::Before, 2),
+    Excludes((0, 1, 2), Rel::Before, Excluded::New),
+    Counts(0, 1, Rel::Before, 1),
+    Begins(0, 2, Rel::After, 0),
+    Counts(0, 2, Rel::After, 1),
+];
+
+// Rows of 64 boxes end with their word.
+const ONE_WORD: [Step; 7] = [
+    Counts(1, 63, Rel::Overlap, 63),
+    Has(1, 0, Rel::Overlap, 63, true),
+    Has(1, 0, Rel::Overlap, 64, false),
+    Excludes((1, 63, 0), Rel::Before, Excluded::New),
+    Begins(1, 63, Rel::Before, 1),
+    Has(1, 0, Rel::After, 63, false),
+    Leaves((1, 0, 63), 3),
+];
+
+// Rows of 65 boxes go on in a second word.
+const TWO_WORDS: [Step; 8] = [
+    Counts(1, 64, Rel::Before, 64),
+    Has(1, 63, Rel::Before, 64, true),
+    Excludes((1, 63, 64), Rel::Before, Excluded::New),
+    Excludes((1, 63, 64), Rel::Before, Excluded::Already),
+    Has(1, 63, Rel::Before, 64, false),
+    Has(1, 64, Rel::After, 63, false),
+    Leaves((1, 63, 64), 5),
+    Leaves((1, 64, 63), 3),
+];
+
 #[test]
-fn exclusions_are_told_and_mirrored(rt: HostRuntime) -> Result<(), Fail> {
-    let mut state = EdgeState::new(rt.alloc(), 2, 3)?;
-    assert!(rt; state.dims() == 2);
-    assert!(rt; state.boxes() == 3);
-    assert!(rt; state.exclude(0, 0, 1, Rel::Overlap) == Excluded::New);
-    assert!(rt; state.exclude(0, 0, 1, Rel::Overlap) == Excluded::Already);
-    assert!(rt; state.mask(0, 1, 0).bits() == 6);
-    assert!(rt; state.exclude(0, 0, 1, Rel::Before) == Excluded::New);
-    assert!(rt; state.mask(0, 1, 0).bits() == 2);
-    assert!(rt; state.exclude(0, 1, 0, Rel::Before) == Excluded::Empty);
-    assert!(rt; state.exclude(0, 1, 0, Rel::Before) == Excluded::Empty);
-    assert!(rt; state.mask(1, 0, 1).bits() == 7);
-    assert!(rt; state.mask(0, 0, 2).bits() == 7);
+fn states_answer_the_steps_of_the_rows(rt: HostRuntime) -> Result<(), Fail> {
+    assert!(rt; first_wrong(rt.alloc(), 3, &PAIRS)? == None);
+    assert!(rt; first_wrong(rt.alloc(), 2, &SURE)? == None);
+    assert!(rt; first_wrong(rt.alloc(), 3, &ROW)? == None);
+    assert!(rt; first_wrong(rt.alloc(), 64, &ONE_WORD)? == None);
+    assert!(rt; first_wrong(rt.alloc(), 65, &TWO_WORDS)? == None);
     Ok(())
 }
 
@@ -39,19 +183,22 @@ fn undo_gives_the_masks_at_the_mark(rt: HostRuntime) -> Result<(), Fail> {
     Ok(())
 }
 
+// What is left of a pair behind an exclusion that is undone.
+fn left_behind(state: &mut EdgeState, edge: Edge, rel: Rel) -> Option<u8> {
+    let (dim, u, v) = edge;
+    if !is_edge(state, edge) {
+        return None;
+    }
+    let mark = state.mark();
+    state.exclude(dim, u, v, rel);
+    state.undo(mark);
+    Some(state.mask(dim, v, u).bits())
+}
+
 #[test]
-fn pairs_are_surely_before_or_joined(rt: HostRuntime) -> Result<(), Fail> {
-    let mut state = EdgeState::new(rt.alloc(), 2, 2)?;
-    state.exclude(0, 0, 1, Rel::Overlap);
-    assert!(rt; !state.sure_before(0, 0, 1));
-    state.exclude(0, 0, 1, Rel::After);
-    assert!(rt; state.sure_before(0, 0, 1));
-    assert!(rt; !state.sure_before(0, 1, 0));
-    state.exclude(1, 0, 1, Rel::Before);
-    assert!(rt; !state.joined(1, 0, 1));
-    state.exclude(1, 0, 1, Rel::After);
-    assert!(rt; state.joined(1, 1, 0));
-    assert!(rt; !state.joined(0, 0, 1));
+fn a_second_word_is_given_back(rt: HostRuntime) -> Result<(), Fail> {
+    let mut state = EdgeState::new(rt.alloc(), 2, 65)?;
+    assert!(rt; left_behind(&mut state, (1, 63, 64), Rel::Before) == Some(7));
     Ok(())
 }
 
@@ -71,67 +218,54 @@ fn rows_are_sets(rt: HostRuntime) -> Result<(), Fail> {
     Ok(())
 }
 
-#[test]
-fn a_row_has_the_boxes_that_are_left(rt: HostRuntime) -> Result<(), Fail> {
-    let mut state = EdgeState::new(rt.alloc(), 2, 3)?;
-    assert!(rt; state.row(0, 1, Rel::Before).count() == 2);
-    state.exclude(0, 1, 2, Rel::Before);
-    assert!(rt; state.row(0, 1, Rel::Before).count() == 1);
-    assert!(rt; state.row(0, 2, Rel::After).first() == Some(0));
-    assert!(rt; state.row(0, 2, Rel::After).count() == 1);
-    Ok(())
+// How many boxes the row of the first of 64 has, read as one word and as three.
+fn counted(state: &EdgeState, rel: Rel) -> Option<(u32, u32)> {
+    if state.dims() != 2 || state.boxes() != 64 {
+        return None;
+    }
+    let one: BitRow<1> = state.row_in(1, 0, rel);
+    let three: BitRow<3> = state.row_in(1, 0, rel);
+    Some((one.count(), three.count()))
 }
 
 #[test]
-fn rows_of_64_boxes_end_with_their_word(rt: HostRuntime) -> Result<(), Fail> {
+fn rows_are_read_in_as_many_words_as_are_asked_for(rt: HostRuntime) -> Result<(), Fail> {
     let mut state = EdgeState::new(rt.alloc(), 2, 64)?;
-    assert!(rt; state.row(1, 63, Rel::Overlap).count() == 63);
-    assert!(rt; state.row(1, 0, Rel::Overlap).has(63));
-    assert!(rt; !state.row(1, 0, Rel::Overlap).has(64));
-    assert!(rt; state.exclude(1, 63, 0, Rel::Before) == Excluded::New);
-    assert!(rt; state.row(1, 63, Rel::Before).first() == Some(1));
-    assert!(rt; !state.row(1, 0, Rel::After).has(63));
-    assert!(rt; state.mask(1, 0, 63).bits() == 3);
-    let row: BitRow<1> = state.row_in(1, 0, Rel::Before);
-    assert!(rt; row.count() == 63);
-    let same: BitRow<3> = state.row_in(1, 0, Rel::After);
-    assert!(rt; same.count() == 62);
+    let edge = Excludes((1, 63, 0), Rel::Before, Excluded::New);
+    assert!(rt; answers(&mut state, edge));
+    assert!(rt; counted(&state, Rel::Before) == Some((63, 63)));
+    assert!(rt; counted(&state, Rel::After) == Some((62, 62)));
     Ok(())
 }
 
-#[test]
-fn rows_of_65_boxes_go_on_in_a_second_word(rt: HostRuntime) -> Result<(), Fail> {
-    let mut state = EdgeState::new(rt.alloc(), 2, 65)?;
-    assert!(rt; state.row(1, 64, Rel::Before).count() == 64);
-    assert!(rt; state.row(1, 63, Rel::Before).has(64));
-    let mark = state.mark();
-    assert!(rt; state.exclude(1, 63, 64, Rel::Before) == Excluded::New);
-    assert!(rt; state.exclude(1, 63, 64, Rel::Before) == Excluded::Already);
-    assert!(rt; !state.row(1, 63, Rel::Before).has(64));
-    assert!(rt; !state.row(1, 64, Rel::After).has(63));
-    assert!(rt; state.mask(1, 63, 64).bits() == 5);
-    assert!(rt; state.mask(1, 64, 63).bits() == 3);
-    state.undo(mark);
-    assert!(rt; state.mask(1, 64, 63).bits() == 7);
-    Ok(())
+// Excludes that the last of 128 boxes and one of the first 64 overlap.
+fn without_the_first_word(state: &mut EdgeState) -> bool {
+    for v in 0..64 {
+        if !answers(state, Excludes((0, 127, v), Rel::Overlap, Excluded::New)) {
+            return false;
+        }
+    }
+    true
 }
+
+const SECOND_WORD: [Step; 7] = [
+    Begins(0, 127, Rel::Overlap, 64),
+    Counts(0, 127, Rel::Overlap, 63),
+    Has(0, 127, Rel::Overlap, 63, false),
+    Has(0, 127, Rel::Overlap, 126, true),
+    Has(0, 127, Rel::Overlap, 127, false),
+    Has(0, 63, Rel::Overlap, 127, false),
+    Has(0, 63, Rel::Overlap, 126, true),
+];
 
 #[test]
 fn a_row_may_have_the_second_word_alone(rt: HostRuntime) -> Result<(), Fail> {
     let mut state = EdgeState::new(rt.alloc(), 2, 128)?;
-    for v in 0..64u32 {
-        assert!(rt; state.dims() == 2 && state.boxes() == 128);
-        state.exclude(0, 127, v, Rel::Overlap);
+    assert!(rt; without_the_first_word(&mut state));
+    for step in SECOND_WORD {
+        assert!(rt; answers(&mut state, step));
     }
-    assert!(rt; state.dims() == 2 && state.boxes() == 128);
-    let row = state.row(0, 127, Rel::Overlap);
-    let turned = state.row(0, 63, Rel::Overlap);
     state.reset();
-    let whole = state.row(0, 127, Rel::Overlap);
-    assert!(rt; row.first() == Some(64));
-    assert!(rt; row.count() == 63);
-    assert!(rt; !row.has(63) && row.has(126) && !row.has(127));
-    assert!(rt; !turned.has(127) && turned.has(126));
-    assert!(rt; whole.count() == 127);
+    assert!(rt; answers(&mut state, Counts(0, 127, Rel::Overlap, 127)));
     Ok(())
 }

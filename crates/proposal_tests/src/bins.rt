@@ -2,62 +2,89 @@
 use crate::instances::{at_roots, instance_of, settings};
 use bin_knapsack::least_bins;
 use box_instances::Instance;
-use proposals::{ProposedBins, propose_bins};
+use proposals::propose_bins;
 use proposed_bins::{Bins, are_bin_numbers, least_bins_proposed};
 use std::alloc::Global;
+use std::sync::Wait;
 use std::test::Fail;
-use work_share::NoGate;
+use std::thread::Threads;
+use work_share::{NoGate, Settings};
 
-// Four boxes of 3 by 6, of which a bin of 10 by 6 holds three.
+// Four boxes of 3 by 6, of which a bin of 10 by 6 holds three. The trees have branchings.
 fn four_in_two(alloc: Global) -> Result<Instance, Fail> {
-    let boxes: &[&[u32]] = &[&[3, 6], &[3, 6], &[3, 6], &[3, 6]];
-    instance_of(alloc, &[10, 6], boxes)
-}
-
-// The bins that are proposed for them: two, with twelve numbers.
-fn proposed(alloc: Global, instance: &Instance) -> Result<ProposedBins, Fail> {
-    let found = propose_bins(alloc, instance)?;
-    let bins = found.ok_or("no bins")?;
-    if bins.count != 2 || bins.numbers.len() != 12 {
-        return Err("other bins".into());
-    }
-    Ok(bins)
-}
-
-// The trees have branchings, so the run without proposals is spent.
-#[test]
-fn bins_are_closed_by_proposals(rt: HostRuntime) -> Result<(), Fail> {
-    let alloc = rt.alloc();
-    let instance = four_in_two(alloc)?;
-    let plain = least_bins(&rt, alloc, &instance, &at_roots(1), &NoGate)?;
-    assert!(rt; matches!(&plain, Bins::Between { .. }));
-    for workers in [1, 2] {
-        let bins = least_bins_proposed(&rt, alloc, &instance, &at_roots(workers), &NoGate)?;
-        assert!(rt; matches!(&bins, Bins::Least { bins: 2, .. }));
-    }
-    Ok(())
+    instance_of(alloc, &[10, 6], &[&[3, 6], &[3, 6], &[3, 6], &[3, 6]])
 }
 
 // Four boxes around a hole of 2 by 2, and one that doesn't go in there: neither volume nor scales
 // refute one bin, and its tree has branchings.
+fn around_a_hole(alloc: Global) -> Result<Instance, Fail> {
+    instance_of(
+        alloc,
+        &[10, 10],
+        &[&[6, 4], &[4, 6], &[6, 4], &[4, 6], &[1, 3]],
+    )
+}
+
+// What a run comes to: the least number, a refuted and a placed one, or the box that is too large
+// and its dimension.
+#[derive(Clone, Copy)]
+enum Told {
+    Least(u32),
+    Between(u32, u32),
+    NoneFits(u32, u32),
+}
+
+fn is_told(found: &Bins, told: Told) -> bool {
+    match (found, told) {
+        (Bins::Least { bins, .. }, Told::Least(count)) => *bins == count,
+        (Bins::Between { refuted, bins, .. }, Told::Between(low, high)) => {
+            *refuted == low && *bins == high
+        }
+        (Bins::NoneFits { box_no, dim }, Told::NoneFits(first, along)) => {
+            *box_no == first && *dim == along
+        }
+        _ => false,
+    }
+}
+
+// Whether a run by proposals comes to that.
+fn proposes<R: Threads + Wait + Sync>(
+    rt: &R,
+    alloc: Global,
+    instance: &Instance,
+    settings: &Settings,
+    told: Told,
+) -> Result<bool, Fail> {
+    let found = least_bins_proposed(rt, alloc, instance, settings, &NoGate)?;
+    Ok(is_told(&found, told))
+}
+
+// Whether a run without proposals is spent at the roots.
+fn is_spent<R: Threads + Wait + Sync>(
+    rt: &R,
+    alloc: Global,
+    instance: &Instance,
+) -> Result<bool, Fail> {
+    let found = least_bins(rt, alloc, instance, &at_roots(1), &NoGate)?;
+    Ok(matches!(&found, Bins::Between { .. }))
+}
+
+#[test]
+fn bins_are_closed_by_proposals(rt: HostRuntime) -> Result<(), Fail> {
+    let alloc = rt.alloc();
+    let instance = four_in_two(alloc)?;
+    assert!(rt; is_spent(&rt, alloc, &instance)?);
+    assert!(rt; proposes(&rt, alloc, &instance, &at_roots(1), Told::Least(2))?);
+    assert!(rt; proposes(&rt, alloc, &instance, &at_roots(2), Told::Least(2))?);
+    Ok(())
+}
+
 #[test]
 fn bins_beside_a_tree_past_the_budget_are_two(rt: HostRuntime) -> Result<(), Fail> {
     let alloc = rt.alloc();
-    let boxes: &[&[u32]] = &[&[6, 4], &[4, 6], &[6, 4], &[4, 6], &[1, 3]];
-    let instance = instance_of(alloc, &[10, 10], boxes)?;
-    let bins = least_bins_proposed(&rt, alloc, &instance, &at_roots(1), &NoGate)?;
-    assert!(rt;
-        matches!(
-            &bins,
-            Bins::Between {
-                refuted: 0,
-                bins: 2,
-                ..
-            }
-        )
-    );
-    let bins = least_bins_proposed(&rt, alloc, &instance, &settings(1, 100_000), &NoGate)?;
-    assert!(rt; matches!(&bins, Bins::Least { bins: 2, .. }));
+    let instance = around_a_hole(alloc)?;
+    assert!(rt; proposes(&rt, alloc, &instance, &at_roots(1), Told::Between(0, 2))?);
+    assert!(rt; proposes(&rt, alloc, &instance, &settings(1, 100_000), Told::Least(2))?);
     Ok(())
 }
 
@@ -65,38 +92,56 @@ fn bins_beside_a_tree_past_the_budget_are_two(rt: HostRuntime) -> Result<(), Fai
 fn a_box_that_is_too_large_is_named(rt: HostRuntime) -> Result<(), Fail> {
     let alloc = rt.alloc();
     let instance = instance_of(alloc, &[4, 4], &[&[2, 4], &[1, 5]])?;
-    let bins = least_bins_proposed(&rt, alloc, &instance, &at_roots(1), &NoGate)?;
-    assert!(rt; matches!(&bins, Bins::NoneFits { box_no: 1, dim: 1 }));
+    assert!(rt; proposes(&rt, alloc, &instance, &at_roots(1), Told::NoneFits(1, 1))?);
     Ok(())
 }
 
-#[test]
-fn proposed_bins_pass_their_test(rt: HostRuntime) -> Result<(), Fail> {
-    let alloc = rt.alloc();
-    let instance = four_in_two(alloc)?;
-    let bins = proposed(alloc, &instance)?;
-    assert!(rt; instance.len() == 4 && instance.dims() == 2 && bins.numbers.len() == 12);
-    assert!(rt; are_bin_numbers(alloc, &instance, 2, &bins.numbers)?);
-    Ok(())
+// Whether what is proposed for the four boxes, two bins and twelve numbers, is a packing in so many
+// bins once these numbers stand in their places.
+fn passes_with(
+    alloc: Global,
+    instance: &Instance,
+    count: u32,
+    faults: &[(usize, u32)],
+) -> Result<Option<bool>, Fail> {
+    let Some(mut bins) = propose_bins(alloc, instance)? else {
+        return Ok(None);
+    };
+    if bins.count != 2 || bins.numbers.len() != 12 || instance.len() != 4 || instance.dims() != 2 {
+        return Ok(None);
+    }
+    for (place, number) in faults {
+        if *place < bins.numbers.len() {
+            bins.numbers[*place] = *number;
+        }
+    }
+    if bins.numbers.len() != 12 {
+        return Ok(None);
+    }
+    Ok(Some(are_bin_numbers(alloc, instance, count, &bins.numbers)?))
 }
 
-// A coordinate that is one too high leaves the container; a bin that isn't there is none; and four
+// A bin that isn't there is none; a coordinate that is one too high leaves the container; and four
 // boxes in one bin overlap.
+const FAULTS: [(u32, &[(usize, u32)], bool); 4] = [
+    (2, &[], true),
+    (1, &[], false),
+    (2, &[(2, 1)], false),
+    (2, &[(0, 0), (3, 0), (6, 0), (9, 0)], false),
+];
+
+fn each_is_told(alloc: Global, instance: &Instance) -> Result<bool, Fail> {
+    for (count, faults, is_good) in FAULTS {
+        if passes_with(alloc, instance, count, faults)? != Some(is_good) {
+            return Ok(false);
+        }
+    }
+    Ok(true)
+}
+
 #[test]
-fn bins_with_a_fault_are_refused(rt: HostRuntime) -> Result<(), Fail> {
-    let alloc = rt.alloc();
-    let instance = four_in_two(alloc)?;
-    let bins = proposed(alloc, &instance)?;
-    let mut numbers = bins.numbers;
-    assert!(rt; instance.len() == 4 && instance.dims() == 2 && numbers.len() == 12);
-    assert!(rt; !are_bin_numbers(alloc, &instance, 1, &numbers)?);
-    numbers[2] = numbers[2].wrapping_add(1);
-    assert!(rt; !are_bin_numbers(alloc, &instance, 2, &numbers)?);
-    numbers[2] = numbers[2].wrapping_sub(1);
-    numbers[0] = 0;
-    numbers[3] = 0;
-    numbers[6] = 0;
-    numbers[9] = 0;
-    assert!(rt; !are_bin_numbers(alloc, &instance, 2, &numbers)?);
+fn proposed_bins_pass_their_test_and_with_a_fault_are_refused(rt: HostRuntime) -> Result<(), Fail> {
+    let instance = four_in_two(rt.alloc())?;
+    assert!(rt; each_is_told(rt.alloc(), &instance)?);
     Ok(())
 }

@@ -2,48 +2,77 @@
 use crate::instances::{at_roots, instance_of, settings};
 use bin_knapsack::greatest_value;
 use box_instances::Instance;
-use proposals::{ProposedChoice, propose_choice};
+use proposals::propose_choice;
 use proposed_choice::{Choice, greatest_value_proposed, is_choice};
 use std::alloc::Global;
+use std::sync::Wait;
 use std::test::Fail;
-use work_share::NoGate;
+use std::thread::Threads;
+use work_share::{NoGate, Settings};
 
-// So many boxes of 3 by 6, each worth 1; a container of 10 by 6 holds three.
-fn some_in_ten(alloc: Global, count: usize) -> Result<Instance, Fail> {
-    let boxes: &[&[u32]] = &[&[3, 6], &[3, 6], &[3, 6], &[3, 6]];
-    instance_of(alloc, &[10, 6], &boxes[..count.min(4)])
+// Three boxes of 3 by 6, each worth 1, which a container of 10 by 6 holds.
+fn three_in_ten(alloc: Global) -> Result<Instance, Fail> {
+    instance_of(alloc, &[10, 6], &[&[3, 6], &[3, 6], &[3, 6]])
 }
 
-// The boxes that are proposed: three, with six coordinates.
-fn proposed(alloc: Global, instance: &Instance) -> Result<ProposedChoice, Fail> {
-    let found = propose_choice(alloc, instance)?;
-    let choice = found.ok_or("no boxes")?;
-    if choice.taken.len() != 3 || choice.places.len() != 6 {
-        return Err("other boxes".into());
+// Four of them, of which it holds three.
+fn four_in_ten(alloc: Global) -> Result<Instance, Fail> {
+    instance_of(alloc, &[10, 6], &[&[3, 6], &[3, 6], &[3, 6], &[3, 6]])
+}
+
+// What a run comes to: the greatest value, or a placed and a refuted one.
+#[derive(Clone, Copy)]
+enum Told {
+    Greatest(u64),
+    Between(u64, u64),
+}
+
+fn is_told(found: &Choice, told: Told) -> bool {
+    match (found, told) {
+        (Choice::Greatest { value, .. }, Told::Greatest(worth)) => *value == worth,
+        (
+            Choice::Between {
+                placed,
+                refuted,
+                ..
+            },
+            Told::Between(low, high),
+        ) => *placed == low && *refuted == high,
+        _ => false,
     }
-    Ok(choice)
+}
+
+// Whether a run by proposals comes to that.
+fn proposes<R: Threads + Wait + Sync>(
+    rt: &R,
+    alloc: Global,
+    instance: &Instance,
+    settings: &Settings,
+    told: Told,
+) -> Result<bool, Fail> {
+    let found = greatest_value_proposed(rt, alloc, instance, settings, &NoGate)?;
+    Ok(is_told(&found, told))
+}
+
+// Whether a run without proposals, at the roots alone, comes to that.
+fn decides<R: Threads + Wait + Sync>(
+    rt: &R,
+    alloc: Global,
+    instance: &Instance,
+    told: Told,
+) -> Result<bool, Fail> {
+    let found = greatest_value(rt, alloc, instance, &at_roots(1), &NoGate)?;
+    Ok(is_told(&found, told))
 }
 
 // The trees between 0 and 4 have branchings, so the run without proposals is spent.
 #[test]
 fn values_are_closed_by_proposals(rt: HostRuntime) -> Result<(), Fail> {
     let alloc = rt.alloc();
-    let instance = some_in_ten(alloc, 3)?;
-    let plain = greatest_value(&rt, alloc, &instance, &at_roots(1), &NoGate)?;
-    assert!(rt;
-        matches!(
-            &plain,
-            Choice::Between {
-                placed: 0,
-                refuted: 4,
-                ..
-            }
-        )
-    );
-    for workers in [1, 2] {
-        let choice = greatest_value_proposed(&rt, alloc, &instance, &at_roots(workers), &NoGate)?;
-        assert!(rt; matches!(&choice, Choice::Greatest { value: 3, .. }));
-    }
+    let instance = three_in_ten(alloc)?;
+    assert!(rt; decides(&rt, alloc, &instance, Told::Between(0, 4))?);
+    assert!(rt; proposes(&rt, alloc, &instance, &at_roots(1), Told::Greatest(3))?);
+    assert!(rt; proposes(&rt, alloc, &instance, &at_roots(2), Told::Greatest(3))?);
     Ok(())
 }
 
@@ -52,21 +81,17 @@ fn values_are_closed_by_proposals(rt: HostRuntime) -> Result<(), Fail> {
 #[test]
 fn values_beside_a_tree_past_the_budget_are_two(rt: HostRuntime) -> Result<(), Fail> {
     let alloc = rt.alloc();
-    let instance = some_in_ten(alloc, 4)?;
-    let choice = greatest_value_proposed(&rt, alloc, &instance, &at_roots(1), &NoGate)?;
+    let instance = four_in_ten(alloc)?;
+    assert!(rt; proposes(&rt, alloc, &instance, &at_roots(1), Told::Between(3, 5))?);
     assert!(rt;
-        matches!(
-            &choice,
-            Choice::Between {
-                placed: 3,
-                refuted: 5,
-                ..
-            }
-        )
+        proposes(
+            &rt,
+            alloc,
+            &instance,
+            &settings(1, 100_000),
+            Told::Greatest(3)
+        )?
     );
-    let enough = settings(1, 100_000);
-    let choice = greatest_value_proposed(&rt, alloc, &instance, &enough, &NoGate)?;
-    assert!(rt; matches!(&choice, Choice::Greatest { value: 3, .. }));
     Ok(())
 }
 
@@ -76,34 +101,55 @@ fn no_box_is_worth_nothing(rt: HostRuntime) -> Result<(), Fail> {
     let alloc = rt.alloc();
     let instance = instance_of(alloc, &[4, 4], &[&[2, 5], &[1, 5]])?;
     assert!(rt; propose_choice(alloc, &instance)?.is_none());
-    let enough = settings(1, 100_000);
-    let choice = greatest_value_proposed(&rt, alloc, &instance, &enough, &NoGate)?;
-    assert!(rt; matches!(&choice, Choice::Greatest { value: 0, .. }));
+    assert!(rt;
+        proposes(
+            &rt,
+            alloc,
+            &instance,
+            &settings(1, 100_000),
+            Told::Greatest(0)
+        )?
+    );
     Ok(())
 }
 
-// A coordinate that is one too high leaves the container or meets a box; the numbers don't rise; a
-// box isn't there; a coordinate is too many; and no box needs no coordinate.
+// Whether what is proposed for the four boxes, three of them and six coordinates, is a choice.
+fn passes(alloc: Global, instance: &Instance) -> Result<bool, Fail> {
+    let Some(choice) = propose_choice(alloc, instance)? else {
+        return Ok(false);
+    };
+    if choice.taken.len() != 3 || choice.places.len() != 6 {
+        return Ok(false);
+    }
+    Ok(is_choice(alloc, instance, &choice.taken, &choice.places)?)
+}
+
+// Boxes, their coordinates, and whether they are a choice. A coordinate that is one too high leaves
+// the container; the numbers don't rise; a box isn't there; a coordinate is too many; and no box
+// needs no coordinate.
+const CHOICES: [(&[u32], &[u32], bool); 7] = [
+    (&[0, 1, 2], &[0, 0, 3, 0, 6, 0], true),
+    (&[0, 1, 2], &[0, 1, 3, 0, 6, 0], false),
+    (&[0, 1, 1], &[0, 0, 3, 0, 6, 0], false),
+    (&[0, 1, 4], &[0, 0, 3, 0, 6, 0], false),
+    (&[0, 1, 2], &[0, 0, 3, 0, 6, 0, 0], false),
+    (&[], &[0, 0, 3, 0, 6, 0, 0], false),
+    (&[], &[], true),
+];
+
+fn each_is_told(alloc: Global, instance: &Instance) -> Result<bool, Fail> {
+    for (taken, places, is_good) in CHOICES {
+        if is_choice(alloc, instance, taken, places)? != is_good {
+            return Ok(false);
+        }
+    }
+    Ok(true)
+}
+
 #[test]
 fn choices_with_a_fault_are_refused(rt: HostRuntime) -> Result<(), Fail> {
-    let alloc = rt.alloc();
-    let instance = some_in_ten(alloc, 4)?;
-    let choice = proposed(alloc, &instance)?;
-    let (mut taken, mut places) = (choice.taken, choice.places);
-    assert!(rt; taken.len() == 3 && places.len() == 6);
-    assert!(rt; is_choice(alloc, &instance, &taken, &places)?);
-    places[1] = places[1].wrapping_add(1);
-    assert!(rt; !is_choice(alloc, &instance, &taken, &places)?);
-    places[1] = places[1].wrapping_sub(1);
-    let last = taken[2];
-    taken[2] = taken[1];
-    assert!(rt; !is_choice(alloc, &instance, &taken, &places)?);
-    taken[2] = 4;
-    assert!(rt; !is_choice(alloc, &instance, &taken, &places)?);
-    taken[2] = last;
-    places.push(0)?;
-    assert!(rt; !is_choice(alloc, &instance, &taken, &places)?);
-    assert!(rt; !is_choice(alloc, &instance, &[], &places)?);
-    assert!(rt; is_choice(alloc, &instance, &[], &[])?);
+    let instance = four_in_ten(rt.alloc())?;
+    assert!(rt; passes(rt.alloc(), &instance)?);
+    assert!(rt; each_is_told(rt.alloc(), &instance)?);
     Ok(())
 }

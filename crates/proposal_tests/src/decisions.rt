@@ -1,58 +1,106 @@
 //! Decisions by proposals first.
-use crate::instances::{are_same, four_in_a_row, pinwheel, settings, two_small};
-use check_terms::PlaceVerdict;
+use crate::instances::{are_same, four_in_a_row, is_packing, pinwheel, settings, two_small};
+use box_instances::Instance;
 use class_search::decide;
-use placement_check::check_places;
 use proof_tree::Outcome;
-use proposed_answers::{Proposal, decide_behind, decide_proposed};
+use proposed_answers::{Proposal, decide_behind, decide_proposed, is_refutation};
+use std::alloc::Global;
+use std::sync::Wait;
 use std::test::Fail;
-use work_share::NoGate;
+use std::thread::Threads;
+use work_share::{NoGate, Settings};
+
+// Whether a packing is proposed, so that the budget of 0 is enough.
+fn is_placed<R: Threads + Wait + Sync>(
+    rt: &R,
+    alloc: Global,
+    instance: &Instance,
+    workers: u32,
+) -> Result<bool, Fail> {
+    match decide_proposed(rt, alloc, instance, &settings(workers, 0), &NoGate)? {
+        Outcome::Yes { numbers, count } => Ok(count == 0 && is_packing(instance, &numbers)),
+        _ => Ok(false),
+    }
+}
 
 // The tree of the pinwheel has more than no branching, so this is decided by a proposal.
 #[test]
 fn a_yes_is_proposed(rt: HostRuntime) -> Result<(), Fail> {
-    let alloc = rt.alloc();
-    let instance = pinwheel(alloc)?;
-    for workers in [1, 2] {
-        let outcome = decide_proposed(&rt, alloc, &instance, &settings(workers, 0), &NoGate)?;
-        let Outcome::Yes { numbers, count } = outcome else {
-            return Err("no yes".into());
-        };
-        assert!(rt; count == 0);
-        assert!(rt; numbers.len() == 10);
-        assert!(rt; check_places(&instance, &numbers) == PlaceVerdict::Good);
-    }
+    let instance = pinwheel(rt.alloc())?;
+    assert!(rt; is_placed(&rt, rt.alloc(), &instance, 1)?);
+    assert!(rt; is_placed(&rt, rt.alloc(), &instance, 2)?);
     Ok(())
+}
+
+// Whether a refutation is proposed. A tree has one leaf more than splits.
+fn is_refuted<R: Threads + Wait + Sync>(
+    rt: &R,
+    alloc: Global,
+    instance: &Instance,
+    workers: u32,
+) -> Result<bool, Fail> {
+    match decide_proposed(rt, alloc, instance, &settings(workers, 0), &NoGate)? {
+        Outcome::No { tokens, count } => {
+            let is_tree = tokens.len() % 2 == 1 && tokens.len() as u64 / 2 == count;
+            Ok(is_tree && is_refutation(alloc, instance, &tokens)?)
+        }
+        _ => Ok(false),
+    }
 }
 
 #[test]
 fn a_no_is_proposed(rt: HostRuntime) -> Result<(), Fail> {
-    let alloc = rt.alloc();
-    let instance = four_in_a_row(alloc)?;
-    for workers in [1, 2] {
-        let outcome = decide_proposed(&rt, alloc, &instance, &settings(workers, 0), &NoGate)?;
-        let Outcome::No { tokens, count } = outcome else {
-            return Err("no no".into());
-        };
-        // A tree has one leaf more than splits.
-        assert!(rt; tokens.len() % 2 == 1 && tokens.len() as u64 / 2 == count);
-        assert!(rt; proposed_answers::is_refutation(alloc, &instance, &tokens)?);
-    }
+    let instance = four_in_a_row(rt.alloc())?;
+    assert!(rt; is_refuted(&rt, rt.alloc(), &instance, 1)?);
+    assert!(rt; is_refuted(&rt, rt.alloc(), &instance, 2)?);
+    Ok(())
+}
+
+// What the tree answers where nothing was proposed.
+fn behind<R: Threads + Wait + Sync>(
+    rt: &R,
+    alloc: Global,
+    instance: &Instance,
+    settings: &Settings,
+) -> Result<Outcome, Fail> {
+    Ok(decide_behind(rt, alloc, instance, Proposal::Nothing, settings, &NoGate)?)
+}
+
+// Whether the budget of 0 is spent.
+fn is_past<R: Threads + Wait + Sync>(
+    rt: &R,
+    alloc: Global,
+    instance: &Instance,
+    workers: u32,
+) -> Result<bool, Fail> {
+    let outcome = behind(rt, alloc, instance, &settings(workers, 0))?;
+    Ok(matches!(&outcome, Outcome::Past))
+}
+
+// Whether under an ample budget the answer is that of the described tree.
+fn is_told<R: Threads + Wait + Sync>(
+    rt: &R,
+    alloc: Global,
+    instance: &Instance,
+    workers: u32,
+) -> Result<bool, Fail> {
+    let enough = settings(workers, 1000);
+    let outcome = behind(rt, alloc, instance, &enough)?;
+    Ok(are_same(&outcome, &decide(rt, alloc, instance, &enough, &NoGate)?))
+}
+
+#[test]
+fn without_a_proposal_the_tree_is_past_its_budget(rt: HostRuntime) -> Result<(), Fail> {
+    let two = two_small(rt.alloc())?;
+    assert!(rt; is_past(&rt, rt.alloc(), &two, 1)?);
+    assert!(rt; is_past(&rt, rt.alloc(), &two, 2)?);
     Ok(())
 }
 
 #[test]
 fn without_a_proposal_the_tree_decides(rt: HostRuntime) -> Result<(), Fail> {
-    let alloc = rt.alloc();
-    let two = two_small(alloc)?;
-    for workers in [1, 2] {
-        let spent = settings(workers, 0);
-        let past = decide_behind(&rt, alloc, &two, Proposal::Nothing, &spent, &NoGate)?;
-        assert!(rt; matches!(&past, Outcome::Past));
-        let enough = settings(workers, 1000);
-        let behind = decide_behind(&rt, alloc, &two, Proposal::Nothing, &enough, &NoGate)?;
-        let told = decide(&rt, alloc, &two, &enough, &NoGate)?;
-        assert!(rt; are_same(&behind, &told));
-    }
+    let two = two_small(rt.alloc())?;
+    assert!(rt; is_told(&rt, rt.alloc(), &two, 1)?);
+    assert!(rt; is_told(&rt, rt.alloc(), &two, 2)?);
     Ok(())
 }

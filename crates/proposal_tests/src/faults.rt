@@ -14,18 +14,36 @@ use work_share::NoGate;
 
 const BUDGET: u64 = 100_000;
 
-// Whether the described tree answers behind the proposal.
+// What the described tree answers.
+fn told<R: Threads + Wait + Sync>(
+    rt: &R,
+    alloc: Global,
+    instance: &Instance,
+) -> Result<Outcome, Fail> {
+    Ok(decide(rt, alloc, instance, &settings(1, BUDGET), &NoGate)?)
+}
+
+// What is answered behind these tokens.
+fn behind<R: Threads + Wait + Sync>(
+    rt: &R,
+    alloc: Global,
+    instance: &Instance,
+    tokens: Vec<Token>,
+) -> Result<Outcome, Fail> {
+    let proposal = Proposal::Tokens(tokens);
+    Ok(decide_behind(rt, alloc, instance, proposal, &settings(1, BUDGET), &NoGate)?)
+}
+
+// Whether the described tree, which refutes the instance, answers behind these tokens.
 fn falls_back<R: Threads + Wait + Sync>(
     rt: &R,
     alloc: Global,
     instance: &Instance,
     tokens: Vec<Token>,
 ) -> Result<bool, Fail> {
-    let settings = settings(1, BUDGET);
-    let proposal = Proposal::Tokens(tokens);
-    let behind = decide_behind(rt, alloc, instance, proposal, &settings, &NoGate)?;
-    let told = decide(rt, alloc, instance, &settings, &NoGate)?;
-    Ok(are_same(&behind, &told) && matches!(&told, Outcome::No { .. }))
+    let found = behind(rt, alloc, instance, tokens)?;
+    let is_no = matches!(&found, Outcome::No { .. });
+    Ok(is_no && are_same(&found, &told(rt, alloc, instance)?))
 }
 
 // The tokens that are proposed for an instance that doesn't fit.
@@ -36,40 +54,72 @@ fn proposed(alloc: Global, instance: &Instance) -> Result<Vec<Token>, Fail> {
     }
 }
 
+// What is answered behind the proposed places of an instance, where one of them is one too high.
+fn behind_places<R: Threads + Wait + Sync>(
+    rt: &R,
+    alloc: Global,
+    instance: &Instance,
+) -> Result<Option<Outcome>, Fail> {
+    let Some(mut places) = propose_places(alloc, instance, 4000)? else {
+        return Ok(None);
+    };
+    if places.len() < 4 {
+        return Ok(None);
+    }
+    places[3] = places[3].wrapping_add(1);
+    let proposal = Proposal::Places(places);
+    let found = decide_behind(rt, alloc, instance, proposal, &settings(1, BUDGET), &NoGate)?;
+    Ok(Some(found))
+}
+
+// Whether that is what the described tree answers, a yes.
+fn is_placed_by_the_tree<R: Threads + Wait + Sync>(
+    rt: &R,
+    alloc: Global,
+    instance: &Instance,
+) -> Result<bool, Fail> {
+    let Some(found) = behind_places(rt, alloc, instance)? else {
+        return Ok(false);
+    };
+    let is_yes = matches!(&found, Outcome::Yes { .. });
+    Ok(is_yes && are_same(&found, &told(rt, alloc, instance)?))
+}
+
 #[test]
 fn a_wrong_coordinate_is_refused(rt: HostRuntime) -> Result<(), Fail> {
-    let alloc = rt.alloc();
-    let instance = pinwheel(alloc)?;
-    let found = propose_places(alloc, &instance, 4000)?;
-    let mut places = found.ok_or("no places")?;
-    assert!(rt; places.len() == 10);
-    places[3] = places[3].wrapping_add(1);
-    let settings = settings(1, BUDGET);
-    let wrong = Proposal::Places(places);
-    let behind = decide_behind(&rt, alloc, &instance, wrong, &settings, &NoGate)?;
-    let told = decide(&rt, alloc, &instance, &settings, &NoGate)?;
-    assert!(rt; are_same(&behind, &told));
-    assert!(rt; matches!(&told, Outcome::Yes { .. }));
+    let instance = pinwheel(rt.alloc())?;
+    assert!(rt; is_placed_by_the_tree(&rt, rt.alloc(), &instance)?);
     Ok(())
+}
+
+// The proposed tokens with another one in the place of the first.
+fn with_another_first(alloc: Global, instance: &Instance) -> Result<Vec<Token>, Fail> {
+    let mut tokens = proposed(alloc, instance)?;
+    if !tokens.is_empty() {
+        tokens[0] = Token::Rules;
+    }
+    Ok(tokens)
 }
 
 #[test]
 fn a_wrong_token_is_refused(rt: HostRuntime) -> Result<(), Fail> {
-    let alloc = rt.alloc();
-    let instance = four_in_a_row(alloc)?;
-    let mut tokens = proposed(alloc, &instance)?;
-    assert!(rt; tokens.len() > 0);
-    tokens[0] = Token::Rules;
-    assert!(rt; falls_back(&rt, alloc, &instance, tokens)?);
+    let instance = four_in_a_row(rt.alloc())?;
+    let tokens = with_another_first(rt.alloc(), &instance)?;
+    assert!(rt; falls_back(&rt, rt.alloc(), &instance, tokens)?);
     Ok(())
+}
+
+// The proposed tokens, and one more behind them.
+fn with_one_more(alloc: Global, instance: &Instance) -> Result<Vec<Token>, Fail> {
+    let mut tokens = proposed(alloc, instance)?;
+    tokens.push(Token::Rules)?;
+    Ok(tokens)
 }
 
 #[test]
 fn a_token_too_many_is_refused(rt: HostRuntime) -> Result<(), Fail> {
-    let alloc = rt.alloc();
-    let instance = four_in_a_row(alloc)?;
-    let mut tokens = proposed(alloc, &instance)?;
-    tokens.push(Token::Rules)?;
-    assert!(rt; falls_back(&rt, alloc, &instance, tokens)?);
+    let instance = four_in_a_row(rt.alloc())?;
+    let tokens = with_one_more(rt.alloc(), &instance)?;
+    assert!(rt; falls_back(&rt, rt.alloc(), &instance, tokens)?);
     Ok(())
 }

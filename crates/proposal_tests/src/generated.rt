@@ -1,8 +1,7 @@
 //! What the search for refutations proposes of drawn instances passes its test.
+use crate::instances::is_packing;
 use box_instances::{BoxItem, Instance, Sides};
-use check_terms::PlaceVerdict;
 use conflict_search::{Proposal, propose_refutation};
-use placement_check::check_places;
 use proposed_answers::is_refutation;
 use std::alloc::Global;
 use std::test::Fail;
@@ -43,7 +42,7 @@ fn drawn(alloc: Global, number: u32) -> Result<Instance, Fail> {
 // Whether a proposal passes its test: places, tokens, or nothing.
 fn passes(alloc: Global, instance: &Instance) -> Result<bool, Fail> {
     match propose_refutation(alloc, instance, false, SPLITS)? {
-        Proposal::Places(places) => Ok(check_places(instance, &places) == PlaceVerdict::Good),
+        Proposal::Places(places) => Ok(is_packing(instance, &places)),
         Proposal::Tokens(tokens) => Ok(is_refutation(alloc, instance, &tokens)?),
         Proposal::Nothing => Ok(false),
     }
@@ -53,9 +52,7 @@ fn passes(alloc: Global, instance: &Instance) -> Result<bool, Fail> {
 fn what_is_proposed_passes(rt: HostRuntime) -> Result<(), Fail> {
     let alloc = rt.alloc();
     for number in 1..401u32 {
-        let instance = drawn(alloc, number)?;
-        let good = passes(alloc, &instance)?;
-        assert!(rt; good);
+        assert!(rt; passes(alloc, &drawn(alloc, number)?)?);
     }
     Ok(())
 }

@@ -1,5 +1,7 @@
-//! Instances, and whether two outcomes are the same.
+//! Instances, whether places are a packing, and whether two outcomes are the same.
 use box_instances::{BoxItem, Instance, Sides};
+use check_terms::PlaceVerdict;
+use placement_check::check_places;
 use proof_tree::Outcome;
 use std::alloc::Global;
 use std::test::Fail;
@@ -56,6 +58,12 @@ pub(crate) fn at_roots(workers: u32) -> Settings {
         budget: 0,
         scales: true,
     }
+}
+
+/// Whether there is one coordinate for each box and dimension, and they are a packing.
+pub(crate) fn is_packing(instance: &Instance, places: &[u32]) -> bool {
+    places.len() == (instance.len() * instance.dims()) as usize
+        && check_places(instance, places) == PlaceVerdict::Good
 }
 
 /// Whether two outcomes are the same, as far as places, counts and the number of tokens tell.

@@ -122,13 +122,19 @@ fn value_is_checked(
     Ok(is_answered && refuter.whole() == wanted.is_none())
 }
 
+fn values_are_checked(alloc: Global, instance: &Instance) -> Result<bool, Fail> {
+    for case in VALUES {
+        if !value_is_checked(alloc, instance, case)? {
+            return Ok(false);
+        }
+    }
+    Ok(true)
+}
+
 #[test]
 fn values_are_refuted_or_not(rt: HostRuntime) -> Result<(), Fail> {
-    let alloc = rt.alloc();
-    let instance = squares(alloc, &[(6, 5), (6, 4), (4, 3)])?;
-    for case in VALUES {
-        assert!(rt; value_is_checked(alloc, &instance, case)?);
-    }
+    let instance = squares(rt.alloc(), &[(6, 5), (6, 4), (4, 3)])?;
+    assert!(rt; values_are_checked(rt.alloc(), &instance)?);
     Ok(())
 }
 
@@ -186,7 +192,7 @@ const BINS: [(u32, &[Step], u32, Wanted); 14] = [
     ),
 ];
 
-fn bins_are_checked(
+fn bin_case_is_checked(
     alloc: Global,
     instance: &Instance,
     case: (u32, &[Step], u32, Wanted),
@@ -201,27 +207,38 @@ fn bins_are_checked(
     Ok(is_answered && refuter.whole() == wanted.is_none())
 }
 
+fn bins_are_checked(alloc: Global, instance: &Instance) -> Result<bool, Fail> {
+    for case in BINS {
+        if !bin_case_is_checked(alloc, instance, case)? {
+            return Ok(false);
+        }
+    }
+    Ok(true)
+}
+
 #[test]
 fn bins_are_refuted_or_not(rt: HostRuntime) -> Result<(), Fail> {
-    let alloc = rt.alloc();
-    let instance = squares(alloc, &[(6, 1), (6, 1), (6, 1)])?;
-    for case in BINS {
-        assert!(rt; bins_are_checked(alloc, &instance, case)?);
-    }
+    let instance = squares(rt.alloc(), &[(6, 1), (6, 1), (6, 1)])?;
+    assert!(rt; bins_are_checked(rt.alloc(), &instance)?);
     Ok(())
+}
+
+const AFTER: FeedVerdict = FeedVerdict::Refused {
+    code: RefuseCode::After,
+};
+
+// Whether a leaf that makes the tree whole is taken, and whatever comes behind it is refused, for
+// good.
+fn ends_at_its_leaf(alloc: Global, instance: &Instance) -> Result<bool, NoMemory> {
+    let mut refuter = OuterRefuter::new(alloc, instance, Goal::Value(10))?;
+    let is_taken = refuter.feed(&Token::ValueShort) == FeedVerdict::Done && refuter.whole();
+    let is_after = refuter.feed(&Token::ValueShort) == AFTER && !refuter.whole();
+    Ok(is_taken && is_after && refuter.feed(&Token::Rules) == AFTER)
 }
 
 #[test]
 fn a_whole_tree_takes_no_token_and_a_refusal_stays(rt: HostRuntime) -> Result<(), Fail> {
-    let alloc = rt.alloc();
-    let instance = squares(alloc, &[(6, 5), (6, 4)])?;
-    let after = FeedVerdict::Refused {
-        code: RefuseCode::After,
-    };
-    let mut refuter = OuterRefuter::new(alloc, &instance, Goal::Value(10))?;
-    assert!(rt; refuter.feed(&Token::ValueShort) == FeedVerdict::Done && refuter.whole());
-    assert!(rt; refuter.feed(&Token::ValueShort) == after);
-    assert!(rt; !refuter.whole());
-    assert!(rt; refuter.feed(&Token::Rules) == after);
+    let instance = squares(rt.alloc(), &[(6, 5), (6, 4)])?;
+    assert!(rt; ends_at_its_leaf(rt.alloc(), &instance)?);
     Ok(())
 }

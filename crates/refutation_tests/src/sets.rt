@@ -97,14 +97,18 @@ fn checked_sets(alloc: Global, instance: &Instance, random: &mut u32) -> Result<
     Ok(Some(found))
 }
 
+// The same for the sets of so many drawn boxes in two, three or four dimensions.
+fn drawn_is_checked(alloc: Global, random: &mut u32, dims: u32) -> Result<Option<u32>, Fail> {
+    let instance = drawn_instance(alloc, random, dims, 9, 8, 10)?;
+    checked_sets(alloc, &instance, random)
+}
+
 #[test]
 fn sets_are_checked_one_after_another(rt: HostRuntime) -> Result<(), Fail> {
-    let alloc = rt.alloc();
     let mut random = 3;
     let mut found = 0u32;
     for round in 0..12u32 {
-        let instance = drawn_instance(alloc, &mut random, 2 + round % 3, 9, 8, 10)?;
-        let more = checked_sets(alloc, &instance, &mut random)?;
+        let more = drawn_is_checked(rt.alloc(), &mut random, 2 + round % 3)?;
         assert!(rt; more.is_some());
         found = found.saturating_add(more.unwrap_or(0));
     }

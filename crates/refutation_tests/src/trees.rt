@@ -1,6 +1,6 @@
 //! Trees that the search found, and trees that it wouldn't write.
 use crate::instances::{drawn_instance, instance_of, is_refuted};
-use box_instances::Instance;
+use box_instances::{Instance, NoMemory};
 use class_search::decide_alone;
 use proof_tree::{Outcome, Token};
 use refutation_check::{FeedVerdict, RefuseCode, Refuter};
@@ -25,15 +25,18 @@ fn is_checked(
     }
 }
 
+// The same for an instance that is drawn.
+fn drawn_is_checked(alloc: Global, random: &mut u32, round: u32) -> Result<Option<bool>, Fail> {
+    let instance = drawn_instance(alloc, random, 2 + round % 3, 4 + round % 5, 9, 10)?;
+    is_checked(alloc, &instance, round % 2 == 0, 1)
+}
+
 #[test]
 fn what_the_search_refutes_is_accepted(rt: HostRuntime) -> Result<(), Fail> {
-    let alloc = rt.alloc();
     let mut random = 7;
     let mut found = 0u32;
     for round in 0..120u32 {
-        let dims = 2 + round % 3;
-        let instance = drawn_instance(alloc, &mut random, dims, 4 + round % 5, 9, 10)?;
-        if let Some(is_accepted) = is_checked(alloc, &instance, round % 2 == 0, 1)? {
+        if let Some(is_accepted) = drawn_is_checked(rt.alloc(), &mut random, round)? {
             assert!(rt; is_accepted);
             found = found.saturating_add(1);
         }
@@ -50,13 +53,18 @@ fn a_tree_of_ten_thousand_tokens_is_accepted(rt: HostRuntime) -> Result<(), Fail
     Ok(())
 }
 
+// As many boxes as there may be.
 #[test]
-fn as_many_boxes_as_there_may_be_are_checked(rt: HostRuntime) -> Result<(), Fail> {
-    let alloc = rt.alloc();
-    let large = instance_of(alloc, &[10, 10, 10, 10], &[(&[6, 6, 6, 6], 128)])?;
-    assert!(rt; is_checked(alloc, &large, false, 1)? == Some(true));
-    let small = instance_of(alloc, &[127, 10], &[(&[1, 6], 128)])?;
-    assert!(rt; is_checked(alloc, &small, true, 1)? == Some(true));
+fn a_tree_of_128_boxes_in_four_dimensions_is_accepted(rt: HostRuntime) -> Result<(), Fail> {
+    let large = instance_of(rt.alloc(), &[10, 10, 10, 10], &[(&[6, 6, 6, 6], 128)])?;
+    assert!(rt; is_checked(rt.alloc(), &large, false, 1)? == Some(true));
+    Ok(())
+}
+
+#[test]
+fn a_tree_of_128_boxes_with_scales_is_accepted(rt: HostRuntime) -> Result<(), Fail> {
+    let small = instance_of(rt.alloc(), &[127, 10], &[(&[1, 6], 128)])?;
+    assert!(rt; is_checked(rt.alloc(), &small, true, 1)? == Some(true));
     Ok(())
 }
 
@@ -119,51 +127,67 @@ fn extend(
     Ok(None)
 }
 
-#[test]
-fn other_trees_than_those_of_the_search_are_accepted(rt: HostRuntime) -> Result<(), Fail> {
-    let alloc = rt.alloc();
-    let row = instance_of(alloc, &[11, 10], &[(&[3, 6], 4)])?;
-    let list = candidates(alloc, 2, 4)?;
+// How many tokens a whole tree of accepted candidates has, where one comes of them.
+fn extended(
+    alloc: Global,
+    instance: &Instance,
+    list: &[(u32, u32, u32, u32)],
+) -> Result<Option<usize>, Fail> {
     let mut tokens = Vec::new(alloc);
-    let mut answer = Some(FeedVerdict::More);
     for _ in 0..100u32 {
-        if answer == Some(FeedVerdict::More) {
-            answer = extend(alloc, &row, &mut tokens, list.as_slice())?;
+        match extend(alloc, instance, &mut tokens, list)? {
+            Some(FeedVerdict::More) => {}
+            Some(FeedVerdict::Done) => return Ok(Some(tokens.len())),
+            _ => return Ok(None),
         }
     }
-    assert!(rt; answer == Some(FeedVerdict::Done));
-    assert!(rt; tokens.len() > 10);
+    Ok(None)
+}
+
+#[test]
+fn other_trees_than_those_of_the_search_are_accepted(rt: HostRuntime) -> Result<(), Fail> {
+    let row = instance_of(rt.alloc(), &[11, 10], &[(&[3, 6], 4)])?;
+    let list = candidates(rt.alloc(), 2, 4)?;
+    let count = extended(rt.alloc(), &row, list.as_slice())?;
+    assert!(rt; count.is_some_and(|tokens| tokens > 10));
     Ok(())
+}
+
+const AFTER: FeedVerdict = FeedVerdict::Refused {
+    code: RefuseCode::After,
+};
+
+// Whether a leaf makes the tree whole, and nothing is taken behind it.
+fn ends_at_its_leaf(alloc: Global, instance: &Instance) -> Result<bool, NoMemory> {
+    let mut refuter = Refuter::new(alloc, instance)?;
+    let is_open = !refuter.whole();
+    let is_taken = refuter.feed(&Token::Rules) == FeedVerdict::Done && refuter.whole();
+    let is_after = refuter.feed(&Token::Rules) == AFTER && !refuter.whole();
+    let stays = refuter.feed(&Token::Rules) == AFTER && !refuter.whole();
+    Ok(is_open && is_taken && is_after && stays)
 }
 
 #[test]
 fn nothing_is_taken_behind_a_whole_tree(rt: HostRuntime) -> Result<(), Fail> {
-    let alloc = rt.alloc();
-    let boxes = instance_of(alloc, &[10, 10], &[(&[6, 4], 3)])?;
-    let mut refuter = Refuter::new(alloc, &boxes)?;
-    assert!(rt; !refuter.whole());
-    assert!(rt; refuter.feed(&Token::Rules) == FeedVerdict::Done);
-    assert!(rt; refuter.whole());
-    let after = FeedVerdict::Refused {
-        code: RefuseCode::After,
-    };
-    for _ in 0..2u32 {
-        assert!(rt; refuter.feed(&Token::Rules) == after);
-        assert!(rt; !refuter.whole());
-    }
+    let boxes = instance_of(rt.alloc(), &[10, 10], &[(&[6, 4], 3)])?;
+    assert!(rt; ends_at_its_leaf(rt.alloc(), &boxes)?);
     Ok(())
+}
+
+const RANGE: FeedVerdict = FeedVerdict::Refused {
+    code: RefuseCode::Range,
+};
+
+// Whether a token that is out of range is refused, and what comes behind it for the same cause.
+fn stays_refused(alloc: Global, instance: &Instance) -> Result<bool, NoMemory> {
+    let mut refuter = Refuter::new(alloc, instance)?;
+    let is_refused = refuter.feed(&Token::Order { dim: 9, u: 1, v: 2 }) == RANGE;
+    Ok(is_refused && refuter.feed(&Token::Rules) == RANGE && !refuter.whole())
 }
 
 #[test]
 fn a_refusal_stays(rt: HostRuntime) -> Result<(), Fail> {
-    let alloc = rt.alloc();
-    let boxes = instance_of(alloc, &[10, 10], &[(&[6, 4], 3)])?;
-    let mut refuter = Refuter::new(alloc, &boxes)?;
-    let range = FeedVerdict::Refused {
-        code: RefuseCode::Range,
-    };
-    assert!(rt; refuter.feed(&Token::Order { dim: 9, u: 1, v: 2 }) == range);
-    assert!(rt; refuter.feed(&Token::Rules) == range);
-    assert!(rt; !refuter.whole());
+    let boxes = instance_of(rt.alloc(), &[10, 10], &[(&[6, 4], 3)])?;
+    assert!(rt; stays_refused(rt.alloc(), &boxes)?);
     Ok(())
 }

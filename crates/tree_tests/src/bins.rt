@@ -1,6 +1,8 @@
 //! Tests of bin trees: what they give under a budget, and which of them are the same.
 use crate::cases::{BLOCKS, BOARDS, Case, PLANKS, Wanted, instance_of, is_wanted};
 use bin_knapsack::BinTree;
+use box_instances::{Instance, NoMemory};
+use proof_tree::Outcome;
 use std::alloc::Global;
 use std::test::Fail;
 use work_share::Tree;
@@ -12,7 +14,9 @@ const LARGE: Case = Case {
 };
 
 // A case, a number of bins, whether there are scales, a cap, and what the tree gives.
-const ROWS: [(Case, u32, bool, u64, Wanted); 14] = [
+type Row = (Case, u32, bool, u64, Wanted);
+
+const ROWS: [Row; 14] = [
     (PLANKS, 1, true, 0, Wanted::No(&[[6, 0]], 0)),
     (
         PLANKS,
@@ -51,28 +55,30 @@ const BOARDS_IN_ONE: Wanted = Wanted::No(&[[5, 1], [5, 2], [5, 3], [2, 1], [3, 0
 
 const BLOCKS_IN_TWO: Wanted = Wanted::Yes(&[1, 0, 0, 0, 0, 0, 0, 0, 1, 0, 0, 2, 1, 0, 2, 2], 10);
 
-fn gives(
+// What a tree gives.
+fn explored(
     alloc: Global,
-    case: &Case,
+    instance: &Instance,
     bins: u32,
     scales: bool,
     cap: u64,
-    wanted: &Wanted,
-) -> Result<bool, Fail> {
-    let instance = instance_of(alloc, case)?;
+) -> Result<Outcome, NoMemory> {
     if !instance.sides_fit() || bins > instance.len() {
-        return Ok(false);
+        return Err(NoMemory);
     }
-    let tree = BinTree::new(alloc, &instance, bins, scales)?;
-    Ok(is_wanted(&tree.explore(alloc, &[], cap)?, wanted))
+    BinTree::new(alloc, instance, bins, scales)?.explore(alloc, &[], cap)
+}
+
+fn gives(alloc: Global, row: &Row) -> Result<bool, Fail> {
+    let (case, bins, scales, cap, wanted) = row;
+    let instance = instance_of(alloc, case)?;
+    Ok(is_wanted(&explored(alloc, &instance, *bins, *scales, *cap)?, wanted))
 }
 
 #[test]
 fn bins_are_found_or_refuted(rt: HostRuntime) -> Result<(), Fail> {
-    let alloc = rt.alloc();
-    for k in 0..ROWS.len() {
-        let (case, bins, scales, cap, wanted) = &ROWS[k];
-        assert!(rt; gives(alloc, case, *bins, *scales, *cap, wanted)?, "{k}");
+    for row in &ROWS {
+        assert!(rt; gives(rt.alloc(), row)?);
     }
     Ok(())
 }
@@ -81,21 +87,42 @@ fn bins_are_found_or_refuted(rt: HostRuntime) -> Result<(), Fail> {
 // first.
 const OTHERS: [(u32, bool, bool); 3] = [(2, true, true), (1, true, false), (2, false, false)];
 
-fn is_same(alloc: Global, bins: u32, scales: bool) -> Result<bool, Fail> {
-    let first = instance_of(alloc, &PLANKS)?;
-    let second = instance_of(alloc, &PLANKS)?;
-    if !first.sides_fit() || !second.sides_fit() || bins > second.len() || 2 > first.len() {
+// Whether a tree is the same as the one of these boxes.
+fn is_same_as(
+    alloc: Global,
+    tree: &BinTree<'_>,
+    instance: &Instance,
+    bins: u32,
+    scales: bool,
+) -> Result<bool, NoMemory> {
+    if !instance.sides_fit() || bins > instance.len() {
+        return Err(NoMemory);
+    }
+    Ok(tree.same(&BinTree::new(alloc, instance, bins, scales)?))
+}
+
+// Whether each of the others is told apart from a tree of the planks.
+fn are_told_apart(alloc: Global, tree: &BinTree<'_>) -> Result<bool, Fail> {
+    let instance = instance_of(alloc, &PLANKS)?;
+    for (bins, scales, wanted) in OTHERS {
+        if is_same_as(alloc, tree, &instance, bins, scales)? != wanted {
+            return Ok(false);
+        }
+    }
+    Ok(true)
+}
+
+// The same for their tree for two bins.
+fn first_is_told_apart(alloc: Global, instance: &Instance) -> Result<bool, Fail> {
+    if !instance.sides_fit() || 2 > instance.len() {
         return Ok(false);
     }
-    let tree = BinTree::new(alloc, &first, 2, true)?;
-    Ok(tree.same(&BinTree::new(alloc, &second, bins, scales)?))
+    are_told_apart(alloc, &BinTree::new(alloc, instance, 2, true)?)
 }
 
 #[test]
 fn trees_of_equal_parts_are_the_same(rt: HostRuntime) -> Result<(), Fail> {
-    let alloc = rt.alloc();
-    for (bins, scales, wanted) in OTHERS {
-        assert!(rt; is_same(alloc, bins, scales)? == wanted);
-    }
+    let instance = instance_of(rt.alloc(), &PLANKS)?;
+    assert!(rt; first_is_told_apart(rt.alloc(), &instance)?);
     Ok(())
 }

@@ -1,6 +1,8 @@
 //! Tests of choice trees: what they give under a budget, and which of them are the same.
 use crate::cases::{BLOCKS, BOARDS, Case, PLANKS, THREE, Wanted, instance_of, is_wanted};
 use bin_knapsack::ChoiceTree;
+use box_instances::{Instance, NoMemory};
+use proof_tree::Outcome;
 use std::alloc::Global;
 use std::test::Fail;
 use work_share::Tree;
@@ -12,7 +14,9 @@ const BOTH: Case = Case {
 };
 
 // A case, a value, whether there are scales, a cap, and what the tree gives.
-const ROWS: [(Case, u64, bool, u64, Wanted); 16] = [
+type Row = (Case, u64, bool, u64, Wanted);
+
+const ROWS: [Row; 16] = [
     (THREE, 9, true, 4, NINE),
     (THREE, 9, true, 3, Wanted::Past),
     (THREE, 8, true, 6, Wanted::Yes(&[0, 0, 0, 2, 6, 0], 6)),
@@ -41,25 +45,27 @@ const NINE: Wanted = Wanted::No(&[[1, 1], [1, 2], [2, 0], [3, 0], [4, 0], [4, 0]
 
 const NINE_OF_BLOCKS: Wanted = Wanted::No(&[[1, 2], [1, 1], [2, 0], [3, 0], [4, 0], [4, 0]], 4);
 
-fn gives(
+// What a tree gives.
+fn explored(
     alloc: Global,
-    case: &Case,
+    instance: &Instance,
     value: u64,
     scales: bool,
     cap: u64,
-    wanted: &Wanted,
-) -> Result<bool, Fail> {
+) -> Result<Outcome, NoMemory> {
+    ChoiceTree::new(alloc, instance, value, scales)?.explore(alloc, &[], cap)
+}
+
+fn gives(alloc: Global, row: &Row) -> Result<bool, Fail> {
+    let (case, value, scales, cap, wanted) = row;
     let instance = instance_of(alloc, case)?;
-    let tree = ChoiceTree::new(alloc, &instance, value, scales)?;
-    Ok(is_wanted(&tree.explore(alloc, &[], cap)?, wanted))
+    Ok(is_wanted(&explored(alloc, &instance, *value, *scales, *cap)?, wanted))
 }
 
 #[test]
 fn values_are_reached_or_refuted(rt: HostRuntime) -> Result<(), Fail> {
-    let alloc = rt.alloc();
-    for k in 0..ROWS.len() {
-        let (case, value, scales, cap, wanted) = &ROWS[k];
-        assert!(rt; gives(alloc, case, *value, *scales, *cap, wanted)?, "{k}");
+    for row in &ROWS {
+        assert!(rt; gives(rt.alloc(), row)?);
     }
     Ok(())
 }
@@ -67,18 +73,36 @@ fn values_are_reached_or_refuted(rt: HostRuntime) -> Result<(), Fail> {
 // Values and choices of scales of another tree, and whether its parts are those of the first.
 const OTHERS: [(u64, bool, bool); 3] = [(8, true, true), (9, true, false), (8, false, false)];
 
-fn is_same(alloc: Global, value: u64, scales: bool) -> Result<bool, Fail> {
-    let first = instance_of(alloc, &THREE)?;
-    let second = instance_of(alloc, &THREE)?;
-    let tree = ChoiceTree::new(alloc, &first, 8, true)?;
-    Ok(tree.same(&ChoiceTree::new(alloc, &second, value, scales)?))
+// Whether a tree is the same as the one of these boxes.
+fn is_same_as(
+    alloc: Global,
+    tree: &ChoiceTree<'_>,
+    instance: &Instance,
+    value: u64,
+    scales: bool,
+) -> Result<bool, NoMemory> {
+    Ok(tree.same(&ChoiceTree::new(alloc, instance, value, scales)?))
+}
+
+// Whether each of the others is told apart from a tree of the three boxes.
+fn are_told_apart(alloc: Global, tree: &ChoiceTree<'_>) -> Result<bool, Fail> {
+    let instance = instance_of(alloc, &THREE)?;
+    for (value, scales, wanted) in OTHERS {
+        if is_same_as(alloc, tree, &instance, value, scales)? != wanted {
+            return Ok(false);
+        }
+    }
+    Ok(true)
+}
+
+// The same for their tree for the value 8.
+fn first_is_told_apart(alloc: Global, instance: &Instance) -> Result<bool, Fail> {
+    are_told_apart(alloc, &ChoiceTree::new(alloc, instance, 8, true)?)
 }
 
 #[test]
 fn trees_of_equal_parts_are_the_same(rt: HostRuntime) -> Result<(), Fail> {
-    let alloc = rt.alloc();
-    for (value, scales, wanted) in OTHERS {
-        assert!(rt; is_same(alloc, value, scales)? == wanted);
-    }
+    let instance = instance_of(rt.alloc(), &THREE)?;
+    assert!(rt; first_is_told_apart(rt.alloc(), &instance)?);
     Ok(())
 }

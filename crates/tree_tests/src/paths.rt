@@ -1,7 +1,7 @@
 //! Tests of nodes of both outer trees by their paths.
 use crate::cases::{PLANKS, THREE, Wanted, instance_of, is_wanted};
 use bin_knapsack::{BinTree, ChoiceTree};
-use box_instances::NoMemory;
+use box_instances::{Instance, NoMemory};
 use proof_tree::Token;
 use std::alloc::Global;
 use std::test::Fail;
@@ -37,11 +37,15 @@ fn choices_go_down(alloc: Global, tree: &ChoiceTree<'_>) -> Result<bool, NoMemor
     }
 }
 
+// The same of the tree of an instance for the value 9.
+fn choice_tree_goes_down(alloc: Global, instance: &Instance) -> Result<bool, NoMemory> {
+    choices_go_down(alloc, &ChoiceTree::new(alloc, instance, 9, true)?)
+}
+
 #[test]
 fn choices_are_explored_at_paths(rt: HostRuntime) -> Result<(), Fail> {
-    let alloc = rt.alloc();
-    let instance = instance_of(alloc, &THREE)?;
-    assert!(rt; choices_go_down(alloc, &ChoiceTree::new(alloc, &instance, 9, true)?)?);
+    let instance = instance_of(rt.alloc(), &THREE)?;
+    assert!(rt; choice_tree_goes_down(rt.alloc(), &instance)?);
     Ok(())
 }
 
@@ -71,13 +75,17 @@ fn bins_go_down(alloc: Global, tree: &BinTree<'_>) -> Result<bool, NoMemory> {
     }
 }
 
+// The same of the tree of an instance for two bins.
+fn bin_tree_goes_down(alloc: Global, instance: &Instance) -> Result<bool, NoMemory> {
+    if !instance.sides_fit() || 2 > instance.len() {
+        return Ok(false);
+    }
+    bins_go_down(alloc, &BinTree::new(alloc, instance, 2, true)?)
+}
+
 #[test]
 fn bins_are_explored_at_paths(rt: HostRuntime) -> Result<(), Fail> {
-    let alloc = rt.alloc();
-    let instance = instance_of(alloc, &PLANKS)?;
-    if !instance.sides_fit() || 2 > instance.len() {
-        return Err(Fail::from(NoMemory));
-    }
-    assert!(rt; bins_go_down(alloc, &BinTree::new(alloc, &instance, 2, true)?)?);
+    let instance = instance_of(rt.alloc(), &PLANKS)?;
+    assert!(rt; bin_tree_goes_down(rt.alloc(), &instance)?);
     Ok(())
 }

@@ -82,16 +82,33 @@ fn decides_well_by_workers<R: Threads + Wait + Sync>(
 // Caps, each with whether one branching is within it.
 const CAPS: [(u64, bool); 2] = [(0, false), (1, true)];
 
+fn tree_explores_well(alloc: Global, instance: &Instance) -> Result<bool, NoMemory> {
+    let tree = ClassTree::new(alloc, instance, true)?;
+    Ok(explores_well(alloc, &tree, 0, false)? && explores_well(alloc, &tree, 1, true)?)
+}
+
+// Whether one worker and several decide well at each cap.
+fn workers_decide_well<R: Threads + Wait + Sync>(
+    rt: &R,
+    alloc: Global,
+    instance: &Instance,
+) -> Result<bool, NoMemory> {
+    for (cap, is_within) in CAPS {
+        if !decides_well(alloc, instance, cap, is_within)? {
+            return Ok(false);
+        }
+        if !decides_well_by_workers(rt, alloc, instance, cap, is_within)? {
+            return Ok(false);
+        }
+    }
+    Ok(true)
+}
+
 #[test]
 fn a_pair_is_decided_by_one_branching(rt: HostRuntime) -> Result<(), Fail> {
-    let alloc = rt.alloc();
-    let instance = two_boxes(alloc, 6)?;
-    let tree = ClassTree::new(alloc, &instance, true)?;
-    for (cap, is_within) in CAPS {
-        assert!(rt; explores_well(alloc, &tree, cap, is_within)?);
-        assert!(rt; decides_well(alloc, &instance, cap, is_within)?);
-        assert!(rt; decides_well_by_workers(&rt, alloc, &instance, cap, is_within)?);
-    }
+    let instance = two_boxes(rt.alloc(), 6)?;
+    assert!(rt; tree_explores_well(rt.alloc(), &instance)?);
+    assert!(rt; workers_decide_well(&rt, rt.alloc(), &instance)?);
     Ok(())
 }
 
@@ -111,11 +128,15 @@ fn second_child_is_a_leaf(alloc: Global, tree: &ClassTree<'_>) -> Result<bool, N
     }
 }
 
+// The same of the tree of an instance.
+fn tree_is_followed(alloc: Global, instance: &Instance) -> Result<bool, NoMemory> {
+    second_child_is_a_leaf(alloc, &ClassTree::new(alloc, instance, true)?)
+}
+
 #[test]
 fn a_path_is_followed(rt: HostRuntime) -> Result<(), Fail> {
-    let alloc = rt.alloc();
-    let instance = two_boxes(alloc, 6)?;
-    assert!(rt; second_child_is_a_leaf(alloc, &ClassTree::new(alloc, &instance, true)?)?);
+    let instance = two_boxes(rt.alloc(), 6)?;
+    assert!(rt; tree_is_followed(rt.alloc(), &instance)?);
     Ok(())
 }
 
@@ -140,15 +161,11 @@ fn starts_well(
     Ok(is_yes(&tree.explore(alloc, &[], 0)?, places, 0))
 }
 
-const STARTS: [(Rel, &[u32]); 2] = [(Rel::After, &[0, 6, 0, 0]), (Rel::Before, &[0, 0, 0, 4])];
-
 #[test]
 fn starting_exclusions_are_kept(rt: HostRuntime) -> Result<(), Fail> {
-    let alloc = rt.alloc();
-    let instance = two_boxes(alloc, 6)?;
-    for (rel, places) in STARTS {
-        assert!(rt; starts_well(alloc, &instance, rel, places)?);
-    }
+    let instance = two_boxes(rt.alloc(), 6)?;
+    assert!(rt; starts_well(rt.alloc(), &instance, Rel::After, &[0, 6, 0, 0])?);
+    assert!(rt; starts_well(rt.alloc(), &instance, Rel::Before, &[0, 0, 0, 4])?);
     Ok(())
 }
 
@@ -162,13 +179,24 @@ fn is_same(alloc: Global, tree: &ClassTree<'_>, side: u32, scales: bool) -> Resu
 // of the first tree.
 const OTHERS: [(u32, bool, bool); 3] = [(6, true, true), (6, false, false), (5, true, false)];
 
+// Whether each of them is so.
+fn are_told_apart(alloc: Global, tree: &ClassTree<'_>) -> Result<bool, Fail> {
+    for (side, scales, wanted) in OTHERS {
+        if is_same(alloc, tree, side, scales)? != wanted {
+            return Ok(false);
+        }
+    }
+    Ok(true)
+}
+
+// The same for their tree with scales.
+fn first_is_told_apart(alloc: Global, instance: &Instance) -> Result<bool, Fail> {
+    are_told_apart(alloc, &ClassTree::new(alloc, instance, true)?)
+}
+
 #[test]
 fn trees_of_equal_parts_are_the_same(rt: HostRuntime) -> Result<(), Fail> {
-    let alloc = rt.alloc();
-    let instance = two_boxes(alloc, 6)?;
-    let tree = ClassTree::new(alloc, &instance, true)?;
-    for (side, scales, wanted) in OTHERS {
-        assert!(rt; is_same(alloc, &tree, side, scales)? == wanted);
-    }
+    let instance = two_boxes(rt.alloc(), 6)?;
+    assert!(rt; first_is_told_apart(rt.alloc(), &instance)?);
     Ok(())
 }

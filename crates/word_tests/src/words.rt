@@ -67,48 +67,53 @@ fn options_stand_in_one_word_or_in_two(rt: HostRuntime) -> Result<(), Fail> {
 }
 
 #[test]
-fn words_that_name_no_job_are_refused(rt: HostRuntime) -> Result<(), Fail> {
-    let alloc = rt.alloc();
-    let none: Vec<String> = Vec::new(alloc);
-    assert!(rt; read_words(alloc, &none) == REFUSED);
-    assert!(rt; job_of(alloc, "pile") == REFUSED);
-    assert!(rt; job_of(alloc, "fit fit") == REFUSED);
-    assert!(rt; job_of(alloc, "fit --workers 65") == REFUSED);
-    assert!(rt; job_of(alloc, "fit --workers 0") == REFUSED);
-    assert!(rt; job_of(alloc, "fit --number 3") == REFUSED);
-    assert!(rt; job_of(alloc, "check --budget 5") == REFUSED);
-    assert!(rt; job_of(alloc, "fit --budget 5 --budget 5") == REFUSED);
-    assert!(rt; job_of(alloc, "fit --scales maybe") == REFUSED);
-    assert!(rt; job_of(alloc, "fit --work 2") == REFUSED);
-    assert!(rt; job_of(alloc, "fit --budget") == REFUSED);
+fn no_words_are_refused(rt: HostRuntime) -> Result<(), Fail> {
+    let none: Vec<String> = Vec::new(rt.alloc());
+    assert!(rt; read_words(rt.alloc(), &none) == REFUSED);
     Ok(())
 }
 
+// Words that name no job, and others that are almost one.
+const NO_JOBS: [&str; 32] = [
+    "pile",
+    "fit fit",
+    "fit --workers 65",
+    "fit --workers 0",
+    "fit --number 3",
+    "check --budget 5",
+    "fit --budget 5 --budget 5",
+    "fit --scales maybe",
+    "fit --work 2",
+    "fit --budget",
+    "",
+    "--help",
+    "fit --help",
+    "fit -h",
+    "--version",
+    "Fit",
+    "fit -- --budget 5",
+    "fit -- --",
+    "fit --budget=",
+    "fit --budget=-5",
+    "fit --budget -5",
+    "fit --budget --scales",
+    "fit --budget -",
+    "-",
+    "fit --budget=5 --budget 5",
+    "fit --budget=5=5",
+    "fit --budget 10000001",
+    "fit --budget 000000000000000000005",
+    "make --number 2147483648",
+    "fit --scales=",
+    "fit --Budget 5",
+    "fit --job strip",
+];
+
 #[test]
-fn words_that_are_almost_a_job_are_refused(rt: HostRuntime) -> Result<(), Fail> {
-    let alloc = rt.alloc();
-    assert!(rt; job_of(alloc, "") == REFUSED);
-    assert!(rt; job_of(alloc, "--help") == REFUSED);
-    assert!(rt; job_of(alloc, "fit --help") == REFUSED);
-    assert!(rt; job_of(alloc, "fit -h") == REFUSED);
-    assert!(rt; job_of(alloc, "--version") == REFUSED);
-    assert!(rt; job_of(alloc, "Fit") == REFUSED);
-    assert!(rt; job_of(alloc, "fit --") == by_default(Job::Fit));
-    assert!(rt; job_of(alloc, "fit -- --budget 5") == REFUSED);
-    assert!(rt; job_of(alloc, "fit -- --") == REFUSED);
-    assert!(rt; job_of(alloc, "fit --budget=") == REFUSED);
-    assert!(rt; job_of(alloc, "fit --budget=-5") == REFUSED);
-    assert!(rt; job_of(alloc, "fit --budget -5") == REFUSED);
-    assert!(rt; job_of(alloc, "fit --budget --scales") == REFUSED);
-    assert!(rt; job_of(alloc, "fit --budget -") == REFUSED);
-    assert!(rt; job_of(alloc, "-") == REFUSED);
-    assert!(rt; job_of(alloc, "fit --budget=5 --budget 5") == REFUSED);
-    assert!(rt; job_of(alloc, "fit --budget=5=5") == REFUSED);
-    assert!(rt; job_of(alloc, "fit --budget 10000001") == REFUSED);
-    assert!(rt; job_of(alloc, "fit --budget 000000000000000000005") == REFUSED);
-    assert!(rt; job_of(alloc, "make --number 2147483648") == REFUSED);
-    assert!(rt; job_of(alloc, "fit --scales=") == REFUSED);
-    assert!(rt; job_of(alloc, "fit --Budget 5") == REFUSED);
-    assert!(rt; job_of(alloc, "fit --job strip") == REFUSED);
+fn words_that_name_no_job_are_refused(rt: HostRuntime) -> Result<(), Fail> {
+    for line in NO_JOBS {
+        assert!(rt; job_of(rt.alloc(), line) == REFUSED, "{line}");
+    }
+    assert!(rt; job_of(rt.alloc(), "fit --") == by_default(Job::Fit));
     Ok(())
 }
