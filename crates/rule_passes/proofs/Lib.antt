@@ -2,4 +2,3 @@ mod Compositions
 mod Cycles
 mod Guards
 pub mod Levels
-pub mod ToldChains

@@ -1,3 +1,2 @@
 pub mod Reached
-pub mod Lines
 pub mod Rooms

@@ -12,10 +12,10 @@ ghost use Rattle.closure_terms.specs.Work.{IsUpToDate, IsChained};
 ghost use Rattle.rule_passes.specs.Rooms.{AreKept, AreMade};
 
 use crate::chains::cover_chains;
-use crate::guess::Guess;
 use crate::settle::settle;
 use crate::sides::longest_sides;
 use box_instances::Instance;
+use early_chains::Guess;
 use edge_state::{BitRow, EdgeState, Mark};
 use orientation_rules::KeptLevels;
 

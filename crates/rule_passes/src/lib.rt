@@ -6,16 +6,12 @@ mod chains;
 mod closing;
 mod edges;
 mod empties;
-mod guess;
-mod lines;
 mod orders;
 mod pairs;
-mod rising;
 mod room;
 mod rows;
 mod settle;
 mod sides;
-mod telling;
 mod triples;
 mod work;
 

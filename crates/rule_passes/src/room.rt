@@ -14,10 +14,10 @@ ghost use Rattle.orientation_rules.specs.KeptWeights.{PlainLevels};
 ghost use Rattle.rule_passes.specs.Rooms.{AreKept, AreMade};
 
 use crate::closing::close_with;
-use crate::guess::Guess;
 use crate::pairs::pass_pairs;
 use crate::rows::all_boxes;
 use box_instances::{Instance, NoMemory};
+use early_chains::Guess;
 use edge_state::{BitRow, EdgeState, Mark};
 use orientation_rules::KeptLevels;
 use std::alloc::Global;

@@ -15,9 +15,8 @@ ghost use Rattle.rule_passes.specs.Reached.{HasNoLonger};
 
 use crate::edges::spread;
 use crate::empties::is_empty_left;
-use crate::guess::Guess;
-use crate::lines::shut_pair;
 use box_instances::Instance;
+use early_chains::{Guess, shut_pair};
 use edge_state::{BitRow, EdgeState, Exclusion, Mark, Mask, Rel};
 
 // The position of the list behind a change, and behind the next one too where that is at the same

@@ -6,7 +6,7 @@ ghost use Rattle.rule_terms.specs.Applied.{Extends};
 ghost use Rattle.rule_terms.specs.Runs.{HasTail};
 ghost use Rattle.edge_state.specs.BitRows.{HoldsBoxes};
 ghost use Rattle.closure_terms.specs.States.{IsSized, HasEmptyMask};
-ghost use Rattle.rule_passes.specs.Lines.{IsTooLong};
+ghost use Rattle.early_chains.specs.Lines.{IsTooLong};
 
 use box_instances::Instance;
 use edge_state::{BitRow, EdgeState, Mask, Rel};
@@ -93,7 +93,7 @@ pub(crate) fn long_pair<const K: usize>(
 }
 
 /// CHAIN at the first two boxes of a chain that is too long: it leaves their mask empty.
-pub(crate) fn shut_pair(instance: &Instance, state: &mut EdgeState, dim: u32, u: u32, v: u32)
+pub fn shut_pair(instance: &Instance, state: &mut EdgeState, dim: u32, u: u32, v: u32)
     requires sizes { IsSized instance.now state.old dim }
     requires long { IsTooLong instance.now (excludes state.old.trail) dim u v }
     ensures sizes { state.new ≡ record state.old { trail = state.new.trail } }

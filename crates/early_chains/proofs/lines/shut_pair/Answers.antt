@@ -6,8 +6,8 @@ use Rattle.packing_terms.specs.Exclusions.{excludes}
 use Rattle.rule_terms.proofs.Applied.{applied_by}
 use Rattle.relation_table.specs.Masks.{mask_has}
 use Rattle.orientation_rules.proofs.Keeps.{rest_drops, rest_only, full_without}
-use Rattle.rule_passes.proofs.ToldChains.{emptied}
-use Rattle.rule_passes.proofs.lines.shut_pair.Goals as goal
+use Rattle.early_chains.proofs.ToldChains.{emptied}
+use Rattle.early_chains.proofs.lines.shut_pair.Goals as goal
 
 pub returns-clause-extends : goal.returns-clause-extends
 returns-clause-extends c =

@@ -3,8 +3,8 @@ use Rattle.std.proofs.lemmas.Bool.{and_parts}
 use Rattle.packing_terms.specs.Packing.{box_count, side}
 use Rattle.packing_terms.specs.Exclusions.{excludes}
 use Rattle.edge_state.specs.BitRows.{row_has}
-use Rattle.rule_passes.proofs.ToldChains.{line_more}
-use Rattle.rule_passes.proofs.lines.chain_of.Goals as goal
+use Rattle.early_chains.proofs.ToldChains.{line_more}
+use Rattle.early_chains.proofs.lines.chain_of.Goals as goal
 
 pub loop-k-preserved : goal.loop-k-preserved
 loop-k-preserved g c =

@@ -1,4 +1,4 @@
-//! Weights that rise: two boxes are ordered, and so are those that the chains of the second go on to.
+//! Weights that rise: two boxes are ordered, so chains of the second go on from the first.
 ghost use Rattle.edge_state.specs.BitRows.{HoldsBoxes};
 
 use crate::guess::{Guess, PLACES, place_of};

@@ -10,7 +10,7 @@ use Rattle.packing_terms.specs.declared.Rel.TheVariants.{Overlap, Before, After}
 use Rattle.packing_terms.specs.Exclusions.{Exclusions, IsEdge, IsSurelyBefore}
 use Rattle.closure_terms.specs.States.{HasEmptyMask}
 use Rattle.orientation_rules.specs.Kept.{IsTakenOut, taken}
-use Rattle.rule_passes.specs.Lines.{IsLine}
+use Rattle.early_chains.specs.Lines.{IsLine}
 
 -- what isn't known isn't among what is
 other_than : (known : ℕ → Bool) (x : ℕ) (vs : List ℕ) → known x ≡ false → AllByRecursion (λ u. known u ≡ true) vs

@@ -1,6 +1,6 @@
 //! Weights of chains as they are thought to be while a closing goes on: what they are, and what is
 //! taken back when the search goes back. They rise in `rising.rt`, and a chain that is too long is
-//! read off and looked at in `telling.rt` before it counts, so nothing is promised of these numbers.
+//! read off and looked at in `telling.rt` before it counts, so nothing is promised of them.
 ghost use Rattle.std.specs.Prelude.{◌<◌};
 ghost use Rattle.packing_terms.specs.Packing.{dims};
 

@@ -2,8 +2,8 @@ use Rattle.std.proofs.Common.{◌<◌}
 use Rattle.packing_terms.specs.Packing.{box_count}
 use Rattle.packing_terms.specs.Exclusions.{excludes}
 use Rattle.edge_state.specs.BitRows.{row_has}
-use Rattle.rule_passes.specs.Lines.{IsLine}
-use Rattle.rule_passes.proofs.lines.chain_of.Given as goal
+use Rattle.early_chains.specs.Lines.{IsLine}
+use Rattle.early_chains.proofs.lines.chain_of.Given as goal
 
 abbrev pub invariant-loop-k : goal.invariant-loop-k
 invariant-loop-k g l = (l.first < box_count l.instance)
