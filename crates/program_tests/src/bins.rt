@@ -1,6 +1,6 @@
 //! Bins, each document whole.
+use crate::asked::has_128_boxes;
 use crate::rows::{Solved, is_solved};
-use crate::runs::told_of;
 use crate::texts::PLANKS;
 use std::test::Fail;
 
@@ -71,12 +71,7 @@ const FULL: &[u8] = b"format 2\ncontainer 1 1\nbox 1 1 times 128\n";
 
 #[test]
 fn the_most_bins_are_one_for_each_of_128_boxes(rt: HostRuntime) -> Result<(), Fail> {
-    let told = told_of(&rt, &["bins", "--budget", "0"], FULL)?;
-    assert!(rt; told.status == 0);
-    assert!(rt; told.lines_from(b'b') == 128);
-    assert!(rt;
-        told.out
-            .ends_with(b"place 127 0 0\nplace 128 0 0\nproof\ng id id\nend\n")
-    );
+    let end = b"place 127 0 0\nplace 128 0 0\nproof\ng id id\nend\n";
+    assert!(rt; has_128_boxes(&rt, &["bins", "--budget", "0"], FULL, end)?);
     Ok(())
 }

@@ -1,10 +1,14 @@
 //! Faults of the source and of the sink, while a document is checked, and what is read and written
 //! around them.
-use crate::runs::{told_of, told_read_to, told_with, told_written_to};
+use crate::asked::{reads_and_tells, stops_reading, stops_writing};
+use crate::runs::{told_read_to, told_with};
 use crate::texts::TWO_BOXES_FIT;
 use pack_command::check_stream;
 use pack_streams::{MemorySink, MemorySource, ReadStep, WriteStep};
+use std::alloc::{AllocGlobal, Global};
+use std::sync::Wait;
 use std::test::Fail;
+use std::thread::Threads;
 
 const LINE: &[u8] = b"verified fit yes\n";
 
@@ -15,30 +19,34 @@ const CHECK: &[&str] = &["check"];
 #[test]
 fn a_failed_read_before_a_refused_line_is_a_read_fault(rt: HostRuntime) -> Result<(), Fail> {
     for count in 0..12 {
-        let told = told_read_to(&rt, CHECK, FORM, count)?;
-        assert!(rt; told.is_stop(4, "pack: read fault\n", b""));
+        assert!(rt; stops_reading(&rt, CHECK, FORM, count)?, "{count}");
     }
     Ok(())
+}
+
+// Whether the refused line is told by such reads, and what stands behind it is left.
+fn leaves_the_rest<R: AllocGlobal + Threads + Wait + Sync>(
+    rt: &R,
+    reads: &[ReadStep],
+) -> Result<bool, Fail> {
+    let told = told_with(rt, CHECK, FORM, reads, &[])?;
+    Ok(told.is_line(1, "refused 1 form\n") && told.left.as_slice() == b"format 1\n".as_slice())
 }
 
 #[test]
 fn nothing_behind_a_refused_line_is_read(rt: HostRuntime) -> Result<(), Fail> {
     let plans: [&[ReadStep]; 3] = [&[], &[ReadStep::Give(1); 12], &[ReadStep::Give(7); 12]];
     for plan in plans {
-        let told = told_with(&rt, CHECK, FORM, plan, &[])?;
-        assert!(rt; told.is_line(1, "refused 1 form\n"));
-        assert!(rt; told.left.as_slice() == b"format 1\n".as_slice());
+        assert!(rt; leaves_the_rest(&rt, plan)?);
     }
-    let told = told_read_to(&rt, CHECK, FORM, 12)?;
-    assert!(rt; told.is_line(1, "refused 1 form\n"));
+    assert!(rt; told_read_to(&rt, CHECK, FORM, 12)?.is_line(1, "refused 1 form\n"));
     Ok(())
 }
 
 #[test]
 fn a_failed_read_is_never_the_end_of_a_document(rt: HostRuntime) -> Result<(), Fail> {
     for count in 0..TWO_BOXES_FIT.len() + 1 {
-        let told = told_read_to(&rt, CHECK, TWO_BOXES_FIT, count)?;
-        assert!(rt; told.is_stop(4, "pack: read fault\n", b""));
+        assert!(rt; stops_reading(&rt, CHECK, TWO_BOXES_FIT, count)?, "{count}");
     }
     Ok(())
 }
@@ -46,8 +54,10 @@ fn a_failed_read_is_never_the_end_of_a_document(rt: HostRuntime) -> Result<(), F
 #[test]
 fn a_failed_write_leaves_a_part_of_the_line(rt: HostRuntime) -> Result<(), Fail> {
     for count in 0..LINE.len() {
-        let told = told_written_to(&rt, CHECK, TWO_BOXES_FIT, count)?;
-        assert!(rt; told.is_stop(5, "pack: write fault\n", &LINE[..count]));
+        assert!(rt;
+            stops_writing(&rt, CHECK, TWO_BOXES_FIT, count, LINE)?,
+            "{count}"
+        );
     }
     Ok(())
 }
@@ -60,20 +70,25 @@ fn a_line_is_given_in_one_piece(rt: HostRuntime) -> Result<(), Fail> {
     ];
     let plan = [WriteStep::Take(4096), WriteStep::Fail];
     for (document, status, line) in documents {
-        let told = told_with(&rt, CHECK, document, &[], &plan)?;
-        assert!(rt; told.is_line(status, line));
+        assert!(rt;
+            told_with(&rt, CHECK, document, &[], &plan)?.is_line(status, line),
+            "{line}"
+        );
     }
     Ok(())
 }
 
-#[test]
-fn a_stream_is_checked_without_words(rt: HostRuntime) -> Result<(), Fail> {
-    let alloc = rt.alloc();
+// Whether a call without words verifies the two boxes.
+fn is_checked_without_words(alloc: Global) -> Result<bool, Fail> {
     let mut source = MemorySource::new(Vec::from_slice(alloc, TWO_BOXES_FIT)?, Vec::new(alloc));
     let mut out = MemorySink::new(alloc, 64, Vec::new(alloc))?;
-    assert!(rt; check_stream(alloc, &mut source, &mut out) == 0);
-    assert!(rt; out.written() == LINE);
-    let told = told_of(&rt, CHECK, TWO_BOXES_FIT)?;
-    assert!(rt; told.left.is_empty());
+    let status = check_stream(alloc, &mut source, &mut out);
+    Ok(status == 0 && out.written() == LINE)
+}
+
+#[test]
+fn a_stream_is_checked_without_words(rt: HostRuntime) -> Result<(), Fail> {
+    assert!(rt; is_checked_without_words(rt.alloc())?);
+    assert!(rt; reads_and_tells(&rt, CHECK, TWO_BOXES_FIT, 0, "verified fit yes\n")?);
     Ok(())
 }

@@ -1,5 +1,5 @@
 //! Documents that end too early.
-use crate::runs::told_of;
+use crate::asked::tells;
 use crate::texts::TWO_BOXES_FIT;
 use std::test::Fail;
 
@@ -19,8 +19,10 @@ const CUTS: [(usize, &str); 9] = [
 #[test]
 fn a_document_that_is_cut_behind_a_line_is_short(rt: HostRuntime) -> Result<(), Fail> {
     for (count, line) in CUTS {
-        let told = told_of(&rt, &["check"], &TWO_BOXES_FIT[..count])?;
-        assert!(rt; told.is_line(1, line), "{line}");
+        assert!(rt;
+            tells(&rt, &["check"], &TWO_BOXES_FIT[..count], 1, line)?,
+            "{line}"
+        );
     }
     Ok(())
 }

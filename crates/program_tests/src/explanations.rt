@@ -1,7 +1,11 @@
 //! Refutations that are explained, and documents that hold none.
-use crate::runs::{told_of, told_read_to, told_written_to};
+use crate::asked::{ends, reads_and_tells, stops_reading, stops_writing, tells};
+use crate::runs::told_of;
 use crate::texts::TWO_BOXES_FIT;
+use std::alloc::AllocGlobal;
+use std::sync::Wait;
 use std::test::Fail;
+use std::thread::Threads;
 
 const EXPLAIN: &[&str] = &["explain"];
 
@@ -29,9 +33,7 @@ const REFUSED: [(&[u8], &str); 5] = [
 #[test]
 fn what_holds_no_refutation_is_refused(rt: HostRuntime) -> Result<(), Fail> {
     for (document, line) in REFUSED {
-        let told = told_of(&rt, EXPLAIN, document)?;
-        assert!(rt; told.is_line(1, line), "{line}");
-        assert!(rt; told.left.is_empty());
+        assert!(rt; reads_and_tells(&rt, EXPLAIN, document, 1, line)?, "{line}");
     }
     Ok(())
 }
@@ -42,16 +44,30 @@ const INSTANCES: [&[u8]; 3] = [
     b"format 2\ncontainer 7 7 4\nkerf 1 0 0\nbox 3 4 3\nbox 3 4 3\nbox 3 4 3\nbox 3 4 3\nbox 2 4 2\n",
 ];
 
+// Whether `explain` takes the refutation, and `audit` verifies what it writes.
+fn is_explained<R: AllocGlobal + Threads + Wait + Sync>(
+    rt: &R,
+    refutation: &[u8],
+) -> Result<bool, Fail> {
+    let explained = told_of(rt, EXPLAIN, refutation)?;
+    let line = "verified explained fit no\n";
+    Ok(explained.status == 0 && tells(rt, &["audit"], &explained.out, 0, line)?)
+}
+
+// Whether the instance is refuted, and its refutation explained.
+fn is_explained_of<R: AllocGlobal + Threads + Wait + Sync>(
+    rt: &R,
+    instance: &[u8],
+) -> Result<bool, Fail> {
+    let refuted = told_of(rt, &["fit", "--scales", "no"], instance)?;
+    Ok(refuted.status == 1 && is_explained(rt, &refuted.out)?)
+}
+
 // What `explain` writes of the refutation of each instance is verified by `audit`.
 #[test]
 fn explained_documents_are_verified(rt: HostRuntime) -> Result<(), Fail> {
     for instance in INSTANCES {
-        let refuted = told_of(&rt, &["fit", "--scales", "no"], instance)?;
-        assert!(rt; refuted.status == 1);
-        let explained = told_of(&rt, EXPLAIN, refuted.out.as_slice())?;
-        assert!(rt; explained.status == 0);
-        let audited = told_of(&rt, &["audit"], explained.out.as_slice())?;
-        assert!(rt; audited.is_line(0, "verified explained fit no\n"));
+        assert!(rt; is_explained_of(&rt, instance)?);
     }
     Ok(())
 }
@@ -59,11 +75,8 @@ fn explained_documents_are_verified(rt: HostRuntime) -> Result<(), Fail> {
 // The input is read to its end before a line is refused or written.
 #[test]
 fn a_fault_of_explain_is_told(rt: HostRuntime) -> Result<(), Fail> {
-    let told = told_read_to(&rt, EXPLAIN, SQUARES, 20)?;
-    assert!(rt; told.is_stop(4, "pack: read fault\n", b""));
-    let told = told_written_to(&rt, EXPLAIN, SQUARES, 9)?;
-    assert!(rt; told.is_stop(5, "pack: write fault\n", b"explained"));
-    let told = told_of(&rt, &["explain", "--budget", "3"], SQUARES)?;
-    assert!(rt; told.status == 2);
+    assert!(rt; stops_reading(&rt, EXPLAIN, SQUARES, 20)?);
+    assert!(rt; stops_writing(&rt, EXPLAIN, SQUARES, 9, b"explained")?);
+    assert!(rt; ends(&rt, &["explain", "--budget", "3"], SQUARES, 2)?);
     Ok(())
 }

@@ -1,5 +1,5 @@
 //! The least sizes of two boxes, and what `front` refuses.
-use crate::runs::{told_of, told_written_to};
+use crate::asked::{ends, is_refused, stops_writing, writes};
 use crate::texts::UNIT;
 use std::test::Fail;
 
@@ -45,8 +45,7 @@ const ROWS: [(&[&str], &[u8], u8, &[u8]); 6] = [
 #[test]
 fn front_has_the_documents_of_the_rows(rt: HostRuntime) -> Result<(), Fail> {
     for (words, text, status, document) in ROWS {
-        let told = told_of(&rt, words, text)?;
-        assert!(rt; told.is_as_written(status, document), "{status}");
+        assert!(rt; writes(&rt, words, text, status, document)?, "{status}");
     }
     Ok(())
 }
@@ -61,34 +60,35 @@ fn audit_reads_documents_of_fronts(rt: HostRuntime) -> Result<(), Fail> {
         (NARROW_FRONT, 1, b"refused 14 range\n"),
     ];
     for (document, status, line) in rows {
-        let told = told_of(&rt, &["audit"], document)?;
-        assert!(rt; told.is_as_written(status, line), "{status}");
+        assert!(rt;
+            writes(&rt, &["audit"], document, status, line)?,
+            "{status}"
+        );
     }
     for job in ["check", "explain"] {
-        let told = told_of(&rt, &[job], PAIR_FRONT)?;
-        assert!(rt; told.is_as_written(1, b"refused 1 form\n"));
+        assert!(rt;
+            writes(&rt, &[job], PAIR_FRONT, 1, b"refused 1 form\n")?,
+            "{job}"
+        );
     }
     Ok(())
 }
 
 #[test]
 fn front_needs_two_dimensions(rt: HostRuntime) -> Result<(), Fail> {
-    let told = told_of(&rt, &["front"], SOLID)?;
-    assert!(rt; told.is_stop(2, "pack: front needs two dimensions\n", b""));
-    let told = told_of(&rt, &["front"], b"format 1\ncontainer 5 5 5\nbox 0 1 1\n")?;
-    assert!(rt; told.is_stop(2, "pack: line 3: code 4\n", b""));
-    let told = told_of(&rt, &["front", "--number", "3"], SOLID)?;
-    assert!(rt; told.status == 2);
+    let flat = "pack: front needs two dimensions\n";
+    assert!(rt; is_refused(&rt, &["front"], SOLID, flat)?);
+    let faulty = b"format 1\ncontainer 5 5 5\nbox 0 1 1\n";
+    assert!(rt; is_refused(&rt, &["front"], faulty, "pack: line 3: code 4\n")?);
+    assert!(rt; ends(&rt, &["front", "--number", "3"], SOLID, 2)?);
     Ok(())
 }
 
 #[test]
 fn a_write_that_fails_leaves_the_front_of_the_document(rt: HostRuntime) -> Result<(), Fail> {
-    let document = LARGE_FRONT;
-    for count in 0..document.len() {
-        let told = told_written_to(&rt, &["front"], LARGE, count)?;
+    for count in 0..LARGE_FRONT.len() {
         assert!(rt;
-            told.is_stop(5, "pack: write fault\n", &document[..count]),
+            stops_writing(&rt, &["front"], LARGE, count, LARGE_FRONT)?,
             "{count}"
         );
     }

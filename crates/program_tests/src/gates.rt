@@ -1,9 +1,12 @@
 //! Tasks are explored at the same time: one is held until another was explored.
-use crate::runs::told_by;
+use crate::asked::is_as_alone;
 use crate::texts::EIGHT_IN_A_ROW;
+use std::alloc::AllocGlobal;
+use std::sync::Wait;
 use std::sync::atomic::{AtomicBool, Ordering};
 use std::test::Fail;
-use work_share::{Gate, NoGate};
+use std::thread::Threads;
+use work_share::Gate;
 
 // The most turns for which a task is held.
 const MOST_TURNS: u32 = 1_000_000_000;
@@ -64,15 +67,24 @@ const CASES: [(&str, u64, u64); 4] = [
     ("knapsack", 1, 2),
 ];
 
+// Whether two workers explored the awaited task while the other one was held, and wrote what one
+// does.
+fn is_explored_beside<R: AllocGlobal + Threads + Wait + Sync>(
+    rt: &R,
+    job: &str,
+    gate: &Holding,
+) -> Result<bool, Fail> {
+    let is_same = is_as_alone(rt, &[job, "--scales", "no"], "2", EIGHT_IN_A_ROW, gate)?;
+    Ok(is_same && gate.is_passed())
+}
+
 #[test]
 fn workers_explore_at_the_same_time(rt: HostRuntime) -> Result<(), Fail> {
     for (job, held, awaited) in CASES {
-        let words = [job, "--scales", "no"];
-        let gate = Holding::new(held, awaited);
-        let told = told_by(&rt, &words, "2", EIGHT_IN_A_ROW, &gate)?;
-        assert!(rt; gate.is_passed(), "{job}");
-        let alone = told_by(&rt, &words, "1", EIGHT_IN_A_ROW, &NoGate)?;
-        assert!(rt; told.is_as(&alone), "{job}");
+        assert!(rt;
+            is_explored_beside(&rt, job, &Holding::new(held, awaited))?,
+            "{job}"
+        );
     }
     Ok(())
 }
@@ -106,14 +118,12 @@ impl Gate for Both {
 // task 4.
 #[test]
 fn a_worker_that_found_no_task_comes_back(rt: HostRuntime) -> Result<(), Fail> {
-    let words = ["fit", "--scales", "no"];
     let gate = Both {
         first: Holding::new(1, 2),
         second: Holding::new(3, 4),
     };
-    let told = told_by(&rt, &words, "2", UNEVEN, &gate)?;
+    assert!(rt; is_as_alone(&rt, &["fit", "--scales", "no"], "2", UNEVEN, &gate)?);
     assert!(rt; gate.first.is_passed());
     assert!(rt; gate.second.is_passed());
-    assert!(rt; told.is_as(&told_by(&rt, &words, "1", UNEVEN, &NoGate)?));
     Ok(())
 }

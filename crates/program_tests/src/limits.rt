@@ -1,62 +1,78 @@
 //! Both ends of each limit, with ample memory, compared whole: a body that gives up with want of
 //! memory at some size fails here.
-use crate::runs::{told_by, told_of, told_read_whole};
+use crate::asked::{ends, is_as_alone, tells, writes};
+use crate::rows::{Solved, is_solved};
+use crate::runs::told_read_whole;
 use crate::texts::EIGHT_IN_A_ROW;
 use pack_streams::{MemorySink, SinkError, WriteFault, write_number, write_on};
-use std::alloc::Global;
+use std::alloc::{AllocGlobal, Global};
+use std::sync::Wait;
 use std::test::Fail;
+use std::thread::Threads;
 use work_share::NoGate;
 
-// Words, an instance in its one spelling, the status, and what the document has behind the
-// instance.
-const ROWS: [(&[&str], &[u8], u8, &[u8]); 6] = [
+// The first line of each document, and its row.
+const ROWS: [(&[u8], Solved); 6] = [
     (
-        &["fit", "--budget", "0"],
-        b"format 1\ncontainer 1 1 1 1\nbox 1 1 1 1\n",
-        0,
-        b"result yes\nplace 0 0 0 0\nend\n",
+        b"answer fit\n",
+        (
+            &["fit", "--budget", "0"],
+            b"format 1\ncontainer 1 1 1 1\nbox 1 1 1 1\n",
+            0,
+            b"result yes\nplace 0 0 0 0\nend\n",
+        ),
     ),
     (
-        &["fit", "--budget", "10000000"],
-        b"format 1\ncontainer 1000000 1000000\nbox 1000000 1000000\n",
-        0,
-        b"result yes\nplace 0 0\nend\n",
+        b"answer fit\n",
+        (
+            &["fit", "--budget", "10000000"],
+            b"format 1\ncontainer 1000000 1000000\nbox 1000000 1000000\n",
+            0,
+            b"result yes\nplace 0 0\nend\n",
+        ),
     ),
     (
-        &["fit", "--budget", "0"],
-        b"format 1\ncontainer 1000000 1000000 1000000 1000000\nbox 1000000 1000000 1000000 1000000 value 1000000000\n",
-        0,
-        b"result yes\nplace 0 0 0 0\nend\n",
+        b"answer fit\n",
+        (
+            &["fit", "--budget", "0"],
+            b"format 1\ncontainer 1000000 1000000 1000000 1000000\nbox 1000000 1000000 1000000 1000000 value 1000000000\n",
+            0,
+            b"result yes\nplace 0 0 0 0\nend\n",
+        ),
     ),
     (
-        &["strip", "--budget", "0"],
-        b"format 1\ncontainer 1 1000000\nbox 1 1000000\n",
-        0,
-        b"result least 1000000\nplace 0 0\nproof\nt 1 2\nend\n",
+        b"answer strip\n",
+        (
+            &["strip", "--budget", "0"],
+            b"format 1\ncontainer 1 1000000\nbox 1 1000000\n",
+            0,
+            b"result least 1000000\nplace 0 0\nproof\nt 1 2\nend\n",
+        ),
     ),
     (
-        &["knapsack", "--budget", "10000000"],
-        b"format 1\ncontainer 1 1\nbox 1 1 value 1000000000\n",
-        0,
-        b"result greatest 1000000000\ntake 1 0 0\nproof\nw\nend\n",
+        b"answer knapsack\n",
+        (
+            &["knapsack", "--budget", "10000000"],
+            b"format 1\ncontainer 1 1\nbox 1 1 value 1000000000\n",
+            0,
+            b"result greatest 1000000000\ntake 1 0 0\nproof\nw\nend\n",
+        ),
     ),
     (
-        &["bins", "--budget", "0"],
-        b"format 1\ncontainer 1 1 1 1\nbox 1 1 1 1\n",
-        0,
-        b"result least 1\nplace 1 0 0 0 0\nproof\ng id id id id\nend\n",
+        b"answer bins\n",
+        (
+            &["bins", "--budget", "0"],
+            b"format 1\ncontainer 1 1 1 1\nbox 1 1 1 1\n",
+            0,
+            b"result least 1\nplace 1 0 0 0 0\nproof\ng id id id id\nend\n",
+        ),
     ),
 ];
 
 #[test]
 fn least_and_greatest_sizes_are_answered(rt: HostRuntime) -> Result<(), Fail> {
-    for (words, text, status, rest) in ROWS {
-        let told = told_of(&rt, words, text)?;
-        let mut first = Vec::from_slice(rt.alloc(), b"answer ")?;
-        first.extend_from_slice(words[0].as_bytes())?;
-        first.push(b'\n')?;
-        assert!(rt; told.status == status);
-        assert!(rt; told.is_document(&first, text, rest));
+    for (first, row) in &ROWS {
+        assert!(rt; is_solved(&rt, first, row)?);
     }
     Ok(())
 }
@@ -119,27 +135,38 @@ fn taken_row(alloc: Global, text: &[u8], count: u64) -> Result<MemorySink, SinkE
     Ok(out)
 }
 
+// Whether the row is placed by this document, which `check` verifies.
+fn is_placed<R: AllocGlobal + Threads + Wait + Sync>(
+    rt: &R,
+    text: &[u8],
+    document: &[u8],
+) -> Result<bool, Fail> {
+    let is_written = writes(rt, &["fit"], text, 0, document)?;
+    Ok(is_written && tells(rt, &["check"], document, 0, "verified fit yes\n")?)
+}
+
 #[test]
 fn the_most_boxes_are_placed_and_checked(rt: HostRuntime) -> Result<(), Fail> {
     let text = row(rt.alloc(), 128)?;
     let document = placed_row(rt.alloc(), text.written(), 128)?;
-    let told = told_of(&rt, &["fit"], text.written())?;
-    assert!(rt; told.is_as_written(0, document.written()));
-    let checked = told_of(&rt, &["check"], document.written())?;
-    assert!(rt; checked.is_line(0, "verified fit yes\n"));
+    assert!(rt; is_placed(&rt, text.written(), document.written())?);
     Ok(())
 }
 
 #[test]
-fn forty_boxes_are_taken_and_the_most_are_checked(rt: HostRuntime) -> Result<(), Fail> {
+fn forty_boxes_are_taken(rt: HostRuntime) -> Result<(), Fail> {
     let text = row(rt.alloc(), 40)?;
     let document = taken_row(rt.alloc(), text.written(), 40)?;
-    let told = told_of(&rt, &["knapsack"], text.written())?;
-    assert!(rt; told.is_as_written(0, document.written()));
-    let most = row(rt.alloc(), 128)?;
-    let all = taken_row(rt.alloc(), most.written(), 128)?;
-    let checked = told_of(&rt, &["check"], all.written())?;
-    assert!(rt; checked.is_line(0, "verified knapsack greatest 128\n"));
+    assert!(rt; writes(&rt, &["knapsack"], text.written(), 0, document.written())?);
+    Ok(())
+}
+
+#[test]
+fn the_most_boxes_that_are_taken_are_checked(rt: HostRuntime) -> Result<(), Fail> {
+    let text = row(rt.alloc(), 128)?;
+    let document = taken_row(rt.alloc(), text.written(), 128)?;
+    let line = "verified knapsack greatest 128\n";
+    assert!(rt; tells(&rt, &["check"], document.written(), 0, line)?);
     Ok(())
 }
 
@@ -147,29 +174,31 @@ fn forty_boxes_are_taken_and_the_most_are_checked(rt: HostRuntime) -> Result<(),
 const TEN_IN_A_ROW: &[u8] =
     b"format 1\ncontainer 29 10\nbox 3 6\nbox 3 6\nbox 3 6\nbox 3 6\nbox 3 6\nbox 3 6\nbox 3 6\nbox 3 6\nbox 3 6\nbox 3 6\n";
 
+const PAST_100001: Solved = (
+    &["fit", "--scales", "no", "--budget", "100001"],
+    TEN_IN_A_ROW,
+    3,
+    b"result undecided\nend\n",
+);
+
 #[test]
 fn a_long_search_ends_at_its_budget(rt: HostRuntime) -> Result<(), Fail> {
-    let words = ["fit", "--scales", "no", "--budget", "100001"];
-    let told = told_of(&rt, &words, TEN_IN_A_ROW)?;
-    assert!(rt; told.status == 3);
-    assert!(rt; told.is_document(b"answer fit\n", TEN_IN_A_ROW, b"result undecided\nend\n"));
+    assert!(rt; is_solved(&rt, b"answer fit\n", &PAST_100001)?);
     Ok(())
 }
 
 #[test]
 fn sixty_four_boxes_are_made(rt: HostRuntime) -> Result<(), Fail> {
     let lines = "made 10 boxes 64 volume 1064334\nfit no\nbranchings 0\n";
-    assert!(rt; told_of(&rt, &["make", "--number", "10"], b"")?.is_line(1, lines));
+    assert!(rt; tells(&rt, &["make", "--number", "10"], b"", 1, lines)?);
     Ok(())
 }
 
 #[test]
 fn the_most_workers_write_the_same(rt: HostRuntime) -> Result<(), Fail> {
     let words = ["fit", "--scales", "no"];
-    let alone = told_by(&rt, &words, "1", EIGHT_IN_A_ROW, &NoGate)?;
-    let many = told_by(&rt, &words, "64", EIGHT_IN_A_ROW, &NoGate)?;
-    assert!(rt; alone.status == 1);
-    assert!(rt; many.is_as(&alone));
+    assert!(rt; ends(&rt, &words, EIGHT_IN_A_ROW, 1)?);
+    assert!(rt; is_as_alone(&rt, &words, "64", EIGHT_IN_A_ROW, &NoGate)?);
     Ok(())
 }
 

@@ -1,6 +1,9 @@
 //! Generated instances, decided by one worker and by several.
 use crate::runs::{is_same_by, told_by};
+use std::alloc::AllocGlobal;
+use std::sync::Wait;
 use std::test::Fail;
+use std::thread::Threads;
 use work_share::NoGate;
 
 // Words, and the status and the lines that they have.
@@ -32,12 +35,22 @@ const ROWS: [(&[&str], u8, &str); 5] = [
     ),
 ];
 
+// Whether the words have this status and these lines by so many workers, who read nothing.
+fn is_made<R: AllocGlobal + Threads + Wait + Sync>(
+    rt: &R,
+    words: &[&str],
+    workers: &str,
+    status: u8,
+    lines: &str,
+) -> Result<bool, Fail> {
+    Ok(told_by(rt, words, workers, b"not read", &NoGate)?.is_line(status, lines))
+}
+
 #[test]
 fn made_instances_have_their_lines(rt: HostRuntime) -> Result<(), Fail> {
     for (words, status, lines) in ROWS {
         for workers in ["1", "8"] {
-            let told = told_by(&rt, words, workers, b"not read", &NoGate)?;
-            assert!(rt; told.is_line(status, lines), "{lines}");
+            assert!(rt; is_made(&rt, words, workers, status, lines)?, "{lines}");
         }
     }
     Ok(())

@@ -1,8 +1,12 @@
 //! Instances that are decided by proposals first, with budgets of the described tree.
+use crate::asked::{ends, is_refused, stops_reading, stops_writing, tells, writes};
 use crate::rows::{Solved, is_solved};
-use crate::runs::{told_of, told_read_to, told_written_to};
+use crate::runs::told_of;
 use crate::texts::{EIGHT_IN_A_ROW, TWO_BOXES, UNIT};
+use std::alloc::AllocGlobal;
+use std::sync::Wait;
 use std::test::Fail;
+use std::thread::Threads;
 
 const PROPOSED: &[&str] = &["fit", "--proposals", "yes", "--budget", "0"];
 
@@ -62,113 +66,121 @@ fn proposals_have_the_documents_of_the_rows(rt: HostRuntime) -> Result<(), Fail>
     Ok(())
 }
 
+// Words, the same for two workers, an instance, the status, and the line of `check` for the
+// document.
+type Verified = (
+    &'static [&'static str],
+    &'static [&'static str],
+    &'static [u8],
+    u8,
+    &'static str,
+);
+
+// All trees but those of `fit` have branchings, so a budget of 0 is spent without proposals. Three
+// of four boxes go into one bin. Neither volume nor scales refute that the boxes around a hole go
+// into one bin, and its tree has branchings. Three boxes of worth fit, of four one is left out, and
+// that 13 is too much is refuted by a tree with branchings, as that 14 is.
+const VERIFIED: [Verified; 9] = [
+    (PROPOSED, SHARED, TWO_HALVES, 0, "verified fit yes\n"),
+    (PROPOSED, SHARED, TWO_BOXES, 0, "verified fit yes\n"),
+    (PROPOSED, SHARED, EIGHT_IN_A_ROW, 1, "verified fit no\n"),
+    (
+        STRIP_PROPOSED,
+        STRIP_SHARED,
+        PINWHEEL,
+        0,
+        "verified strip least 5\n",
+    ),
+    (
+        BINS_PROPOSED,
+        BINS_SHARED,
+        FOUR,
+        0,
+        "verified bins least 2\n",
+    ),
+    (
+        BINS_PROPOSED,
+        BINS_SHARED,
+        AROUND_A_HOLE,
+        3,
+        "verified bins between 0 2\n",
+    ),
+    (
+        SACK_PROPOSED,
+        SACK_SHARED,
+        THREE_WORTH,
+        0,
+        "verified knapsack greatest 12\n",
+    ),
+    (
+        SACK_PROPOSED,
+        SACK_SHARED,
+        FOUR_WORTH,
+        3,
+        "verified knapsack between 12 15\n",
+    ),
+    (
+        &["knapsack", "--proposals=yes"],
+        &["knapsack", "--proposals=yes", "--workers=2"],
+        FOUR_WORTH,
+        0,
+        "verified knapsack greatest 12\n",
+    ),
+];
+
+// Whether the document of a row is also that of two workers, and `check` verifies it.
+fn is_verified<R: AllocGlobal + Threads + Wait + Sync>(
+    rt: &R,
+    row: &Verified,
+) -> Result<bool, Fail> {
+    let (words, shared, text, status, line) = *row;
+    let told = told_of(rt, words, text)?;
+    let is_same = writes(rt, shared, text, status, &told.out)?;
+    let is_checked = tells(rt, &["check"], &told.out, 0, line)?;
+    Ok(told.status == status && is_same && is_checked)
+}
+
 // Whichever packing or refutation is written, `check` verifies it, and workers have no part in it.
 #[test]
 fn what_is_proposed_is_verified(rt: HostRuntime) -> Result<(), Fail> {
-    let rows: [(&[u8], u8, &[u8]); 3] = [
-        (TWO_HALVES, 0, b"verified fit yes\n"),
-        (TWO_BOXES, 0, b"verified fit yes\n"),
-        (EIGHT_IN_A_ROW, 1, b"verified fit no\n"),
-    ];
-    for (text, status, line) in rows {
-        let told = told_of(&rt, PROPOSED, text)?;
-        assert_eq!(rt; told.status, status);
-        let shared = told_of(&rt, SHARED, text)?;
-        assert!(rt; shared.is_as_written(status, &told.out));
-        let checked = told_of(&rt, &["check"], &told.out)?;
-        assert!(rt; checked.is_as_written(0, line), "{status}");
+    for row in &VERIFIED {
+        assert!(rt; is_verified(&rt, row)?, "{}", row.4);
     }
     Ok(())
 }
 
-// The trees of the pinwheel have branchings, so a budget of 0 is spent without proposals.
 #[test]
-fn a_strip_by_proposals_is_verified(rt: HostRuntime) -> Result<(), Fail> {
-    let plain = told_of(&rt, &["strip", "--budget", "0"], PINWHEEL)?;
-    assert!(rt; plain.status == 3);
-    let told = told_of(&rt, STRIP_PROPOSED, PINWHEEL)?;
-    assert!(rt; told.status == 0);
-    let shared = told_of(&rt, STRIP_SHARED, PINWHEEL)?;
-    assert!(rt; shared.is_as_written(0, &told.out));
-    let checked = told_of(&rt, &["check"], &told.out)?;
-    assert!(rt; checked.is_as_written(0, b"verified strip least 5\n"));
-    Ok(())
-}
-
-// Three of the four boxes go into one bin, and the trees have branchings.
-#[test]
-fn bins_by_proposals_are_verified(rt: HostRuntime) -> Result<(), Fail> {
-    let plain = told_of(&rt, &["bins", "--budget", "0"], FOUR)?;
-    assert!(rt; plain.status == 3);
-    let told = told_of(&rt, BINS_PROPOSED, FOUR)?;
-    assert!(rt; told.status == 0);
-    let shared = told_of(&rt, BINS_SHARED, FOUR)?;
-    assert!(rt; shared.is_as_written(0, &told.out));
-    let checked = told_of(&rt, &["check"], &told.out)?;
-    assert!(rt; checked.is_as_written(0, b"verified bins least 2\n"));
-    let none = told_of(&rt, BINS_PROPOSED, TOO_LARGE)?;
-    assert!(rt; none.status == 1);
-    Ok(())
-}
-
-// Neither volume nor scales refute one bin, and its tree has branchings.
-#[test]
-fn bins_beside_a_tree_past_the_budget_are_two(rt: HostRuntime) -> Result<(), Fail> {
-    let told = told_of(&rt, BINS_PROPOSED, AROUND_A_HOLE)?;
-    assert!(rt; told.status == 3);
-    let shared = told_of(&rt, BINS_SHARED, AROUND_A_HOLE)?;
-    assert!(rt; shared.is_as_written(3, &told.out));
-    let checked = told_of(&rt, &["check"], &told.out)?;
-    assert!(rt; checked.is_as_written(0, b"verified bins between 0 2\n"));
-    Ok(())
-}
-
-// All three fit, which is proposed. Of the four one is left out, and that 13 is too much is refuted
-// by a tree with branchings, as that 14 is.
-#[test]
-fn values_by_proposals_are_verified(rt: HostRuntime) -> Result<(), Fail> {
-    let plain = told_of(&rt, &["knapsack", "--budget", "0"], THREE_WORTH)?;
-    assert!(rt; plain.status == 3);
-    let rows: [(&[u8], u8, &[u8]); 2] = [
-        (THREE_WORTH, 0, b"verified knapsack greatest 12\n"),
-        (FOUR_WORTH, 3, b"verified knapsack between 12 15\n"),
+fn a_budget_of_none_is_spent_without_proposals(rt: HostRuntime) -> Result<(), Fail> {
+    let rows = [
+        ("strip", PINWHEEL),
+        ("bins", FOUR),
+        ("knapsack", THREE_WORTH),
     ];
-    for (text, status, line) in rows {
-        let told = told_of(&rt, SACK_PROPOSED, text)?;
-        assert!(rt; told.status == status);
-        let shared = told_of(&rt, SACK_SHARED, text)?;
-        assert!(rt; shared.is_as_written(status, &told.out));
-        let checked = told_of(&rt, &["check"], &told.out)?;
-        assert!(rt; checked.is_as_written(0, line));
+    for (job, text) in rows {
+        assert!(rt; ends(&rt, &[job, "--budget", "0"], text, 3)?, "{job}");
     }
-    let whole = told_of(&rt, &["knapsack", "--proposals", "yes"], FOUR_WORTH)?;
-    assert!(rt; whole.status == 0);
-    let checked = told_of(&rt, &["check"], &whole.out)?;
-    assert!(rt; checked.is_as_written(0, b"verified knapsack greatest 12\n"));
+    assert!(rt; ends(&rt, BINS_PROPOSED, TOO_LARGE, 1)?);
     Ok(())
 }
 
 #[test]
 fn proposals_refuse_what_fit_refuses(rt: HostRuntime) -> Result<(), Fail> {
-    let told = told_of(&rt, PROPOSED, b"format 1\ncontainer 5 5\nbox 0 1\n")?;
-    assert!(rt; told.is_stop(2, "pack: line 3: code 4\n", b""));
+    let faulty = b"format 1\ncontainer 5 5\nbox 0 1\n";
+    assert!(rt; is_refused(&rt, PROPOSED, faulty, "pack: line 3: code 4\n")?);
     for words in [
         ["front", "--proposals", "yes"],
         ["reduced", "--proposals", "no"],
         ["check", "--proposals", "no"],
         ["fit", "--proposals", "maybe"],
     ] {
-        let told = told_of(&rt, &words, UNIT)?;
-        assert_eq!(rt; told.status, 2);
+        assert!(rt; ends(&rt, &words, UNIT, 2)?);
     }
     Ok(())
 }
 
 #[test]
 fn a_read_or_write_that_fails_ends_proposals(rt: HostRuntime) -> Result<(), Fail> {
-    let told = told_read_to(&rt, PROPOSED, UNIT, 5)?;
-    assert!(rt; told.is_stop(4, "pack: read fault\n", b""));
-    let told = told_written_to(&rt, PROPOSED, UNIT, 7)?;
-    assert!(rt; told.is_stop(5, "pack: write fault\n", b"answer "));
+    assert!(rt; stops_reading(&rt, PROPOSED, UNIT, 5)?);
+    assert!(rt; stops_writing(&rt, PROPOSED, UNIT, 7, b"answer ")?);
     Ok(())
 }

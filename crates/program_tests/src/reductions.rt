@@ -1,6 +1,6 @@
 //! Instances that are decided from their symmetry facts on, and the documents that are audited.
+use crate::asked::{ends, is_refused, reads_and_tells, stops_reading, stops_writing, tells};
 use crate::rows::{Solved, is_solved};
-use crate::runs::{told_of, told_read_to, told_written_to};
 use crate::texts::{EIGHT_IN_A_ROW, TWO_BOXES, UNIT};
 use std::test::Fail;
 
@@ -90,7 +90,7 @@ const NO_JOBS: [&[&str]; 4] = [
 #[test]
 fn facts_are_of_strips_without_proposals(rt: HostRuntime) -> Result<(), Fail> {
     for words in NO_JOBS {
-        assert!(rt; told_of(&rt, words, UNIT)?.status == 2);
+        assert!(rt; ends(&rt, words, UNIT, 2)?);
     }
     Ok(())
 }
@@ -167,17 +167,17 @@ const AUDITED: [(&[u8], u8, &str); 16] = [
 #[test]
 fn audits_write_one_line(rt: HostRuntime) -> Result<(), Fail> {
     for (document, status, line) in AUDITED {
-        let told = told_of(&rt, AUDIT, document)?;
-        assert!(rt; told.is_line(status, line), "{line}");
-        assert!(rt; told.left.is_empty());
+        assert!(rt;
+            reads_and_tells(&rt, AUDIT, document, status, line)?,
+            "{line}"
+        );
     }
     Ok(())
 }
 
 #[test]
 fn check_refuses_a_reduced_document_at_its_first_line(rt: HostRuntime) -> Result<(), Fail> {
-    let told = told_of(&rt, &["check"], FOUR_REFUTED)?;
-    assert!(rt; told.is_line(1, "refused 1 form\n"));
+    assert!(rt; tells(&rt, &["check"], FOUR_REFUTED, 1, "refused 1 form\n")?);
     Ok(())
 }
 
@@ -185,8 +185,10 @@ fn check_refuses_a_reduced_document_at_its_first_line(rt: HostRuntime) -> Result
 #[test]
 fn a_read_that_fails_at_each_byte_of_an_audit_is_a_read_fault(rt: HostRuntime) -> Result<(), Fail> {
     for count in 0..16 {
-        let told = told_read_to(&rt, AUDIT, b"answer pile\nend\n", count)?;
-        assert!(rt; told.is_stop(4, "pack: read fault\n", b""), "{count}");
+        assert!(rt;
+            stops_reading(&rt, AUDIT, b"answer pile\nend\n", count)?,
+            "{count}"
+        );
     }
     Ok(())
 }
@@ -197,9 +199,8 @@ fn a_write_that_fails_at_each_byte_of_an_audit_leaves_those_before(
 ) -> Result<(), Fail> {
     let line = b"verified reduced fit no\n";
     for count in 0..line.len() {
-        let told = told_written_to(&rt, AUDIT, FOUR_REFUTED, count)?;
         assert!(rt;
-            told.is_stop(5, "pack: write fault\n", &line[..count]),
+            stops_writing(&rt, AUDIT, FOUR_REFUTED, count, line)?,
             "{count}"
         );
     }
@@ -208,11 +209,9 @@ fn a_write_that_fails_at_each_byte_of_an_audit_leaves_those_before(
 
 #[test]
 fn reduced_refuses_what_fit_refuses(rt: HostRuntime) -> Result<(), Fail> {
-    let told = told_of(&rt, &["reduced"], b"format 1\ncontainer 5 5\nbox 0 1\n")?;
-    assert!(rt; told.is_stop(2, "pack: line 3: code 4\n", b""));
-    let told = told_of(&rt, &["reduced", "--number", "3"], UNIT)?;
-    assert!(rt; told.status == 2);
-    let told = told_of(&rt, &["audit", "--budget", "3"], UNIT)?;
-    assert!(rt; told.status == 2);
+    let faulty = b"format 1\ncontainer 5 5\nbox 0 1\n";
+    assert!(rt; is_refused(&rt, &["reduced"], faulty, "pack: line 3: code 4\n")?);
+    assert!(rt; ends(&rt, &["reduced", "--number", "3"], UNIT, 2)?);
+    assert!(rt; ends(&rt, &["audit", "--budget", "3"], UNIT, 2)?);
     Ok(())
 }

@@ -96,28 +96,64 @@ pub(crate) fn told_at<R: AllocGlobal + Threads + Wait + Sync, G: Gate + Sync>(
     plans: Plans<'_>,
     gate: &G,
 ) -> Result<Told, AllocError> {
+    let given = owned(rt.alloc(), words)?;
+    let mut source = source_of(rt.alloc(), input, plans.reads)?;
+    told_into(rt, &given, &mut source, plans, gate)
+}
+
+// Runs the words on the source, where the sinks follow these plans.
+fn told_into<R: AllocGlobal + Threads + Wait + Sync, G: Gate + Sync>(
+    rt: &R,
+    words: &[String],
+    source: &mut MemorySource,
+    plans: Plans<'_>,
+    gate: &G,
+) -> Result<Told, AllocError> {
     let alloc = rt.alloc();
-    let mut given = Vec::new(alloc);
-    for word in words {
-        given.push(String::from_str(alloc, word)?)?;
-    }
-    let mut source = MemorySource::new(
-        Vec::from_slice(alloc, input)?,
-        Vec::from_slice(alloc, plans.reads)?,
-    );
-    let Ok(mut out) = MemorySink::new(alloc, 65536, Vec::from_slice(alloc, plans.writes)?) else {
-        return Err(AllocError);
-    };
-    let Ok(mut err) = MemorySink::new(alloc, 256, Vec::from_slice(alloc, plans.messages)?) else {
-        return Err(AllocError);
-    };
-    let status = run(rt, alloc, &given, &mut source, &mut out, &mut err, gate);
+    let mut out = sink_of(alloc, 65536, plans.writes)?;
+    let mut err = sink_of(alloc, 256, plans.messages)?;
+    let status = run(rt, alloc, words, source, &mut out, &mut err, gate);
+    told_behind(alloc, status, &out, &err, source)
+}
+
+// What a run told that left its source and its sinks so.
+fn told_behind(
+    alloc: Global,
+    status: u8,
+    out: &MemorySink,
+    err: &MemorySink,
+    source: &mut MemorySource,
+) -> Result<Told, AllocError> {
     Ok(Told {
         status,
         out: Vec::from_slice(alloc, out.written())?,
         err: Vec::from_slice(alloc, err.written())?,
-        left: rest_of(alloc, &mut source)?,
+        left: rest_of(alloc, source)?,
     })
+}
+
+// The words as a command line holds them.
+fn owned(alloc: Global, words: &[&str]) -> Result<Vec<String>, AllocError> {
+    let mut given = Vec::new(alloc);
+    for word in words {
+        given.push(String::from_str(alloc, word)?)?;
+    }
+    Ok(given)
+}
+
+// A source of these bytes.
+fn source_of(alloc: Global, input: &[u8], reads: &[ReadStep]) -> Result<MemorySource, AllocError> {
+    let bytes = Vec::from_slice(alloc, input)?;
+    Ok(MemorySource::new(bytes, Vec::from_slice(alloc, reads)?))
+}
+
+// A sink with room for so many bytes at first.
+fn sink_of(alloc: Global, room: usize, writes: &[WriteStep]) -> Result<MemorySink, AllocError> {
+    let plan = Vec::from_slice(alloc, writes)?;
+    let Ok(sink) = MemorySink::new(alloc, room, plan) else {
+        return Err(AllocError);
+    };
+    Ok(sink)
 }
 
 /// Runs the words on the input, where the source and the sink follow these plans.
@@ -177,13 +213,20 @@ pub(crate) fn told_by<R: AllocGlobal + Threads + Wait + Sync, G: Gate + Sync>(
     input: &[u8],
     gate: &G,
 ) -> Result<Told, AllocError> {
-    let mut given = Vec::new(rt.alloc());
-    for word in words {
-        given.push(*word)?;
-    }
+    let given = with_workers(rt.alloc(), words, workers)?;
+    told_at(rt, &given, input, Plans::none(), gate)
+}
+
+// The words, and behind them so many workers.
+fn with_workers<'a>(
+    alloc: Global,
+    words: &[&'a str],
+    workers: &'a str,
+) -> Result<Vec<&'a str>, AllocError> {
+    let mut given = Vec::from_slice(alloc, words)?;
     given.push("--workers")?;
     given.push(workers)?;
-    told_at(rt, &given, input, Plans::none(), gate)
+    Ok(given)
 }
 
 /// Whether ten runs by each of these numbers of workers answer and write what one worker does,
@@ -196,12 +239,20 @@ pub(crate) fn is_same_by<R: AllocGlobal + Threads + Wait + Sync>(
     workers: &[&str],
 ) -> Result<bool, Fail> {
     let alone = told_by(rt, words, "1", input, &NoGate)?;
-    if alone.status != status {
-        return Ok(false);
-    }
+    Ok(alone.status == status && are_all(rt, words, input, workers, &alone)?)
+}
+
+// Whether ten runs by each of these numbers of workers are this one.
+fn are_all<R: AllocGlobal + Threads + Wait + Sync>(
+    rt: &R,
+    words: &[&str],
+    input: &[u8],
+    workers: &[&str],
+    alone: &Told,
+) -> Result<bool, Fail> {
     for count in workers {
         for _ in 0..10 {
-            if !told_by(rt, words, count, input, &NoGate)?.is_as(&alone) {
+            if !told_by(rt, words, count, input, &NoGate)?.is_as(alone) {
                 return Ok(false);
             }
         }
@@ -235,18 +286,14 @@ pub(crate) fn told_read_whole<R: AllocGlobal + Threads + Wait + Sync>(
     words: &[&str],
     input: &[u8],
 ) -> Result<usize, AllocError> {
-    let alloc = rt.alloc();
-    let mut given = Vec::new(alloc);
-    for word in words {
-        given.push(String::from_str(alloc, word)?)?;
-    }
+    let given = owned(rt.alloc(), words)?;
     let mut source = CountingSource {
-        source: MemorySource::new(Vec::from_slice(alloc, input)?, Vec::new(alloc)),
+        source: source_of(rt.alloc(), input, &[])?,
         reads: 0,
     };
     let _status = run(
         rt,
-        alloc,
+        rt.alloc(),
         &given,
         &mut source,
         &mut DropSink::new(),
