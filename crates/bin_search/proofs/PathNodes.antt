@@ -22,7 +22,7 @@ use Rattle.bin_search.specs.Trees.{PlainBinTree, shape}
 use Rattle.bin_search.specs.Paths.{box_at, grown, bins_along, answers_of, AreFound, child_tree, IsChildStep}
 use Rattle.bin_search.proofs.Placements.{placed_at, changed_at}
 use Rattle.bin_search.proofs.Placing.{nothing_placed, grown_boxes, grown_set, next_placed}
-use Rattle.class_search.proofs.Lists.{drop_next}
+use Rattle.class_search.proofs.Lists.{first_left}
 
 -- the lists with one of them replaced
 map_with : (f : List ℕ → List ℕ) (bins : Bins) (b : ℕ) (set : List ℕ)
@@ -82,7 +82,7 @@ module _ (t : PlainBinTree) (limits : IsInternalInstance t.instance) where
             → IsInto us bins answers own placed j path
         go [] e r = past_leaf path r.there
         go (v ∷ vs) e r =
-            let next = drop_next (ranked t.instance) placed v vs e in
+            let next = first_left (ranked t.instance) placed v vs e in
             let k = reach_child (Assign (suc v)) own (length (placements t.bins bins v)) _ j path r in
             let same = same_child v vs next.1 next.2 k.1 in
             record {

@@ -42,6 +42,15 @@ pub passes : (b : Bool) (code : RefuseCode) (rest : Option RefuseCode) → b ≡
 passes true code rest h e = e
 passes false code rest h e = absurd (true≢false (sym h))
 
+pub unless_false : (b : Bool) (code : RefuseCode) (rest : Option RefuseCode) → b ≡ false
+    → Some code ≡ unless b code rest
+unless_false false code rest h = refl
+unless_false true code rest h = absurd (true≢false h)
+
+pub unless_true : (b : Bool) (code : RefuseCode) (rest : Option RefuseCode) → b ≡ true → rest ≡ unless b code rest
+unless_true true code rest h = refl
+unless_true false code rest h = absurd (true≢false (sym h))
+
 pub within : (low high n : ℕ) → (nat_le low n && nat_le n high) ≡ true → (low ≤ n) × (n ≤ high)
 within low high n h = let p = and_parts _ _ h in (leb-true low n p.0, leb-true n high p.1)
 

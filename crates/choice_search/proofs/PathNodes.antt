@@ -21,7 +21,7 @@ use Rattle.choice_search.specs.Choices.{PlainChoiceTree, shape, IsChosen}
 use Rattle.choice_search.specs.Paths.{taken_along, class_answer, AreFitting, IsAbove, box_at, child_tree}
 use Rattle.choice_search.proofs.Choosing.{nothing_chosen, more_boxes, inside_chosen, outside_chosen}
 use Rattle.set_search.proofs.Reaching.{next_box, path_ends, past_leaf, refuted_leaf, own_within, reach_child}
-use Rattle.class_search.proofs.Lists.{drop_next}
+use Rattle.class_search.proofs.Lists.{first_left}
 
 module _ (t : PlainChoiceTree) (limits : IsInternalInstance t.instance) where
   -- what is known of the child at the end of a path: it is a child of a node with these boxes in
@@ -90,7 +90,7 @@ module _ (t : PlainChoiceTree) (limits : IsInternalInstance t.instance) where
           where
             next : (decided < length (ranked t.instance)) × (get_or (ranked t.instance) decided 0 ≡ v)
                 × (drop (decided + 1) (ranked t.instance) ≡ vs)
-            next = drop_next (ranked t.instance) decided v vs e
+            next = first_left (ranked t.instance) decided v vs e
 
             split : (b : Bool) → is_reached t.instance t.goal taken ≡ b → (s : Bool)
                 → is_short t.instance t.goal taken (v ∷ vs) ≡ s

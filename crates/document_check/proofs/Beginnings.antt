@@ -1,18 +1,18 @@
 -- The trees of checkers to which no token was fed, and the stages of phases.
-use Rattle.std.proofs.Common.{◌≡◌, ℕ, ◌-◌, ◌∙◌, arith, refl, sym, ap, subst, List, [], ◌∷◌, get_or, Option, Some, None}
+use Rattle.std.proofs.Common.{◌≡◌, ℕ, ◌-◌, ◌∙◌, arith, refl, sym, ap, subst, List, [], ◌∷◌, Option, Some, None}
 use Rattle.std.proofs.Math.ListN.{length-set}
-use Rattle.std.proofs.lemmas.List.FromFn.{fill_by_all}
 use Rattle.packing_terms.specs.declared.Exclusion.{Exclusion}
 use Rattle.packing_terms.specs.Exclusions.{AreAtEdges}
 use Rattle.packing_terms.specs.Limits.{IsInternalInstance}
 use Rattle.packing_terms.proofs.Internal.{some_dimension}
 use Rattle.symmetry_terms.proofs.Members.{facts_at_edges}
 use Rattle.symmetry_terms.proofs.Levels.{level_facts}
-use Rattle.packing_terms.specs.Packing.{PlainInstance, no_box, dims, box_count}
-use Rattle.packing_terms.specs.Goals.{with_last_side, subset}
+use Rattle.packing_terms.specs.Packing.{PlainInstance, dims}
+use Rattle.packing_terms.specs.Goals.{with_last_side}
 use Rattle.box_instances.specs.Sets.{all_boxes}
 use Rattle.check_terms.specs.Checking.{starting}
 use Rattle.refutation_check.specs.Refuters.{PlainRefuter}
+use Rattle.refutation_check.proofs.Whole.{whole_set}
 use Rattle.verdict_terms.specs.declared.heading.Heading.{Heading}
 use Rattle.verdict_terms.specs.declared.heading.Heading.TheVariants.{Answer, Reduced}
 use Rattle.document_terms.specs.declared.claim.Claim.{Claim}
@@ -23,13 +23,6 @@ use Rattle.verdict_terms.specs.Trees.{Refuted}
 use Rattle.verdict_terms.specs.Trees.Tree.{InnerTree}
 use Rattle.document_lines.specs.Reading.{IsAt}
 use Rattle.document_lines.specs.Checkers.{shown_inner_tree}
-
--- the set of all boxes has the instance itself
-whole_set : (instance : PlainInstance) → subset instance (all_boxes instance) ≡ instance
-whole_set instance =
-    ap (λ bs. record instance { boxes = bs })
-    (sym (fill_by_all (λ v. get_or instance.boxes v no_box) instance.boxes (box_count instance) no_box refl
-    (λ k l. refl)))
 
 pub inner_begun : (r : PlainRefuter) (instance : PlainInstance) (es : List Exclusion)
     → r ≡ record { instance = instance; keep = all_boxes instance; checked = starting es }

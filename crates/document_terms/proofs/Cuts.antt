@@ -49,21 +49,21 @@ parameters_many (word ∷ words) xs e = go (parameter word) (parameters words) e
     go (Some x) None f later is = absurd (cc (f))
     go (Some x) (Some ys) f later is = let same : x ∷ ys ≡ xs = cc (f) in ap length (sym same) ∙ ap suc (later ys is)
 
--- what takes at most three parameters takes no eleven
-few_parameters : (f : Option (List ℕ) → Option PlainToken) → f None ≡ None
-    → ((xs : List ℕ) → 4 ≤ length xs → f (Some xs) ≡ None) → (words : List (List ℕ)) → 11 ≤ length words
+-- what takes no n parameters or more, at most eleven, takes no eleven
+few_parameters : {A : Type 0} (n : ℕ) → n ≤ 11 → (f : Option (List ℕ) → Option A) → f None ≡ None
+    → ((xs : List ℕ) → n ≤ length xs → f (Some xs) ≡ None) → (words : List (List ℕ)) → 11 ≤ length words
     → f (parameters words) ≡ None
-few_parameters f none many words long = go (parameters words) refl
+few_parameters n few f none many words long = go (parameters words) refl
   where
     go : (o : Option (List ℕ)) → parameters words ≡ o → f o ≡ None
     go None e = none
-    go (Some xs) e = many xs (let n = parameters_many words xs e in omega (arith, n, long))
+    go (Some xs) e = many xs (let m = parameters_many words xs e in omega (arith, m, long, few))
 
-parameters_cut : (f : Option (List ℕ) → Option PlainToken) → f None ≡ None
-    → ((xs : List ℕ) → 4 ≤ length xs → f (Some xs) ≡ None) → (words : List (List ℕ))
+pub parameters_cut : {A : Type 0} (n : ℕ) → n ≤ 11 → (f : Option (List ℕ) → Option A) → f None ≡ None
+    → ((xs : List ℕ) → n ≤ length xs → f (Some xs) ≡ None) → (words : List (List ℕ))
     → f (parameters (cut_rest words)) ≡ f (parameters words)
-parameters_cut f none many words =
-    cut_by (λ us. f (parameters us)) None words (ap f (parameters_front words)) (few_parameters f none many)
+parameters_cut n few f none many words =
+    cut_by (λ us. f (parameters us)) None words (ap f (parameters_front words)) (few_parameters n few f none many)
 
 many_none : (t : PlainToken) (xs : List ℕ) → 4 ≤ length xs → of_none t (Some xs) ≡ None
 many_none t [] l = absurd (omega arith)
@@ -178,15 +178,15 @@ token_cut d word words few =
       same_front 21 word (codes "s") (omega arith),
       same_front 21 word (codes "w") (omega arith),
       same_front 21 word (codes "g") (omega arith),
-      parameters_cut (of_three Apart) refl (many_three Apart) words,
-      parameters_cut (of_three Order) refl (many_three Order) words,
-      parameters_cut (of_none Rules) refl (many_none Rules) words,
-      parameters_cut (of_two TooLarge) refl (many_two TooLarge) words,
+      parameters_cut 4 (omega arith) (of_three Apart) refl (many_three Apart) words,
+      parameters_cut 4 (omega arith) (of_three Order) refl (many_three Order) words,
+      parameters_cut 4 (omega arith) (of_none Rules) refl (many_none Rules) words,
+      parameters_cut 4 (omega arith) (of_two TooLarge) refl (many_two TooLarge) words,
       tuple_cut d Scales words few,
-      parameters_cut (of_one Assign) refl (many_one Assign) words,
-      parameters_cut (of_one Choose) refl (many_one Choose) words,
-      parameters_cut set_token refl many_set words,
-      parameters_cut (of_none ValueShort) refl (many_none ValueShort) words,
+      parameters_cut 4 (omega arith) (of_one Assign) refl (many_one Assign) words,
+      parameters_cut 4 (omega arith) (of_one Choose) refl (many_one Choose) words,
+      parameters_cut 4 (omega arith) set_token refl many_set words,
+      parameters_cut 4 (omega arith) (of_none ValueShort) refl (many_none ValueShort) words,
       tuple_cut d GlobalScales words few,
     ) refl
 

@@ -1,7 +1,7 @@
 -- Every refutation can be explained: what a rule derives, a step adds.
 use Rattle.std.proofs.Common.{◌≡◌, ◌≢◌, ℕ, suc, pred, ◌+◌, ◌<◌, ◌≤◌, ◌⊎◌, inl, inr, refl, sym, ap, ap₂, subst, ◌∙◌}
 use Rattle.std.proofs.Common.{arith, true, false, List, [], ◌∷◌, ◌++◌, append_assoc, IsTrue}
-use Rattle.std.proofs.lemmas.Bool.{true≢false, cases_Bool, cases_lt, or_cases}
+use Rattle.std.proofs.lemmas.Bool.{true≢false, cases_Bool, cases_lt}
 use Rattle.packing_terms.specs.declared.Rel.{Rel}
 use Rattle.packing_terms.specs.declared.Rel.TheVariants.{Overlap, Before, After}
 use Rattle.packing_terms.specs.declared.Exclusion.{Exclusion}
@@ -15,7 +15,7 @@ use Rattle.packing_terms.specs.Tokens.{PlainToken}
 use Rattle.packing_terms.specs.Tokens.PlainToken.{Apart as ApartToken, Order as OrderToken, Rules, TooLarge, Scales}
 use Rattle.packing_terms.specs.Refutation.{Refutes, by_rules, by_side, by_scales, by_apart, by_order, exclusion_in_text}
 use Rattle.packing_terms.specs.Refutation.{LeavesOpen}
-use Rattle.packing_terms.proofs.Sets.{or_true, of_own, mirror_twice, excludes_symmetric}
+use Rattle.packing_terms.proofs.Sets.{or_true, mirror_twice, excludes_symmetric, own_first}
 use Rattle.packing_terms.proofs.Closures.{derives_from, given_derived}
 use Rattle.packing_terms.proofs.Monotone.{follows_more}
 use Rattle.rule_terms.specs.Steps.{with_exclusion}
@@ -151,14 +151,6 @@ module _ (instance : PlainInstance) where
     pub steps : StepsTo instance es rules left
     pub holds : IsSubset (excludes ds) (excludes left)
 
-  own_first : (X : List Exclusion) (d : Exclusion) (ds : List Exclusion) → IsTrue (excludes X d.dim d.u d.v d.rel)
-      → IsSubset (excludes ds) (excludes X) → IsSubset (excludes (d ∷ ds)) (excludes X)
-  own_first X d ds own rest i u v r h = pick (or_cases _ _ h)
-    where
-      pick : (is_of d i u v r ≡ true) ⊎ (excludes ds i u v r ≡ true) → IsTrue (excludes X i u v r)
-      pick (inl k) = of_own (λ j a b s. IsTrue (excludes X j a b s)) (excludes_symmetric X) d i u v r k own
-      pick (inr k) = rest i u v r k
-
   pub leads : (E : Exclusions) (es : List Exclusion) → IsSubset E (excludes es) → (ds : List Exclusion)
       → IsDerivation instance E ds → Leads es ds
   leads E es there [] h = record {
@@ -207,12 +199,12 @@ module _ (instance : PlainInstance) where
 
   -- ---- the two children of a split
 
-  child_there : (es X : List Exclusion) (e : Exclusion) → IsSubset (excludes es) (excludes X)
+  pub child_there : (es X : List Exclusion) (e : Exclusion) → IsSubset (excludes es) (excludes X)
       → IsSubset (excludes (e ∷ es)) (excludes (with_exclusion X e))
   child_there es X e there = own_first (with_exclusion X e) e es (with_own X e)
       (λ i u v r k. with_keeps X e i u v r (there i u v r k))
 
-  child_derived : (es X : List Exclusion) (e : Exclusion) → AreDerived instance (excludes es) (excludes X)
+  pub child_derived : (es X : List Exclusion) (e : Exclusion) → AreDerived instance (excludes es) (excludes X)
       → AreDerived instance (excludes (e ∷ es)) (excludes (with_exclusion X e))
   child_derived es X e derived i u v r h = go (with_cases X e i u v r h)
     where

@@ -1,16 +1,16 @@
 -- The words of a step are read back as the step, and a line that is told in part is the same step.
-use Rattle.std.proofs.Common.{◌≡◌, ℕ, ◌≤◌, refl, ap, ap₂, ◌∙◌, arith, cond, List, [], ◌∷◌, length, take, map}
-use Rattle.std.proofs.Common.{Option, Some, None, codes}
+use Rattle.std.proofs.Common.{◌≡◌, ℕ, ◌≤◌, refl, ap, ap₂, ◌∙◌, arith, cond, List, [], ◌∷◌, length, take}
+use Rattle.std.proofs.Common.{Some, None, codes}
 use Rattle.std.specs.Fmt.{decimal}
 use Rattle.std.proofs.lemmas.Bool.{le-leb}
 use Rattle.packing_terms.specs.Tokens.PlainToken.{Apart as ApartToken, Order as OrderToken, Rules, TooLarge, Scales}
 use Rattle.packing_terms.specs.Tokens.PlainToken.{Assign, Choose, SetRefuted, ValueShort, GlobalScales}
 use Rattle.text_terms.specs.Lines.{cut_words, same_bytes}
 use Rattle.text_terms.proofs.Spelled.{number_decimal}
-use Rattle.text_terms.proofs.Cut.{same_front, number_front}
+use Rattle.text_terms.proofs.Cut.{same_front}
 use Rattle.document_terms.specs.TokenLines.{most_parameter, at_most, parameter, parameters, in_front}
 use Rattle.document_terms.specs.TokenLines.{IsParameter}
-use Rattle.document_terms.proofs.Cuts.{cut_rest, cut_by, parameters_many, token_cut}
+use Rattle.document_terms.proofs.Cuts.{cut_rest, parameters_cut, token_cut}
 use Rattle.document_terms.proofs.TokensBack.{tokens_are_read_back}
 use Rattle.explained_terms.specs.Steps.{PlainStep}
 use Rattle.explained_terms.specs.Steps.PlainStep.{Pair, Apart, Triple, Compose, Cycle, Order, Chain, On, Clash, Plain}
@@ -63,27 +63,6 @@ steps_are_read_back d (Plain (GlobalScales fs)) h = absurd h
 
 -- ---- lines that are told in part
 
-parameters_front : (words : List (List ℕ)) → parameters (map (take 21) words) ≡ parameters words
-parameters_front [] = refl
-parameters_front (word ∷ words) =
-    ap₂ (λ x xs. in_front x xs) (ap (at_most most_parameter) (number_front word)) (parameters_front words)
-
--- what takes at most five parameters takes no eleven
-few_parameters : (f : Option (List ℕ) → Option PlainStep) → f None ≡ None
-    → ((xs : List ℕ) → 6 ≤ length xs → f (Some xs) ≡ None) → (words : List (List ℕ)) → 11 ≤ length words
-    → f (parameters words) ≡ None
-few_parameters f none many words long = go (parameters words) refl
-  where
-    go : (o : Option (List ℕ)) → parameters words ≡ o → f o ≡ None
-    go None e = none
-    go (Some xs) e = many xs (let n = parameters_many words xs e in omega (arith, n, long))
-
-parameters_cut : (f : Option (List ℕ) → Option PlainStep) → f None ≡ None
-    → ((xs : List ℕ) → 6 ≤ length xs → f (Some xs) ≡ None) → (words : List (List ℕ))
-    → f (parameters (cut_rest words)) ≡ f (parameters words)
-parameters_cut f none many words =
-    cut_by (λ us. f (parameters us)) None words (ap f (parameters_front words)) (few_parameters f none many)
-
 many_one : (make : ℕ → PlainStep) (xs : List ℕ) → 6 ≤ length xs → of_one make (Some xs) ≡ None
 many_one make [] l = refl
 many_one make (x ∷ []) l = absurd (omega (arith, l))
@@ -131,15 +110,15 @@ step_cut d word words few =
       same_front 21 word (codes "d") (omega arith),
       same_front 21 word (codes "t") (omega arith),
       same_front 21 word (codes "v") (omega arith),
-      parameters_cut (of_three Pair) refl (many_three Pair) words,
-      parameters_cut (of_three Apart) refl (many_three Apart) words,
-      parameters_cut (of_four Triple) refl (many_four Triple) words,
-      parameters_cut (of_four Compose) refl (many_four Compose) words,
-      parameters_cut (of_five Cycle) refl (many_five Cycle) words,
-      parameters_cut (of_five Order) refl (many_five Order) words,
-      parameters_cut (of_three Chain) refl (many_three Chain) words,
-      parameters_cut (of_one On) refl (many_one On) words,
-      parameters_cut (of_three Clash) refl (many_three Clash) words,
+      parameters_cut 6 (omega arith) (of_three Pair) refl (many_three Pair) words,
+      parameters_cut 6 (omega arith) (of_three Apart) refl (many_three Apart) words,
+      parameters_cut 6 (omega arith) (of_four Triple) refl (many_four Triple) words,
+      parameters_cut 6 (omega arith) (of_four Compose) refl (many_four Compose) words,
+      parameters_cut 6 (omega arith) (of_five Cycle) refl (many_five Cycle) words,
+      parameters_cut 6 (omega arith) (of_five Order) refl (many_five Order) words,
+      parameters_cut 6 (omega arith) (of_three Chain) refl (many_three Chain) words,
+      parameters_cut 6 (omega arith) (of_one On) refl (many_one On) words,
+      parameters_cut 6 (omega arith) (of_three Clash) refl (many_three Clash) words,
       token_cut d word words few,
     ) refl
 

@@ -4,24 +4,23 @@ use Rattle.std.proofs.Common.{true, false, cond, codes, List, [], ◌∷◌, ◌
 use Rattle.std.specs.Prelude.{◌==◌}
 use Rattle.std.specs.List.{AllByRecursion}
 use Rattle.std.specs.Fmt.{decimal}
-use Rattle.std.proofs.lemmas.Bool.{and_right, eq-eqb, le-leb}
+use Rattle.std.proofs.lemmas.Bool.{eq-eqb, le-leb}
 use Rattle.packing_terms.specs.Packing.{PlainInstance, dims, box_count, written_container}
 use Rattle.packing_terms.specs.Limits.{IsInstance, IsInternalInstance}
 use Rattle.packing_terms.specs.Results.{◌>>=◌}
 use Rattle.packing_terms.specs.Tokens.{PlainToken}
 use Rattle.packing_terms.proofs.Internal.{written_internal}
 use Rattle.text_terms.specs.Lines.{text_lines, line_of, same_bytes}
-use Rattle.text_terms.specs.Codes.{unknown_word}
-use Rattle.text_terms.specs.Texts.{Parts, no_parts, add_line, by_words, kerf_line, at_end, at_line as on_line, is_none}
+use Rattle.text_terms.specs.Texts.{Parts, no_parts, add_line, at_end, at_line as on_line, is_none}
 use Rattle.text_terms.specs.Texts.{read_lines as read_instance_lines, text_instance}
 use Rattle.text_terms.specs.Spelling.{spaced, instance_words, instance_text}
 use Rattle.text_terms.proofs.Spelled.{AreWords, AreLines, line_spaced, lines_spaced}
 use Rattle.text_terms.proofs.Back.{read_back, word_decimal}
-use Rattle.text_terms.proofs.FormNumbers.{word_is}
 use Rattle.text_terms.proofs.Good.{bind_ok}
 use Rattle.verdict_terms.specs.declared.reason.Reason.{Reason}
 use Rattle.verdict_terms.specs.Documents.{document_at_line}
 use Rattle.verdict_terms.specs.Stages.{is_blank, text_fault}
+use Rattle.verdict_terms.proofs.FormGiven.{no_result}
 use Rattle.verdict_terms.proofs.Taken.{is_same, bound, wanted_is}
 use Rattle.verdict_terms.proofs.FormTold.{any_end}
 use Rattle.verdict_terms.proofs.Passed.{ok_is}
@@ -96,22 +95,6 @@ module _ (instance : PlainInstance) (claim : FrontClaim) where
       ∙ lines_read lines (n + 1) next written.1 good
 
 -- ---- the lines of the instance
-
-result_refused : (parts : Parts) (ws : List (List ℕ)) → by_words parts (codes "result" ∷ ws) ≡ Err 1
-unfolding same_bytes
-result_refused parts ws =
-    ap (λ b. cond b (kerf_line parts ws) (Err unknown_word)) (and_right (parts.format == 2) false refl)
-
-no_result : (parts : Parts) (c : ℕ) (w : List ℕ) (ws : List (List ℕ)) (more : Parts)
-    → add_line parts (record { bad = false; count = c; words = w ∷ ws }) ≡ Ok more → same_bytes w (codes "result") ≡ false
-no_result parts c w ws more e = go (same_bytes w (codes "result")) refl
-  where
-    go : (b : Bool) → same_bytes w (codes "result") ≡ b → same_bytes w (codes "result") ≡ false
-    go false f = f
-    go true f =
-        let g : by_words parts (codes "result" ∷ ws) ≡ Ok more =
-        ap (λ x. by_words parts (x ∷ ws)) (sym (word_is w (codes "result") f)) ∙ e in
-        absurd (let h : ◌≡◌ {A = Result Parts ℕ} (Err 1) (Ok more) = sym (result_refused parts ws) ∙ g in cc (h))
 
 -- the instance lines are read up to their last
 pub record IsInstanceRead (parts : Parts) (n : ℕ) (lines rest : List (List ℕ)) (instance : PlainInstance) : Type 0 where

@@ -4,9 +4,8 @@ use Rattle.std.proofs.Common.{false, List, [], ◌∷◌, ◌++◌, map, length,
 use Rattle.std.specs.Prelude.{◌==◌, ◌&&◌, cond}
 use Rattle.std.proofs.lemmas.Bool.{eq-eqb, ne_eqb}
 use Rattle.std.proofs.lemmas.List.{drop_more, drop_all, drop-map, length-map}
-use Rattle.std.proofs.lemmas.List.FromFn.{fill_by_all}
 use Rattle.packing_terms.specs.declared.Exclusion.{Exclusion}
-use Rattle.packing_terms.specs.Packing.{PlainInstance, no_box, box_count}
+use Rattle.packing_terms.specs.Packing.{PlainInstance, box_count}
 use Rattle.packing_terms.specs.Goals.{subset}
 use Rattle.packing_terms.specs.Results.{◌>>=◌}
 use Rattle.packing_terms.specs.Tokens.{PlainToken}
@@ -19,6 +18,7 @@ use Rattle.check_terms.specs.declared.answers.FeedVerdict.{FeedVerdict}
 use Rattle.check_terms.specs.declared.answers.FeedVerdict.TheVariants.{More, Done, Refused}
 use Rattle.check_terms.specs.Checking.{Checked, starting, inner_after, checked_by, kept_or, answered}
 use Rattle.refutation_check.specs.Refuters.{PlainRefuter, fed}
+use Rattle.refutation_check.proofs.Whole.{whole_set, IsFedAs, fed_as}
 use Rattle.front_terms.specs.declared.answers.FrontReason.{FrontReason}
 use Rattle.front_terms.specs.declared.answers.FrontReason.TheVariants.{Tree, Places}
 use Rattle.front_terms.specs.declared.answers.FrontVerdict.TheVariants.{Good, Short, Refused as RefusedFront}
@@ -101,33 +101,6 @@ module _ (instance : PlainInstance) (complete : Bool) (lines : List PlainLine) w
 never_whole : (b : Bool) → (b && false) ≡ false
 never_whole true = refl
 never_whole false = refl
-
--- the set of all boxes has the instance itself
-whole_set : (instance : PlainInstance) → subset instance (all_boxes instance) ≡ instance
-whole_set instance =
-    ap (λ bs. record instance { boxes = bs })
-    (sym (fill_by_all (λ v. get_or instance.boxes v no_box) instance.boxes (box_count instance) no_box refl
-    (λ k l. refl)))
-
--- a token that is taken, where the tree isn't whole with it
-record IsFedOn (res : Result (List (List Exclusion)) RefuseCode) (c : Checked (List Exclusion)) : Type 0 where
-  left : res ≡ Ok c.nodes
-  on : c.refused ≡ None
-  node : List Exclusion
-  nodes : List (List Exclusion)
-  opens : c.nodes ≡ node ∷ nodes
-
--- what is answered to a token tells what it leaves
-abbrev IsFedAs : Result (List (List Exclusion)) RefuseCode → Checked (List Exclusion) → FeedVerdict → Type 0
-IsFedAs res c More = IsFedOn res c
-IsFedAs res c Done = res ≡ Ok []
-IsFedAs res c (Refused code) = res ≡ Err code
-
-fed_as : (nodes : List (List Exclusion)) (res : Result (List (List Exclusion)) RefuseCode)
-    → IsFedAs res (checked_by nodes res) (answered (checked_by nodes res))
-fed_as nodes (Ok []) = refl
-fed_as nodes (Ok (n ∷ ns)) = record { left = refl; on = refl; node = n; nodes = ns; opens = refl }
-fed_as nodes (Err code) = refl
 
 -- a tree of which some lines were read
 pub record IsTreeAt (instance : PlainInstance) (w h : ℕ) (lines : List PlainLine) (start index : ℕ) (r : PlainRefuter) :

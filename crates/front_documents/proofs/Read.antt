@@ -4,10 +4,8 @@ use Rattle.std.proofs.Common.{false, not, cond, List, [], ◌∷◌, ◌++◌, l
 use Rattle.std.specs.Prelude.{◌==◌, ◌-◌}
 use Rattle.std.proofs.lemmas.Bool.{ne_eqb, eq-eqb}
 use Rattle.std.proofs.Math.Bool.{and-false}
-use Rattle.std.proofs.lemmas.List.FromFn.{fill_by_all}
-use Rattle.std.proofs.Common.{get_or}
 use Rattle.packing_terms.specs.declared.Exclusion.{Exclusion}
-use Rattle.packing_terms.specs.Packing.{PlainInstance, no_box, box_count}
+use Rattle.packing_terms.specs.Packing.{PlainInstance, box_count}
 use Rattle.packing_terms.specs.Goals.{subset}
 use Rattle.packing_terms.specs.Results.{◌>>=◌}
 use Rattle.packing_terms.specs.Tokens.{PlainToken}
@@ -22,6 +20,7 @@ use Rattle.check_terms.specs.declared.answers.FeedVerdict.TheVariants.{More, Don
 use Rattle.check_terms.specs.Checking.{Checked, starting, inner_after, checked_by, kept_or, answered}
 use Rattle.check_terms.specs.Placing.{place_verdict}
 use Rattle.refutation_check.specs.Refuters.{PlainRefuter, fed}
+use Rattle.refutation_check.proofs.Whole.{whole_set, IsFedAs, fed_as}
 use Rattle.verdict_terms.specs.declared.reason.Reason.{Reason}
 use Rattle.verdict_terms.specs.declared.reason.Reason.TheVariants.{Token, TooShort}
 use Rattle.verdict_terms.specs.Reasons.{form, range}
@@ -194,32 +193,6 @@ module _ (instance : PlainInstance) (complete : Bool) (points left w h : ℕ) wh
       >>= λ next. Ok (at_front instance complete points next)) e
 
 -- ---- a refuter that takes a token
-
--- the set of all boxes has the instance itself
-whole_set : (instance : PlainInstance) → subset instance (all_boxes instance) ≡ instance
-whole_set instance =
-    ap (λ bs. record instance { boxes = bs })
-    (sym (fill_by_all (λ v. get_or instance.boxes v no_box) instance.boxes (box_count instance) no_box refl
-    (λ k l. refl)))
-
--- what is answered to a token tells what it leaves
-record IsFedOn (res : Result (List (List Exclusion)) RefuseCode) (c : Checked (List Exclusion)) : Type 0 where
-  left : res ≡ Ok c.nodes
-  on : c.refused ≡ None
-  node : List Exclusion
-  nodes : List (List Exclusion)
-  opens : c.nodes ≡ node ∷ nodes
-
-abbrev IsFedAs : Result (List (List Exclusion)) RefuseCode → Checked (List Exclusion) → FeedVerdict → Type 0
-IsFedAs res c More = IsFedOn res c
-IsFedAs res c Done = res ≡ Ok []
-IsFedAs res c (Refused code) = res ≡ Err code
-
-fed_as : (nodes : List (List Exclusion)) (res : Result (List (List Exclusion)) RefuseCode)
-    → IsFedAs res (checked_by nodes res) (answered (checked_by nodes res))
-fed_as nodes (Ok []) = refl
-fed_as nodes (Ok (n ∷ ns)) = record { left = refl; on = refl; node = n; nodes = ns; opens = refl }
-fed_as nodes (Err code) = refl
 
 module _ (r next : PlainRefuter) (t : PlainToken) (v : FeedVerdict) (at : IsOpenTree r) (e : next ≡ fed r t)
     (f : v ≡ answered next.checked) where

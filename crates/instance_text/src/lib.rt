@@ -14,4 +14,4 @@ pub use lexer::{LexStep, LineLexer};
 pub use reader::{InstanceReader, ReadTextError, read_instance};
 pub use text_terms::TextFault;
 pub use word::is_same;
-pub use writing::write_instance;
+pub use writing::{write_instance, write_numbers};

@@ -1,13 +1,12 @@
 -- A step of a rule, by what it leaves at its place.
-use Rattle.std.proofs.Common.{◌≡◌, ℕ, ◌+◌, ◌<◌, ◌≤◌, ◌⊎◌, ◌↔◌, inl, inr, refl, sym, ap, ◌∙◌, arith, Bool, true, false}
+use Rattle.std.proofs.Common.{◌≡◌, ℕ, ◌↔◌, refl, sym, ap, ◌∙◌, Bool, true, false}
 use Rattle.std.proofs.Common.{not, cond, ◌&&◌, ◌||◌, List, if◌then◌else◌, IsTrue}
-use Rattle.std.specs.List.{list_any, list_all}
-use Rattle.std.proofs.lemmas.Bool.{true≢false, cases_Bool, cases_lt, and_parts, and_from, or_parts}
+use Rattle.std.specs.List.{list_any}
+use Rattle.std.proofs.lemmas.Bool.{true≢false, and_parts, and_from, or_parts}
 use Rattle.packing_terms.specs.Relations.{allows}
-use Rattle.packing_terms.specs.Sums.{below}
 use Rattle.packing_terms.specs.Rules.Rule.{Compose}
 use Rattle.packing_terms.proofs.Sets.{same_bool}
-use Rattle.packing_terms.proofs.Members.{any_at, any_from, all_at, all_from, in_range, range_in}
+use Rattle.packing_terms.proofs.Members.{any_at, any_from}
 use Rattle.rule_terms.specs.Rounds.{rels}
 use Rattle.explained_terms.proofs.Leaves.{rel_in}
 use Rattle.packing_terms.specs.declared.Rel.{Rel}
@@ -126,23 +125,3 @@ module _ (X : Exclusions) (i u v x a b m : ℕ) (ha : (r : Rel) → mask_has a r
           let p = and_parts _ _ g.passes in
           let o = and_parts _ _ p.0 in
           (f.item, g.item, ha f.item ∙ o.0, hb g.item ∙ o.1, p.1)
-
--- ---- tests of all dimensions
-
-pub all_below : (p : ℕ → Bool) (n : ℕ) → ((i : ℕ) → i < n → p i ≡ true) → true ≡ list_all p (below n)
-all_below p n h = sym (all_from p (below n) (λ i k. let l = range_in 0 n i k in h i (omega (arith, l))))
-
-pub not_all_below : (p : ℕ → Bool) (n i : ℕ) → i < n → p i ≡ false → false ≡ list_all p (below n)
-not_all_below p n i l f = go (cases_Bool (list_all p (below n)))
-  where
-    go : (list_all p (below n) ≡ true) ⊎ (list_all p (below n) ≡ false) → false ≡ list_all p (below n)
-    go (inl e) = absurd (true≢false
-        (sym (all_at p i (below n) e (in_range 0 n i (omega arith) (omega (arith, l)))) ∙ f))
-    go (inr e) = sym e
-
-pub next_below : (p : ℕ → Bool) (n : ℕ) → ((i : ℕ) → i < n → p i ≡ true) → p n ≡ true → (i : ℕ) → i < n + 1 → p i ≡ true
-next_below p n h k i l = go (cases_lt i n)
-  where
-    go : (i < n) ⊎ (n ≤ i) → p i ≡ true
-    go (inl m) = h i m
-    go (inr m) = let e : i ≡ n = omega (arith, l, m) in ap p e ∙ k

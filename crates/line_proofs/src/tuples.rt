@@ -1,12 +1,11 @@
 //! The tests of a tuple of scale functions, in their order. The checker of refutations has the same
 //! of its own: an auditor shares no test with what it is to audit.
-ghost use Rattle.std.specs.Prelude.{◌≡◌, ◌<◌, List, length};
+ghost use Rattle.std.specs.Prelude.{◌≡◌, List, length};
 ghost use Rattle.packing_terms.specs.declared.Exclusion.{Exclusion as PlainExclusion};
-ghost use Rattle.packing_terms.specs.Packing.{dims, box_count};
+ghost use Rattle.packing_terms.specs.Packing.{dims};
 ghost use Rattle.packing_terms.specs.Tokens.PlainToken.{Scales as PlainScales};
-ghost use Rattle.check_terms.specs.Judging.{are_legal, sides_fit, tuple_refusal};
+ghost use Rattle.check_terms.specs.Judging.{are_legal, tuple_refusal};
 ghost use Rattle.explained_terms.specs.Judging.{audit_code, token_refusal};
-ghost use Rattle.line_proofs.specs.Sides.{box_fits};
 
 use box_instances::Instance;
 use check_terms::RefuseCode;
@@ -26,31 +25,6 @@ fn are_legal(instance: &Instance, tuple: &[ScaleFn]) -> bool
     true
 }
 
-// Whether no side of the box exceeds the container's.
-fn box_fits(instance: &Instance, box_no: u32) -> bool
-    requires { box_no < box_count instance.now }
-    ensures { result ≡ box_fits instance.now box_no }
-{
-    for dim in 0..instance.dims() {
-        if instance.container_side(dim) < instance.side(box_no, dim) {
-            return false;
-        }
-    }
-    true
-}
-
-// Whether no box's side exceeds the container's.
-fn sides_fit(instance: &Instance) -> bool
-    ensures { result ≡ sides_fit instance.now }
-{
-    for box_no in 0..instance.len() {
-        if !box_fits(instance, box_no) {
-            return false;
-        }
-    }
-    true
-}
-
 // The first test that the tuple fails.
 fn judge_tuple(instance: &Instance, tuple: &[ScaleFn]) -> Option<RefuseCode>
     ensures { result ≡ tuple_refusal instance.now 1 tuple.now }
@@ -61,7 +35,7 @@ fn judge_tuple(instance: &Instance, tuple: &[ScaleFn]) -> Option<RefuseCode>
     if !are_legal(instance, tuple) {
         return Some(RefuseCode::Range);
     }
-    if !sides_fit(instance) {
+    if !instance.sides_fit() {
         return Some(RefuseCode::Excess);
     }
     if exceeds(instance, tuple, 1) {

@@ -23,7 +23,7 @@ use Rattle.packing_terms.proofs.Members.{IsIn, any_at, map_in, append_in, range_
 use Rattle.packing_terms.proofs.Boxes.{each_from, each_in, boxes_few, found}
 use Rattle.packing_terms.proofs.Sets.{or_true}
 
-drop_next : {X : Type 0} (k : ℕ) (xs : List X) (x : X) (more : List X) → drop k xs ≡ x ∷ more → drop (suc k) xs ≡ more
+pub drop_next : {X : Type 0} (k : ℕ) (xs : List X) (x : X) (more : List X) → drop k xs ≡ x ∷ more → drop (suc k) xs ≡ more
 drop_next zero [] x more e = absurd (cc)
 drop_next zero (y ∷ xs) x more e = cc
 drop_next (suc k) [] x more e = absurd (cc)

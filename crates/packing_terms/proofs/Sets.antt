@@ -1,5 +1,6 @@
 -- The set of a list of exclusions.
 use Rattle.std.proofs.Common.{◌≡◌, ℕ, ◌⊎◌, inl, inr, refl, sym, subst, Bool, true, false, ◌||◌, List, [], ◌∷◌, ◌++◌}
+use Rattle.std.specs.Prelude.{IsTrue}
 use Rattle.std.proofs.lemmas.Bool.{true≢false, and_parts, or_cases, or_left, and_from, eqb-true, eq-eqb}
 use Rattle.packing_terms.specs.declared.Rel.{Rel}
 use Rattle.packing_terms.specs.declared.Rel.TheVariants.{Overlap, Before, After}
@@ -102,3 +103,12 @@ excludes_left (e ∷ es) fs i u v r h = go (or_cases _ _ h) (excludes_left es fs
 pub excludes_right : (es fs : List Exclusion) → IsSubset (excludes fs) (excludes (es ++ fs))
 excludes_right [] fs i u v r h = h
 excludes_right (e ∷ es) fs i u v r h = or_true _ _ (inr (excludes_right es fs i u v r h))
+
+-- a set that has the first exclusion and those of the rest has those of the list
+pub own_first : (X : List Exclusion) (d : Exclusion) (ds : List Exclusion) → IsTrue (excludes X d.dim d.u d.v d.rel)
+    → IsSubset (excludes ds) (excludes X) → IsSubset (excludes (d ∷ ds)) (excludes X)
+own_first X d ds own rest i u v r h = pick (or_cases _ _ h)
+  where
+    pick : (is_of d i u v r ≡ true) ⊎ (excludes ds i u v r ≡ true) → IsTrue (excludes X i u v r)
+    pick (inl k) = of_own (λ j a b s. IsTrue (excludes X j a b s)) (excludes_symmetric X) d i u v r k own
+    pick (inr k) = rest i u v r k

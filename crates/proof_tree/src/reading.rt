@@ -71,8 +71,8 @@ fn kind_of(word: &[u8]) -> Option<Kind>
     None
 }
 
-// The parameter that word `k` is.
-fn parameter_at(line: &LineLexer, k: u32) -> Option<u32>
+/// The parameter that word `k` is: a number of 32 bits. None where the word is no such number.
+pub fn parameter_at(line: &LineLexer, k: u32) -> Option<u32>
     requires { k < length line.now.held.words }
     ensures { result ≡ parameter (slice_index_or line.now.held.words k []) }
 {
@@ -85,8 +85,9 @@ fn parameter_at(line: &LineLexer, k: u32) -> Option<u32>
     Some(number as u32)
 }
 
-// The one parameter behind the first word.
-fn one_parameter(line: &LineLexer) -> Option<u32>
+/// The one parameter behind the first word, and none where there is another number of words, or the
+/// word is no parameter.
+pub fn one_parameter(line: &LineLexer) -> Option<u32>
     ensures { result ≡ only (parameters (drop 1 line.now.held.words)) }
 {
     if line.word_count() != 2 {
@@ -107,8 +108,9 @@ fn two_parameters(line: &LineLexer) -> Option<(u32, u32)>
     Some((first, second))
 }
 
-// The three parameters behind the first word.
-fn three_parameters(line: &LineLexer) -> Option<(u32, u32, u32)>
+/// The three parameters behind the first word, and none where there is another number of words, or a
+/// word is no parameter.
+pub fn three_parameters(line: &LineLexer) -> Option<(u32, u32, u32)>
     ensures { result ≡ three_only (parameters (drop 1 line.now.held.words)) }
 {
     if line.word_count() != 4 {

@@ -1,24 +1,16 @@
 -- Tokens that were fed one by one.
 use Rattle.std.proofs.Common.{◌≡◌, ℕ, ◌+◌, ◌<◌, ◌∙◌, refl, sym, ap, List, [], ◌∷◌, ◌++◌, length}
 use Rattle.std.proofs.Common.{map, take, get_or}
-use Rattle.std.proofs.lemmas.List.FromFn.{fill_by_all}
 use Rattle.std.proofs.lemmas.List.{map_push, take_more}
 use Rattle.packing_terms.specs.declared.Exclusion.{Exclusion}
-use Rattle.packing_terms.specs.Packing.{PlainInstance, no_box, box_count}
-use Rattle.packing_terms.specs.Goals.{subset}
+use Rattle.packing_terms.specs.Packing.{PlainInstance}
 use Rattle.packing_terms.specs.Tokens.{PlainToken}
 use Rattle.box_instances.specs.Sets.{all_boxes}
 use Rattle.check_terms.specs.Checking.{Checked, starting, checked_after, checked_after_all, inner_after}
 use Rattle.proof_tree.specs.declared.token.Token.{Token}
 use Rattle.proof_tree.specs.Plain.{plain_token}
 use Rattle.refutation_check.specs.Refuters.{PlainRefuter, fed}
-
--- the set of all boxes has the instance itself
-pub whole_set : (instance : PlainInstance) → subset instance (all_boxes instance) ≡ instance
-whole_set instance =
-    ap (λ bs. record instance { boxes = bs })
-    (sym (fill_by_all (λ v. get_or instance.boxes v no_box) instance.boxes (box_count instance) no_box refl
-    (λ k l. refl)))
+use Rattle.refutation_check.proofs.Whole.{whole_set}
 
 -- the refuter of an instance to which these tokens were fed
 abbrev pub fed_all : PlainInstance → List PlainToken → PlainRefuter

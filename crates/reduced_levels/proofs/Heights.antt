@@ -1,7 +1,7 @@
 -- The run of heights from exclusions that decide them.
-use Rattle.std.proofs.Common.{◌≡◌, ℕ, suc, ◌+◌, ◌-◌, ◌*◌, ◌/◌, ◌^◌, ◌<◌, ◌≤◌, ◌⊎◌, ◌↔◌, inl, inr, refl, sym, ap, subst}
-use Rattle.std.proofs.Common.{◌∙◌, arith, Bool, true, false, if◌then◌else◌, ltb, List, [], IsTrue}
-use Rattle.std.proofs.lemmas.Bool.{cases_Bool, cases_lt}
+use Rattle.std.proofs.Common.{◌≡◌, ℕ, suc, ◌+◌, ◌-◌, ◌*◌, ◌/◌, ◌^◌, ◌<◌, ◌≤◌, ◌⊎◌, ◌↔◌, inl, inr, refl, sym, subst}
+use Rattle.std.proofs.Common.{arith, Bool, true, false, if◌then◌else◌, ltb, List, [], IsTrue}
+use Rattle.std.proofs.lemmas.Bool.{cases_Bool}
 use Rattle.packing_terms.specs.declared.Exclusion.{Exclusion}
 use Rattle.packing_terms.specs.Packing.{PlainInstance, IsPacking, Fits, HasPositiveSides, dims, box_count}
 use Rattle.packing_terms.specs.Exclusions.{AreAtEdges}
@@ -16,20 +16,19 @@ use Rattle.scale_terms.proofs.Excess.{excess_law}
 use Rattle.symmetry_terms.specs.Facts.{symmetry_facts}
 use Rattle.symmetry_terms.proofs.Levels.{same_dims, level_facts, none_fits_at}
 use Rattle.symmetry_terms.proofs.Members.{facts_at_edges}
-use Rattle.tree_terms.specs.Trees.{Verdict, Yes, No, Decided, Past, outcome, told, count_of}
+use Rattle.tree_terms.specs.Trees.{Verdict, Yes, No, Decided, Past, outcome, count_of}
 use Rattle.tree_terms.specs.ClassTree.{class_tree}
 use Rattle.tree_terms.specs.Search.{IsRightUnder, IsYesVerdict}
-use Rattle.tree_terms.specs.Levels.{PlainLevel, SpentAt, PlainReached, level_by, IsLevelBetween, IsRightLevel}
+use Rattle.tree_terms.specs.Levels.{PlainLevel, PlainReached, level_by, IsLevelBetween, IsRightLevel}
 use Rattle.tree_terms.specs.Levels.{HasBothCertificates, first_heights}
 use Rattle.tree_terms.specs.RunEnds.{HasSpentDecision, IsRisingEnd}
-use Rattle.tree_terms.proofs.Told.{told_past, told_decided}
 use Rattle.tree_terms.proofs.Counts.{class_count}
 use Rattle.tree_terms.proofs.Decisions.{class_tree_right}
 use Rattle.tree_terms.proofs.FirstLevels.{height_zero, stack_packs}
 use Rattle.tree_terms.proofs.LevelOrder.{rising_end, spent_exactly}
 use Rattle.tree_terms.proofs.Optima.{internal_at, stack_small}
 use Rattle.tree_terms.proofs.Runs.{run_right}
-use Rattle.tree_terms.proofs.SpentRuns.{height_end}
+use Rattle.tree_terms.proofs.SpentRuns.{height_end, spent_level}
 use Rattle.reduced_levels.specs.Heights.{height_answer_from, height_run_from, HasLargeHeightFrom, DecideHeights}
 
 module _ (instance : PlainInstance) (limits : IsInternalInstance instance) where
@@ -85,20 +84,6 @@ module _ (instance : PlainInstance) (h : ℕ) (limits : IsInternalInstance (with
       back (No tokens count) right is_yes = absurd is_yes
 
 -- what is told of the tree at a height
-never_spent : (v : Verdict) → level_by (Decided v) ≡ SpentAt → ⊥
-never_spent (Yes ns c) k = cc
-never_spent (No ts c) k = cc
-
-spent_level : (budget : ℕ) (v : Verdict) → level_by (told budget v) ≡ SpentAt ↔ (budget < count_of v)
-spent_level budget v = (there, λ l. ap level_by (told_past budget v l))
-  where
-    there : level_by (told budget v) ≡ SpentAt → budget < count_of v
-    there e = go (cases_lt budget (count_of v))
-      where
-        go : (budget < count_of v) ⊎ (count_of v ≤ budget) → budget < count_of v
-        go (inl l) = l
-        go (inr l) = absurd (never_spent v (sym (ap level_by (told_decided budget v l)) ∙ e))
-
 module _ (instance : PlainInstance) (start : List Exclusion) (budget : ℕ) (scales : Bool) where
   abbrev answers : ℕ → PlainLevel
   answers = height_answer_from start instance budget scales

@@ -1,8 +1,8 @@
 -- What the closed state says of the tests of a token.
 use Rattle.std.proofs.Common.{◌≡◌, ℕ, zero, suc, pred, ◌-◌, ◌≤◌, ◌⊎◌, inl, inr, refl, sym, ap, ◌∙◌, arith, Bool, true}
-use Rattle.std.proofs.Common.{false, not, ◌&&◌, ◌||◌, List, length, Option, Some, None, IsTrue}
+use Rattle.std.proofs.Common.{false, not, ◌&&◌, ◌||◌, List, length, Option, None, IsTrue}
 use Rattle.std.proofs.lemmas.List.{length-append}
-use Rattle.std.proofs.lemmas.Bool.{true≢false, cases_Bool}
+use Rattle.std.proofs.lemmas.Bool.{cases_Bool}
 use Rattle.packing_terms.specs.declared.Rel.{Rel}
 use Rattle.packing_terms.specs.declared.Rel.TheVariants.{Overlap, Before, After}
 use Rattle.packing_terms.specs.declared.Exclusion.{Exclusion}
@@ -16,7 +16,7 @@ use Rattle.rule_terms.proofs.RoundsLemmas.{closure_is}
 use Rattle.rule_terms.proofs.Conflicts.{calm, stormy}
 use Rattle.relation_table.specs.Masks.{mask_has}
 use Rattle.check_terms.specs.declared.answers.RefuseCode.{RefuseCode}
-use Rattle.check_terms.specs.Judging.{unless, closed, is_conflict, may_part, may_order, refusal}
+use Rattle.check_terms.specs.Judging.{closed, is_conflict, may_part, may_order, refusal}
 use Rattle.closure_terms.specs.Ends.{IsClosureOf}
 use Rattle.refutation_check.specs.Ended.{IsEnded}
 use Rattle.refutation_check.specs.declared.node.OpenNode.{OpenNode}
@@ -28,15 +28,6 @@ use Rattle.refutation_check.proofs.Nodes.{entered_oldest, entered_longer}
 pub pred_is : (n : ℕ) → n - 1 ≡ pred n
 pred_is zero = omega arith
 pred_is (suc n) = omega arith
-
-pub unless_false : (b : Bool) (code : RefuseCode) (rest : Option RefuseCode) → b ≡ false
-    → Some code ≡ unless b code rest
-unless_false false code rest h = refl
-unless_false true code rest h = absurd (true≢false h)
-
-pub unless_true : (b : Bool) (code : RefuseCode) (rest : Option RefuseCode) → b ≡ true → rest ≡ unless b code rest
-unless_true true code rest h = refl
-unless_true false code rest h = absurd (true≢false (sym h))
 
 module _ (instance : PlainInstance) (es trail : List Exclusion) where
   pub conflict_told : (b : Bool) → IsEnded instance (excludes es) trail b

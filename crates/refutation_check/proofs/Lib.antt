@@ -1,10 +1,10 @@
 pub mod Ends
 pub mod Nodes
 pub mod Judged
-pub mod Tests
 pub mod Bounds
 pub mod Stack
 pub mod Accepted
 pub mod Fed
 pub mod Feeding
 pub mod Begun
+pub mod Whole

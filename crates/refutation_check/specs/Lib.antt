@@ -1,4 +1,3 @@
 pub mod Ended
 pub mod Nodes
-pub mod Tests
 pub mod Refuters

@@ -1,5 +1,5 @@
 //! The tests that a token must pass at a node, in their order.
-ghost use Rattle.std.specs.Prelude.{◌≡◌, ◌≤◌, ◌<◌, ◌&&◌, ◌||◌, not, List, length};
+ghost use Rattle.std.specs.Prelude.{◌≡◌, ◌≤◌, ◌&&◌, ◌||◌, not, List, length};
 ghost use Rattle.packing_terms.specs.declared.Exclusion.{Exclusion as PlainExclusion};
 ghost use Rattle.packing_terms.specs.declared.Rel.TheVariants.{Overlap, Before, After};
 ghost use Rattle.packing_terms.specs.Packing.{dims, box_count};
@@ -7,8 +7,7 @@ ghost use Rattle.packing_terms.specs.Limits.{most_boxes};
 ghost use Rattle.packing_terms.specs.Tokens.PlainToken.{Apart as PlainApart, Order as PlainOrder, Rules as PlainRules, TooLarge as PlainTooLarge};
 ghost use Rattle.relation_table.specs.Masks.{mask_has};
 ghost use Rattle.proof_tree.specs.Plain.{plain_token};
-ghost use Rattle.check_terms.specs.Judging.{names_dim, names_box, names_pair, are_legal, sides_fit, tuple_refusal, refusal};
-ghost use Rattle.refutation_check.specs.Tests.{box_fits};
+ghost use Rattle.check_terms.specs.Judging.{names_dim, names_box, names_pair, are_legal, tuple_refusal, refusal};
 ghost use Rattle.refutation_check.specs.Nodes.{IsOver, IsJudged};
 
 use crate::node::{OpenNode, enter};
@@ -170,31 +169,6 @@ fn are_legal(instance: &Instance, tuple: &[ScaleFn]) -> bool
     true
 }
 
-// Whether no side of the box exceeds the container's.
-fn box_fits(instance: &Instance, box_no: u32) -> bool
-    requires { box_no < box_count instance.now }
-    ensures { result ≡ box_fits instance.now box_no }
-{
-    for dim in 0..instance.dims() {
-        if instance.container_side(dim) < instance.side(box_no, dim) {
-            return false;
-        }
-    }
-    true
-}
-
-// Whether no box's side exceeds the container's.
-fn sides_fit(instance: &Instance) -> bool
-    ensures { result ≡ sides_fit instance.now }
-{
-    for box_no in 0..instance.len() {
-        if !box_fits(instance, box_no) {
-            return false;
-        }
-    }
-    true
-}
-
 /// The first test that a tuple of scale functions fails for so many copies of the container, which
 /// are at most 128: `Kind` where it hasn't a function for each dimension, `Range` where one isn't
 /// legal for its container side, else `Excess` where a side of a box exceeds the container's or the
@@ -209,7 +183,7 @@ pub fn judge_tuple(instance: &Instance, tuple: &[ScaleFn], copies: u32) -> Optio
     if !are_legal(instance, tuple) {
         return Some(RefuseCode::Range);
     }
-    if !sides_fit(instance) {
+    if !instance.sides_fit() {
         return Some(RefuseCode::Excess);
     }
     if exceeds(instance, tuple, copies) {

@@ -1,7 +1,7 @@
 -- A node, the closing of what is given there, and its children.
 use Rattle.std.proofs.Common.{◌≡◌, ◌≤◌, ℕ, pred, ◌⊎◌, inl, inr, sym, ap, subst, ◌∙◌, arith, true, false, List, [], ◌∷◌}
 use Rattle.std.proofs.Common.{◌++◌, length, Option, Some, None, IsTrue}
-use Rattle.std.proofs.lemmas.Bool.{true≢false, cases_Bool, or_cases}
+use Rattle.std.proofs.lemmas.Bool.{true≢false, cases_Bool}
 use Rattle.std.proofs.lemmas.List.{length-append}
 use Rattle.packing_terms.specs.declared.Rel.{Rel}
 use Rattle.packing_terms.specs.declared.Rel.TheVariants.{Overlap, Before, After}
@@ -15,17 +15,18 @@ use Rattle.packing_terms.specs.Tokens.PlainToken.{Apart, Order, Rules, TooLarge,
 use Rattle.packing_terms.specs.Tokens.PlainToken.{ValueShort, GlobalScales}
 use Rattle.packing_terms.specs.Refutation.{Refutes, by_rules, by_side, by_scales, by_apart, by_order, exclusion_in_text}
 use Rattle.packing_terms.specs.Refutation.{IsTooLarge, MaySplitApart, MaySplitOrder, LeavesOpen}
-use Rattle.packing_terms.proofs.Sets.{excludes_first, excludes_rest, or_true, of_own, excludes_symmetric}
+use Rattle.packing_terms.proofs.Sets.{excludes_first, excludes_rest, or_true, excludes_symmetric}
 use Rattle.packing_terms.proofs.Closures.{derives_from, given_derived}
 use Rattle.packing_terms.proofs.Derivations.{stable_holds}
 use Rattle.rule_terms.specs.Steps.{with_exclusion}
 use Rattle.rule_terms.specs.Applied.{Extends}
 use Rattle.rule_terms.specs.Places.{HasNoEmptyMask}
-use Rattle.rule_terms.proofs.Applied.{with_cases, with_keeps, with_own}
+use Rattle.rule_terms.proofs.Applied.{with_cases}
 use Rattle.edge_state.specs.Edges.{oldest}
 use Rattle.edge_state.proofs.Oldest.{oldest_grown, oldest_all}
 use Rattle.closure_terms.specs.States.{HasEmptyMask}
 use Rattle.explained_terms.specs.Explaining.{MayPart, MayOrder}
+use Rattle.explained_terms.proofs.Stepped.{child_there, child_derived}
 use Rattle.line_proofs.specs.Boxed.{Grows}
 use Rattle.line_proofs.proofs.ChainBoxes.{grows_with}
 use Rattle.refutation_steps.specs.Nodes.{IsClosedAt, IsEnd, IsDrawn}
@@ -206,19 +207,6 @@ module _ (instance : PlainInstance) where
 
   -- ---- children
 
-  own_first : (X : List Exclusion) (d : Exclusion) (ds : List Exclusion) → IsTrue (excludes X d.dim d.u d.v d.rel)
-      → IsSubset (excludes ds) (excludes X) → IsSubset (excludes (d ∷ ds)) (excludes X)
-  own_first X d ds own rest i u v r h = pick (or_cases _ _ h)
-    where
-      pick : (is_of d i u v r ≡ true) ⊎ (excludes ds i u v r ≡ true) → IsTrue (excludes X i u v r)
-      pick (inl k) = of_own (λ j a b s. IsTrue (excludes X j a b s)) (excludes_symmetric X) d i u v r k own
-      pick (inr k) = rest i u v r k
-
-  child_there : (es X : List Exclusion) (e : Exclusion) → IsSubset (excludes es) (excludes X)
-      → IsSubset (excludes (e ∷ es)) (excludes (with_exclusion X e))
-  child_there es X e there = own_first (with_exclusion X e) e es (with_own X e)
-      (λ i u v r k. with_keeps X e i u v r (there i u v r k))
-
   no_more : (X : List Exclusion) (e : Exclusion) → IsSubset (excludes (with_exclusion X e)) (excludes (e ∷ X))
   no_more X e i u v r h = go (with_cases X e i u v r h)
     where
@@ -226,23 +214,14 @@ module _ (instance : PlainInstance) where
       go (inl k) = or_true _ _ (inr k)
       go (inr k) = or_true _ _ (inl k)
 
-  child_derived : (es X : List Exclusion) (e : Exclusion) → AreDerived instance (excludes es) (excludes X)
-      → AreDerived instance (excludes (e ∷ es)) (excludes (with_exclusion X e))
-  child_derived es X e derived i u v r h = go (with_cases X e i u v r h)
-    where
-      go : (excludes X i u v r ≡ true) ⊎ (is_of e i u v r ≡ true) → IsDerived instance (excludes (e ∷ es)) i u v r
-      go (inl k) = derives_from instance (excludes es) (excludes (e ∷ es))
-          (λ j a b s l. given_derived instance (e ∷ es) j a b s (or_true _ _ (inr l))) i u v r (derived i u v r k)
-      go (inr k) = given_derived instance (e ∷ es) i u v r (or_true _ _ (inl k))
-
   -- a child has one exclusion more in each list
   pub child_drawn : (es given held : List Exclusion) (mark : ℕ) (e : Exclusion)
       → IsDrawn instance es given held (Some mark)
       → IsDrawn instance (e ∷ es) (with_exclusion given e) (with_exclusion held e) (Some mark)
   child_drawn es given held mark e d = record {
-    given_all = child_there es given e d.given_all;
-    held_all = λ i u v r k. child_there given held e d.held_all i u v r (no_more given e i u v r k);
-    given_derived = child_derived es given e d.given_derived;
-    held_derived = child_derived es held e d.held_derived;
+    given_all = child_there instance es given e d.given_all;
+    held_all = λ i u v r k. child_there instance given held e d.held_all i u v r (no_more given e i u v r k);
+    given_derived = child_derived instance es given e d.given_derived;
+    held_derived = child_derived instance es held e d.held_derived;
     known = closed_on given (with_exclusion given e) mark (grows_with given e) d.known;
   }

@@ -1,16 +1,16 @@
 -- What a derivation has, one exclusion after another.
 use Rattle.std.proofs.Common.{◌≡◌, ◌≤◌, ◌-◌, ℕ, zero, suc, ◌⊎◌, inl, inr, refl, sym, subst, ◌∙◌, arith, true, false}
 use Rattle.std.proofs.Common.{Bool, List, [], ◌∷◌, length, drop, IsTrue}
-use Rattle.std.proofs.lemmas.Bool.{true≢false, or_cases}
+use Rattle.std.proofs.lemmas.Bool.{true≢false}
 use Rattle.packing_terms.specs.declared.Rel.{Rel}
 use Rattle.packing_terms.specs.declared.Exclusion.{Exclusion}
 use Rattle.packing_terms.specs.Packing.{PlainInstance, dims, box_count}
 use Rattle.packing_terms.specs.Relations.{mirror}
-use Rattle.packing_terms.specs.Exclusions.{Exclusions, excludes, exclusion_at, is_of, IsEdgeAmong}
+use Rattle.packing_terms.specs.Exclusions.{Exclusions, excludes, exclusion_at, IsEdgeAmong}
 use Rattle.packing_terms.specs.Rules.{Rule, Pair, Apart, Triple, Chain, Compose, Cycle, Order, Concludes, Follows}
 use Rattle.packing_terms.specs.Rules.{by_rule, mirrored}
 use Rattle.packing_terms.specs.Closure.{IsSubset, IsDerivation}
-use Rattle.packing_terms.proofs.Sets.{of_own, mirror_twice, excludes_symmetric}
+use Rattle.packing_terms.proofs.Sets.{mirror_twice, excludes_symmetric, own_first}
 use Rattle.packing_terms.proofs.Monotone.{follows_more}
 use Rattle.edge_state.specs.Edges.{PlainEdges, oldest}
 use Rattle.edge_state.specs.Answers.{IsChangeAfter}
@@ -31,14 +31,6 @@ plain_or_chain (Chain i before u v after) = inr tt
 plain_or_chain (Compose i u v x) = inl tt
 plain_or_chain (Cycle i a b c d) = inl tt
 plain_or_chain (Order i a b c d) = inl tt
-
-own_first : (X : List Exclusion) (d : Exclusion) (ds : List Exclusion) → IsTrue (excludes X d.dim d.u d.v d.rel)
-    → IsSubset (excludes ds) (excludes X) → IsSubset (excludes (d ∷ ds)) (excludes X)
-own_first X d ds own rest i u v r h = pick (or_cases _ _ h)
-  where
-    pick : (is_of d i u v r ≡ true) ⊎ (excludes ds i u v r ≡ true) → IsTrue (excludes X i u v r)
-    pick (inl k) = of_own (λ j a b s. IsTrue (excludes X j a b s)) (excludes_symmetric X) d i u v r k own
-    pick (inr k) = rest i u v r k
 
 -- an exclusion is there with its mirror
 pub turned_there : (es : List Exclusion) (e : Exclusion) → IsThere es (turned_of e) → IsThere es e

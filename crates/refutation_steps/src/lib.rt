@@ -20,7 +20,6 @@ mod shortening;
 mod splits;
 mod steps;
 mod taking;
-mod tokens;
 mod tracing;
 mod walk;
 mod walk_state;

@@ -9,12 +9,11 @@ use crate::empties::empty_place;
 use crate::settling::settle;
 use crate::splits::{split_apart, split_order};
 use crate::steps::write_line;
-use crate::tokens::copy_of;
 use crate::walk_state::Walk;
 use box_instances::{Instance, NoMemory};
 use edge_state::Mark;
 use line_proofs::Step;
-use proof_tree::Token;
+use proof_tree::{Token, copy_token};
 use std::alloc::Global;
 
 // A conflict: the steps to an empty mask, and its place.
@@ -81,7 +80,7 @@ fn take_order(
 fn take_leaf(alloc: Global, walk: &mut Walk, token: &Token) -> Result<(), NoMemory>
     ensures { OnOk result (IsLeafWritten walk.old walk.new (plain_token token.now)) }
 {
-    let copy = copy_of(alloc, token)?;
+    let copy = copy_token(alloc, token)?;
     write_line(&mut walk.lines, Step::Plain(copy))
 }
 

@@ -9,11 +9,10 @@ ghost use Rattle.refutation_steps.specs.Shortened.{IsNoToken};
 use crate::marks::Spot;
 use crate::reasons::{Reason, box_of};
 use crate::steps::write_line;
-use crate::tokens::copy_of;
 use crate::tracing::{Span, Trace};
 use box_instances::NoMemory;
 use line_proofs::Step;
-use proof_tree::Token;
+use proof_tree::{Token, copy_token};
 use std::alloc::Global;
 
 // A number of the text.
@@ -190,7 +189,7 @@ fn line_of(alloc: Global, token: &Token, clash: Spot) -> Result<Step, NoMemory>
             v: numbered(clash.v),
         }),
         _ => {
-            let copy = copy_of(alloc, token)?;
+            let copy = copy_token(alloc, token)?;
             Ok(Step::Plain(copy))
         }
     }

@@ -5,51 +5,8 @@ ghost use Rattle.work_share.specs.Outcomes.{plain_outcome};
 ghost use Rattle.set_search.specs.Memories.{plain_count};
 
 use box_instances::NoMemory;
-use proof_tree::{Outcome, ScaleTuple, Token};
+use proof_tree::{Outcome, Token, copy_token};
 use std::alloc::Global;
-
-fn copy_tuple(alloc: Global, tuple: &ScaleTuple) -> Result<ScaleTuple, NoMemory>
-    ensures { IfOk result (λ t. t.items ≡ tuple.now.items) }
-{
-    let Ok(copy) = ScaleTuple::from_slice(alloc, tuple.as_slice()) else {
-        return Err(NoMemory);
-    };
-    Ok(copy)
-}
-
-fn copy_token(alloc: Global, token: &Token) -> Result<Token, NoMemory>
-    ensures { IfOk result (λ t. plain_token t ≡ plain_token token.now) }
-{
-    match token {
-        Token::Apart { dim, u, v } => Ok(Token::Apart {
-            dim: *dim,
-            u: *u,
-            v: *v,
-        }),
-        Token::Order { dim, u, v } => Ok(Token::Order {
-            dim: *dim,
-            u: *u,
-            v: *v,
-        }),
-        Token::Rules => Ok(Token::Rules),
-        Token::TooLarge { box_no, dim } => Ok(Token::TooLarge {
-            box_no: *box_no,
-            dim: *dim,
-        }),
-        Token::Scales(tuple) => {
-            let tuple = copy_tuple(alloc, tuple)?;
-            Ok(Token::Scales(tuple))
-        }
-        Token::Assign { box_no } => Ok(Token::Assign { box_no: *box_no }),
-        Token::Choose { box_no } => Ok(Token::Choose { box_no: *box_no }),
-        Token::SetRefuted { bin } => Ok(Token::SetRefuted { bin: *bin }),
-        Token::ValueShort => Ok(Token::ValueShort),
-        Token::GlobalScales(tuple) => {
-            let tuple = copy_tuple(alloc, tuple)?;
-            Ok(Token::GlobalScales(tuple))
-        }
-    }
-}
 
 fn copy_tokens(alloc: Global, tokens: &[Token]) -> Result<Vec<Token>, NoMemory>
     ensures { IfOk result (λ copies. map plain_token copies.items ≡ map plain_token tokens.now) }

@@ -33,7 +33,7 @@ never_spent : (v : Verdict) → level_by (Decided v) ≡ SpentAt → ⊥
 never_spent (Yes ns c) k = cc
 never_spent (No ts c) k = cc
 
-spent_level : (budget : ℕ) (v : Verdict) → level_by (told budget v) ≡ SpentAt ↔ (budget < count_of v)
+pub spent_level : (budget : ℕ) (v : Verdict) → level_by (told budget v) ≡ SpentAt ↔ (budget < count_of v)
 spent_level budget v = (there, λ l. ap level_by (told_past budget v l))
   where
     there : level_by (told budget v) ≡ SpentAt → budget < count_of v

@@ -138,7 +138,7 @@ unfolding same_bytes
 result_refused parts ws =
     ap (λ b. cond b (kerf_line parts ws) (Err unknown_word)) (and_right (parts.format == 2) false refl)
 
-no_result : (parts : Parts) (c : ℕ) (w : List ℕ) (ws : List (List ℕ)) (more : Parts)
+pub no_result : (parts : Parts) (c : ℕ) (w : List ℕ) (ws : List (List ℕ)) (more : Parts)
     → add_line parts (record { bad = false; count = c; words = w ∷ ws }) ≡ Ok more → same_bytes w (codes "result") ≡ false
 no_result parts c w ws more e = go (same_bytes w (codes "result")) refl
   where

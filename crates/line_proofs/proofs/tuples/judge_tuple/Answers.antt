@@ -1,6 +1,5 @@
 use Rattle.std.proofs.Common.{◌∙◌, sym, rules}
-use Rattle.check_terms.proofs.Judged.{sides_are}
-use Rattle.line_proofs.proofs.TupleTests.{legal_tuple, accepted, not_exceeding}
+use Rattle.check_terms.proofs.TupleTests.{legal_tuple, accepted, not_fitting, not_exceeding}
 use Rattle.line_proofs.proofs.tuples.judge_tuple.Goals as goal
 
 pub exceeds-requires-clause-tuple : goal.exceeds-requires-clause-tuple
@@ -8,7 +7,12 @@ exceeds-requires-clause-tuple c =
     legal_tuple c.args.instance.now c.args.tuple.now (search rules) (sym c.are_legal.ensures ∙ c.if-not-are_legal.false)
 
 pub exceeds-requires-clause-fit : goal.exceeds-requires-clause-fit
-exceeds-requires-clause-fit c = sides_are c.args.instance.now (sym c.sides_fit.ensures ∙ c.if-not-sides_fit.false)
+exceeds-requires-clause-fit c = c.sides_fit.ensures.0 c.if-not-sides_fit.false
+
+pub returns-then-not-sides_fit : goal.returns-then-not-sides_fit
+returns-then-not-sides_fit c =
+    not_fitting c.args.instance.now c.args.tuple.now 1 c.sides_fit.result c.sides_fit.ensures
+    c.if-not-sides_fit.true (search rules) (sym c.are_legal.ensures ∙ c.if-not-are_legal.false)
 
 pub returns-then-exceeds : goal.returns-then-exceeds
 returns-then-exceeds c = accepted c.args.instance.now c.args.tuple.now 1 c.exceeds.result c.exceeds.ensures.exactly

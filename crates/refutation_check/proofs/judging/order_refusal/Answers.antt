@@ -2,7 +2,8 @@ use Rattle.std.proofs.Common.{◌∙◌, sym, None}
 use Rattle.packing_terms.specs.Tokens.PlainToken.{Order as PlainOrder}
 use Rattle.check_terms.specs.declared.answers.RefuseCode.TheVariants.{Range, Choice}
 use Rattle.refutation_check.specs.Nodes.{node_exclusions}
-use Rattle.refutation_check.proofs.Judged.{unless_true, unless_false, no_order, order_told, judged_entered}
+use Rattle.check_terms.proofs.Judged.{unless_true, unless_false}
+use Rattle.refutation_check.proofs.Judged.{no_order, order_told, judged_entered}
 use Rattle.refutation_check.proofs.judging.order_refusal.Goals as goal
 
 pub returns-then-enter-clause-judged : goal.returns-then-enter-clause-judged

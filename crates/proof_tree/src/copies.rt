@@ -2,27 +2,24 @@
 ghost use Rattle.std.specs.Prelude.{◌≡◌, IfOk};
 ghost use Rattle.proof_tree.specs.Plain.{plain_token};
 
+use crate::Token;
 use box_instances::NoMemory;
-use conservative_scales::{ScaleFn, ScaleTuple};
-use proof_tree::Token;
+use conservative_scales::ScaleTuple;
 use std::alloc::Global;
 
-// The functions as a tuple.
-fn copied(alloc: Global, functions: &[ScaleFn]) -> Result<ScaleTuple, NoMemory>
-    ensures { IfOk result (λ copy. copy.items ≡ functions.now) }
+// The same tuple.
+fn copy_tuple(alloc: Global, tuple: &ScaleTuple) -> Result<ScaleTuple, NoMemory>
+    ensures { IfOk result (λ t. t.items ≡ tuple.now.items) }
 {
-    let mut tuple = ScaleTuple::new(alloc);
-    for f in functions {
-        let Ok(()) = tuple.push(*f) else {
-            return Err(NoMemory);
-        };
-    }
-    Ok(tuple)
+    let Ok(copy) = ScaleTuple::from_slice(alloc, tuple.as_slice()) else {
+        return Err(NoMemory);
+    };
+    Ok(copy)
 }
 
-/// The same token.
-pub(crate) fn copy_of(alloc: Global, token: &Token) -> Result<Token, NoMemory>
-    ensures { IfOk result (λ copy. plain_token copy ≡ plain_token token.now) }
+/// The same token. `NoMemory` comes where its scale functions need more than there is.
+pub fn copy_token(alloc: Global, token: &Token) -> Result<Token, NoMemory>
+    ensures { IfOk result (λ t. plain_token t ≡ plain_token token.now) }
 {
     match token {
         Token::Apart { dim, u, v } => Ok(Token::Apart {
@@ -40,17 +37,17 @@ pub(crate) fn copy_of(alloc: Global, token: &Token) -> Result<Token, NoMemory>
             box_no: *box_no,
             dim: *dim,
         }),
-        Token::Scales(functions) => {
-            let copy = copied(alloc, functions.as_slice())?;
-            Ok(Token::Scales(copy))
+        Token::Scales(tuple) => {
+            let tuple = copy_tuple(alloc, tuple)?;
+            Ok(Token::Scales(tuple))
         }
         Token::Assign { box_no } => Ok(Token::Assign { box_no: *box_no }),
         Token::Choose { box_no } => Ok(Token::Choose { box_no: *box_no }),
         Token::SetRefuted { bin } => Ok(Token::SetRefuted { bin: *bin }),
         Token::ValueShort => Ok(Token::ValueShort),
-        Token::GlobalScales(functions) => {
-            let copy = copied(alloc, functions.as_slice())?;
-            Ok(Token::GlobalScales(copy))
+        Token::GlobalScales(tuple) => {
+            let tuple = copy_tuple(alloc, tuple)?;
+            Ok(Token::GlobalScales(tuple))
         }
     }
 }
