@@ -69,22 +69,39 @@ fn is_spent<R: Threads + Wait + Sync>(
     Ok(matches!(&found, Bins::Between { .. }))
 }
 
+// Whether one worker and two come to two bins at the roots, where a run without proposals is spent.
+fn is_closed<R: Threads + Wait + Sync>(
+    rt: &R,
+    alloc: Global,
+    instance: &Instance,
+) -> Result<bool, Fail> {
+    let alone = proposes(rt, alloc, instance, &at_roots(1), Told::Least(2))?;
+    let shared = proposes(rt, alloc, instance, &at_roots(2), Told::Least(2))?;
+    Ok(alone && shared && is_spent(rt, alloc, instance)?)
+}
+
 #[test]
 fn bins_are_closed_by_proposals(rt: HostRuntime) -> Result<(), Fail> {
-    let alloc = rt.alloc();
-    let instance = four_in_two(alloc)?;
-    assert!(rt; is_spent(&rt, alloc, &instance)?);
-    assert!(rt; proposes(&rt, alloc, &instance, &at_roots(1), Told::Least(2))?);
-    assert!(rt; proposes(&rt, alloc, &instance, &at_roots(2), Told::Least(2))?);
+    let instance = four_in_two(rt.alloc())?;
+    assert!(rt; is_closed(&rt, rt.alloc(), &instance)?);
     Ok(())
+}
+
+// Whether no bin and two are told at the roots, and two under an ample budget.
+fn is_open_at_the_roots<R: Threads + Wait + Sync>(
+    rt: &R,
+    alloc: Global,
+    instance: &Instance,
+) -> Result<bool, Fail> {
+    let few = proposes(rt, alloc, instance, &at_roots(1), Told::Between(0, 2))?;
+    let ample = proposes(rt, alloc, instance, &settings(1, 100_000), Told::Least(2))?;
+    Ok(few && ample)
 }
 
 #[test]
 fn bins_beside_a_tree_past_the_budget_are_two(rt: HostRuntime) -> Result<(), Fail> {
-    let alloc = rt.alloc();
-    let instance = around_a_hole(alloc)?;
-    assert!(rt; proposes(&rt, alloc, &instance, &at_roots(1), Told::Between(0, 2))?);
-    assert!(rt; proposes(&rt, alloc, &instance, &settings(1, 100_000), Told::Least(2))?);
+    let instance = around_a_hole(rt.alloc())?;
+    assert!(rt; is_open_at_the_roots(&rt, rt.alloc(), &instance)?);
     Ok(())
 }
 

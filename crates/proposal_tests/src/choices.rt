@@ -65,51 +65,65 @@ fn decides<R: Threads + Wait + Sync>(
     Ok(is_told(&found, told))
 }
 
-// The trees between 0 and 4 have branchings, so the run without proposals is spent.
+// Whether one worker and two come to 3 at the roots. The trees between 0 and 4 have branchings, so
+// the run without proposals is spent.
+fn is_closed<R: Threads + Wait + Sync>(
+    rt: &R,
+    alloc: Global,
+    instance: &Instance,
+) -> Result<bool, Fail> {
+    let alone = proposes(rt, alloc, instance, &at_roots(1), Told::Greatest(3))?;
+    let shared = proposes(rt, alloc, instance, &at_roots(2), Told::Greatest(3))?;
+    Ok(alone && shared && decides(rt, alloc, instance, Told::Between(0, 4))?)
+}
+
 #[test]
 fn values_are_closed_by_proposals(rt: HostRuntime) -> Result<(), Fail> {
-    let alloc = rt.alloc();
-    let instance = three_in_ten(alloc)?;
-    assert!(rt; decides(&rt, alloc, &instance, Told::Between(0, 4))?);
-    assert!(rt; proposes(&rt, alloc, &instance, &at_roots(1), Told::Greatest(3))?);
-    assert!(rt; proposes(&rt, alloc, &instance, &at_roots(2), Told::Greatest(3))?);
+    let instance = three_in_ten(rt.alloc())?;
+    assert!(rt; is_closed(&rt, rt.alloc(), &instance)?);
     Ok(())
 }
 
-// That four are too many is refuted by a tree with branchings: without them the answer is two
-// values, and 4 between them is the one beside both.
+// Whether two values are told at the roots, and the greatest under an ample budget. That four are too
+// many is refuted by a tree with branchings: without them 4 is between the two and beside both.
+fn is_open_at_the_roots<R: Threads + Wait + Sync>(
+    rt: &R,
+    alloc: Global,
+    instance: &Instance,
+) -> Result<bool, Fail> {
+    let few = proposes(rt, alloc, instance, &at_roots(1), Told::Between(3, 5))?;
+    let ample = proposes(
+        rt,
+        alloc,
+        instance,
+        &settings(1, 100_000),
+        Told::Greatest(3),
+    )?;
+    Ok(few && ample)
+}
+
 #[test]
 fn values_beside_a_tree_past_the_budget_are_two(rt: HostRuntime) -> Result<(), Fail> {
-    let alloc = rt.alloc();
-    let instance = four_in_ten(alloc)?;
-    assert!(rt; proposes(&rt, alloc, &instance, &at_roots(1), Told::Between(3, 5))?);
-    assert!(rt;
-        proposes(
-            &rt,
-            alloc,
-            &instance,
-            &settings(1, 100_000),
-            Told::Greatest(3)
-        )?
-    );
+    let instance = four_in_ten(rt.alloc())?;
+    assert!(rt; is_open_at_the_roots(&rt, rt.alloc(), &instance)?);
     Ok(())
 }
 
-// Where no box fits, nothing is proposed, and nothing is worth more than nothing.
+// Whether nothing is proposed, and nothing is worth more than nothing.
+fn is_worth_nothing<R: Threads + Wait + Sync>(
+    rt: &R,
+    alloc: Global,
+    instance: &Instance,
+) -> Result<bool, Fail> {
+    let is_none = propose_choice(alloc, instance)?.is_none();
+    let ample = settings(1, 100_000);
+    Ok(is_none && proposes(rt, alloc, instance, &ample, Told::Greatest(0))?)
+}
+
 #[test]
-fn no_box_is_worth_nothing(rt: HostRuntime) -> Result<(), Fail> {
-    let alloc = rt.alloc();
-    let instance = instance_of(alloc, &[4, 4], &[&[2, 5], &[1, 5]])?;
-    assert!(rt; propose_choice(alloc, &instance)?.is_none());
-    assert!(rt;
-        proposes(
-            &rt,
-            alloc,
-            &instance,
-            &settings(1, 100_000),
-            Told::Greatest(0)
-        )?
-    );
+fn where_no_box_fits_nothing_is_worth_more(rt: HostRuntime) -> Result<(), Fail> {
+    let instance = instance_of(rt.alloc(), &[4, 4], &[&[2, 5], &[1, 5]])?;
+    assert!(rt; is_worth_nothing(&rt, rt.alloc(), &instance)?);
     Ok(())
 }
 
@@ -147,9 +161,15 @@ fn each_is_told(alloc: Global, instance: &Instance) -> Result<bool, Fail> {
 }
 
 #[test]
-fn choices_with_a_fault_are_refused(rt: HostRuntime) -> Result<(), Fail> {
+fn a_proposed_choice_passes_its_test(rt: HostRuntime) -> Result<(), Fail> {
     let instance = four_in_ten(rt.alloc())?;
     assert!(rt; passes(rt.alloc(), &instance)?);
+    Ok(())
+}
+
+#[test]
+fn choices_with_a_fault_are_refused(rt: HostRuntime) -> Result<(), Fail> {
+    let instance = four_in_ten(rt.alloc())?;
     assert!(rt; each_is_told(rt.alloc(), &instance)?);
     Ok(())
 }

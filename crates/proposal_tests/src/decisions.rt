@@ -11,7 +11,7 @@ use std::thread::Threads;
 use work_share::{NoGate, Settings};
 
 // Whether a packing is proposed, so that the budget of 0 is enough.
-fn is_placed<R: Threads + Wait + Sync>(
+fn is_placed_by<R: Threads + Wait + Sync>(
     rt: &R,
     alloc: Global,
     instance: &Instance,
@@ -23,17 +23,25 @@ fn is_placed<R: Threads + Wait + Sync>(
     }
 }
 
+// Whether one is for one worker and for two.
+fn is_placed<R: Threads + Wait + Sync>(
+    rt: &R,
+    alloc: Global,
+    instance: &Instance,
+) -> Result<bool, Fail> {
+    Ok(is_placed_by(rt, alloc, instance, 1)? && is_placed_by(rt, alloc, instance, 2)?)
+}
+
 // The tree of the pinwheel has more than no branching, so this is decided by a proposal.
 #[test]
 fn a_yes_is_proposed(rt: HostRuntime) -> Result<(), Fail> {
     let instance = pinwheel(rt.alloc())?;
-    assert!(rt; is_placed(&rt, rt.alloc(), &instance, 1)?);
-    assert!(rt; is_placed(&rt, rt.alloc(), &instance, 2)?);
+    assert!(rt; is_placed(&rt, rt.alloc(), &instance)?);
     Ok(())
 }
 
 // Whether a refutation is proposed. A tree has one leaf more than splits.
-fn is_refuted<R: Threads + Wait + Sync>(
+fn is_refuted_by<R: Threads + Wait + Sync>(
     rt: &R,
     alloc: Global,
     instance: &Instance,
@@ -48,11 +56,19 @@ fn is_refuted<R: Threads + Wait + Sync>(
     }
 }
 
+// Whether one is for one worker and for two.
+fn is_refuted<R: Threads + Wait + Sync>(
+    rt: &R,
+    alloc: Global,
+    instance: &Instance,
+) -> Result<bool, Fail> {
+    Ok(is_refuted_by(rt, alloc, instance, 1)? && is_refuted_by(rt, alloc, instance, 2)?)
+}
+
 #[test]
 fn a_no_is_proposed(rt: HostRuntime) -> Result<(), Fail> {
     let instance = four_in_a_row(rt.alloc())?;
-    assert!(rt; is_refuted(&rt, rt.alloc(), &instance, 1)?);
-    assert!(rt; is_refuted(&rt, rt.alloc(), &instance, 2)?);
+    assert!(rt; is_refuted(&rt, rt.alloc(), &instance)?);
     Ok(())
 }
 
@@ -67,7 +83,7 @@ fn behind<R: Threads + Wait + Sync>(
 }
 
 // Whether the budget of 0 is spent.
-fn is_past<R: Threads + Wait + Sync>(
+fn is_past_by<R: Threads + Wait + Sync>(
     rt: &R,
     alloc: Global,
     instance: &Instance,
@@ -78,7 +94,7 @@ fn is_past<R: Threads + Wait + Sync>(
 }
 
 // Whether under an ample budget the answer is that of the described tree.
-fn is_told<R: Threads + Wait + Sync>(
+fn is_told_by<R: Threads + Wait + Sync>(
     rt: &R,
     alloc: Global,
     instance: &Instance,
@@ -89,18 +105,34 @@ fn is_told<R: Threads + Wait + Sync>(
     Ok(are_same(&outcome, &decide(rt, alloc, instance, &enough, &NoGate)?))
 }
 
+// Whether it is by one worker and by two.
+fn is_past<R: Threads + Wait + Sync>(
+    rt: &R,
+    alloc: Global,
+    instance: &Instance,
+) -> Result<bool, Fail> {
+    Ok(is_past_by(rt, alloc, instance, 1)? && is_past_by(rt, alloc, instance, 2)?)
+}
+
 #[test]
 fn without_a_proposal_the_tree_is_past_its_budget(rt: HostRuntime) -> Result<(), Fail> {
     let two = two_small(rt.alloc())?;
-    assert!(rt; is_past(&rt, rt.alloc(), &two, 1)?);
-    assert!(rt; is_past(&rt, rt.alloc(), &two, 2)?);
+    assert!(rt; is_past(&rt, rt.alloc(), &two)?);
     Ok(())
+}
+
+// Whether it is by one worker and by two.
+fn is_told<R: Threads + Wait + Sync>(
+    rt: &R,
+    alloc: Global,
+    instance: &Instance,
+) -> Result<bool, Fail> {
+    Ok(is_told_by(rt, alloc, instance, 1)? && is_told_by(rt, alloc, instance, 2)?)
 }
 
 #[test]
 fn without_a_proposal_the_tree_decides(rt: HostRuntime) -> Result<(), Fail> {
     let two = two_small(rt.alloc())?;
-    assert!(rt; is_told(&rt, rt.alloc(), &two, 1)?);
-    assert!(rt; is_told(&rt, rt.alloc(), &two, 2)?);
+    assert!(rt; is_told(&rt, rt.alloc(), &two)?);
     Ok(())
 }

@@ -101,11 +101,19 @@ fn with_another_first(alloc: Global, instance: &Instance) -> Result<Vec<Token>, 
     Ok(tokens)
 }
 
+// Whether the described tree answers behind these.
+fn falls_back_at_the_first<R: Threads + Wait + Sync>(
+    rt: &R,
+    alloc: Global,
+    instance: &Instance,
+) -> Result<bool, Fail> {
+    falls_back(rt, alloc, instance, with_another_first(alloc, instance)?)
+}
+
 #[test]
 fn a_wrong_token_is_refused(rt: HostRuntime) -> Result<(), Fail> {
     let instance = four_in_a_row(rt.alloc())?;
-    let tokens = with_another_first(rt.alloc(), &instance)?;
-    assert!(rt; falls_back(&rt, rt.alloc(), &instance, tokens)?);
+    assert!(rt; falls_back_at_the_first(&rt, rt.alloc(), &instance)?);
     Ok(())
 }
 
@@ -116,10 +124,18 @@ fn with_one_more(alloc: Global, instance: &Instance) -> Result<Vec<Token>, Fail>
     Ok(tokens)
 }
 
+// Whether the described tree answers behind these.
+fn falls_back_behind_the_last<R: Threads + Wait + Sync>(
+    rt: &R,
+    alloc: Global,
+    instance: &Instance,
+) -> Result<bool, Fail> {
+    falls_back(rt, alloc, instance, with_one_more(alloc, instance)?)
+}
+
 #[test]
 fn a_token_too_many_is_refused(rt: HostRuntime) -> Result<(), Fail> {
     let instance = four_in_a_row(rt.alloc())?;
-    let tokens = with_one_more(rt.alloc(), &instance)?;
-    assert!(rt; falls_back(&rt, rt.alloc(), &instance, tokens)?);
+    assert!(rt; falls_back_behind_the_last(&rt, rt.alloc(), &instance)?);
     Ok(())
 }

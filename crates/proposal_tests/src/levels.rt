@@ -64,14 +64,22 @@ fn is_spent<R: Threads + Wait + Sync>(
     Ok(matches!(&strip, Strip::Between { .. }))
 }
 
-// The pinwheel has no waste at height 5. Its trees have branchings, so the run without proposals is
-// spent.
+// Whether one worker and two come to height 5 at the roots, where a run without proposals is spent.
+fn is_closed<R: Threads + Wait + Sync>(
+    rt: &R,
+    alloc: Global,
+    instance: &Instance,
+) -> Result<bool, Fail> {
+    let alone = proposes(rt, alloc, instance, 1, 5)?;
+    let shared = proposes(rt, alloc, instance, 2, 5)?;
+    Ok(alone && shared && is_spent(rt, alloc, instance)?)
+}
+
+// The pinwheel has no waste at height 5. Its trees have branchings.
 #[test]
 fn a_strip_is_closed_by_proposals(rt: HostRuntime) -> Result<(), Fail> {
     let instance = pinwheel(rt.alloc())?;
-    assert!(rt; is_spent(&rt, rt.alloc(), &instance)?);
-    assert!(rt; proposes(&rt, rt.alloc(), &instance, 1, 5)?);
-    assert!(rt; proposes(&rt, rt.alloc(), &instance, 2, 5)?);
+    assert!(rt; is_closed(&rt, rt.alloc(), &instance)?);
     Ok(())
 }
 
@@ -84,10 +92,19 @@ fn a_height_is_refuted_by_proposals(rt: HostRuntime) -> Result<(), Fail> {
     Ok(())
 }
 
+// Whether the second box is told to be too wide.
+fn is_too_wide<R: Threads + Wait + Sync>(
+    rt: &R,
+    alloc: Global,
+    instance: &Instance,
+) -> Result<bool, Fail> {
+    let strip = least_height_proposed(rt, alloc, instance, &at_roots(1), &NoGate)?;
+    Ok(matches!(&strip, Strip::NoneFits { box_no: 1, dim: 0 }))
+}
+
 #[test]
 fn a_box_that_is_too_wide_is_named(rt: HostRuntime) -> Result<(), Fail> {
     let instance = instance_of(rt.alloc(), &[4, 4], &[&[2, 9], &[5, 1]])?;
-    let strip = least_height_proposed(&rt, rt.alloc(), &instance, &at_roots(1), &NoGate)?;
-    assert!(rt; matches!(&strip, Strip::NoneFits { box_no: 1, dim: 0 }));
+    assert!(rt; is_too_wide(&rt, rt.alloc(), &instance)?);
     Ok(())
 }

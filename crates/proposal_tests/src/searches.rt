@@ -71,11 +71,16 @@ fn told(alloc: Global, instance: &Instance, tokens: &[Token]) -> Result<Answer, 
     })
 }
 
+// Whether neither search proposes anything without a step.
+fn is_nothing(alloc: Global, instance: &Instance) -> Result<bool, Fail> {
+    let is_none = propose_places(alloc, instance, 0)?.is_none();
+    Ok(is_none && matches!(found(alloc, instance, true, 0)?, Answer::Nothing))
+}
+
 #[test]
 fn nothing_is_found_without_steps(rt: HostRuntime) -> Result<(), Fail> {
     let instance = pinwheel(rt.alloc())?;
-    assert!(rt; propose_places(rt.alloc(), &instance, 0)?.is_none());
-    assert!(rt; matches!(found(rt.alloc(), &instance, true, 0)?, Answer::Nothing));
+    assert!(rt; is_nothing(rt.alloc(), &instance)?);
     Ok(())
 }
 
