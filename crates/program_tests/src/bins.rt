@@ -1,7 +1,5 @@
 //! Bins, each document whole.
-use crate::asked::has_128_boxes;
-use crate::rows::{Solved, is_solved};
-use crate::texts::PLANKS;
+use program_runs::{PLANKS, Solved, has_128_boxes, is_solved};
 use std::test::Fail;
 
 const LARGE: &[u8] = b"format 1\ncontainer 10 10\nbox 6 6\nbox 6 6\n";

@@ -1,7 +1,7 @@
 //! Refutations that are explained, and documents that hold none.
-use crate::asked::{ends, reads_and_tells, stops_reading, stops_writing, tells};
-use crate::runs::told_of;
-use crate::texts::TWO_BOXES_FIT;
+use program_runs::{
+    TWO_BOXES_FIT, ends, reads_and_tells, stops_reading, stops_writing, tells, told_of,
+};
 use std::alloc::AllocGlobal;
 use std::sync::Wait;
 use std::test::Fail;

@@ -1,6 +1,5 @@
 //! The least sizes of two boxes, and what `front` refuses.
-use crate::asked::{ends, is_refused, stops_writing, writes};
-use crate::texts::UNIT;
+use program_runs::{UNIT, ends, is_refused, stops_writing, writes};
 use std::test::Fail;
 
 const PAIR: &[u8] = b"format 1\ncontainer 4 4\nbox 2 1\nbox 2 1\n";
@@ -44,7 +43,8 @@ const ROWS: [(&[&str], &[u8], u8, &[u8]); 6] = [
 
 #[test]
 fn front_has_the_documents_of_the_rows(rt: HostRuntime) -> Result<(), Fail> {
-    for (words, text, status, document) in ROWS {
+    for row in &ROWS {
+        let (words, text, status, document) = *row;
         assert!(rt; writes(&rt, words, text, status, document)?, "{status}");
     }
     Ok(())

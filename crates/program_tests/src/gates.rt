@@ -1,6 +1,5 @@
 //! Tasks are explored at the same time: one is held until another was explored.
-use crate::asked::is_as_alone;
-use crate::texts::EIGHT_IN_A_ROW;
+use program_runs::{EIGHT_IN_A_ROW, is_as_alone};
 use std::alloc::AllocGlobal;
 use std::sync::Wait;
 use std::sync::atomic::{AtomicBool, Ordering};

@@ -1,5 +1,5 @@
 //! Generated instances, decided by one worker and by several.
-use crate::runs::{is_same_by, told_by};
+use program_runs::{is_same_by, told_by};
 use std::alloc::AllocGlobal;
 use std::sync::Wait;
 use std::test::Fail;

@@ -1,7 +1,8 @@
 //! Instances that are decided from their symmetry facts on, and the documents that are audited.
-use crate::asked::{ends, is_refused, reads_and_tells, stops_reading, stops_writing, tells};
-use crate::rows::{Solved, is_solved};
-use crate::texts::{EIGHT_IN_A_ROW, TWO_BOXES, UNIT};
+use program_runs::{
+    EIGHT_IN_A_ROW, Solved, TWO_BOXES, UNIT, ends, is_refused, is_solved, reads_and_tells,
+    stops_reading, stops_writing, tells,
+};
 use std::test::Fail;
 
 const FOUR_IN_A_ROW: &[u8] = b"format 1\ncontainer 10 10\nbox 3 6\nbox 3 6\nbox 3 6\nbox 3 6\n";
@@ -166,7 +167,8 @@ const AUDITED: [(&[u8], u8, &str); 16] = [
 
 #[test]
 fn audits_write_one_line(rt: HostRuntime) -> Result<(), Fail> {
-    for (document, status, line) in AUDITED {
+    for row in &AUDITED {
+        let (document, status, line) = *row;
         assert!(rt;
             reads_and_tells(&rt, AUDIT, document, status, line)?,
             "{line}"

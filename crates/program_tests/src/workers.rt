@@ -1,6 +1,5 @@
 //! The same bytes by every number of workers.
-use crate::runs::is_same_by;
-use crate::texts::{EIGHT_IN_A_ROW, PLANKS, SACK, STRIP};
+use program_runs::{EIGHT_IN_A_ROW, PLANKS, SACK, STRIP, is_same_by};
 use std::test::Fail;
 
 const MANY: &[&str] = &["2", "4", "8"];
@@ -33,7 +32,8 @@ const ROWS: [(&[&str], &[u8], u8, &[&str]); 8] = [
 
 #[test]
 fn each_job_is_the_same_by_all(rt: HostRuntime) -> Result<(), Fail> {
-    for (words, text, status, workers) in ROWS {
+    for row in &ROWS {
+        let (words, text, status, workers) = *row;
         assert!(rt; is_same_by(&rt, words, text, status, workers)?);
     }
     Ok(())

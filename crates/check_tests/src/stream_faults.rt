@@ -1,8 +1,9 @@
 //! Faults of the source and of both sinks, while an instance is decided.
-use crate::asked::{stops_reading, stops_writing};
-use crate::runs::{Plans, told_at, told_with, told_written_to};
-use crate::texts::{EIGHT_IN_A_ROW, TWO_BOXES, TWO_BOXES_FIT, UNIT};
 use pack_streams::{ReadStep, WriteStep};
+use program_runs::{
+    EIGHT_IN_A_ROW, Plans, TWO_BOXES, TWO_BOXES_FIT, UNIT, stops_reading, stops_writing, told_at,
+    told_with, told_written_to,
+};
 use std::alloc::AllocGlobal;
 use std::sync::Wait;
 use std::test::Fail;

@@ -1,6 +1,6 @@
 //! Documents that are verified, each with its line: the rows of the solving jobs, other spellings,
 //! trees that no search wrote, and kerfs.
-use crate::rows::{Checked, is_checked};
+use program_runs::{Checked, is_checked};
 use std::test::Fail;
 
 const VERIFIED: [Checked; 22] = [

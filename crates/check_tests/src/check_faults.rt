@@ -1,10 +1,10 @@
 //! Faults of the source and of the sink, while a document is checked, and what is read and written
 //! around them.
-use crate::asked::{reads_and_tells, stops_reading, stops_writing};
-use crate::runs::{told_read_to, told_with};
-use crate::texts::TWO_BOXES_FIT;
 use pack_command::check_stream;
 use pack_streams::{MemorySink, MemorySource, ReadStep, WriteStep};
+use program_runs::{
+    TWO_BOXES_FIT, reads_and_tells, stops_reading, stops_writing, told_read_to, told_with,
+};
 use std::alloc::{AllocGlobal, Global};
 use std::sync::Wait;
 use std::test::Fail;

@@ -1,6 +1,5 @@
 //! Documents that end too early.
-use crate::asked::tells;
-use crate::texts::TWO_BOXES_FIT;
+use program_runs::{TWO_BOXES_FIT, tells};
 use std::test::Fail;
 
 // How many bytes the first lines have, and the line of the document that ends there.

@@ -1,6 +1,6 @@
 //! Documents that are refused by what they show, each with its line: their places, their trees,
 //! their end.
-use crate::rows::{Checked, is_checked};
+use program_runs::{Checked, is_checked};
 use std::test::Fail;
 
 const PLACES: [Checked; 13] = [

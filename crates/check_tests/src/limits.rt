@@ -1,10 +1,9 @@
 //! Both ends of each limit, with ample memory, compared whole: a body that gives up with want of
 //! memory at some size fails here.
-use crate::asked::{ends, is_as_alone, tells, writes};
-use crate::rows::{Solved, is_solved};
-use crate::runs::told_read_whole;
-use crate::texts::EIGHT_IN_A_ROW;
 use pack_streams::{MemorySink, SinkError, WriteFault, write_number, write_on};
+use program_runs::{
+    EIGHT_IN_A_ROW, Solved, ends, is_as_alone, is_solved, tells, told_read_whole, writes,
+};
 use std::alloc::{AllocGlobal, Global};
 use std::sync::Wait;
 use std::test::Fail;

@@ -1,87 +1,86 @@
 //! What a run answers and writes, each asked by one call: what the run told is compared and dropped
 //! there, so that a test holds nothing.
 use crate::runs::{told_by, told_of, told_read_to, told_written_to};
-use std::alloc::AllocGlobal;
+use std::alloc::{AllocError, AllocGlobal};
 use std::sync::Wait;
-use std::test::Fail;
 use std::thread::Threads;
 use work_share::{Gate, NoGate};
 
 /// Whether a run of the words on the input ends with this status.
-pub(crate) fn ends<R: AllocGlobal + Threads + Wait + Sync>(
+pub fn ends<R: AllocGlobal + Threads + Wait + Sync>(
     rt: &R,
     words: &[&str],
     input: &[u8],
     status: u8,
-) -> Result<bool, Fail> {
+) -> Result<bool, AllocError> {
     Ok(told_of(rt, words, input)?.status == status)
 }
 
 /// Whether a run of the words on the input ends with this status and writes these lines alone.
-pub(crate) fn tells<R: AllocGlobal + Threads + Wait + Sync>(
+pub fn tells<R: AllocGlobal + Threads + Wait + Sync>(
     rt: &R,
     words: &[&str],
     input: &[u8],
     status: u8,
     lines: &str,
-) -> Result<bool, Fail> {
+) -> Result<bool, AllocError> {
     Ok(told_of(rt, words, input)?.is_line(status, lines))
 }
 
 /// Whether a run of the words reads the input to its end, ends with this status and writes these
 /// lines alone.
-pub(crate) fn reads_and_tells<R: AllocGlobal + Threads + Wait + Sync>(
+pub fn reads_and_tells<R: AllocGlobal + Threads + Wait + Sync>(
     rt: &R,
     words: &[&str],
     input: &[u8],
     status: u8,
     lines: &str,
-) -> Result<bool, Fail> {
+) -> Result<bool, AllocError> {
     let told = told_of(rt, words, input)?;
     Ok(told.is_line(status, lines) && told.left.is_empty())
 }
 
 /// Whether a run of the words on the input ends with this status and writes these bytes alone.
-pub(crate) fn writes<R: AllocGlobal + Threads + Wait + Sync>(
+pub fn writes<R: AllocGlobal + Threads + Wait + Sync>(
     rt: &R,
     words: &[&str],
     input: &[u8],
     status: u8,
     out: &[u8],
-) -> Result<bool, Fail> {
+) -> Result<bool, AllocError> {
     Ok(told_of(rt, words, input)?.is_as_written(status, out))
 }
 
 /// Whether a run of the words on the input is refused with this one line.
-pub(crate) fn is_refused<R: AllocGlobal + Threads + Wait + Sync>(
+pub fn is_refused<R: AllocGlobal + Threads + Wait + Sync>(
     rt: &R,
     words: &[&str],
     input: &[u8],
     line: &str,
-) -> Result<bool, Fail> {
+) -> Result<bool, AllocError> {
     Ok(told_of(rt, words, input)?.is_stop(2, line, b""))
 }
 
 /// Whether a run ends with a read fault and writes nothing, where the read behind so many bytes of
 /// the input fails.
-pub(crate) fn stops_reading<R: AllocGlobal + Threads + Wait + Sync>(
+pub fn stops_reading<R: AllocGlobal + Threads + Wait + Sync>(
     rt: &R,
     words: &[&str],
     input: &[u8],
     count: usize,
-) -> Result<bool, Fail> {
+) -> Result<bool, AllocError> {
     Ok(told_read_to(rt, words, input, count)?.is_stop(4, "pack: read fault\n", b""))
 }
 
 /// Whether a run ends with a write fault and leaves so many bytes of the document, where the write
 /// behind them fails.
-pub(crate) fn stops_writing<R: AllocGlobal + Threads + Wait + Sync>(
+pub fn stops_writing<R: AllocGlobal + Threads + Wait + Sync>(
     rt: &R,
     words: &[&str],
     input: &[u8],
     count: usize,
     document: &[u8],
-) -> Result<bool, Fail> {
+) -> Result<bool, AllocError> {
     if count > document.len() {
         return Ok(false);
     }
@@ -91,12 +90,12 @@ pub(crate) fn stops_writing<R: AllocGlobal + Threads + Wait + Sync>(
 
 /// Whether a run of the words on the input answers, and writes a document of 128 boxes that ends
 /// so.
-pub(crate) fn has_128_boxes<R: AllocGlobal + Threads + Wait + Sync>(
+pub fn has_128_boxes<R: AllocGlobal + Threads + Wait + Sync>(
     rt: &R,
     words: &[&str],
     input: &[u8],
     end: &[u8],
-) -> Result<bool, Fail> {
+) -> Result<bool, AllocError> {
     let told = told_of(rt, words, input)?;
     Ok(
         told.status == 0
@@ -107,13 +106,13 @@ pub(crate) fn has_128_boxes<R: AllocGlobal + Threads + Wait + Sync>(
 }
 
 /// Whether a run by so many workers, which call the gate, answers and writes what one worker does.
-pub(crate) fn is_as_alone<R: AllocGlobal + Threads + Wait + Sync, G: Gate + Sync>(
+pub fn is_as_alone<R: AllocGlobal + Threads + Wait + Sync, G: Gate + Sync>(
     rt: &R,
     words: &[&str],
     workers: &str,
     input: &[u8],
     gate: &G,
-) -> Result<bool, Fail> {
+) -> Result<bool, AllocError> {
     let told = told_by(rt, words, workers, input, gate)?;
     Ok(told.is_as(&told_by(rt, words, "1", input, &NoGate)?))
 }

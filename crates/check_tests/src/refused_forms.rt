@@ -1,6 +1,6 @@
 //! Documents that are refused by their form, each with its line: faults of the instance, of lines,
 //! of numbers.
-use crate::rows::{Checked, is_checked};
+use program_runs::{Checked, is_checked};
 use std::test::Fail;
 
 const TEXTS: [Checked; 13] = [

@@ -3,7 +3,6 @@ use pack_command::run;
 use pack_streams::{DropSink, MemorySink, MemorySource, ReadAnswer, ReadStep, Source, WriteStep};
 use std::alloc::{AllocError, AllocGlobal, Global};
 use std::sync::Wait;
-use std::test::Fail;
 use std::thread::Threads;
 use work_share::{Gate, NoGate};
 
@@ -89,7 +88,7 @@ impl<'a> Plans<'a> {
 
 /// Runs the words on the input, where the source and the sinks follow these plans and the workers
 /// call the gate.
-pub(crate) fn told_at<R: AllocGlobal + Threads + Wait + Sync, G: Gate + Sync>(
+pub fn told_at<R: AllocGlobal + Threads + Wait + Sync, G: Gate + Sync>(
     rt: &R,
     words: &[&str],
     input: &[u8],
@@ -157,7 +156,7 @@ fn sink_of(alloc: Global, room: usize, writes: &[WriteStep]) -> Result<MemorySin
 }
 
 /// Runs the words on the input, where the source and the sink follow these plans.
-pub(crate) fn told_with<R: AllocGlobal + Threads + Wait + Sync>(
+pub fn told_with<R: AllocGlobal + Threads + Wait + Sync>(
     rt: &R,
     words: &[&str],
     input: &[u8],
@@ -173,7 +172,7 @@ pub(crate) fn told_with<R: AllocGlobal + Threads + Wait + Sync>(
 }
 
 /// Runs the words on the input, where nothing fails.
-pub(crate) fn told_of<R: AllocGlobal + Threads + Wait + Sync>(
+pub fn told_of<R: AllocGlobal + Threads + Wait + Sync>(
     rt: &R,
     words: &[&str],
     input: &[u8],
@@ -182,7 +181,7 @@ pub(crate) fn told_of<R: AllocGlobal + Threads + Wait + Sync>(
 }
 
 /// Runs the words on the input, which comes byte by byte up to a fault behind so many bytes.
-pub(crate) fn told_read_to<R: AllocGlobal + Threads + Wait + Sync>(
+pub fn told_read_to<R: AllocGlobal + Threads + Wait + Sync>(
     rt: &R,
     words: &[&str],
     input: &[u8],
@@ -194,7 +193,7 @@ pub(crate) fn told_read_to<R: AllocGlobal + Threads + Wait + Sync>(
 }
 
 /// Runs the words on the input, where so many bytes are taken one by one before a write fails.
-pub(crate) fn told_written_to<R: AllocGlobal + Threads + Wait + Sync>(
+pub fn told_written_to<R: AllocGlobal + Threads + Wait + Sync>(
     rt: &R,
     words: &[&str],
     input: &[u8],
@@ -206,7 +205,7 @@ pub(crate) fn told_written_to<R: AllocGlobal + Threads + Wait + Sync>(
 }
 
 /// Runs the words on the input by so many workers, which call the gate.
-pub(crate) fn told_by<R: AllocGlobal + Threads + Wait + Sync, G: Gate + Sync>(
+pub fn told_by<R: AllocGlobal + Threads + Wait + Sync, G: Gate + Sync>(
     rt: &R,
     words: &[&str],
     workers: &str,
@@ -231,13 +230,13 @@ fn with_workers<'a>(
 
 /// Whether ten runs by each of these numbers of workers answer and write what one worker does,
 /// which is this status.
-pub(crate) fn is_same_by<R: AllocGlobal + Threads + Wait + Sync>(
+pub fn is_same_by<R: AllocGlobal + Threads + Wait + Sync>(
     rt: &R,
     words: &[&str],
     input: &[u8],
     status: u8,
     workers: &[&str],
-) -> Result<bool, Fail> {
+) -> Result<bool, AllocError> {
     let alone = told_by(rt, words, "1", input, &NoGate)?;
     Ok(alone.status == status && are_all(rt, words, input, workers, &alone)?)
 }
@@ -249,7 +248,7 @@ fn are_all<R: AllocGlobal + Threads + Wait + Sync>(
     input: &[u8],
     workers: &[&str],
     alone: &Told,
-) -> Result<bool, Fail> {
+) -> Result<bool, AllocError> {
     for count in workers {
         for _ in 0..10 {
             if !told_by(rt, words, count, input, &NoGate)?.is_as(alone) {
@@ -281,7 +280,7 @@ impl Source for CountingSource {
 }
 
 /// How often a run of the words reads the input, of which each read takes what fits.
-pub(crate) fn told_read_whole<R: AllocGlobal + Threads + Wait + Sync>(
+pub fn told_read_whole<R: AllocGlobal + Threads + Wait + Sync>(
     rt: &R,
     words: &[&str],
     input: &[u8],
