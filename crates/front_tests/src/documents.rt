@@ -72,7 +72,8 @@ const OTHERS: [(&[u8], u32); 2] = [
 
 #[test]
 fn fronts_are_verified(rt: HostRuntime) -> Result<(), Fail> {
-    for (lines, complete, points) in VERIFIED {
+    for row in &VERIFIED {
+        let (lines, complete, points) = *row;
         assert!(rt; verifies(rt.alloc(), lines, complete, points)?);
     }
     for (document, points) in OTHERS {
@@ -124,14 +125,16 @@ const RESULTS: [Row; 8] = [
 
 #[test]
 fn lines_up_to_the_result_are_refused(rt: HostRuntime) -> Result<(), Fail> {
-    for (document, line, reason) in WHOLE {
+    for row in &WHOLE {
+        let (document, line, reason) = *row;
         let refused = FrontAudit::Refused { line, reason };
         assert!(rt;
             audit_front_document(rt.alloc(), document) == refused,
             "{line}"
         );
     }
-    for (lines, line, reason) in RESULTS {
+    for row in &RESULTS {
+        let (lines, line, reason) = *row;
         assert!(rt; refuses(rt.alloc(), lines, line, reason)?, "{line}");
     }
     Ok(())
@@ -181,7 +184,8 @@ const CORNERS: [Row; 23] = [
 
 #[test]
 fn corners_and_points_are_refused(rt: HostRuntime) -> Result<(), Fail> {
-    for (lines, line, reason) in CORNERS {
+    for row in &CORNERS {
+        let (lines, line, reason) = *row;
         assert!(rt; refuses(rt.alloc(), lines, line, reason)?, "{line}");
     }
     Ok(())
@@ -246,7 +250,8 @@ const TREES: [Row; 13] = [
 
 #[test]
 fn trees_and_places_are_refused(rt: HostRuntime) -> Result<(), Fail> {
-    for (lines, line, reason) in TREES {
+    for row in &TREES {
+        let (lines, line, reason) = *row;
         assert!(rt; refuses(rt.alloc(), lines, line, reason)?, "{line}");
     }
     Ok(())

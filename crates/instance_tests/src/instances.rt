@@ -143,7 +143,8 @@ const FAULTS: [(&[u32], Option<&[u32]>, &[u32], u64, u32, InstanceFault); 15] = 
 #[test]
 fn the_first_fault_is_told(rt: HostRuntime) -> Result<(), Fail> {
     let alloc = rt.alloc();
-    for (container, kerf, sides, value, count, fault) in FAULTS {
+    for row in &FAULTS {
+        let (container, kerf, sides, value, count, fault) = *row;
         assert!(rt; fault_of(alloc, container, kerf, sides, value, count)? == Some(fault));
     }
     Ok(())

@@ -50,7 +50,8 @@ const TEXTS: [(&[u8], u64, u8); 18] = [
 #[test]
 fn the_first_faulty_line_is_told_with_its_code(rt: HostRuntime) -> Result<(), Fail> {
     let alloc = rt.alloc();
-    for (text, number, code) in TEXTS {
+    for row in &TEXTS {
+        let (text, number, code) = *row;
         assert!(rt; told(alloc, text) == (number, code));
     }
     Ok(())
@@ -114,7 +115,8 @@ const THIRD_LINES: [(&[u8], u64, u8); 20] = [
 #[test]
 fn the_tests_of_a_line_have_their_order(rt: HostRuntime) -> Result<(), Fail> {
     let alloc = rt.alloc();
-    for (line, number, code) in THIRD_LINES {
+    for row in &THIRD_LINES {
+        let (line, number, code) = *row;
         let head = b"format 1\ncontainer 5 5\n";
         assert!(rt; told_behind(alloc, head, line)? == (number, code));
     }
@@ -217,7 +219,8 @@ const ORDERS: [(&[u8], u64, u8); 30] = [
 #[test]
 fn each_line_left_out_doubled_or_swapped_gives_its_code(rt: HostRuntime) -> Result<(), Fail> {
     let alloc = rt.alloc();
-    for (order, number, code) in ORDERS {
+    for row in &ORDERS {
+        let (order, number, code) = *row;
         assert!(rt; told(alloc, &of_lines(alloc, order)?) == (number, code));
     }
     Ok(())
@@ -330,7 +333,8 @@ fn is_lexed(line: &[u8], words: u32, k: u32, word: &[u8], is_bad: bool) -> bool 
 
 #[test]
 fn a_lexer_tells_its_line(rt: HostRuntime) -> Result<(), Fail> {
-    for (line, words, k, word, is_bad) in LEXED {
+    for row in &LEXED {
+        let (line, words, k, word, is_bad) = *row;
         assert!(rt; is_lexed(line, words, k, word, is_bad));
     }
     Ok(())
