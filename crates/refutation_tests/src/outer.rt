@@ -123,8 +123,8 @@ fn value_is_checked(
 }
 
 fn values_are_checked(alloc: Global, instance: &Instance) -> Result<bool, Fail> {
-    for case in VALUES {
-        if !value_is_checked(alloc, instance, case)? {
+    for case in &VALUES {
+        if !value_is_checked(alloc, instance, *case)? {
             return Ok(false);
         }
     }
@@ -208,8 +208,8 @@ fn bin_case_is_checked(
 }
 
 fn bins_are_checked(alloc: Global, instance: &Instance) -> Result<bool, Fail> {
-    for case in BINS {
-        if !bin_case_is_checked(alloc, instance, case)? {
+    for case in &BINS {
+        if !bin_case_is_checked(alloc, instance, *case)? {
             return Ok(false);
         }
     }
