@@ -71,7 +71,7 @@ fn kind_of(word: &[u8]) -> Option<Kind>
     None
 }
 
-/// The parameter that word `k` is: a number of 32 bits. None where the word is no such number.
+/// The parameter that word `k` of the line is, and none where that is no number of 32 bits.
 pub fn parameter_at(line: &LineLexer, k: u32) -> Option<u32>
     requires { k < length line.now.held.words }
     ensures { result ≡ parameter (slice_index_or line.now.held.words k []) }
@@ -108,8 +108,8 @@ fn two_parameters(line: &LineLexer) -> Option<(u32, u32)>
     Some((first, second))
 }
 
-/// The three parameters behind the first word, and none where there is another number of words, or a
-/// word is no parameter.
+/// The three parameters behind the first word, and none where there is another number of words, or
+/// a word is no parameter.
 pub fn three_parameters(line: &LineLexer) -> Option<(u32, u32, u32)>
     ensures { result ≡ three_only (parameters (drop 1 line.now.held.words)) }
 {
