@@ -10,7 +10,7 @@ use Rattle.packing_terms.specs.Rank.{ranked}
 use Rattle.tree_terms.specs.Trees.{SearchTree, Verdict, Yes, No, no_tokens, join, join_from, outcome, count_of}
 use Rattle.tree_terms.specs.OuterTrees.{set_verdict, with_answer, bin_numbers, bin_child, bin_node}
 use Rattle.tree_terms.proofs.Joins.{join_assoc, join_nothing, nothing_join, join_next, count_join_no, count_left}
-use Rattle.set_search.specs.Children.{IsRefuted, DoesFit}
+use Rattle.set_search.specs.Children.{DoesFit}
 use Rattle.set_search.proofs.Reaching.{next_box}
 use Rattle.set_search.proofs.Verdicts.{advance, advance_leaf}
 use Rattle.bin_search.specs.Nodes.{AreInBins, PlainPlaced, PlainChange, nodes_above, box_of, grown_bin, IsEntered}
@@ -172,14 +172,15 @@ module _ (t : PlainBinTree) where
           omega (arith, k, l, m, n)
 
       -- the changed bin doesn't fit
-      pub refuted_next : (left : ℕ) (us : List PlainToken) (own : ℕ) → IsRefuted (next_set c) left us own
+      pub refuted_next : (cost : ℕ) (us : List PlainToken) (own : ℕ) → next_set c ≡ No us cost
+          → own ≡ 1 + cost
           → IsLeft t whole (tokens ++ SetRefuted (Some (suc c.visited)) ∷ us) (count + own) (visited_next c) ws
-      refuted_next left us own r = record {
+      refuted_next cost us own is counted = record {
         joined =
             sym (advance_leaf tokens (SetRefuted (Some (suc c.visited)) ∷ us) count own
             (join (rest_verdict t (visited_next c)) (waiting_verdict t ws)))
             ∙ (ap (λ x. join (No tokens count) (join x (join (rest_verdict t (visited_next c)) (waiting_verdict t ws))))
-            (ap (λ n. No (SetRefuted (Some (suc c.visited)) ∷ us) n) r.counted ∙ sym (ap (λ s. outcome (child s)) r.is))
+            (ap (λ n. No (SetRefuted (Some (suc c.visited)) ∷ us) n) counted ∙ sym (ap (λ s. outcome (child s)) is))
             ∙ child_joined);
         node = visited_split;
         waits = h.waits;

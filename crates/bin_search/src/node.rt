@@ -1,5 +1,6 @@
 //! The nodes of a bin tree.
-ghost use Rattle.std.specs.Prelude.{◌≡◌, ◌+◌, ◌≤◌, pred, [], length, slice_index_or, IfOk, OnOk};
+ghost use Rattle.std.specs.Prelude.{◌≡◌, ◌+◌, ◌≤◌, pred, [], length, map, slice_index_or, IfOk, OnOk};
+ghost use Rattle.proof_tree.specs.Plain.{plain_token};
 ghost use Rattle.packing_terms.specs.Goals.{IsBoxSet};
 ghost use Rattle.packing_terms.specs.Limits.{most_boxes};
 ghost use Rattle.packing_terms.specs.OuterRefutation.{insert_box};
@@ -10,6 +11,7 @@ ghost use Rattle.bin_search.specs.Nodes.{child_count, plain_placed, plain_change
 
 use crate::lists::{replace_list, restore_list};
 use box_instances::NoMemory;
+use proof_tree::Token;
 use set_search::{Child, SetSearch};
 use std::alloc::Global;
 
@@ -48,6 +50,7 @@ pub(crate) fn children(bins: &[Vec<u32>], most: u32) -> usize
 }
 
 // Decides the set of a box's bin with the box in it, where a new bin stands behind the used ones.
+// What refutes the set of this bin is appended to the tokens.
 pub(crate) fn grow_bin(
     alloc: Global,
     search: &mut SetSearch<'_>,
@@ -55,17 +58,20 @@ pub(crate) fn grow_bin(
     b: usize,
     v: u32,
     left: u64,
+    bin: Option<u32>,
+    tokens: &mut Vec<Token>,
 ) -> Result<Child, NoMemory>
     requires { IsBoxSet search.old.instance
         (insert_box v (slice_index_or (lists_of bins.now) b [])) }
     ensures same { search.new ≡ search.old }
     ensures child { IfOk result (λ child. IsChild search.old.instance search.old.scales left
-        (insert_box v (slice_index_or (lists_of bins.now) b [])) child) }
+        (insert_box v (slice_index_or (lists_of bins.now) b [])) bin
+        (map plain_token tokens.old.items) (map plain_token tokens.new.items) child) }
 {
     if b < bins.len() {
-        search.grow(alloc, bins[b].as_slice(), v, left)
+        search.grow(alloc, bins[b].as_slice(), v, left, bin, tokens)
     } else {
-        search.grow(alloc, &[], v, left)
+        search.grow(alloc, &[], v, left, bin, tokens)
     }
 }
 

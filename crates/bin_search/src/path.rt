@@ -19,7 +19,7 @@ use crate::numbers::bin_numbers;
 use crate::walk::{assign, walk};
 use box_instances::{Instance, NoMemory};
 use proof_tree::Outcome;
-use set_search::{Child, MOST_BUDGET, SetSearch, push_refuted, with_box};
+use set_search::{Child, MOST_BUDGET, SetSearch, with_box};
 use std::alloc::Global;
 use work_share::Node;
 
@@ -177,13 +177,20 @@ pub(crate) fn explore_step(
         step.placed (lists_of step.bins.items) step.child))) }
 {
     let b = step.child as usize;
-    match grow_bin(alloc, search, &step.bins, b, order[step.placed], cap)? {
+    let mut tokens = Vec::new(alloc);
+    let number = Some(step.child + 1);
+    match grow_bin(
+        alloc,
+        search,
+        &step.bins,
+        b,
+        order[step.placed],
+        cap,
+        number,
+        &mut tokens,
+    )? {
         Child::Past => Ok(Outcome::Past),
-        Child::Refuted { tokens: inner, own } => {
-            let mut tokens = Vec::new(alloc);
-            push_refuted(&mut tokens, Some(step.child + 1), inner)?;
-            Ok(Outcome::No { tokens, count: own })
-        }
+        Child::Refuted { own } => Ok(Outcome::No { tokens, count: own }),
         Child::Fits { set, numbers, own } => {
             let answers = answers_with(alloc, search, &step.bins, b, numbers)?;
             let mut bins = step.bins;
@@ -253,6 +260,7 @@ pub(crate) fn tell_step(
         step.placed (lists_of step.bins.items) step.child)) }
 {
     let b = step.child as usize;
+    let mut tokens = Vec::new(alloc);
     match grow_bin(
         alloc,
         search,
@@ -260,12 +268,11 @@ pub(crate) fn tell_step(
         b,
         order[step.placed],
         MOST_BUDGET,
+        None,
+        &mut tokens,
     )? {
         Child::Past => Ok(Node::Leaf),
-        Child::Refuted {
-            tokens: _tokens,
-            own: _,
-        } => Ok(Node::Leaf),
+        Child::Refuted { own: _ } => Ok(Node::Leaf),
         Child::Fits {
             set,
             numbers: _numbers,

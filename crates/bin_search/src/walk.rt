@@ -16,7 +16,7 @@ use crate::node::{Change, Placed, children, enter_child, grow_bin, leave_child};
 use crate::numbers::bin_numbers;
 use box_instances::{Instance, NoMemory};
 use proof_tree::{Outcome, Token};
-use set_search::{Child, SetSearch, push_refuted, push_token};
+use set_search::{Child, SetSearch, push_token};
 use std::alloc::Global;
 
 // The token of a node at which so many boxes have bins.
@@ -78,12 +78,11 @@ pub(crate) fn walk(
                 b,
                 order[node.placed],
                 cap - count,
+                Some(node.visited as u32),
+                &mut tokens,
             )? {
                 Child::Past => return Ok(Outcome::Past),
-                Child::Refuted { tokens: inner, own } => {
-                    push_refuted(&mut tokens, Some(node.visited as u32), inner)?;
-                    count += own;
-                }
+                Child::Refuted { own } => count += own,
                 Child::Fits { set, numbers, own } => {
                     count += own;
                     let change = enter_child(&mut node, set, numbers)?;

@@ -1,14 +1,14 @@
 -- The choice tree as its callers see it, and its nodes.
-use Rattle.std.specs.Prelude.{ℕ, ◌+◌, ◌*◌, ◌<◌, ◌≤◌, ◌≡◌, List, ◌∷◌, length, map, drop, refl, Bool, true, false}
+use Rattle.std.specs.Prelude.{ℕ, ◌+◌, ◌*◌, ◌<◌, ◌≤◌, ◌≡◌, List, ◌∷◌, ◌++◌, length, drop, refl, Bool, true, false, None}
 use Rattle.std.specs.List.{AllByRecursion}
 use Rattle.packing_terms.specs.Packing.{PlainInstance, dims}
 use Rattle.packing_terms.specs.Rules.{AreBoxes}
 use Rattle.packing_terms.specs.OuterRefutation.{has_box, insert_box}
 use Rattle.packing_terms.specs.Tokens.{PlainToken}
+use Rattle.packing_terms.specs.Tokens.PlainToken.{SetRefuted}
 use Rattle.packing_terms.specs.Rank.{ranked}
 use Rattle.tree_terms.specs.Trees.{SearchTree, Verdict, Yes, No}
 use Rattle.tree_terms.specs.OuterTrees.{is_reached, is_short, set_verdict, choice_tree}
-use Rattle.proof_tree.specs.Plain.{plain_token}
 use Rattle.packing_terms.specs.Rising.{AreRising}
 use Rattle.set_search.specs.Children.{DoesFit}
 use Rattle.choice_search.specs.declared.node.Chosen.{Chosen}
@@ -56,12 +56,15 @@ abbrev pub rise_of : Verdict → ℕ
 rise_of (Yes numbers cost) = 1 + cost
 rise_of (No tokens cost) = 2 + cost
 
--- the set of the first child is refuted by these tokens, and there is room for the second child
-pub record IsLeftOut (verdict : Verdict) (left : ℕ) (tokens : List PlainToken) (own : ℕ) : Type 0 where
+-- the set of the first child is refuted, which is appended to the tokens, with what refutes it; and
+-- there is room for the second child
+pub record IsLeftOut (verdict : Verdict) (left : ℕ) (old new : List PlainToken) (own : ℕ) : Type 0 where
+  pub tokens : List PlainToken
   pub cost : ℕ
   pub is : verdict ≡ No tokens cost
   pub counted : own ≡ 2 + cost
   pub within : own ≤ left
+  pub appended : new ≡ old ++ SetRefuted None ∷ tokens
 
 -- the first child is this node, where the second is the one before
 pub record IsEntered (instance : PlainInstance) (scales : Bool) (c : Chosen) (v left : ℕ) (d : Chosen) (own : ℕ) :
@@ -70,9 +73,11 @@ pub record IsEntered (instance : PlainInstance) (scales : Bool) (c : Chosen) (v 
   pub fits : DoesFit instance (set_verdict instance scales (insert_box v c.taken.items)) left
       (insert_box v c.taken.items) d.taken.items d.numbers.items own
 
--- what a split by a box leads to, whose second child is this node
-abbrev pub IsOpened : PlainInstance → Bool → Chosen → ℕ → ℕ → Opened → Type 0
-IsOpened instance scales c v left Past = left < rise_of (set_verdict instance scales (insert_box v c.taken.items))
-IsOpened instance scales c v left (Refuted tokens own) =
-    IsLeftOut (set_verdict instance scales (insert_box v c.taken.items)) left (map plain_token tokens.items) own
-IsOpened instance scales c v left (Entered d own) = IsEntered instance scales c v left d own
+-- what a split by a box leads to, whose second child is this node, beside the tokens before and now,
+-- which are the same where the first child is entered
+abbrev pub IsOpened : PlainInstance → Bool → Chosen → ℕ → ℕ → List PlainToken → List PlainToken → Opened → Type 0
+IsOpened instance scales c v left old new Past =
+    left < rise_of (set_verdict instance scales (insert_box v c.taken.items))
+IsOpened instance scales c v left old new (Refuted own) =
+    IsLeftOut (set_verdict instance scales (insert_box v c.taken.items)) left old new own
+IsOpened instance scales c v left old new (Entered d own) = IsEntered instance scales c v left d own × (new ≡ old)

@@ -1,5 +1,6 @@
 //! The nodes of a choice tree.
-ghost use Rattle.std.specs.Prelude.{◌≡◌, ◌≤◌, ◌+◌, ℕ, Bool, List, drop, length, IfOk};
+ghost use Rattle.std.specs.Prelude.{◌≡◌, ◌≤◌, ◌+◌, ℕ, Bool, List, drop, length, map, IfOk};
+ghost use Rattle.proof_tree.specs.Plain.{plain_token};
 ghost use Rattle.packing_terms.specs.Rules.{AreBoxes};
 ghost use Rattle.packing_terms.specs.Goals.{worth, IsBoxSet};
 ghost use Rattle.packing_terms.specs.OuterRefutation.{insert_box};
@@ -38,7 +39,7 @@ pub enum NodeKind {
 #[derive(Drop)]
 pub enum Opened {
     Past,
-    Refuted { tokens: Vec<Token>, own: u64 },
+    Refuted { own: u64 },
     Entered { node: Chosen, own: u64 },
 }
 
@@ -85,27 +86,28 @@ pub(crate) fn meet(
 }
 
 // Decides the first child of a split by a box, whose second child is this node, under what is left
-// of a cap.
+// of a cap. What refutes its set is appended to the tokens.
 pub(crate) fn open_first(
     alloc: Global,
     search: &mut SetSearch<'_>,
     node: &Chosen,
     v: u32,
     left: u64,
+    tokens: &mut Vec<Token>,
 ) -> Result<Opened, NoMemory>
     requires { IsBoxSet search.old.instance (insert_box v node.now.taken.items) }
     ensures same { search.new ≡ search.old }
-    ensures opened { IfOk result (λ r.
-        IsOpened search.old.instance search.old.scales node.now v left r) }
+    ensures opened { IfOk result (λ r. IsOpened search.old.instance search.old.scales node.now v left
+        (map plain_token tokens.old.items) (map plain_token tokens.new.items) r) }
 {
-    match search.grow(alloc, &node.taken, v, left)? {
+    match search.grow(alloc, &node.taken, v, left, None, tokens)? {
         Child::Past => Ok(Opened::Past),
-        Child::Refuted { tokens, own } => {
+        Child::Refuted { own } => {
             if own == left {
                 return Ok(Opened::Past);
             }
             let own = own + 1;
-            Ok(Opened::Refuted { tokens, own })
+            Ok(Opened::Refuted { own })
         }
         Child::Fits { set, numbers, own } => {
             let node = Chosen {

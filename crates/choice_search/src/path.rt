@@ -14,7 +14,7 @@ use crate::node::{Chosen, meet, tell};
 use crate::walk::walk;
 use box_instances::{Instance, NoMemory};
 use proof_tree::Outcome;
-use set_search::{Child, MOST_BUDGET, SetSearch, push_refuted, put_box};
+use set_search::{Child, MOST_BUDGET, SetSearch, put_box};
 use std::alloc::Global;
 use work_share::Node;
 
@@ -79,13 +79,11 @@ pub(crate) fn explore_first(
         (record { instance = instance.now; goal = value; scales = search.old.scales })
         above.decided above.taken.items 0))) }
 {
-    match search.grow(alloc, &above.taken, order[above.decided], cap)? {
+    let mut tokens = Vec::new(alloc);
+    let v = order[above.decided];
+    match search.grow(alloc, &above.taken, v, cap, None, &mut tokens)? {
         Child::Past => Ok(Outcome::Past),
-        Child::Refuted { tokens: inner, own } => {
-            let mut tokens = Vec::new(alloc);
-            push_refuted(&mut tokens, None, inner)?;
-            Ok(Outcome::No { tokens, count: own })
-        }
+        Child::Refuted { own } => Ok(Outcome::No { tokens, count: own }),
         Child::Fits { set, numbers, own } => {
             let node = Chosen {
                 decided: above.decided + 1,
@@ -144,12 +142,11 @@ pub(crate) fn tell_first(
         (record { instance = instance.now; goal = value; scales = search.old.scales })
         above.decided above.taken.items 0)) }
 {
-    match search.grow(alloc, &above.taken, order[above.decided], MOST_BUDGET)? {
+    let mut tokens = Vec::new(alloc);
+    let v = order[above.decided];
+    match search.grow(alloc, &above.taken, v, MOST_BUDGET, None, &mut tokens)? {
         Child::Past => Ok(Node::Leaf),
-        Child::Refuted {
-            tokens: _tokens,
-            own: _,
-        } => Ok(Node::Leaf),
+        Child::Refuted { own: _ } => Ok(Node::Leaf),
         Child::Fits {
             set,
             numbers: _numbers,

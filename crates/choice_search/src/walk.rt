@@ -12,7 +12,7 @@ use crate::node::{Chosen, NodeKind, Opened, meet, open_first};
 use crate::numbers::choice_numbers;
 use box_instances::{Instance, NoMemory};
 use proof_tree::{Outcome, Token};
-use set_search::{SetSearch, push_refuted, push_token};
+use set_search::{SetSearch, push_token};
 use std::alloc::Global;
 use std::mem;
 
@@ -61,12 +61,9 @@ pub(crate) fn walk(
             NodeKind::Divided(v) => {
                 push_token(&mut tokens, Token::Choose { box_no: v + 1 })?;
                 node.decided += 1;
-                match open_first(alloc, search, &node, v, cap - count)? {
+                match open_first(alloc, search, &node, v, cap - count, &mut tokens)? {
                     Opened::Past => return Ok(Outcome::Past),
-                    Opened::Refuted { tokens: inner, own } => {
-                        push_refuted(&mut tokens, None, inner)?;
-                        count += own;
-                    }
+                    Opened::Refuted { own } => count += own,
                     Opened::Entered { node: inside, own } => {
                         count += own;
                         let Ok(()) = stack.push(mem::replace(&mut node, inside)) else {

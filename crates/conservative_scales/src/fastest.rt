@@ -7,7 +7,7 @@ ghost use Rattle.packing_terms.specs.Scales.{IsLegalScale, SidesFit, scale_image
 ghost use Rattle.packing_terms.specs.Sums.{sum_below};
 ghost use Rattle.packing_terms.specs.Tuples.{has_excess};
 ghost use Rattle.conservative_scales.specs.Within.{within};
-ghost use Rattle.conservative_scales.specs.Partials.{IsPartial, HoldEach};
+ghost use Rattle.conservative_scales.specs.Partials.{AreShares, HoldEach, IsPartial};
 
 use crate::functions::{image, whole};
 use crate::listed::next_function;
@@ -30,13 +30,37 @@ fn share(whole_side: u32, x: u32) -> u32
     (PARTS - 1) / beside + 1
 }
 
+// Puts the share of each box in dimension 0, once for all tuples: a share takes two divisions.
+pub(crate) fn put_shares(instance: &Instance, shares: &mut [u32])
+    requires limits { IsInternalInstance instance.now }
+    requires there { 1 ≤ dims instance.now }
+    requires fit { SidesFit instance.now }
+    requires room { box_count instance.now ≤ length shares.old }
+    ensures length { length shares.new ≡ length shares.old }
+    ensures shares { AreShares instance.now shares.new }
+{
+    let whole_side = instance.container_side(0);
+    for box_no in 0..instance.len() {
+        shares[box_no as usize] = share(whole_side, instance.side(box_no, 0));
+    }
+}
+
 // Whether a function in dimension 0 could make products that are together greater than those of so
 // many containers, by the most that any could make of each box. Where none could, none is tried.
-fn may_exceed(instance: &Instance, copies: u32, images: &[u128], at: usize, whole: u128) -> bool
+fn may_exceed(
+    instance: &Instance,
+    copies: u32,
+    shares: &[u32],
+    images: &[u128],
+    at: usize,
+    whole: u128,
+) -> bool
     requires limits { IsInternalInstance instance.now }
     requires there { 1 ≤ dims instance.now }
     requires fit { SidesFit instance.now }
     requires few { copies ≤ most_boxes }
+    requires shares_room { box_count instance.now ≤ length shares.now }
+    requires shares { AreShares instance.now shares.now }
     requires room { at + box_count instance.now ≤ length images.now }
     requires small { (v : ℕ) → v < box_count instance.now
         → slice_index images.now (at + v) ≤ 2 ^ 79 }
@@ -44,11 +68,9 @@ fn may_exceed(instance: &Instance, copies: u32, images: &[u128], at: usize, whol
     ensures { MatchBool result ⊤
         (HoldEach instance.now copies (λ v. slice_index images.now (at + v)) whole) }
 {
-    let whole_side = instance.container_side(0);
     let mut total: u128 = 0;
     for box_no in 0..instance.len() {
-        let share = share(whole_side, instance.side(box_no, 0));
-        total += images[at + box_no as usize] * share as u128;
+        total += images[at + box_no as usize] * shares[box_no as usize] as u128;
     }
     total > copies as u128 * whole * PARTS as u128
 }
@@ -93,6 +115,7 @@ fn exceeds_with(
 pub(crate) fn search_fastest(
     instance: &Instance,
     copies: u32,
+    shares: &[u32],
     left: u32,
     tuple: &mut [ScaleFn],
     images: &[u128],
@@ -104,6 +127,8 @@ pub(crate) fn search_fastest(
     requires few { copies ≤ 128 }
     requires count { length tuple.old ≡ dims instance.now }
     requires there { 1 ≤ dims instance.now }
+    requires shares_room { box_count instance.now ≤ length shares.now }
+    requires shares { AreShares instance.now shares.now }
     requires room { at + box_count instance.now ≤ length images.now }
     requires partial { IsPartial instance.now 1 (drop 1 tuple.old)
         (λ v. slice_index images.now (at + v)) whole_product }
@@ -114,7 +139,7 @@ pub(crate) fn search_fastest(
         ≡ None) }
     ensures kept { drop 1 tuple.new ≡ drop 1 tuple.old }
 {
-    if !may_exceed(instance, copies, images, at, whole_product) {
+    if !may_exceed(instance, copies, shares, images, at, whole_product) {
         return false;
     }
     tuple[0] = ScaleFn::Id;

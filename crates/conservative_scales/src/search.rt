@@ -7,9 +7,9 @@ ghost use Rattle.packing_terms.specs.Scales.{IsTuple, IsLegalScale, SidesFit, Ex
 ghost use Rattle.packing_terms.specs.Goals.{FitsInBins};
 ghost use Rattle.packing_terms.specs.Tuples.{first_excess, has_excess};
 ghost use Rattle.conservative_scales.specs.Within.{within, AreLegalFrom};
-ghost use Rattle.conservative_scales.specs.Partials.{IsPartial};
+ghost use Rattle.conservative_scales.specs.Partials.{AreShares, IsPartial};
 
-use crate::fastest::search_fastest;
+use crate::fastest::{put_shares, search_fastest};
 use crate::functions::whole;
 use crate::listed::next_function;
 use crate::partial::scale;
@@ -38,6 +38,7 @@ fn whole_of(instance: &Instance, dim: u32, f: ScaleFn) -> u128
 fn search(
     instance: &Instance,
     copies: u32,
+    shares: &[u32],
     dim: u32,
     left: u32,
     tuple: &mut [ScaleFn],
@@ -51,6 +52,8 @@ fn search(
     requires count { length tuple.old ≡ dims instance.now }
     requires some { 1 ≤ dim }
     requires there { dim ≤ dims instance.now }
+    requires shares_room { box_count instance.now ≤ length shares.now }
+    requires shares { AreShares instance.now shares.now }
     requires room { at + box_count instance.now + dim * box_count instance.now
         ≤ length images.old }
     requires legal { AreLegalFrom instance.now dim (drop dim tuple.old) }
@@ -67,14 +70,25 @@ fn search(
         → slice_index images.new k ≡ slice_index images.old k }
 {
     if dim == 1 {
-        return search_fastest(instance, copies, left, tuple, images, at, whole_product);
+        return search_fastest(
+            instance,
+            copies,
+            shares,
+            left,
+            tuple,
+            images,
+            at,
+            whole_product,
+        );
     }
     let below = dim - 1;
     let next_at = at + instance.len() as usize;
     tuple[below as usize] = ScaleFn::Id;
     scale(instance, below, ScaleFn::Id, images, at);
     let same = whole_product * whole_of(instance, below, ScaleFn::Id);
-    if search(instance, copies, below, left, tuple, images, next_at, same) {
+    if search(
+        instance, copies, shares, below, left, tuple, images, next_at, same,
+    ) {
         return true;
     }
     if left == 0 {
@@ -88,6 +102,7 @@ fn search(
         if search(
             instance,
             copies,
+            shares,
             below,
             left - 1,
             tuple,
@@ -129,9 +144,21 @@ fn first_within<const T: usize>(
 {
     let mut tuple = [ScaleFn::Id; 4];
     let mut images = [1; T];
+    let mut shares = [0; T];
     let dims = instance.dims();
+    put_shares(instance, &mut shares);
     let chosen = &mut tuple[..dims as usize];
-    if search(instance, copies, dims, 2, chosen, &mut images, 0, 1) {
+    if search(
+        instance,
+        copies,
+        &shares,
+        dims,
+        2,
+        chosen,
+        &mut images,
+        0,
+        1,
+    ) {
         Some(copied(alloc, chosen))
     } else {
         None

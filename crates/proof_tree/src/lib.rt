@@ -2,6 +2,7 @@
 #![tactic(auto)]
 
 mod copies;
+mod line;
 mod outcome;
 mod reading;
 mod token;

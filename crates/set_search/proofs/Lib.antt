@@ -3,3 +3,4 @@ pub mod Sets
 pub mod Reaching
 pub mod Memories
 pub mod Entries
+pub mod Grown

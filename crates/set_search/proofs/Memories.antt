@@ -1,6 +1,7 @@
 -- The memory of decided sets.
 use Rattle.std.proofs.Common.{◌≡◌, ℕ, suc, ◌+◌, ◌<◌, ◌≤◌, ◌⊎◌, inl, inr, refl, sym, ap, subst, ◌∙◌, arith, Bool, true}
 use Rattle.std.proofs.Common.{false, ◌||◌, eqb, ltb, List, [], ◌∷◌, ◌++◌, length, get_or, cond}
+use Rattle.std.proofs.Common.{Option, Some, None}
 use Rattle.std.specs.List.{All}
 use Rattle.std.specs.List.Sorted.{IsStrictlyIncreasing}
 use Rattle.std.proofs.lemmas.List.Elements.{All-contains, All-contains_itself, All-push, All-set}
@@ -9,14 +10,15 @@ use Rattle.std.proofs.lemmas.Bool.{true≢false, cases_lt, eq-eqb, or_left, ne_e
 use Rattle.packing_terms.specs.Packing.{PlainInstance}
 use Rattle.packing_terms.specs.Goals.{subset, IsBoxSet}
 use Rattle.packing_terms.specs.Limits.{IsInternalInstance}
-use Rattle.tree_terms.specs.Trees.{Verdict, PlainOutcome, Decided, Past, told, count_of}
+use Rattle.packing_terms.specs.Tokens.{PlainToken}
+use Rattle.tree_terms.specs.Trees.{Verdict, No, PlainOutcome, Decided, Past, told, count_of}
 use Rattle.tree_terms.specs.OuterTrees.{set_verdict}
 use Rattle.tree_terms.proofs.Decisions.{class_tree_right}
 use Rattle.box_instances.proofs.Subsets.{subset_within}
 use Rattle.class_search.specs.Right.{IsRight}
 use Rattle.set_search.proofs.Verdicts.{told_same}
 use Rattle.set_search.specs.Memories.{has_box, HasBoxes, PlainEntry, plain_count, retold, IsRecalled, IsPut, IsVerdict}
-use Rattle.set_search.specs.Memories.{AreVerdicts}
+use Rattle.set_search.specs.Memories.{AreVerdicts, IsRecalledNo, IsToldNo}
 
 -- one box more
 pub has_push : (vs : List ℕ) (v x : ℕ) → has_box (vs ++ v ∷ []) x ≡ has_box vs x || eqb x v
@@ -81,6 +83,14 @@ one_set (x ∷ xs) [] r s h = absurd (true≢false (sym (own_first x xs) ∙ h x
 one_set (x ∷ xs) (y ∷ ys) r s h =
     same_first x y xs ys r s h (cases_lt x y) (cases_lt y x) (one_set xs ys (rising_tail x xs r) (rising_tail y ys s))
 
+-- outcomes without a budget are the same only where their verdicts are
+verdict_is : (v w : Verdict) → Decided v ≡ Decided w → v ≡ w
+verdict_is v w e = ap (λ r. verdict_in r v) e
+  where
+    verdict_in : PlainOutcome → Verdict → Verdict
+    verdict_in (Decided u) other = u
+    verdict_in Past other = other
+
 -- an entry with the verdict on a set that has its boxes is right
 pub verdict_made : (instance : PlainInstance) (scales : Bool) (boxes keep : List ℕ) (outcome : PlainOutcome)
     → HasBoxes boxes keep → IsBoxSet instance keep
@@ -111,8 +121,25 @@ pub recalled : (instance : PlainInstance) (scales : Bool) (entries : List PlainE
     → IsRecalled entries boxes budget r
     → r ≡ told budget (set_verdict instance scales keep)
 recalled instance scales entries boxes keep budget r right has set found =
-    let v = All-contains (IsVerdict instance scales) entries found.entry right found.there in
-    found.told ∙ ap (retold budget) (v.is keep set (subst (λ (b : List ℕ). HasBoxes b keep) (sym found.same) has))
+    let v = All-contains (IsVerdict instance scales) entries found.entry right found.kept.there in
+    found.told ∙ ap (retold budget) (v.is keep set (subst (λ (b : List ℕ). HasBoxes b keep) (sym found.kept.same) has))
+
+-- what is told of a set that is kept as refuted is its verdict
+pub recalled_no : (instance : PlainInstance) (scales : Bool) (entries : List PlainEntry) (boxes keep : List ℕ)
+    (budget : ℕ) (bin : Option ℕ) (old new : List PlainToken) (found : Option ℕ)
+    → AreVerdicts instance scales entries → HasBoxes boxes keep → IsBoxSet instance keep
+    → IsRecalledNo entries boxes budget bin old new found
+    → IsToldNo (set_verdict instance scales keep) budget bin old new found
+recalled_no instance scales entries boxes keep budget bin old new None right has set e = e
+recalled_no instance scales entries boxes keep budget bin old new (Some cost) right has set e =
+    let v = All-contains (IsVerdict instance scales) entries e.entry right e.kept.there in
+    let own = v.is keep set (subst (λ (b : List ℕ). HasBoxes b keep) (sym e.kept.same) has) in
+    record {
+      tokens = e.tokens;
+      is = verdict_is (set_verdict instance scales keep) (No e.tokens cost) (sym own ∙ e.refuted);
+      within = e.within;
+      appended = e.appended;
+    }
 
 -- a verdict that is told is right
 pub told_right : (instance : PlainInstance) (scales : Bool) (keep : List ℕ) (budget : ℕ) (r : PlainOutcome)

@@ -1,9 +1,12 @@
 -- The memory of decided sets.
-use Rattle.std.specs.Prelude.{ℕ, ◌≡◌, ◌==◌, ◌||◌, ◌⊎◌, List, [], ◌∷◌, Bool, false, nat_lt, if◌then◌else◌}
+use Rattle.std.specs.Prelude.{ℕ, ◌≡◌, ◌≤◌, ◌==◌, ◌||◌, ◌⊎◌, List, [], ◌∷◌, ◌++◌, Bool, false, nat_lt, if◌then◌else◌}
+use Rattle.std.specs.Prelude.{Option, Some, None}
 use Rattle.std.specs.List.{Contains, All}
 use Rattle.packing_terms.specs.Packing.{PlainInstance}
 use Rattle.packing_terms.specs.Goals.{IsBoxSet}
-use Rattle.tree_terms.specs.Trees.{PlainOutcome, Decided, Past, count_of}
+use Rattle.packing_terms.specs.Tokens.{PlainToken}
+use Rattle.packing_terms.specs.Tokens.PlainToken.{SetRefuted}
+use Rattle.tree_terms.specs.Trees.{Verdict, PlainOutcome, Decided, Past, No, count_of}
 use Rattle.tree_terms.specs.OuterTrees.{set_verdict}
 use Rattle.edge_state.specs.BitRows.{row_has}
 
@@ -21,6 +24,11 @@ pub record PlainEntry : Type 0 where
   pub boxes : List ℕ
   pub outcome : PlainOutcome
 
+-- an entry that has these boxes
+pub record IsEntryOf (entries : List PlainEntry) (boxes : List ℕ) (e : PlainEntry) : Type 0 where
+  pub there : Contains entries e
+  pub same : e.boxes ≡ boxes
+
 abbrev pub plain_count : PlainOutcome → ℕ
 plain_count (Decided v) = count_of v
 plain_count Past = 0
@@ -32,9 +40,25 @@ retold budget r = if nat_lt budget (plain_count r) then Past else r
 -- it is the outcome of an entry that has these boxes, told under a budget
 pub record IsRecalled (entries : List PlainEntry) (boxes : List ℕ) (budget : ℕ) (r : PlainOutcome) : Type 0 where
   pub entry : PlainEntry
-  pub there : Contains entries entry
-  pub same : entry.boxes ≡ boxes
+  pub kept : IsEntryOf entries boxes entry
   pub told : r ≡ retold budget entry.outcome
+
+-- an entry that has these boxes is refuted with this count, which is within the budget, and that is
+-- appended to the tokens, with what refutes it
+pub record IsRefutedEntry (entries : List PlainEntry) (boxes : List ℕ) (budget : ℕ) (bin : Option ℕ)
+    (old new : List PlainToken) (cost : ℕ) : Type 0 where
+  pub entry : PlainEntry
+  pub tokens : List PlainToken
+  pub kept : IsEntryOf entries boxes entry
+  pub refuted : entry.outcome ≡ Decided (No tokens cost)
+  pub within : cost ≤ budget
+  pub appended : new ≡ old ++ SetRefuted bin ∷ tokens
+
+-- the same where a count is told, and else the tokens are as before
+abbrev pub IsRecalledNo :
+    List PlainEntry → List ℕ → ℕ → Option ℕ → List PlainToken → List PlainToken → Option ℕ → Type 0
+IsRecalledNo entries boxes budget bin old new None = new ≡ old
+IsRecalledNo entries boxes budget bin old new (Some cost) = IsRefutedEntry entries boxes budget bin old new cost
 
 -- the entry has these boxes and this outcome, or it was there before
 abbrev pub IsPut : List PlainEntry → List ℕ → PlainOutcome → PlainEntry → Type 0
@@ -48,3 +72,17 @@ pub record IsVerdict (instance : PlainInstance) (scales : Bool) (e : PlainEntry)
 -- each entry is right
 abbrev pub AreVerdicts : PlainInstance → Bool → List PlainEntry → Type 0
 AreVerdicts instance scales entries = All (IsVerdict instance scales) entries
+
+-- the verdict is no with this count, which is within the budget, and that is appended to the tokens,
+-- with what refutes it
+pub record IsNoVerdict (verdict : Verdict) (budget : ℕ) (bin : Option ℕ) (old new : List PlainToken) (cost : ℕ) :
+    Type 0 where
+  pub tokens : List PlainToken
+  pub is : verdict ≡ No tokens cost
+  pub within : cost ≤ budget
+  pub appended : new ≡ old ++ SetRefuted bin ∷ tokens
+
+-- the same where a count is told, and else the tokens are as before
+abbrev pub IsToldNo : Verdict → ℕ → Option ℕ → List PlainToken → List PlainToken → Option ℕ → Type 0
+IsToldNo verdict budget bin old new None = new ≡ old
+IsToldNo verdict budget bin old new (Some cost) = IsNoVerdict verdict budget bin old new cost

@@ -1,12 +1,16 @@
 //! A child of an outer tree whose set grew by one box.
-ghost use Rattle.std.specs.Prelude.{◌≡◌, ◌≤◌, IfOk, length};
+ghost use Rattle.std.specs.Prelude.{◌≡◌, ◌≤◌, IfOk, length, map};
 ghost use Rattle.packing_terms.specs.Goals.{IsBoxSet};
 ghost use Rattle.packing_terms.specs.OuterRefutation.{insert_box};
 ghost use Rattle.tree_terms.specs.OuterTrees.{set_verdict, yes_numbers};
+ghost use Rattle.proof_tree.specs.Plain.{plain_token};
 ghost use Rattle.set_search.specs.Children.{IsChild, IsFoundSet};
+ghost use Rattle.set_search.specs.Memories.{HasBoxes};
 
 use crate::insert::fill_with;
+use crate::key::SetKey;
 use crate::search::{MOST_BUDGET, SetSearch};
+use crate::tokens::push_refuted;
 use box_instances::NoMemory;
 use proof_tree::{Outcome, Token};
 use std::alloc::Global;
@@ -18,7 +22,6 @@ use std::alloc::Global;
 pub enum Child {
     Past,
     Refuted {
-        tokens: Vec<Token>,
         own: u64,
     },
     Fits {
@@ -31,42 +34,67 @@ pub enum Child {
 impl<'a> SetSearch<'a> {
     /// Decides a set with one box more, once, under what is left of a cap. `Past` comes exactly
     /// where the child's own count is greater than that. The boxes of a set stand by rising number.
+    ///
+    /// Where the set is refuted, that is appended to the tokens, of this bin or without a number,
+    /// and what refutes it. Where it fits, the tokens are as before.
     pub fn grow(
         &mut self,
         alloc: Global,
         keep: &[u32],
         v: u32,
         left: u64,
+        bin: Option<u32>,
+        tokens: &mut Vec<Token>,
     ) -> Result<Child, NoMemory>
         requires { IsBoxSet self.old.instance (insert_box v keep.now) }
         ensures same { self.new ≡ self.old }
         ensures child { IfOk result (λ child.
-            IsChild self.old.instance self.old.scales left (insert_box v keep.now) child) }
+            IsChild self.old.instance self.old.scales left (insert_box v keep.now) bin
+            (map plain_token tokens.old.items) (map plain_token tokens.new.items) child) }
     {
         if left == 0 {
             return Ok(Child::Past);
         }
+        // Most sets come again and are refuted: those are told without a list of their boxes.
+        let key = self.key_with(keep, v);
+        if let Some(cost) = self.told_refuted(alloc, &key, left - 1, bin, tokens)? {
+            return Ok(Child::Refuted { own: 1 + cost });
+        }
         let mut set = self.take_spare(alloc);
         fill_with(&mut set, keep, v)?;
-        self.grown(alloc, set, left)
+        self.grown(alloc, set, &key, left, bin, tokens)
     }
 
-    // The same of a set that is given, with something left. The memory of one that is refuted is
-    // kept for the next.
-    fn grown(&mut self, alloc: Global, set: Vec<u32>, left: u64) -> Result<Child, NoMemory>
+    // The same of a set that is given, with its key and with something left. The memory of one that
+    // is refuted is kept for the next.
+    fn grown(
+        &mut self,
+        alloc: Global,
+        set: Vec<u32>,
+        key: &SetKey,
+        left: u64,
+        bin: Option<u32>,
+        tokens: &mut Vec<Token>,
+    ) -> Result<Child, NoMemory>
         requires some { 1 ≤ length set.items }
+        requires boxes { HasBoxes key.now.boxes set.items }
         requires set { IsBoxSet self.old.instance set.items }
         requires left { 1 ≤ left }
         ensures same { self.new ≡ self.old }
         ensures child { IfOk result (λ child.
-            IsChild self.old.instance self.old.scales left set.items child) }
+            IsChild self.old.instance self.old.scales left set.items bin
+            (map plain_token tokens.old.items) (map plain_token tokens.new.items) child) }
     {
-        match self.decide(alloc, set.as_slice(), left - 1)? {
+        match self.decide_by(alloc, set.as_slice(), key, left - 1)? {
             Outcome::Past => Ok(Child::Past),
-            Outcome::No { tokens, count } => {
+            Outcome::No {
+                tokens: inner,
+                count,
+            } => {
+                push_refuted(tokens, bin, inner)?;
                 self.put_spare(set);
                 let own = 1 + count;
-                Ok(Child::Refuted { tokens, own })
+                Ok(Child::Refuted { own })
             }
             Outcome::Yes { numbers, count } => {
                 let own = 1 + count;

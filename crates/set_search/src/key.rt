@@ -1,35 +1,57 @@
 //! Sets of boxes as they are looked for in a memory.
-ghost use Rattle.std.specs.Prelude.{◌<◌};
+ghost use Rattle.std.specs.Prelude.{◌≡◌, ◌<◌, ◌||◌, ◌==◌, ℕ};
 ghost use Rattle.std.specs.List.{All};
+ghost use Rattle.edge_state.specs.BitRows.{row_has};
 ghost use Rattle.set_search.specs.Memories.{HasBoxes};
 
 use edge_state::BitRow;
 
-/// A set of boxes as bits, and a number below 65,536 that is the same for the same set.
+/// A set of boxes as bits, with a number that is the same for the same set.
 #[derive(Clone, Copy)]
 pub struct SetKey {
     pub boxes: BitRow<2>,
-    pub place: usize,
+    hash: u64,
 }
 
-// Of this each box mixes the bits; the highest ones hang on all boxes.
 const FACTOR: u64 = 0x9E37_79B9_7F4A_7C15;
 
+// What a box adds to the number of a set. The sum doesn't hang on the order of the boxes, so that a
+// set with one box more is one addition away; two products, since one alone would give sets the
+// same number whose boxes have the same sum.
+fn bits_of(v: u32) -> u64 {
+    let bits = (u64::from(v) + 1).wrapping_mul(FACTOR);
+    (bits ^ (bits >> 32)).wrapping_mul(FACTOR)
+}
+
 impl SetKey {
-    /// The key of a set whose boxes stand by rising number.
+    /// The key of some boxes.
     pub fn of(keep: &[u32]) -> SetKey
         requires { All (λ v. v < 128) keep.now }
         ensures { HasBoxes result.boxes keep.now }
     {
-        let mut boxes = BitRow::empty();
-        let mut hash: u64 = 0;
+        let mut key = SetKey {
+            boxes: BitRow::empty(),
+            hash: 0,
+        };
         for v in keep {
-            boxes = boxes.with(*v);
-            hash = (hash.rotate_left(5) ^ (u64::from(*v) + 1)).wrapping_mul(FACTOR);
+            key = key.with(*v);
         }
+        key
+    }
+
+    /// The key with one box more.
+    pub fn with(self, v: u32) -> SetKey
+        requires { v < 128 }
+        ensures { (x : ℕ) → row_has result.boxes x ≡ row_has self.boxes x || x == v }
+    {
         SetKey {
-            boxes,
-            place: (hash >> 48) as usize,
+            boxes: self.boxes.with(v),
+            hash: self.hash.wrapping_add(bits_of(v)),
         }
+    }
+
+    /// A number below 65,536: the highest bits, which hang on all boxes.
+    pub fn place(&self) -> usize {
+        (self.hash >> 48) as usize
     }
 }

@@ -15,4 +15,4 @@ pub use answer::push_coordinates;
 pub use child::Child;
 pub use insert::{put_box, with_box};
 pub use search::{MOST_BUDGET, SetSearch};
-pub use tokens::{push_refuted, push_token};
+pub use tokens::push_token;

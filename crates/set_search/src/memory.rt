@@ -1,14 +1,17 @@
 //! The memory of decided sets.
-ghost use Rattle.std.specs.Prelude.{◌≡◌, [], IfOk, IfSome};
+ghost use Rattle.std.specs.Prelude.{◌≡◌, [], map, IfOk, IfSome};
 ghost use Rattle.std.specs.List.{All, Contains};
 ghost use Rattle.work_share.specs.Outcomes.{plain_outcome};
-ghost use Rattle.set_search.specs.Memories.{IsPut, IsRecalled};
+ghost use Rattle.proof_tree.specs.Plain.{plain_token};
+ghost use Rattle.set_search.specs.Entries.{plain_entry};
+ghost use Rattle.set_search.specs.Memories.{IsEntryOf, IsPut, IsRecalled, IsRecalledNo};
 
 use crate::copies::{copy_outcome, count_of, size_of};
 use crate::key::SetKey;
+use crate::tokens::push_copies;
 use box_instances::NoMemory;
 use edge_state::BitRow;
-use proof_tree::Outcome;
+use proof_tree::{Outcome, Token};
 use std::alloc::Global;
 use std::marker::Model;
 
@@ -82,14 +85,66 @@ impl SetMemory {
     // The place of a set that is kept, or else the place for it: the first that is free among those
     // of its key, or, where none is, the first of them.
     fn place_of(&self, key: &SetKey) -> usize {
+        let first = key.place();
         for k in 0..REACH {
-            let place = key.place.wrapping_add(k) % PLACES;
+            let place = first.wrapping_add(k) % PLACES;
             let number = self.number_at(place);
             if number == 0 || self.is_number_of(number, key) {
                 return place;
             }
         }
-        key.place
+        first
+    }
+
+    // The entry of a set, if it is kept.
+    fn entry_of(&self, key: &SetKey) -> Option<&Entry>
+        ensures { IfSome result (λ e. IsEntryOf self.now key.now.boxes (plain_entry e.now)) }
+    {
+        let number = self.number_at(self.place_of(key));
+        if number == 0 || number > self.entries.len() {
+            return None;
+        }
+        let entry = &self.entries[number - 1];
+        if entry.boxes != key.boxes {
+            return None;
+        }
+        Some(entry)
+    }
+
+    /// The count of a set that is kept as refuted, with a count of at most the budget: to the tokens
+    /// is appended that the set of a bin, or of the boxes that are in, is refuted, and what refutes
+    /// it. Else the tokens are as before.
+    pub fn recall_refuted(
+        &self,
+        alloc: Global,
+        key: &SetKey,
+        budget: u64,
+        bin: Option<u32>,
+        tokens: &mut Vec<Token>,
+    ) -> Result<Option<u64>, NoMemory>
+        ensures { IfOk result (λ found. IsRecalledNo self.now key.now.boxes budget bin
+            (map plain_token tokens.old.items) (map plain_token tokens.new.items) found) }
+    {
+        let Some(entry) = self.entry_of(key) else {
+            return Ok(None);
+        };
+        match &entry.outcome {
+            Outcome::No {
+                tokens: inner,
+                count,
+            } => {
+                if *count > budget {
+                    return Ok(None);
+                }
+                push_copies(alloc, tokens, bin, inner.as_slice())?;
+                Ok(Some(*count))
+            }
+            Outcome::Yes {
+                numbers: _,
+                count: _,
+            } => Ok(None),
+            Outcome::Past => Ok(None),
+        }
     }
 
     /// The outcome of a set under a budget, if the set is kept.
@@ -102,14 +157,9 @@ impl SetMemory {
         ensures { IfOk result (λ found. IfSome found
             (λ r. IsRecalled self.now key.now.boxes budget (plain_outcome r))) }
     {
-        let number = self.number_at(self.place_of(key));
-        if number == 0 || number > self.entries.len() {
+        let Some(entry) = self.entry_of(key) else {
             return Ok(None);
-        }
-        let entry = &self.entries[number - 1];
-        if entry.boxes != key.boxes {
-            return Ok(None);
-        }
+        };
         if count_of(&entry.outcome) > budget {
             return Ok(Some(Outcome::Past));
         }

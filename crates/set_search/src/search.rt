@@ -1,9 +1,11 @@
 //! The decision of sets of the boxes of one instance.
-ghost use Rattle.std.specs.Prelude.{◌≡◌, ◌≤◌, length, IfOk, OnOk, []};
+ghost use Rattle.std.specs.Prelude.{◌≡◌, ◌≤◌, ℕ, List, length, map, IfOk, OnOk, []};
 ghost use Rattle.packing_terms.specs.Goals.{subset, IsBoxSet};
 ghost use Rattle.packing_terms.specs.Limits.{IsDimCount, most_boxes};
 ghost use Rattle.set_search.specs.Searches.{AreClosers};
-ghost use Rattle.set_search.specs.Memories.{HasBoxes};
+ghost use Rattle.set_search.specs.Memories.{HasBoxes, IsToldNo};
+ghost use Rattle.packing_terms.specs.OuterRefutation.{insert_box};
+ghost use Rattle.proof_tree.specs.Plain.{plain_token};
 ghost use Rattle.tree_terms.specs.Trees.{told};
 ghost use Rattle.tree_terms.specs.OuterTrees.{set_verdict};
 ghost use Rattle.work_share.specs.Outcomes.{plain_outcome};
@@ -14,7 +16,7 @@ use crate::memory::SetMemory;
 use box_instances::{BoxSet, Instance, NoMemory};
 use class_search::decide_in;
 use edge_state::EdgeState;
-use proof_tree::Outcome;
+use proof_tree::{Outcome, Token};
 use rule_closure::Closer;
 use std::alloc::Global;
 use std::marker::Model;
@@ -167,6 +169,34 @@ impl<'a> SetSearch<'a> {
         }
     }
 
+    // The key of a set with one box more.
+    pub(crate) fn key_with(&self, keep: &[u32], v: u32) -> SetKey
+        requires { IsBoxSet self.now.instance (insert_box v keep.now) }
+        ensures { HasBoxes result.boxes (insert_box v keep.now) }
+    {
+        // For the proof alone: tells the limits of the instance.
+        let _limits = self.whole.len();
+        SetKey::of(keep).with(v)
+    }
+
+    // The count of a set of this key that is kept as refuted, within the budget: that is appended to
+    // the tokens, and what refutes it. Else the tokens are as before.
+    pub(crate) fn told_refuted(
+        &self,
+        alloc: Global,
+        key: &SetKey,
+        budget: u64,
+        bin: Option<u32>,
+        tokens: &mut Vec<Token>,
+    ) -> Result<Option<u64>, NoMemory>
+        ensures { IfOk result (λ found. (keep : List ℕ) → HasBoxes key.now.boxes keep
+            → IsBoxSet self.now.instance keep
+            → IsToldNo (set_verdict self.now.instance self.now.scales keep) budget bin
+            (map plain_token tokens.old.items) (map plain_token tokens.new.items) found) }
+    {
+        self.memory.recall_refuted(alloc, key, budget, bin, tokens)
+    }
+
     /// Whether the boxes of a set, by rising number, fit: the outcome of the set's class tree where
     /// its count is at most the budget, and `Past` exactly where it is greater. There is at least
     /// one box.
@@ -182,11 +212,33 @@ impl<'a> SetSearch<'a> {
         // For the proof alone: tells the limits of the instance.
         let _limits = self.whole.len();
         let key = SetKey::of(keep);
-        if let Some(outcome) = self.memory.recall(alloc, &key, budget)? {
+        self.decide_by(alloc, keep, &key, budget)
+    }
+
+    // The same of a set whose key is given.
+    pub(crate) fn decide_by(
+        &mut self,
+        alloc: Global,
+        keep: &[u32],
+        key: &SetKey,
+        budget: u64,
+    ) -> Result<Outcome, NoMemory>
+        requires some { 1 ≤ length keep.now }
+        requires boxes { HasBoxes key.now.boxes keep.now }
+        requires set { IsBoxSet self.old.instance keep.now }
+        ensures same { self.new ≡ self.old }
+        ensures outcome { IfOk result (λ r. plain_outcome r
+            ≡ told budget (set_verdict self.old.instance self.old.scales keep.now)) }
+        ensures right { IfOk result (λ r.
+            IsRight (subset self.old.instance keep.now) [] (plain_outcome r)) }
+    {
+        // For the proof alone: tells the limits of the instance.
+        let _limits = self.whole.len();
+        if let Some(outcome) = self.memory.recall(alloc, key, budget)? {
             return Ok(outcome);
         }
         let outcome = self.decide_anew(alloc, keep, budget)?;
-        self.keep_found(alloc, keep, &key, budget, &outcome);
+        self.keep_found(alloc, keep, key, budget, &outcome);
         Ok(outcome)
     }
 }

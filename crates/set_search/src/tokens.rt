@@ -4,7 +4,8 @@ ghost use Rattle.packing_terms.specs.Tokens.PlainToken.{SetRefuted};
 ghost use Rattle.proof_tree.specs.Plain.{plain_token};
 
 use box_instances::NoMemory;
-use proof_tree::Token;
+use proof_tree::{Token, copy_token};
+use std::alloc::Global;
 
 /// Appends a token. Where memory is refused, the tokens are as before.
 pub fn push_token(tokens: &mut Vec<Token>, token: Token) -> Result<(), NoMemory>
@@ -20,7 +21,7 @@ pub fn push_token(tokens: &mut Vec<Token>, token: Token) -> Result<(), NoMemory>
 
 /// Appends that a set is refuted, of a bin or of the boxes that are in, and the tokens that refute
 /// it, which are moved. Where memory is refused, the tokens are as before.
-pub fn push_refuted(
+pub(crate) fn push_refuted(
     tokens: &mut Vec<Token>,
     bin: Option<u32>,
     mut inner: Vec<Token>,
@@ -37,5 +38,25 @@ pub fn push_refuted(
         tokens.truncate(before);
         return Err(NoMemory);
     };
+    Ok(())
+}
+
+/// The same with copies of the tokens that refute the set. Want of memory may leave some of them.
+pub(crate) fn push_copies(
+    alloc: Global,
+    tokens: &mut Vec<Token>,
+    bin: Option<u32>,
+    inner: &[Token],
+) -> Result<(), NoMemory>
+    ensures { OnOk result (map plain_token tokens.new.items
+        ≡ map plain_token tokens.old.items ++ SetRefuted bin ∷ map plain_token inner.now) }
+{
+    let Ok(()) = tokens.reserve(inner.len().saturating_add(1)) else {
+        return Err(NoMemory);
+    };
+    push_token(tokens, Token::SetRefuted { bin })?;
+    for token in inner {
+        push_token(tokens, copy_token(alloc, token)?)?;
+    }
     Ok(())
 }

@@ -21,8 +21,8 @@ grow_bin-requires c =
     (step_set t c.requires.limits c.args.step.placed (lists_of c.args.step.bins.items) c.requires.above
     c.args.step.child c.requires.near)
 
-pub overflow_add-step : goal.overflow_add-step
-overflow_add-step c =
+pub overflow_add-number : goal.overflow_add-number
+overflow_add-number c =
     let t : PlainBinTree = record {
       instance = c.args.instance.now;
       bins = c.args.most;
@@ -56,8 +56,9 @@ enter-requires-clause-node c =
       bins = c.args.most;
       scales = c.args.search.now.scales;
     } in
-    let h = rw (c.requires.search, c.requires.order, c.deref.ensures.value, c.in-Fits.is)
+    let fits = rw (c.requires.search, c.requires.order, c.deref.ensures.value, c.in-Fits.is)
     at c.in_ok-grow_bin.ensures.child in
+    let h = fits.0 in
     let e = rw h.same at c.in_ok-replace_list-in-Fits.ensures.lists in
     let f = rw (c.in_ok-grow_bin.ensures.same, c.requires.search, c.deref-in-Fits.ensures.value)
     at c.in_ok-answers-in-Fits.ensures.answers in
@@ -76,8 +77,8 @@ returns-in-Past c =
     step_past t c.requires.limits c.args.step.placed (lists_of c.args.step.bins.items) c.requires.above
     c.args.step.child c.requires.near c.args.cap h
 
-pub returns-in_ok-push_refuted-in-Refuted : goal.returns-in_ok-push_refuted-in-Refuted
-returns-in_ok-push_refuted-in-Refuted c =
+pub returns-in-Refuted : goal.returns-in-Refuted
+returns-in-Refuted c =
     let t : PlainBinTree = record {
       instance = c.args.instance.now;
       bins = c.args.most;
@@ -86,14 +87,13 @@ returns-in_ok-push_refuted-in-Refuted c =
     let h = rw (c.requires.search, c.requires.order, c.deref.ensures.value, c.in-Refuted.is)
     at c.in_ok-grow_bin.ensures.child in
     let number : c.args.step.child + 1 ≡ suc c.args.step.child = omega arith in
-    let e = c.in_ok-push_refuted-in-Refuted.ensures.appends
-    ∙ (ap (λ (l : List _). map plain_token l ++ SetRefuted (Some (c.args.step.child + 1))
-    ∷ map plain_token c.in-Refuted.inner.items) c.new-tokens.ensures.items
-    ∙ ap (λ n. SetRefuted (Some n) ∷ map plain_token c.in-Refuted.inner.items) number) in
+    let e = h.appended
+    ∙ (ap (λ (l : List _). map plain_token l ++ SetRefuted (Some (c.args.step.child + 1)) ∷ h.tokens)
+    c.new-tokens.ensures.items
+    ∙ ap (λ n. SetRefuted (Some n) ∷ h.tokens) number) in
     ap (λ (l : List PlainToken). Decided (No l c.in-Refuted.own)) e
     ∙ step_refuted t c.requires.limits c.args.step.placed (lists_of c.args.step.bins.items) c.requires.above
-    c.args.step.child c.requires.near c.args.cap (map plain_token c.in-Refuted.inner.items) h.cost c.in-Refuted.own
-    h.is h.counted h.within
+    c.args.step.child c.requires.near c.args.cap h.tokens h.cost c.in-Refuted.own h.is h.counted h.within
 
 pub returns-in_ok-replace_list-in-Fits : goal.returns-in_ok-replace_list-in-Fits
 returns-in_ok-replace_list-in-Fits c =
@@ -102,8 +102,9 @@ returns-in_ok-replace_list-in-Fits c =
       bins = c.args.most;
       scales = c.args.search.now.scales;
     } in
-    let h = rw (c.requires.search, c.requires.order, c.deref.ensures.value, c.in-Fits.is)
+    let fits = rw (c.requires.search, c.requires.order, c.deref.ensures.value, c.in-Fits.is)
     at c.in_ok-grow_bin.ensures.child in
+    let h = fits.0 in
     let e = rw h.same at c.in_ok-replace_list-in-Fits.ensures.lists in
     let f = rw (c.in_ok-grow_bin.ensures.same, c.requires.search, c.deref-in-Fits.ensures.value)
     at c.in_ok-answers-in-Fits.ensures.answers in

@@ -26,8 +26,9 @@ tell-requires-clause-few c =
       bins = c.args.most;
       scales = c.args.search.now.scales;
     } in
-    let h = rw (c.requires.search, c.requires.order, c.deref.ensures.value, c.in-Fits.is)
+    let fits = rw (c.requires.search, c.requires.order, c.deref.ensures.value, c.in-Fits.is)
     at c.in_ok-grow_bin.ensures.child in
+    let h = fits.0 in
     let e = rw h.same at c.in_ok-replace_list-in-Fits.ensures.lists in
     let p = step_placed t c.requires.limits c.args.step.placed (lists_of c.args.step.bins.items) c.requires.above
     c.args.step.child c.requires.near _ h.packing in
@@ -67,8 +68,9 @@ returns-in_ok-replace_list-in-Fits c =
       bins = c.args.most;
       scales = c.args.search.now.scales;
     } in
-    let h = rw (c.requires.search, c.requires.order, c.deref.ensures.value, c.in-Fits.is)
+    let fits = rw (c.requires.search, c.requires.order, c.deref.ensures.value, c.in-Fits.is)
     at c.in_ok-grow_bin.ensures.child in
+    let h = fits.0 in
     let e = rw h.same at c.in_ok-replace_list-in-Fits.ensures.lists in
     let k = rw (c.deref-in-Fits.ensures.value, e) at c.tell.ensures c.args.search.now.scales
     (with_answer (answers_of c.args.instance.now c.args.search.now.scales (lists_of c.args.step.bins.items))

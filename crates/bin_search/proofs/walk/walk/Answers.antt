@@ -197,14 +197,12 @@ loop-node-preserved-in-Refuted c =
       c.in-Refuted.is,
     ) at c.in_ok-grow_bin.ensures.child in
     let number : held.visited + 1 ≡ suc held.visited = omega arith in
-    let tokens : map plain_token c.push_refuted.new.tokens.items ≡ map plain_token c.loop-node.tokens.items
-    ++ SetRefuted (Some (suc held.visited)) ∷ map plain_token c.in-Refuted.inner.items
-    = c.in_ok-push_refuted-in-Refuted.ensures.appends
-    ∙ ap (λ n. map plain_token c.loop-node.tokens.items ++ SetRefuted (Some n)
-    ∷ map plain_token c.in-Refuted.inner.items) number in
+    let tokens : map plain_token c.grow_bin.new.tokens.items ≡ map plain_token c.loop-node.tokens.items
+    ++ SetRefuted (Some (suc held.visited)) ∷ h.tokens
+    = h.appended ∙ ap (λ n. map plain_token c.loop-node.tokens.items ++ SetRefuted (Some n) ∷ h.tokens) number in
     rw (tokens, same_above held (held.visited + 1) hs) (record {
       left = refuted_next t whole (map plain_token c.loop-node.tokens.items) c.loop-node.count held
-          (nodes_above held hs) left more _ (map plain_token c.in-Refuted.inner.items) c.in-Refuted.own h;
+          (nodes_above held hs) left more h.cost h.tokens c.in-Refuted.own h.is h.counted;
       within = (let l = h.within in omega (arith, l, c.loop-node.invariant.within));
       same = c.in_ok-grow_bin.ensures.same ∙ c.loop-node.invariant.same;
     })
@@ -235,7 +233,7 @@ bin_numbers-requires c =
       c.in-Fits.is,
     ) at c.in_ok-grow_bin.ensures.child in
     let entered = fitting t held (plain_placed c.enter_child.new.node) (c.args.cap - c.loop-node.count) c.in-Fits.own
-    c.in-Fits.set.items c.in-Fits.numbers.items h c.in_ok-change-in-Fits.ensures.child in
+    c.in-Fits.set.items c.in-Fits.numbers.items h.0 c.in_ok-change-in-Fits.ensures.child in
     let child = plain_placed c.enter_child.new.node in
     let p = entered_placed t whole (map plain_token c.loop-node.tokens.items) c.loop-node.count held
     (nodes_above held hs) left more _ child c.in-Fits.own entered c.requires.limits in
@@ -272,7 +270,7 @@ returns-then-node-order-clause-outcome c =
       c.in-Fits.is,
     ) at c.in_ok-grow_bin.ensures.child in
     let entered = fitting t held (plain_placed c.enter_child.new.node) (c.args.cap - c.loop-node.count) c.in-Fits.own
-    c.in-Fits.set.items c.in-Fits.numbers.items h c.in_ok-change-in-Fits.ensures.child in
+    c.in-Fits.set.items c.in-Fits.numbers.items h.0 c.in_ok-change-in-Fits.ensures.child in
     let child = plain_placed c.enter_child.new.node in
     let m = ap length c.requires.order in
     let n = c.if-node-order.true in
@@ -282,7 +280,7 @@ returns-then-node-order-clause-outcome c =
     ∙ finished c.args.cap _ whole (entered_last t whole (map plain_token c.loop-node.tokens.items) c.loop-node.count
     held (nodes_above held hs) left more _ child c.in-Fits.own entered
     (drop_all child.placed (ranked c.args.instance.now) (omega (arith, m, n))))
-    (let l = h.within in omega (arith, l, c.loop-node.invariant.within))
+    (let l = h.0.within in omega (arith, l, c.loop-node.invariant.within))
 
 pub loop-node-preserved : goal.loop-node-preserved
 loop-node-preserved c =
@@ -310,7 +308,7 @@ loop-node-preserved c =
       c.in-Fits.is,
     ) at c.in_ok-grow_bin.ensures.child in
     let entered = fitting t held (plain_placed c.enter_child.new.node) (c.args.cap - c.loop-node.count) c.in-Fits.own
-    c.in-Fits.set.items c.in-Fits.numbers.items h c.in_ok-change-in-Fits.ensures.child in
+    c.in-Fits.set.items c.in-Fits.numbers.items h.0 c.in_ok-change-in-Fits.ensures.child in
     let child = plain_placed c.enter_child.new.node in
     let p = entered_placed t whole (map plain_token c.loop-node.tokens.items) c.loop-node.count held
     (nodes_above held hs) left more _ child c.in-Fits.own entered c.requires.limits in
@@ -319,7 +317,8 @@ loop-node-preserved c =
     let tokens : map plain_token c.push_token-in-Fits.new.tokens.items ≡ map plain_token c.loop-node.tokens.items
     ++ Assign (suc (box_of c.args.instance.now child)) ∷ []
     = c.in_ok-push_token-in-Fits.ensures.appends
-    ∙ ap (λ (x : PlainToken). map plain_token c.loop-node.tokens.items ++ x ∷ []) c.assign-in-Fits.ensures in
+    ∙ (ap (λ (l : List PlainToken). l ++ plain_token c.assign-in-Fits.result ∷ []) h.1
+    ∙ ap (λ (x : PlainToken). map plain_token c.loop-node.tokens.items ++ x ∷ []) c.assign-in-Fits.ensures) in
     let change = c.in_ok-change-in-Fits.change in
     let waiting : map plain_change (reverse c.push.new.self.items) ≡ plain_change change ∷ hs
     = ap (λ (ws : List Change). map plain_change (reverse ws)) c.in-Ok.ensures.items
@@ -328,6 +327,6 @@ loop-node-preserved c =
       left = entered_next t whole (map plain_token c.loop-node.tokens.items) c.loop-node.count held
           (nodes_above held hs) left more _ child c.in-Fits.own entered c.requires.limits
           (omega (arith, q, m, c.if-node-order.false));
-      within = (let l = h.within in omega (arith, l, c.loop-node.invariant.within));
+      within = (let l = h.0.within in omega (arith, l, c.loop-node.invariant.within));
       same = c.in_ok-grow_bin.ensures.same ∙ c.loop-node.invariant.same;
     })

@@ -22,8 +22,16 @@ returns-else-own-left-clause-opened c =
     let h = rw (c.deref.ensures.value, c.in-Refuted.is) at c.in_ok-grow.ensures.child in
     let k = h.counted in
     let l = h.within in
-    record { cost = h.cost; is = h.is; counted = omega (arith, k); within = omega (arith, k, l, c.if-own-left.false) }
+    record {
+      tokens = h.tokens;
+      cost = h.cost;
+      is = h.is;
+      counted = omega (arith, k);
+      within = omega (arith, k, l, c.if-own-left.false);
+      appended = h.appended;
+    }
 
 pub returns-in-Fits-clause-opened : goal.returns-in-Fits-clause-opened
 returns-in-Fits-clause-opened c =
-    record { decided = refl; fits = rw (c.deref.ensures.value, c.in-Fits.is) at c.in_ok-grow.ensures.child }
+    let h = rw (c.deref.ensures.value, c.in-Fits.is) at c.in_ok-grow.ensures.child in
+    (record { decided = refl; fits = h.0 }, h.1)

@@ -39,12 +39,11 @@ returns-in-Refuted c =
     } in
     let h = rw (c.requires.search, c.requires.order, c.deref.ensures.value, c.in-Refuted.is)
     at c.in_ok-grow.ensures.child in
-    let e = c.in_ok-push_refuted-in-Refuted.ensures.appends
-    ∙ ap (λ (l : List _). map plain_token l ++ SetRefuted None ∷ map plain_token c.in-Refuted.inner.items)
-    c.new-tokens.ensures.items in
+    let e = h.appended
+    ∙ ap (λ (l : List _). map plain_token l ++ SetRefuted None ∷ h.tokens) c.new-tokens.ensures.items in
     ap (λ (l : List PlainToken). Decided (No l c.in-Refuted.own)) e
     ∙ first_refuted t c.args.above.decided c.args.above.taken.items c.requires.above c.args.cap
-    (map plain_token c.in-Refuted.inner.items) h.cost c.in-Refuted.own h.is h.counted h.within
+    h.tokens h.cost c.in-Refuted.own h.is h.counted h.within
 
 pub walk-requires-clause-node : goal.walk-requires-clause-node
 walk-requires-clause-node c =
@@ -53,8 +52,9 @@ walk-requires-clause-node c =
       goal = c.args.value;
       scales = c.args.search.now.scales;
     } in
-    let h = rw (c.requires.search, c.requires.order, c.deref.ensures.value, c.in-Fits.is)
+    let fits = rw (c.requires.search, c.requires.order, c.deref.ensures.value, c.in-Fits.is)
     at c.in_ok-grow.ensures.child in
+    let h = fits.0 in
     subst (λ (us : List ℕ). IsChosen c.args.instance.now (c.args.above.decided + 1) us c.in-Fits.numbers.items)
     (sym h.same)
     (first_chosen t c.args.above.decided c.args.above.taken.items c.requires.above c.in-Fits.numbers.items
@@ -67,8 +67,9 @@ returns c =
       goal = c.args.value;
       scales = c.args.search.now.scales;
     } in
-    let h = rw (c.requires.search, c.requires.order, c.deref.ensures.value, c.in-Fits.is)
+    let fits = rw (c.requires.search, c.requires.order, c.deref.ensures.value, c.in-Fits.is)
     at c.in_ok-grow.ensures.child in
+    let h = fits.0 in
     let k = rw (c.in_ok-grow.ensures.same, h.same) at c.walk.ensures.outcome in
     subst (λ (x : SearchTree). IfOk c.walk.result (λ r. plain_outcome r ≡ told c.args.cap (outcome x)))
     (first_fits t c.args.above.decided c.args.above.taken.items c.requires.above c.in-Fits.numbers.items h.cost

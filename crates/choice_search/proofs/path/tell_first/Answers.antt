@@ -44,8 +44,9 @@ meet-kind-requires-clause-taken c =
       goal = c.args.value;
       scales = c.args.search.now.scales;
     } in
-    let h = rw (c.requires.search, c.requires.order, c.deref.ensures.value, c.in-Fits.is)
+    let fits = rw (c.requires.search, c.requires.order, c.deref.ensures.value, c.in-Fits.is)
     at c.in_ok-grow.ensures.child in
+    let h = fits.0 in
     subst (λ (us : List ℕ). AreBoxes c.args.instance.now us) (sym (c.deref-in-Fits.ensures.value ∙ h.same))
     (first_boxes t c.args.above.decided c.args.above.taken.items c.requires.above)
 
@@ -56,8 +57,9 @@ returns c =
       goal = c.args.value;
       scales = c.args.search.now.scales;
     } in
-    let h = rw (c.requires.search, c.requires.order, c.deref.ensures.value, c.in-Fits.is)
+    let fits = rw (c.requires.search, c.requires.order, c.deref.ensures.value, c.in-Fits.is)
     at c.in_ok-grow.ensures.child in
+    let h = fits.0 in
     let k = rw (c.deref-in-Fits-2.ensures.value, h.same) at c.tell.ensures c.args.search.now.scales
     c.in-Fits._numbers.items in
     k ∙ ap node_told (first_fits t c.args.above.decided c.args.above.taken.items c.requires.above

@@ -140,11 +140,10 @@ loop-node-preserved-in-Refuted c =
     let h = rw (c.loop-node.invariant.same, c.requires.search, c.in-Refuted.is)
     at c.in_ok-open_first-in-Divided.ensures.opened in
     let number : c.in-Divided.v + 1 ≡ suc c.in-Divided.v = omega arith in
-    let tokens : map plain_token c.push_refuted.new.tokens.items
-    ≡ (map plain_token c.loop-node.tokens.items ++ Choose (suc c.in-Divided.v) ∷ []) ++ SetRefuted None
-    ∷ map plain_token c.in-Refuted.inner.items
-    = c.in_ok-push_refuted-in-Refuted.ensures.appends
-    ∙ ap (λ (l : List PlainToken). l ++ SetRefuted None ∷ map plain_token c.in-Refuted.inner.items)
+    let tokens : map plain_token c.open_first.new.tokens.items
+    ≡ (map plain_token c.loop-node.tokens.items ++ Choose (suc c.in-Divided.v) ∷ []) ++ SetRefuted None ∷ h.tokens
+    = h.appended
+    ∙ ap (λ (l : List PlainToken). l ++ SetRefuted None ∷ h.tokens)
     (c.in_ok-push_token-in-Divided.ensures.appends
     ∙ ap (λ n. map plain_token c.loop-node.tokens.items ++ Choose n ∷ []) number) in
     let k = h.counted in
@@ -152,7 +151,7 @@ loop-node-preserved-in-Refuted c =
     rw (tokens, count) (record {
       left = outside_next t whole (map plain_token c.loop-node.tokens.items) c.loop-node.count c.loop-node.node
           (reverse c.loop-node.stack.items) c.loop-node.invariant.left c.in-Divided.v met.0 met.1 met.2
-          (map plain_token c.in-Refuted.inner.items) h.cost h.is;
+          h.tokens h.cost h.is;
       within = (let l = h.within in omega (arith, l, k, c.loop-node.invariant.within));
       same = c.in_ok-open_first-in-Divided.ensures.same ∙ c.loop-node.invariant.same;
     })
@@ -169,13 +168,14 @@ loop-node-preserved c =
     (Divided c.in-Divided.v)
     = subst (λ us. IsMet c.args.instance.now c.args.value c.loop-node.node.decided us (Divided c.in-Divided.v))
     c.deref.ensures.value c.in-Divided.ensures in
-    let h = rw (c.loop-node.invariant.same, c.requires.search, c.in-Entered.is)
+    let entered = rw (c.loop-node.invariant.same, c.requires.search, c.in-Entered.is)
     at c.in_ok-open_first-in-Divided.ensures.opened in
+    let h = entered.0 in
     let f = h.fits in
     let number : c.in-Divided.v + 1 ≡ suc c.in-Divided.v = omega arith in
-    let tokens : map plain_token c.push_token-in-Divided.new.tokens.items ≡ map plain_token c.loop-node.tokens.items
+    let tokens : map plain_token c.open_first.new.tokens.items ≡ map plain_token c.loop-node.tokens.items
     ++ Choose (suc c.in-Divided.v) ∷ []
-    = c.in_ok-push_token-in-Divided.ensures.appends
+    = entered.1 ∙ c.in_ok-push_token-in-Divided.ensures.appends
     ∙ ap (λ n. map plain_token c.loop-node.tokens.items ++ Choose n ∷ []) number in
     let waiting : reverse c.push.new.self.items ≡ record c.loop-node.node { decided = c.loop-node.node.decided + 1 }
     ∷ reverse c.loop-node.stack.items

@@ -4,10 +4,10 @@ use Rattle.conservative_scales.proofs.fastest.may_exceed.Goals as goal
 
 pub loop-box_no-preserved : goal.loop-box_no-preserved
 loop-box_no-preserved c =
+    let s = c.requires.shares c.loop-box_no.box_no (omega arith) in
     shared_next c.args.instance.now (λ v. get_or c.args.images.now (c.args.at + v) 0) c.loop-box_no.box_no
-    c.loop-box_no.total c.share-share.result _
-    c.loop-box_no.invariant (rw (← c.side.ensures, ← c.container_side-whole_side.ensures) c.share-share.ensures.most)
-    c.share-share.ensures.limit refl
+    c.loop-box_no.total (get_or c.args.shares.now c.loop-box_no.box_no 0) _
+    c.loop-box_no.invariant s.0 s.1 refl
     (c.requires.small c.loop-box_no.box_no (omega arith))
 
 pub returns : goal.returns

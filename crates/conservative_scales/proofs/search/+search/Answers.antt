@@ -48,18 +48,24 @@ search-requires t c =
                 (
                   omega arith,
                   (
-                    (let r = rows_less c.args.dim (c.args.dim - 1) (box_count c.args.instance.now) (omega arith) in
-                        omega (arith, r, c.scale.ensures.length, c.len.ensures.value, c.requires.room)),
+                    c.requires.shares_room,
                     (
-                      legal_written c.args.instance.now 0 c.args.dim (c.args.dim - 1) 0 _ c.args.tuple.now Id
-                          (omega arith) k refl tt c.requires.legal,
-                      partial_written c.args.instance.now 0 c.args.dim (c.args.dim - 1) 0 _ c.args.tuple.now Id
-                          (omega arith) k refl
-                          (λ v. get_or c.args.images.now (c.args.at + v) 0)
-                          (λ v. get_or c.scale.new.images (c.args.at + c.len.result + v) 0) _ _
-                          c.requires.limits c.requires.fit (omega arith) tt
-                          (λ v l. rw c.len.ensures.value (c.scale.ensures.scaled v l))
-                          (ap (λ w. c.args.whole_product * w) c.whole_of.ensures.value) c.requires.partial,
+                      c.requires.shares,
+                      (
+                        (let r = rows_less c.args.dim (c.args.dim - 1) (box_count c.args.instance.now) (omega arith) in
+                            omega (arith, r, c.scale.ensures.length, c.len.ensures.value, c.requires.room)),
+                        (
+                          legal_written c.args.instance.now 0 c.args.dim (c.args.dim - 1) 0 _ c.args.tuple.now Id
+                              (omega arith) k refl tt c.requires.legal,
+                          partial_written c.args.instance.now 0 c.args.dim (c.args.dim - 1) 0 _ c.args.tuple.now Id
+                              (omega arith) k refl
+                              (λ v. get_or c.args.images.now (c.args.at + v) 0)
+                              (λ v. get_or c.scale.new.images (c.args.at + c.len.result + v) 0) _ _
+                              c.requires.limits c.requires.fit (omega arith) tt
+                              (λ v l. rw c.len.ensures.value (c.scale.ensures.scaled v l))
+                              (ap (λ w. c.args.whole_product * w) c.whole_of.ensures.value) c.requires.partial,
+                        ),
+                      ),
                     ),
                   ),
                 ),
@@ -129,32 +135,38 @@ search-requires-in-Some t c =
                 (
                   omega arith,
                   (
-                    (let r = rows_less c.args.dim (c.args.dim - 1) (box_count c.args.instance.now) (omega arith) in
-                        omega (
-                          arith,
-                          r,
-                          c.scale-in-Some.ensures.length,
-                          c.loop-next.invariant.length,
-                          c.len.ensures.value,
-                          c.requires.room,
-                        )),
+                    c.requires.shares_room,
                     (
-                      legal_written c.args.instance.now 0 c.args.dim (c.args.dim - 1) 0 _ c.loop-next.tuple c.in-Some.f
-                          (omega arith) k c.loop-next.invariant.open_at.kept
-                          (rw c.in-Some.is at c.loop-next.invariant.open_at.legal) c.requires.legal,
-                      partial_written c.args.instance.now 0 c.args.dim (c.args.dim - 1) 0 _ c.loop-next.tuple
-                          c.in-Some.f (omega arith) k c.loop-next.invariant.open_at.kept
-                          (λ v. get_or c.args.images.now (c.args.at + v) 0)
-                          (λ v. get_or c.scale-in-Some.new.images (c.args.at + c.len.result + v) 0) _ _
-                          c.requires.limits c.requires.fit (omega arith)
-                          (rw c.in-Some.is at c.loop-next.invariant.open_at.legal)
-                          (λ v l. rw (
-                            c.len.ensures.value,
-                            ←
-                                c.loop-next.invariant.products (c.args.at + v) (omega (arith, l)),
-                          )
-                          (c.scale-in-Some.ensures.scaled v l))
-                          (ap (λ w. c.args.whole_product * w) c.whole_of-in-Some.ensures.value) c.requires.partial,
+                      c.requires.shares,
+                      (
+                        (let r = rows_less c.args.dim (c.args.dim - 1) (box_count c.args.instance.now) (omega arith) in
+                            omega (
+                              arith,
+                              r,
+                              c.scale-in-Some.ensures.length,
+                              c.loop-next.invariant.length,
+                              c.len.ensures.value,
+                              c.requires.room,
+                            )),
+                        (
+                          legal_written c.args.instance.now 0 c.args.dim (c.args.dim - 1) 0 _ c.loop-next.tuple c.in-Some.f
+                              (omega arith) k c.loop-next.invariant.open_at.kept
+                              (rw c.in-Some.is at c.loop-next.invariant.open_at.legal) c.requires.legal,
+                          partial_written c.args.instance.now 0 c.args.dim (c.args.dim - 1) 0 _ c.loop-next.tuple
+                              c.in-Some.f (omega arith) k c.loop-next.invariant.open_at.kept
+                              (λ v. get_or c.args.images.now (c.args.at + v) 0)
+                              (λ v. get_or c.scale-in-Some.new.images (c.args.at + c.len.result + v) 0) _ _
+                              c.requires.limits c.requires.fit (omega arith)
+                              (rw c.in-Some.is at c.loop-next.invariant.open_at.legal)
+                              (λ v l. rw (
+                                c.len.ensures.value,
+                                ←
+                                    c.loop-next.invariant.products (c.args.at + v) (omega (arith, l)),
+                              )
+                              (c.scale-in-Some.ensures.scaled v l))
+                              (ap (λ w. c.args.whole_product * w) c.whole_of-in-Some.ensures.value) c.requires.partial,
+                        ),
+                      ),
                     ),
                   ),
                 ),

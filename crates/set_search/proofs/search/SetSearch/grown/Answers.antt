@@ -9,20 +9,22 @@ use Rattle.class_search.specs.Right.{IsRight}
 use Rattle.set_search.proofs.Verdicts.{told_same}
 use Rattle.set_search.proofs.search.SetSearch.grown.Goals as goal
 
-pub returns-in-No-clause-child : goal.returns-in-No-clause-child
-returns-in-No-clause-child c =
+pub returns-in_ok-push_refuted-in-No-clause-child : goal.returns-in_ok-push_refuted-in-No-clause-child
+returns-in_ok-push_refuted-in-No-clause-child c =
     let e = c.as_slice.ensures.value in
     let y = told_same (c.args.left - 1)
     (set_verdict c.args.self.now.instance c.args.self.now.scales c.args.set.items)
-    (No (map plain_token c.in-No.tokens.items) c.in-No.count)
+    (No (map plain_token c.in-No.inner.items) c.in-No.count)
     (ap plain_outcome (sym c.in-No.is)
-    ∙ (c.in_ok-decide.ensures.outcome
+    ∙ (c.in_ok-decide_by.ensures.outcome
     ∙ ap (λ us. told (c.args.left - 1) (set_verdict c.args.self.now.instance c.args.self.now.scales us)) e)) in
     record {
+      tokens = map plain_token c.in-No.inner.items;
       cost = c.in-No.count;
       is = y.same;
       counted = refl;
       within = (let l = y.within in omega (arith, l, c.requires.left));
+      appended = c.in_ok-push_refuted-in-No.ensures.appends;
     }
 
 pub returns-in-Yes-clause-child : goal.returns-in-Yes-clause-child
@@ -32,16 +34,18 @@ returns-in-Yes-clause-child c =
     (set_verdict c.args.self.now.instance c.args.self.now.scales c.args.set.items)
     (Yes c.in-Yes.numbers.items c.in-Yes.count)
     (ap plain_outcome (sym c.in-Yes.is)
-    ∙ (c.in_ok-decide.ensures.outcome
+    ∙ (c.in_ok-decide_by.ensures.outcome
     ∙ ap (λ us. told (c.args.left - 1) (set_verdict c.args.self.now.instance c.args.self.now.scales us)) e)) in
     let pack : IsPacking (subset c.args.self.now.instance c.as_slice.result.now) c.in-Yes.numbers.items
     = subst (λ r. IsRight (subset c.args.self.now.instance c.as_slice.result.now) [] (plain_outcome r)) c.in-Yes.is
-    c.in_ok-decide.ensures.right in
-    record {
-      same = refl;
-      cost = c.in-Yes.count;
-      is = y.same;
-      counted = refl;
-      within = (let l = y.within in omega (arith, l, c.requires.left));
-      packing = subst (λ (us : List ℕ). IsPacking (subset c.args.self.now.instance us) c.in-Yes.numbers.items) e pack;
-    }
+    c.in_ok-decide_by.ensures.right in (
+      record {
+        same = refl;
+        cost = c.in-Yes.count;
+        is = y.same;
+        counted = refl;
+        within = (let l = y.within in omega (arith, l, c.requires.left));
+        packing = subst (λ (us : List ℕ). IsPacking (subset c.args.self.now.instance us) c.in-Yes.numbers.items) e pack;
+      },
+      refl,
+    )

@@ -1,0 +1,26 @@
+use Rattle.std.proofs.Common.{ℕ, map, List, Option, Result, Ok, Err}
+use Rattle.std.specs.Prelude.{IfOk}
+use Rattle.packing_terms.specs.Goals.{IsBoxSet}
+use Rattle.packing_terms.specs.Tokens.{PlainToken}
+use Rattle.tree_terms.specs.OuterTrees.{set_verdict}
+use Rattle.proof_tree.specs.Plain.{plain_token}
+use Rattle.set_search.specs.Memories.{HasBoxes, IsRecalledNo, IsToldNo}
+use Rattle.set_search.proofs.Memories.{recalled_no}
+use Rattle.set_search.proofs.search.SetSearch.told_refuted.Goals as goal
+
+pub returns : goal.returns
+returns c = rw (← c.self.view_is) (go c.recall_refuted.result c.recall_refuted.ensures)
+  where
+    old : List PlainToken
+    old = map plain_token c.args.tokens.now.items
+
+    new : List PlainToken
+    new = map plain_token c.recall_refuted.new.tokens.items
+
+    go : {E : Type 0} (r : Result (Option ℕ) E)
+        → IfOk r (λ found. IsRecalledNo c.self.inside.memory c.args.key.now.boxes c.args.budget c.args.bin old new found)
+        → IfOk r (λ found. (keep : List ℕ) → HasBoxes c.args.key.now.boxes keep → IsBoxSet c.self.inside.whole.now keep
+        → IsToldNo (set_verdict c.self.inside.whole.now c.self.inside.scales keep) c.args.budget c.args.bin old new found)
+    go (Ok found) h = λ keep has set. recalled_no c.self.inside.whole.now c.self.inside.scales c.self.inside.memory
+        c.args.key.now.boxes keep c.args.budget c.args.bin old new found c.self.invariant.1 has set h
+    go (Err e) h = tt
