@@ -1,34 +1,21 @@
 -- A set with one box more.
-use Rattle.std.proofs.Common.{◌≡◌, ℕ, ◌<◌, ap, ◌∙◌, refl, Bool, true, false, ◌||◌, eqb, ltb, List, [], ◌∷◌}
+use Rattle.std.proofs.Common.{◌≡◌, ℕ, ◌<◌, ap, sym, ◌∙◌, Bool, true, false, ◌||◌, eqb, ltb, List, [], ◌∷◌}
 use Rattle.std.specs.Prelude.{if◌then◌else◌}
 use Rattle.std.specs.List.{All}
+use Rattle.std.proofs.Math.Bool.{or_assoc, or_comm, or-false}
 use Rattle.std.proofs.lemmas.List.Elements.{All-nil, All-cons, All-head, All-tail}
 use Rattle.packing_terms.specs.OuterRefutation.{insert_box}
 use Rattle.set_search.specs.Memories.{has_box}
 
 -- its boxes are those of the set and that one
 pub has_insert : (v : ℕ) (us : List ℕ) (x : ℕ) → has_box (insert_box v us) x ≡ has_box us x || eqb x v
-has_insert v [] x = go (eqb x v)
-  where
-    go : (b : Bool) → b || false ≡ b
-    go true = refl
-    go false = refl
+has_insert v [] x = or-false (eqb x v)
 has_insert v (u ∷ us) x = go (ltb v u) (has_insert v us x)
   where
-    turned : (a b : Bool) → a || b ≡ b || a
-    turned true true = refl
-    turned true false = refl
-    turned false true = refl
-    turned false false = refl
-
-    grouped : (a b c : Bool) → a || (b || c) ≡ (a || b) || c
-    grouped true b c = refl
-    grouped false b c = refl
-
     go : (b : Bool) → has_box (insert_box v us) x ≡ has_box us x || eqb x v
         → has_box (if b then v ∷ u ∷ us else u ∷ insert_box v us) x ≡ (eqb x u || has_box us x) || eqb x v
-    go true h = turned (eqb x v) (eqb x u || has_box us x)
-    go false h = ap (λ b. eqb x u || b) h ∙ grouped (eqb x u) (has_box us x) (eqb x v)
+    go true h = or_comm (eqb x v) (eqb x u || has_box us x)
+    go false h = ap (λ b. eqb x u || b) h ∙ sym (or_assoc (eqb x u) (has_box us x) (eqb x v))
 
 -- where all of them are below a number, so are those of the set and that one
 pub below_inserted : (n v : ℕ) (us : List ℕ) → All (λ u. u < n) (insert_box v us) → All (λ u. u < n) us × (v < n)

@@ -1,10 +1,10 @@
 //! A child of an outer tree whose set grew by one box.
-ghost use Rattle.std.specs.Prelude.{◌≡◌, ◌≤◌, IfOk, length, map};
+ghost use Rattle.std.specs.Prelude.{◌≡◌, ◌≤◌, IfOk, OnErr, length, map};
 ghost use Rattle.packing_terms.specs.Goals.{IsBoxSet};
 ghost use Rattle.packing_terms.specs.OuterRefutation.{insert_box};
 ghost use Rattle.tree_terms.specs.OuterTrees.{set_verdict, yes_numbers};
 ghost use Rattle.proof_tree.specs.Plain.{plain_token};
-ghost use Rattle.set_search.specs.Children.{IsChild, IsFoundSet};
+ghost use Rattle.set_search.specs.Children.{AreLonger, IsChild, IsFoundSet};
 ghost use Rattle.set_search.specs.Memories.{HasBoxes};
 
 use crate::insert::fill_with;
@@ -36,7 +36,8 @@ impl<'a> SetSearch<'a> {
     /// where the child's own count is greater than that. The boxes of a set stand by rising number.
     ///
     /// Where the set is refuted, that is appended to the tokens, of this bin or without a number,
-    /// and what refutes it. Where it fits, the tokens are as before.
+    /// and what refutes it. Where it isn't, the tokens are as before. Where memory is refused, they
+    /// are those of before with some more behind them at most.
     pub fn grow(
         &mut self,
         alloc: Global,
@@ -51,6 +52,8 @@ impl<'a> SetSearch<'a> {
         ensures child { IfOk result (λ child.
             IsChild self.old.instance self.old.scales left (insert_box v keep.now) bin
             (map plain_token tokens.old.items) (map plain_token tokens.new.items) child) }
+        ensures front { OnErr result (AreLonger (map plain_token tokens.old.items)
+            (map plain_token tokens.new.items)) }
     {
         if left == 0 {
             return Ok(Child::Past);
@@ -84,6 +87,8 @@ impl<'a> SetSearch<'a> {
         ensures child { IfOk result (λ child.
             IsChild self.old.instance self.old.scales left set.items bin
             (map plain_token tokens.old.items) (map plain_token tokens.new.items) child) }
+        ensures front { OnErr result (AreLonger (map plain_token tokens.old.items)
+            (map plain_token tokens.new.items)) }
     {
         match self.decide_by(alloc, set.as_slice(), key, left - 1)? {
             Outcome::Past => Ok(Child::Past),

@@ -51,7 +51,9 @@ impl SetKey {
     }
 
     /// A number below 65,536: the highest bits, which hang on all boxes.
-    pub fn place(&self) -> usize {
+    pub fn place(&self) -> usize
+        ensures { result < 65536 }
+    {
         (self.hash >> 48) as usize
     }
 }

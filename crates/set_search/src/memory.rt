@@ -1,8 +1,9 @@
 //! The memory of decided sets.
-ghost use Rattle.std.specs.Prelude.{◌≡◌, [], map, IfOk, IfSome};
+ghost use Rattle.std.specs.Prelude.{◌≡◌, [], map, IfOk, IfSome, OnErr};
 ghost use Rattle.std.specs.List.{All, Contains};
 ghost use Rattle.work_share.specs.Outcomes.{plain_outcome};
 ghost use Rattle.proof_tree.specs.Plain.{plain_token};
+ghost use Rattle.set_search.specs.Children.{AreLonger};
 ghost use Rattle.set_search.specs.Entries.{plain_entry};
 ghost use Rattle.set_search.specs.Memories.{IsEntryOf, IsPut, IsRecalled, IsRecalledNo};
 
@@ -49,6 +50,7 @@ pub struct SetMemory {
 impl Model for SetMemory {
     ghost use Rattle.std.specs.Prelude.{List, map};
     ghost use Rattle.set_search.specs.Memories.{PlainEntry};
+    ghost use Rattle.set_search.specs.Children.{AreLonger};
     ghost use Rattle.set_search.specs.Entries.{plain_entry};
 
     ghost Value = { List PlainEntry };
@@ -122,8 +124,10 @@ impl SetMemory {
         bin: Option<u32>,
         tokens: &mut Vec<Token>,
     ) -> Result<Option<u64>, NoMemory>
-        ensures { IfOk result (λ found. IsRecalledNo self.now key.now.boxes budget bin
+        ensures found { IfOk result (λ found. IsRecalledNo self.now key.now.boxes budget bin
             (map plain_token tokens.old.items) (map plain_token tokens.new.items) found) }
+        ensures front { OnErr result (AreLonger (map plain_token tokens.old.items)
+            (map plain_token tokens.new.items)) }
     {
         let Some(entry) = self.entry_of(key) else {
             return Ok(None);

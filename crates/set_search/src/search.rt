@@ -1,8 +1,9 @@
 //! The decision of sets of the boxes of one instance.
-ghost use Rattle.std.specs.Prelude.{◌≡◌, ◌≤◌, ℕ, List, length, map, IfOk, OnOk, []};
+ghost use Rattle.std.specs.Prelude.{◌≡◌, ◌≤◌, ℕ, List, length, map, IfOk, OnOk, OnErr, []};
 ghost use Rattle.packing_terms.specs.Goals.{subset, IsBoxSet};
 ghost use Rattle.packing_terms.specs.Limits.{IsDimCount, most_boxes};
 ghost use Rattle.set_search.specs.Searches.{AreClosers};
+ghost use Rattle.set_search.specs.Children.{AreLonger};
 ghost use Rattle.set_search.specs.Memories.{HasBoxes, IsToldNo};
 ghost use Rattle.packing_terms.specs.OuterRefutation.{insert_box};
 ghost use Rattle.proof_tree.specs.Plain.{plain_token};
@@ -189,10 +190,12 @@ impl<'a> SetSearch<'a> {
         bin: Option<u32>,
         tokens: &mut Vec<Token>,
     ) -> Result<Option<u64>, NoMemory>
-        ensures { IfOk result (λ found. (keep : List ℕ) → HasBoxes key.now.boxes keep
+        ensures told { IfOk result (λ found. (keep : List ℕ) → HasBoxes key.now.boxes keep
             → IsBoxSet self.now.instance keep
             → IsToldNo (set_verdict self.now.instance self.now.scales keep) budget bin
             (map plain_token tokens.old.items) (map plain_token tokens.new.items) found) }
+        ensures front { OnErr result (AreLonger (map plain_token tokens.old.items)
+            (map plain_token tokens.new.items)) }
     {
         self.memory.recall_refuted(alloc, key, budget, bin, tokens)
     }

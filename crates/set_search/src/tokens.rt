@@ -2,6 +2,7 @@
 ghost use Rattle.std.specs.Prelude.{◌≡◌, ◌++◌, ◌∷◌, [], map, OnOk, OnErr};
 ghost use Rattle.packing_terms.specs.Tokens.PlainToken.{SetRefuted};
 ghost use Rattle.proof_tree.specs.Plain.{plain_token};
+ghost use Rattle.set_search.specs.Children.{AreLonger};
 
 use box_instances::NoMemory;
 use proof_tree::{Token, copy_token};
@@ -48,8 +49,10 @@ pub(crate) fn push_copies(
     bin: Option<u32>,
     inner: &[Token],
 ) -> Result<(), NoMemory>
-    ensures { OnOk result (map plain_token tokens.new.items
+    ensures appends { OnOk result (map plain_token tokens.new.items
         ≡ map plain_token tokens.old.items ++ SetRefuted bin ∷ map plain_token inner.now) }
+    ensures front { OnErr result (AreLonger (map plain_token tokens.old.items)
+        (map plain_token tokens.new.items)) }
 {
     let Ok(()) = tokens.reserve(inner.len().saturating_add(1)) else {
         return Err(NoMemory);

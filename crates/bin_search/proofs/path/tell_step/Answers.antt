@@ -44,8 +44,9 @@ returns-in-Past c =
       bins = c.args.most;
       scales = c.args.search.now.scales;
     } in
-    let h = rw (c.requires.search, c.requires.order, c.deref.ensures.value, c.in-Past.is)
+    let past = rw (c.requires.search, c.requires.order, c.deref.ensures.value, c.in-Past.is)
     at c.in_ok-grow_bin.ensures.child in
+    let h = past.0 in
     step_past_told t c.requires.limits c.args.step.placed (lists_of c.args.step.bins.items) c.requires.above
     c.args.step.child c.requires.near h
 

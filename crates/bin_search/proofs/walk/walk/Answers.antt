@@ -160,13 +160,14 @@ returns-in-Past-clause-outcome c =
     let left = c.loop-node.invariant.left in
     let few = left.node.visited in
     let more : held.visited < width t held = omega (arith, few, counted, c.if-node-children.false) in
-    let h = rw (
+    let past = rw (
       c.loop-node.invariant.same,
       c.requires.search,
       c.requires.order,
       c.deref-else-node-children.ensures.value,
       c.in-Past.is,
     ) at c.in_ok-grow_bin.ensures.child in
+    let h = past.0 in
     let p = child_past t whole (map plain_token c.loop-node.tokens.items) c.loop-node.count held (nodes_above held hs)
     left more in
     sym (told_past c.args.cap whole (omega (arith, p, h, c.loop-node.invariant.within)))

@@ -9,7 +9,9 @@ less_rise (Yes numbers cost) left l = omega (arith, l)
 less_rise (No tokens cost) left l = omega (arith, l)
 
 pub returns-in-Past-clause-opened : goal.returns-in-Past-clause-opened
-returns-in-Past-clause-opened c = less_rise _ _ (rw (c.deref.ensures.value, c.in-Past.is) at c.in_ok-grow.ensures.child)
+returns-in-Past-clause-opened c =
+    let h = rw (c.deref.ensures.value, c.in-Past.is) at c.in_ok-grow.ensures.child in
+    less_rise _ _ h.0
 
 pub returns-then-own-left-clause-opened : goal.returns-then-own-left-clause-opened
 returns-then-own-left-clause-opened c =

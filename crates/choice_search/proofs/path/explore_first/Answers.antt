@@ -26,8 +26,9 @@ returns-in-Past c =
       goal = c.args.value;
       scales = c.args.search.now.scales;
     } in
-    let h = rw (c.requires.search, c.requires.order, c.deref.ensures.value, c.in-Past.is)
+    let past = rw (c.requires.search, c.requires.order, c.deref.ensures.value, c.in-Past.is)
     at c.in_ok-grow.ensures.child in
+    let h = past.0 in
     first_past t c.args.above.decided c.args.above.taken.items c.requires.above c.args.cap h
 
 pub returns-in-Refuted : goal.returns-in-Refuted

@@ -8,8 +8,8 @@ use Rattle.set_search.specs.Memories.{HasBoxes, IsRecalledNo, IsToldNo}
 use Rattle.set_search.proofs.Memories.{recalled_no}
 use Rattle.set_search.proofs.search.SetSearch.told_refuted.Goals as goal
 
-pub returns : goal.returns
-returns c = rw (← c.self.view_is) (go c.recall_refuted.result c.recall_refuted.ensures)
+pub returns-clause-told : goal.returns-clause-told
+returns-clause-told c = rw (← c.self.view_is) (go c.recall_refuted.result c.recall_refuted.ensures.found)
   where
     old : List PlainToken
     old = map plain_token c.args.tokens.now.items

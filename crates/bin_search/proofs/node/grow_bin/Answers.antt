@@ -1,0 +1,12 @@
+use Rattle.std.proofs.Common.{◌≡◌, ℕ, ap, sym, ◌∙◌, [], Vec, Global, get_or, arith}
+use Rattle.std.proofs.lemmas.List.{get_or-map}
+use Rattle.bin_search.specs.Lists.{lists_of}
+use Rattle.bin_search.proofs.node.grow_bin.Goals as goal
+
+pub returns-then-b-bins-clause-child : goal.returns-then-b-bins-clause-child
+returns-then-b-bins-clause-child c =
+    let bin : c.as_slice.result.now ≡ get_or (lists_of c.args.bins.now) c.args.b []
+    = c.as_slice.ensures.value ∙ (ap (λ (x : Vec ℕ Global). x.items) c.index-bins-b.is
+    ∙ sym (get_or-map (λ (x : Vec ℕ Global). x.items) c.args.bins.now c.args.b c.index-bins-b.result []
+    (omega (arith, c.if-b-bins.true)))) in
+    rw bin at c.grow.ensures.child
