@@ -4,13 +4,18 @@ use Rattle.packing_terms.specs.declared.Exclusion.{Exclusion}
 use Rattle.packing_terms.specs.declared.ScaleFn.{ScaleFn}
 use Rattle.packing_terms.specs.Packing.{PlainInstance, container_side, side}
 use Rattle.packing_terms.specs.Scales.{SidesFit}
-use Rattle.packing_terms.specs.Tokens.PlainToken.{Scales}
+use Rattle.packing_terms.specs.Tokens.PlainToken.{Rules, Scales}
+use Rattle.rule_terms.specs.Applied.{Extends}
+use Rattle.rule_closure.specs.Closes.{IsClosure}
 use Rattle.tree_terms.specs.Trees.{SearchTree, Refuted}
-use Rattle.tree_terms.specs.ClassTree.{exceeding_where}
+use Rattle.tree_terms.specs.InnerTree.{tree_below}
+use Rattle.tree_terms.specs.ClassTree.{class_tree, exceeding_where}
 use Rattle.proof_tree.specs.declared.token.Token.{Token}
 use Rattle.proof_tree.specs.Plain.{plain_token}
 use Rattle.class_search.specs.declared.root.Arrival.{Arrival}
 use Rattle.class_search.specs.declared.root.Arrival.TheVariants.{RefutedRoot, Inner}
+use Rattle.class_search.specs.declared.root.RootTest.{RootTest}
+use Rattle.class_search.specs.declared.root.RootTest.TheVariants.{Refuted as TestRefuted, Conflict, Passed}
 use Rattle.class_search.specs.declared.visit.NodeKind.{NodeKind}
 use Rattle.class_search.specs.Visits.{kind_tree, IsKind}
 
@@ -30,6 +35,20 @@ pub record IsInner (instance : PlainInstance) (node : Option SearchTree) (es : L
   pub is : node ≡ Some (kind_tree instance es kind)
   pub known : IsKind instance es kind
   pub fit : SidesFit instance
+
+-- the root passed its tests: its state is closed, and its tree is the inner one
+pub record HasPassed (instance : PlainInstance) (scales : Bool) (es fs : List Exclusion) : Type 0 where
+  pub is : class_tree instance es scales ≡ tree_below instance es
+  pub fit : SidesFit instance
+  pub extends : Extends instance es fs
+  pub closed : IsClosure instance es fs
+
+-- what the tests of a root tell, which has these exclusions, and whose state has those now
+abbrev pub IsTested : PlainInstance → Bool → List Exclusion → List Exclusion → RootTest → Type 0
+IsTested instance scales es fs (TestRefuted token) =
+    class_tree instance es scales ≡ Refuted (plain_token token ∷ []) 0
+IsTested instance scales es fs Conflict = (class_tree instance es scales ≡ Refuted (Rules ∷ []) 0) × SidesFit instance
+IsTested instance scales es fs Passed = HasPassed instance scales es fs
 
 -- what is at the end of a path: a root that is refuted by its own tests, or a node of the inner
 -- tree, whose closed state has these exclusions

@@ -6,9 +6,7 @@ ghost use Rattle.tree_terms.specs.ClassTree.{class_tree};
 ghost use Rattle.work_share.specs.Outcomes.{plain_outcome};
 ghost use Rattle.class_search.specs.Right.{IsRight, Decides, IsYesOrNo};
 
-use crate::exploring::searched;
-use crate::rank::ranked_pairs;
-use crate::search::Search;
+use crate::exploring::searched_alone;
 use crate::{ClassTree, Decider};
 use box_instances::{Instance, NoMemory};
 use edge_state::EdgeState;
@@ -65,13 +63,7 @@ pub fn decide_in(
 {
     // For the proof alone: tells the limits of the instance.
     let _limits = instance.len();
-    let pairs = ranked_pairs(alloc, instance)?;
-    let search = Search {
-        alloc,
-        instance,
-        pairs: pairs.as_slice(),
-    };
-    searched(&search, state, closer, budget, scales)
+    searched_alone(alloc, instance, state, closer, budget, scales)
 }
 
 /// Whether an instance fits, decided by its class tree under the budget of the settings, by as many

@@ -1,20 +1,35 @@
 //! What the tree of the node that a path came to gives.
-ghost use Rattle.std.specs.Prelude.{◌≡◌, IfOk, []};
+ghost use Rattle.std.specs.Prelude.{◌≡◌, ◌∷◌, IfOk, []};
 ghost use Rattle.packing_terms.specs.Packing.{dims, box_count};
 ghost use Rattle.packing_terms.specs.Limits.{IsInternalInstance};
 ghost use Rattle.packing_terms.specs.Rank.{ranked_pairs};
-ghost use Rattle.tree_terms.specs.Trees.{outcome, told};
+ghost use Rattle.proof_tree.specs.Plain.{plain_token};
+ghost use Rattle.tree_terms.specs.Trees.{outcome, told, Decided, No};
 ghost use Rattle.tree_terms.specs.ClassTree.{class_tree};
 ghost use Rattle.work_share.specs.Outcomes.{plain_outcome};
 ghost use Rattle.class_search.specs.Rooted.{arrival_tree, IsKnownArrival};
 
-use crate::root::{Arrival, visit_class_root};
+use crate::rank::ranked_pairs;
+use crate::root::{Arrival, RootTest, test_root, visit_class_root};
 use crate::search::Search;
+use crate::visit::next_kind;
 use crate::walk::{End, Walk, go_on};
-use box_instances::NoMemory;
+use box_instances::{Instance, NoMemory};
 use edge_state::EdgeState;
-use proof_tree::Outcome;
+use proof_tree::{Outcome, Token};
 use rule_closure::Closer;
+use std::alloc::Global;
+
+// What a refuted root gives.
+fn leaf(alloc: Global, token: Token) -> Result<Outcome, NoMemory>
+    ensures { IfOk result (λ r. plain_outcome r ≡ Decided (No (plain_token token ∷ []) 0)) }
+{
+    let mut tokens = Vec::new(alloc);
+    let Ok(()) = tokens.push(token) else {
+        return Err(NoMemory);
+    };
+    Ok(Outcome::No { tokens, count: 0 })
+}
 
 // What the tree of a node gives under a cap. This is what the path to it came to, and the node's
 // closed state.
@@ -38,13 +53,7 @@ pub(crate) fn explored(
         (arrival_tree search.now.instance.now state.old.trail arrival))) }
 {
     match arrival {
-        Arrival::RefutedRoot(token) => {
-            let mut tokens = Vec::new(search.alloc);
-            let Ok(()) = tokens.push(token) else {
-                return Err(NoMemory);
-            };
-            Ok(Outcome::No { tokens, count: 0 })
-        }
+        Arrival::RefutedRoot(token) => leaf(search.alloc, token),
         Arrival::Inner(node) => {
             let walk = Walk::at(search.alloc, node);
             match go_on(search, state, closer, walk, cap)? {
@@ -77,4 +86,40 @@ pub(crate) fn searched(
 {
     let arrival = visit_class_root(search, scales, state, closer);
     explored(search, state, closer, arrival, budget)
+}
+
+// The same, where the pairs are put in order only once the root has passed its tests: most sets of
+// an outer search are refuted there.
+pub(crate) fn searched_alone(
+    alloc: Global,
+    instance: &Instance,
+    state: &mut EdgeState,
+    closer: &mut Closer,
+    budget: u64,
+    scales: bool,
+) -> Result<Outcome, NoMemory>
+    requires limits { IsInternalInstance instance.now }
+    requires dims { state.old.dims ≡ dims instance.now }
+    requires boxes { state.old.boxes ≡ box_count instance.now }
+    requires full { state.old.trail ≡ [] }
+    requires room { closer.old ≡ record { dims = state.old.dims; boxes = state.old.boxes } }
+    ensures sizes { state.new ≡ record state.old { trail = state.new.trail } }
+    ensures closer { closer.new ≡ closer.old }
+    ensures outcome { IfOk result
+        (λ r. plain_outcome r ≡ told budget (outcome (class_tree instance.now [] scales))) }
+{
+    match test_root(alloc, instance, scales, state, closer) {
+        RootTest::Refuted(token) => leaf(alloc, token),
+        RootTest::Conflict => leaf(alloc, Token::Rules),
+        RootTest::Passed => {
+            let pairs = ranked_pairs(alloc, instance)?;
+            let search = Search {
+                alloc,
+                instance,
+                pairs: pairs.as_slice(),
+            };
+            let node = next_kind(&search, state, 0);
+            explored(&search, state, closer, Arrival::Inner(node), budget)
+        }
+    }
 }

@@ -7,7 +7,7 @@ ghost use Rattle.packing_terms.specs.Scales.{SidesFit};
 ghost use Rattle.packing_terms.specs.Sums.{below};
 ghost use Rattle.packing_terms.specs.Rank.{ranked_pairs};
 ghost use Rattle.tree_terms.specs.ClassTree.{first_too_large_box, exceeding_where, class_tree};
-ghost use Rattle.class_search.specs.Rooted.{is_larger, IsExcessToken, IsArrival};
+ghost use Rattle.class_search.specs.Rooted.{is_larger, IsExcessToken, IsArrival, IsTested};
 
 use crate::search::Search;
 use crate::visit::{NodeKind, next_kind};
@@ -76,30 +76,63 @@ fn scales_token(alloc: Global, instance: &Instance, scales: bool) -> Option<Toke
     Some(Token::Scales(tuple))
 }
 
-// The root of a class tree none of whose boxes is longer than the container. It closes the state.
-fn visit_fitting_root(
-    search: &Search<'_>,
+// What the tests of a root tell: one of its own refutes it, its closure has a conflict, or it passed
+// them and is closed.
+#[derive(Drop)]
+pub(crate) enum RootTest {
+    Refuted(Token),
+    Conflict,
+    Passed,
+}
+
+// Tests the root of a class tree none of whose boxes is longer than the container. It closes the
+// state.
+fn test_fitting_root(
+    alloc: Global,
+    instance: &Instance,
     scales: bool,
     state: &mut EdgeState,
     closer: &mut Closer,
-) -> Arrival
-    requires limits { IsInternalInstance search.now.instance.now }
-    requires dims { state.old.dims ≡ dims search.now.instance.now }
-    requires boxes { state.old.boxes ≡ box_count search.now.instance.now }
+) -> RootTest
+    requires dims { state.old.dims ≡ dims instance.now }
+    requires boxes { state.old.boxes ≡ box_count instance.now }
     requires room { closer.old ≡ record { dims = state.old.dims; boxes = state.old.boxes } }
-    requires pairs { search.now.pairs.now ≡ ranked_pairs search.now.instance.now }
-    requires none { first_too_large_box search.now.instance.now ≡ None }
+    requires none { first_too_large_box instance.now ≡ None }
     ensures sizes { state.new ≡ record state.old { trail = state.new.trail } }
     ensures closer { closer.new ≡ closer.old }
-    ensures root { IsArrival search.now.instance.now
-        (Some (class_tree search.now.instance.now state.old.trail scales)) state.new.trail result }
+    ensures tested { IsTested instance.now scales state.old.trail state.new.trail result }
 {
-    match closer.close(search.instance, state) {
-        Closed::Conflict => Arrival::Inner(NodeKind::Conflict),
-        Closed::Stable => match scales_token(search.alloc, search.instance, scales) {
-            Some(token) => Arrival::RefutedRoot(token),
-            None => Arrival::Inner(next_kind(search, state, 0)),
+    match closer.close(instance, state) {
+        Closed::Conflict => RootTest::Conflict,
+        Closed::Stable => match scales_token(alloc, instance, scales) {
+            Some(token) => RootTest::Refuted(token),
+            None => RootTest::Passed,
         },
+    }
+}
+
+// Tests the root of a class tree. It closes the state, but where a box is longer than the container.
+// No order of pairs is needed for it: most sets of an outer search go no further.
+pub(crate) fn test_root(
+    alloc: Global,
+    instance: &Instance,
+    scales: bool,
+    state: &mut EdgeState,
+    closer: &mut Closer,
+) -> RootTest
+    requires dims { state.old.dims ≡ dims instance.now }
+    requires boxes { state.old.boxes ≡ box_count instance.now }
+    requires room { closer.old ≡ record { dims = state.old.dims; boxes = state.old.boxes } }
+    ensures sizes { state.new ≡ record state.old { trail = state.new.trail } }
+    ensures closer { closer.new ≡ closer.old }
+    ensures tested { IsTested instance.now scales state.old.trail state.new.trail result }
+{
+    match first_too_large(instance) {
+        Some((v, dim)) => RootTest::Refuted(Token::TooLarge {
+            box_no: v + 1,
+            dim: dim + 1,
+        }),
+        None => test_fitting_root(alloc, instance, scales, state, closer),
     }
 }
 
@@ -120,11 +153,9 @@ pub(crate) fn visit_class_root(
     ensures root { IsArrival search.now.instance.now
         (Some (class_tree search.now.instance.now state.old.trail scales)) state.new.trail result }
 {
-    match first_too_large(search.instance) {
-        Some((v, dim)) => Arrival::RefutedRoot(Token::TooLarge {
-            box_no: v + 1,
-            dim: dim + 1,
-        }),
-        None => visit_fitting_root(search, scales, state, closer),
+    match test_root(search.alloc, search.instance, scales, state, closer) {
+        RootTest::Refuted(token) => Arrival::RefutedRoot(token),
+        RootTest::Conflict => Arrival::Inner(NodeKind::Conflict),
+        RootTest::Passed => Arrival::Inner(next_kind(search, state, 0)),
     }
 }

@@ -5,3 +5,6 @@ pub mod Tuples
 pub mod Searching
 mod PartialProducts
 mod Shares
+mod FewFunctions
+mod FastestRows
+mod Trying

@@ -1,7 +1,7 @@
 -- The functions of dimension 0, and the most that any of them makes of a box.
 use Rattle.std.proofs.Common.{◌≡◌, ℕ, zero, suc, ◌+◌, ◌-◌, ◌*◌, ◌/◌, ◌^◌, ◌<◌, ◌≤◌, ◌⊎◌, inl, inr, refl, sym, ap, subst}
-use Rattle.std.proofs.Common.{◌∙◌, arith, Bool, true, false, cond, List, [], ◌∷◌, ◌++◌, map, length, drop, set}
-use Rattle.std.proofs.Common.{length-set, replicate, ltb, Some, None}
+use Rattle.std.proofs.Common.{◌∙◌, arith, Bool, true, false, cond, List, [], ◌∷◌, ◌++◌, map, length}
+use Rattle.std.proofs.Common.{replicate, ltb, Some, None}
 use Rattle.std.specs.Prelude.{MatchBool, ⊤}
 use Rattle.std.specs.List.{sum, flat_map, find, range_with_len}
 use Rattle.std.proofs.lemmas.Bool.{le-ltb, ltb-false}
@@ -21,7 +21,7 @@ use Rattle.scale_terms.proofs.Families.{dual_feasible}
 use Rattle.conservative_scales.specs.Within.{within}
 use Rattle.conservative_scales.specs.Partials.{IsPartial, HoldEach}
 use Rattle.conservative_scales.proofs.PartialProducts.{partial_more, partial_excess}
-use Rattle.conservative_scales.proofs.Searching.{chosen_is, partial_written, whole_least}
+use Rattle.conservative_scales.proofs.Searching.{whole_least}
 
 one_more : (n a : ℕ) → a + n * a ≡ suc n * a
 one_more n a = grind arith
@@ -178,23 +178,6 @@ module _ (instance : PlainInstance) (c : ℕ) (rest : List ScaleFn) (images : �
       (flat_none (functions_after instance 0 Id)
       (λ f i. held_false h f (after_legal instance 0 (whole_least instance 0 limits fit there) f i)))
 
--- the test of a function that was written into the tuple
-pub tested : (instance : PlainInstance) (c left : ℕ) (rest tuple : List ScaleFn) (f : ScaleFn) (images : ℕ → ℕ)
-    (total : ℕ) (b : Bool)
-    → IsInternalInstance instance → SidesFit instance → 0 < dims instance → length tuple ≡ dims instance
-    → drop 1 tuple ≡ rest
-    → IsLegalScale f (container_side instance 0) → IsPartial instance 1 rest images total
-    → b ≡ ltb (c * (total * scale_whole f (container_side instance 0)))
-    (sum_below (box_count instance) (λ v. images v * scale_image f (container_side instance 0) (side instance v 0)))
-    → MatchBool b (find (has_excess instance c) (within instance 0 left (drop 0 (set tuple 0 f)))
-    ≡ Some (set tuple 0 f))
-    (find (has_excess instance c) (within instance 0 left (drop 0 (set tuple 0 f))) ≡ None)
-tested instance c left rest tuple f images total b limits fit there count kept legal p e =
-    chosen_is instance c 0 left (set tuple 0 f) _ _ b refl (length-set tuple 0 f ∙ count)
-    (partial_written instance c 1 0 left rest tuple f refl (omega (arith, count, there)) kept images
-    (λ v. images v * scale_image f (container_side instance 0) (side instance v 0)) total _ limits fit there legal
-    (λ v l. refl) refl p) e
-
 -- the test of the shares of all boxes
 pub shared_test : (instance : PlainInstance) (images : ℕ → ℕ) (c n total whole : ℕ) → AreShared instance images n total
     → n ≡ box_count instance
@@ -207,10 +190,3 @@ shared_test instance images c n total whole h e = go (ltb (c * whole * 720720) t
 
 pub sum_next : (f : ℕ → ℕ) (n total x : ℕ) → total ≡ sum_below n f → x ≡ f n → total + x ≡ sum_below (n + 1) f
 sum_next f n total x h e = let g : n + 1 ≡ suc n = omega arith in rw g (omega (arith, h, e))
-
--- where nothing but id is left for dimension 0
-pub id_alone : (instance : PlainInstance) (c left : ℕ) (rest : List ScaleFn) → left ≡ 0
-    → find (has_excess instance c) (within instance 0 left (Id ∷ rest)) ≡ None
-    → find (has_excess instance c) (within instance 1 left rest) ≡ None
-id_alone instance c zero rest e h = h
-id_alone instance c (suc m) rest e h = absurd (omega arith)

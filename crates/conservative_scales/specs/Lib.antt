@@ -1,2 +1,3 @@
 pub mod Partials
+pub mod Rows
 pub mod Within

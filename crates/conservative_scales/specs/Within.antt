@@ -16,6 +16,10 @@ within instance (suc i) (suc left) rest =
     within instance i (suc left) (Id ∷ rest) ++ flat_map (λ f. within instance i left (f ∷ rest))
     (functions_after instance i Id)
 
+-- each of the functions before the given ones
+abbrev pub before_each : List ScaleFn → List ScaleFn → List (List ScaleFn)
+before_each fs rest = flat_map (λ f. (f ∷ rest) ∷ []) fs
+
 -- the functions that are left, from the next one on
 abbrev pub from_next : PlainInstance → ℕ → Option ScaleFn → List ScaleFn
 from_next instance i None = []

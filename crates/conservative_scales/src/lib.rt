@@ -9,6 +9,7 @@ mod fastest;
 mod functions;
 mod listed;
 mod partial;
+mod rows;
 mod search;
 
 pub use excess::{exceeds, exceeds_among};

@@ -8,6 +8,7 @@ ghost use Rattle.packing_terms.specs.Goals.{FitsInBins};
 ghost use Rattle.packing_terms.specs.Tuples.{first_excess, has_excess};
 ghost use Rattle.conservative_scales.specs.Within.{within, AreLegalFrom};
 ghost use Rattle.conservative_scales.specs.Partials.{AreShares, IsPartial};
+ghost use Rattle.conservative_scales.specs.Rows.{AreAllRows, HasRoomForAll};
 
 use crate::fastest::{put_shares, search_fastest};
 use crate::functions::whole;
@@ -34,11 +35,15 @@ fn whole_of(instance: &Instance, dim: u32, f: ScaleFn) -> u128
 
 // Whether a tuple exceeds that ends in the functions from `dim` on, whose products begin at a place
 // of the table, and that has at most `left` functions other than id before them. The first one is
-// left in `tuple`.
+// left in `tuple`. So many functions of dimension 0 as are `told` stand in their list, and what they
+// made of the boxes beside it: all or none.
 fn search(
     instance: &Instance,
     copies: u32,
     shares: &[u32],
+    functions: &mut [ScaleFn],
+    made: &mut [u32],
+    told: &mut usize,
     dim: u32,
     left: u32,
     tuple: &mut [ScaleFn],
@@ -49,6 +54,8 @@ fn search(
     requires limits { IsInternalInstance instance.now }
     requires fit { SidesFit instance.now }
     requires few { copies ≤ 128 }
+    requires rows_room { HasRoomForAll instance.now (length functions.old) (length made.old) }
+    requires rows { 0 < told.old → AreAllRows instance.now told.old functions.old made.old }
     requires count { length tuple.old ≡ dims instance.now }
     requires some { 1 ≤ dim }
     requires there { dim ≤ dims instance.now }
@@ -65,6 +72,9 @@ fn search(
         (find (has_excess instance.now copies) (within instance.now dim left (drop dim tuple.old))
         ≡ None) }
     ensures kept { drop dim tuple.new ≡ drop dim tuple.old }
+    ensures rows { 0 < told.new → AreAllRows instance.now told.new functions.new made.new }
+    ensures functions { length functions.new ≡ length functions.old }
+    ensures made { length made.new ≡ length made.old }
     ensures length { length images.new ≡ length images.old }
     ensures products { (k : ℕ) → k < at + box_count instance.now
         → slice_index images.new k ≡ slice_index images.old k }
@@ -74,6 +84,9 @@ fn search(
             instance,
             copies,
             shares,
+            functions,
+            made,
+            told,
             left,
             tuple,
             images,
@@ -87,7 +100,7 @@ fn search(
     scale(instance, below, ScaleFn::Id, images, at);
     let same = whole_product * whole_of(instance, below, ScaleFn::Id);
     if search(
-        instance, copies, shares, below, left, tuple, images, next_at, same,
+        instance, copies, shares, functions, made, told, below, left, tuple, images, next_at, same,
     ) {
         return true;
     }
@@ -103,6 +116,9 @@ fn search(
             instance,
             copies,
             shares,
+            functions,
+            made,
+            told,
             below,
             left - 1,
             tuple,
@@ -129,14 +145,18 @@ fn copied(alloc: Global, functions: &[ScaleFn]) -> ScaleTuple
     tuple
 }
 
-// The first tuple of the list that exceeds, found in a table of so many places.
-fn first_within<const T: usize>(
+// The first tuple of the list that exceeds, found in a table of so many places, with room for so
+// many functions of dimension 0 and so many of their images.
+fn first_within<const T: usize, const F: usize, const R: usize>(
     alloc: Global,
     instance: &Instance,
     copies: u32,
 ) -> Option<ScaleTuple>
     requires size { T ≤ 640 }
+    requires sizes { F ≤ 263 }
+    requires places { R ≤ 33664 }
     requires room { (dims instance.now + 1) * box_count instance.now ≤ T }
+    requires rows_room { HasRoomForAll instance.now F R }
     requires fit { SidesFit instance.now }
     requires few { copies ≤ 128 }
     ensures { MatchOption result (first_excess instance.now copies ≡ None)
@@ -145,6 +165,9 @@ fn first_within<const T: usize>(
     let mut tuple = [ScaleFn::Id; 4];
     let mut images = [1; T];
     let mut shares = [0; T];
+    let mut functions = [ScaleFn::Id; F];
+    let mut made = [0; R];
+    let mut told = 0;
     let dims = instance.dims();
     put_shares(instance, &mut shares);
     let chosen = &mut tuple[..dims as usize];
@@ -152,6 +175,9 @@ fn first_within<const T: usize>(
         instance,
         copies,
         &shares,
+        &mut functions,
+        &mut made,
+        &mut told,
         dims,
         2,
         chosen,
@@ -175,12 +201,12 @@ fn first_of(alloc: Global, instance: &Instance, copies: u32) -> Option<ScaleTupl
 {
     let places = (instance.dims() + 1) * instance.len();
     if places <= 32 {
-        return first_within::<32>(alloc, instance, copies);
+        return first_within::<32, 27, 270>(alloc, instance, copies);
     }
     if places <= 128 {
-        return first_within::<128>(alloc, instance, copies);
+        return first_within::<128, 91, 3822>(alloc, instance, copies);
     }
-    first_within::<640>(alloc, instance, copies)
+    first_within::<640, 263, 33664>(alloc, instance, copies)
 }
 
 /// The first tuple of the list that exceeds, and none exactly where none of the list does. Then the

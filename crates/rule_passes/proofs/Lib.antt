@@ -1,4 +1,5 @@
 mod Compositions
 mod Cycles
 mod Guards
+mod Quiet
 pub mod Levels

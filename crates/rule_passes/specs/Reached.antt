@@ -1,8 +1,10 @@
 -- The instances that are applied for one edge, in one order of its boxes, by what they ask of it.
 use Rattle.std.specs.Prelude.{ℕ, ◌≡◌, ◌≢◌, ◌<◌, ◌≤◌, ◌⊎◌, Bool, false}
+use Rattle.packing_terms.specs.declared.Rel.{Rel}
+use Rattle.packing_terms.specs.declared.Rel.TheVariants.{Overlap, Before, After}
 use Rattle.packing_terms.specs.Packing.{PlainInstance, dims, box_count, side}
 use Rattle.packing_terms.specs.Rules.{Rule, Apart, Triple, Cycle, Order}
-use Rattle.closure_terms.specs.Instances.{OrdersCrossed}
+use Rattle.closure_terms.specs.Instances.{OrdersCrossed, Aparts, Cycles, Chords, Triples}
 
 -- no box is longer
 abbrev pub HasNoLonger : PlainInstance → ℕ → ℕ → Type 0
@@ -33,3 +35,33 @@ IsReachedFrom instance j p q overlap before after rule =
     ((((before ≡ false) × (after ≡ false)) × IsReachedJoined instance j p q rule)
     ⊎ (((overlap ≡ false) × (after ≡ false)) × IsReachedOrdered instance j p q rule))
     ⊎ ((before ≡ false) × OrdersCrossed instance j p q rule)
+
+-- the same without APART
+abbrev pub IsReachedRest : PlainInstance → ℕ → ℕ → ℕ → (left : Rel → Bool) → Rule → Type 0
+IsReachedRest instance j p q left rule =
+    ((((left Before ≡ false) × (left After ≡ false)) × Cycles instance j p q rule)
+    ⊎ (((left Overlap ≡ false) × (left After ≡ false)) × IsReachedOrdered instance j p q rule))
+    ⊎ ((left Before ≡ false) × OrdersCrossed instance j p q rule)
+
+-- the same in both orders of the boxes, where the mask is left, and turned round
+abbrev pub IsReachedBoth : PlainInstance → ℕ → ℕ → ℕ → (left turned : Rel → Bool) → Rule → Type 0
+IsReachedBoth instance j u v left turned rule =
+    IsReachedRest instance j u v left rule ⊎ IsReachedRest instance j v u turned rule
+
+-- those with APART in one order, which adds the same in both
+abbrev pub IsReachedNear : PlainInstance → ℕ → ℕ → ℕ → (left turned : Rel → Bool) → Rule → Type 0
+IsReachedNear instance j u v left turned rule =
+    (((left Before ≡ false) × (left After ≡ false)) × Aparts instance j u v rule)
+    ⊎ IsReachedBoth instance j u v left turned rule
+
+-- those of CYCLE that ask for apart, and these
+abbrev pub IsReachedChorded : PlainInstance → ℕ → ℕ → ℕ → (left turned : Rel → Bool) → Rule → Type 0
+IsReachedChorded instance j u v left turned rule =
+    ((left Overlap ≡ false) × (Chords instance j u v rule ⊎ Chords instance j v u rule))
+    ⊎ IsReachedNear instance j u v left turned rule
+
+-- all that ask for apart, and these
+abbrev pub IsReachedLater : PlainInstance → ℕ → ℕ → ℕ → (left turned : Rel → Bool) → Rule → Type 0
+IsReachedLater instance j u v left turned rule =
+    ((left Overlap ≡ false) × (Triples instance j u v rule ⊎ Triples instance j v u rule))
+    ⊎ IsReachedChorded instance j u v left turned rule

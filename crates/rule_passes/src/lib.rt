@@ -3,10 +3,13 @@
 #![tactic(auto)]
 
 mod chains;
+mod chances;
 mod closing;
 mod edges;
 mod empties;
+mod following;
 mod orders;
+mod overlaps;
 mod pairs;
 mod room;
 mod rows;

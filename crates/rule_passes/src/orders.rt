@@ -5,6 +5,7 @@ ghost use Rattle.packing_terms.specs.Packing.{dims, box_count};
 ghost use Rattle.packing_terms.specs.Exclusions.{excludes};
 ghost use Rattle.packing_terms.specs.Rules.{Order, AreBoxes};
 ghost use Rattle.edge_state.specs.BitRows.{HoldsBoxes, row_has};
+ghost use Rattle.closure_terms.specs.Instances.{OrdersFirst, OrdersSecond, OrdersCrossed};
 ghost use Rattle.closure_terms.specs.States.{IsSized};
 ghost use Rattle.closure_terms.specs.Work.{IsCovered, IsWorked};
 
@@ -105,6 +106,7 @@ fn orders_to<const K: usize>(
 }
 
 // Whether ORDER may exclude something with its first pair, for one of the last boxes.
+#[inline(always)]
 fn may_order_lasts<const K: usize>(
     instance: &Instance,
     state: &EdgeState,
@@ -133,6 +135,7 @@ fn may_order_lasts<const K: usize>(
 }
 
 // Whether ORDER may exclude something with its second pair, for one of the first boxes.
+#[inline(always)]
 fn may_order_firsts<const K: usize>(
     instance: &Instance,
     state: &EdgeState,
@@ -162,6 +165,7 @@ fn may_order_firsts<const K: usize>(
 
 // Whether ORDER may exclude something with its first and its last box, for one of the second ones.
 // Nothing where no box is surely before the last.
+#[inline(always)]
 fn may_order_seconds<const K: usize>(
     instance: &Instance,
     state: &EdgeState,
@@ -195,6 +199,29 @@ fn may_order_seconds<const K: usize>(
     false
 }
 
+/// Whether ORDER may exclude something with the first pair given.
+#[inline(always)]
+pub(crate) fn may_order_first<const K: usize>(
+    instance: &Instance,
+    state: &EdgeState,
+    all: BitRow<K>,
+    dim: u32,
+    a: u32,
+    b: u32,
+) -> bool
+    requires words { HoldsBoxes K (box_count instance.now) }
+    requires sizes { IsSized instance.now state.now dim }
+    requires a { a < box_count instance.now }
+    requires b { b < box_count instance.now }
+    requires distinct { a ≡ b → ⊥ }
+    requires all { (x : ℕ) → row_has all x ≡ nat_lt x (box_count instance.now) }
+    ensures { result ≡ false → IsWorked instance.now state.now state.now false
+        (OrdersFirst instance.now dim a b) }
+{
+    let lasts = gone(instance, state, all, dim, a, Rel::Before, Rel::Before);
+    may_order_lasts(instance, state, dim, a, b, lasts)
+}
+
 /// ORDER with the first pair given.
 pub(crate) fn orders_first<const K: usize>(
     instance: &Instance,
@@ -214,11 +241,10 @@ pub(crate) fn orders_first<const K: usize>(
         (λ rule. (d : ℕ) × (d < box_count instance.now)
         × ((c : ℕ) × (c < box_count instance.now) × (rule ≡ Order dim a b c d))) }
 {
-    let lasts = gone(instance, state, all, dim, a, Rel::Before, Rel::Before);
-    if !may_order_lasts(instance, state, dim, a, b, lasts) {
+    if !may_order_first(instance, state, all, dim, a, b) {
         return false;
     }
-    let mut rest = lasts;
+    let mut rest = gone(instance, state, all, dim, a, Rel::Before, Rel::Before);
     while let Some(d) = rest.first() {
         rest = rest.without(d);
         if orders_from::<K>(instance, state, dim, a, b, d) {
@@ -226,6 +252,29 @@ pub(crate) fn orders_first<const K: usize>(
         }
     }
     false
+}
+
+/// Whether ORDER may exclude something with the second pair given.
+#[inline(always)]
+pub(crate) fn may_order_second<const K: usize>(
+    instance: &Instance,
+    state: &EdgeState,
+    all: BitRow<K>,
+    dim: u32,
+    c: u32,
+    d: u32,
+) -> bool
+    requires words { HoldsBoxes K (box_count instance.now) }
+    requires sizes { IsSized instance.now state.now dim }
+    requires c { c < box_count instance.now }
+    requires d { d < box_count instance.now }
+    requires distinct { c ≡ d → ⊥ }
+    requires all { (x : ℕ) → row_has all x ≡ nat_lt x (box_count instance.now) }
+    ensures { result ≡ false → IsWorked instance.now state.now state.now false
+        (OrdersSecond instance.now dim c d) }
+{
+    let firsts = gone(instance, state, all, dim, d, Rel::After, Rel::After);
+    may_order_firsts(instance, state, dim, c, d, firsts)
 }
 
 /// ORDER with the second pair given.
@@ -248,11 +297,10 @@ pub(crate) fn orders_second<const K: usize>(
         (λ rule. (a : ℕ) × (a < box_count instance.now)
         × ((b : ℕ) × (b < box_count instance.now) × (rule ≡ Order dim a b c d))) }
 {
-    let firsts = gone(instance, state, all, dim, d, Rel::After, Rel::After);
-    if !may_order_firsts(instance, state, dim, c, d, firsts) {
+    if !may_order_second(instance, state, all, dim, c, d) {
         return false;
     }
-    let mut rest = firsts;
+    let mut rest = gone(instance, state, all, dim, d, Rel::After, Rel::After);
     while let Some(a) = rest.first() {
         rest = rest.without(a);
         if orders_to::<K>(instance, state, dim, a, c, d) {
@@ -260,6 +308,29 @@ pub(crate) fn orders_second<const K: usize>(
         }
     }
     false
+}
+
+/// Whether ORDER may exclude something with the first and the last box given.
+#[inline(always)]
+pub(crate) fn may_order_crossed<const K: usize>(
+    instance: &Instance,
+    state: &EdgeState,
+    all: BitRow<K>,
+    dim: u32,
+    a: u32,
+    d: u32,
+) -> bool
+    requires words { HoldsBoxes K (box_count instance.now) }
+    requires sizes { IsSized instance.now state.now dim }
+    requires a { a < box_count instance.now }
+    requires d { d < box_count instance.now }
+    requires distinct { a ≡ d → ⊥ }
+    requires all { (x : ℕ) → row_has all x ≡ nat_lt x (box_count instance.now) }
+    ensures { result ≡ false → IsWorked instance.now state.now state.now false
+        (OrdersCrossed instance.now dim a d) }
+{
+    let seconds = gone(instance, state, all, dim, a, Rel::Overlap, Rel::After);
+    may_order_seconds(instance, state, all, dim, a, d, seconds)
 }
 
 /// ORDER with the first and the last box given: it asks that the first isn't before the last.
@@ -282,11 +353,10 @@ pub(crate) fn orders_crossed<const K: usize>(
         (λ rule. (b : ℕ) × (b < box_count instance.now)
         × ((c : ℕ) × (c < box_count instance.now) × (rule ≡ Order dim a b c d))) }
 {
-    let seconds = gone(instance, state, all, dim, a, Rel::Overlap, Rel::After);
-    if !may_order_seconds(instance, state, all, dim, a, d, seconds) {
+    if !may_order_crossed(instance, state, all, dim, a, d) {
         return false;
     }
-    let mut rest = seconds;
+    let mut rest = gone(instance, state, all, dim, a, Rel::Overlap, Rel::After);
     while let Some(b) = rest.first() {
         rest = rest.without(b);
         if orders_from::<K>(instance, state, dim, a, b, d) {

@@ -6,7 +6,7 @@ ghost use Rattle.closure_terms.specs.States.{IsSized};
 ghost use Rattle.closure_terms.specs.Work.{IsWorked};
 
 use crate::empties::is_empty_at;
-use crate::work::aparts;
+use crate::overlaps::aparts;
 use box_instances::Instance;
 use edge_state::EdgeState;
 use orientation_rules::apply_pair;
@@ -19,6 +19,8 @@ fn pair_at(instance: &Instance, state: &mut EdgeState, dim: u32, u: u32, v: u32)
     requires v { v < box_count instance.now }
     ensures { IsWorked instance.now state.old state.new result (λ rule. rule ≡ Pair dim u v) }
 {
+    // For the proof alone: tells the limits of the state.
+    let _boxes = state.boxes();
     if u == v {
         return false;
     }
@@ -28,7 +30,7 @@ fn pair_at(instance: &Instance, state: &mut EdgeState, dim: u32, u: u32, v: u32)
     if is_empty_at(instance, state, dim, u, v) {
         return true;
     }
-    aparts(instance, state, dim, u, v)
+    aparts::<2>(instance, state, dim, u, v)
 }
 
 // The same with each second box behind the first in number: PAIR adds the same with its boxes

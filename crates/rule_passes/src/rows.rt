@@ -16,7 +16,7 @@ use box_instances::Instance;
 use edge_state::{BitRow, EdgeState, Mask, Rel};
 
 // The row where it is wanted, and else the empty one.
-#[inline]
+#[inline(always)]
 fn pick<const K: usize>(row: BitRow<K>, wanted: bool) -> BitRow<K>
     requires { IsRowWidth K }
     ensures { (x : ℕ) → row_has result x ≡ row_has row.entry x && wanted }
@@ -25,7 +25,7 @@ fn pick<const K: usize>(row: BitRow<K>, wanted: bool) -> BitRow<K>
 }
 
 /// Whether a row has no member.
-#[inline]
+#[inline(always)]
 pub(crate) fn is_empty<const K: usize>(row: BitRow<K>) -> bool
     requires { IsRowWidth K }
     ensures { result ≡ true → (x : ℕ) → row_has row.entry x ≡ false }
@@ -37,7 +37,7 @@ pub(crate) fn is_empty<const K: usize>(row: BitRow<K>) -> bool
 }
 
 /// Whether a row has at most one member.
-#[inline]
+#[inline(always)]
 pub(crate) fn has_no_two<const K: usize>(row: BitRow<K>) -> bool
     requires { IsRowWidth K }
     ensures { result ≡ true → (x y : ℕ) → row_has row.entry x ≡ true → row_has row.entry y ≡ true
@@ -50,7 +50,7 @@ pub(crate) fn has_no_two<const K: usize>(row: BitRow<K>) -> bool
 }
 
 // What is in one of three rows.
-#[inline]
+#[inline(always)]
 fn one_of<const K: usize>(first: BitRow<K>, second: BitRow<K>, third: BitRow<K>) -> BitRow<K>
     requires { IsRowWidth K }
     ensures { (x : ℕ) → row_has result x ≡ (row_has first.entry x || row_has second.entry x)
@@ -61,7 +61,7 @@ fn one_of<const K: usize>(first: BitRow<K>, second: BitRow<K>, third: BitRow<K>)
 
 // The boxes to which a relation of `u` is left and that aren't in the row, where they are wanted,
 // and else none.
-#[inline]
+#[inline(always)]
 fn left_outside<const K: usize>(
     state: &EdgeState,
     dim: u32,
@@ -146,7 +146,7 @@ pub(crate) fn all_boxes<const K: usize>(boxes: u32) -> BitRow<K>
 }
 
 // The boxes for which one of two relations to `u` isn't excluded.
-#[inline]
+#[inline(always)]
 pub(crate) fn either<const K: usize>(
     instance: &Instance,
     state: &EdgeState,
@@ -172,7 +172,7 @@ pub(crate) fn either<const K: usize>(
 }
 
 /// The other boxes for which both relations to `u` are excluded.
-#[inline]
+#[inline(always)]
 pub(crate) fn gone<const K: usize>(
     instance: &Instance,
     state: &EdgeState,
@@ -196,6 +196,7 @@ pub(crate) fn gone<const K: usize>(
 }
 
 /// The boxes v at which TRIPLE may exclude something at `u`, v with `x`.
+#[inline(always)]
 pub(crate) fn beyond_triples<const K: usize>(
     instance: &Instance,
     state: &EdgeState,
@@ -218,7 +219,7 @@ pub(crate) fn beyond_triples<const K: usize>(
 
 /// The boxes d at which CYCLE may exclude something at `b`, d, whatever the third box is: those
 /// that are joined with `a` and not with `b`.
-#[inline]
+#[inline(always)]
 pub(crate) fn cycle_fourths<const K: usize>(
     instance: &Instance,
     state: &EdgeState,
@@ -239,6 +240,7 @@ pub(crate) fn cycle_fourths<const K: usize>(
 }
 
 /// The boxes d at which CYCLE may exclude something at `b`, d.
+#[inline(always)]
 pub(crate) fn beyond_cycles<const K: usize>(
     instance: &Instance,
     state: &EdgeState,
@@ -263,6 +265,7 @@ pub(crate) fn beyond_cycles<const K: usize>(
 }
 
 /// The boxes c at which ORDER may exclude something at c, `b`, with the last box given.
+#[inline(always)]
 pub(crate) fn beyond_orders_from<const K: usize>(
     instance: &Instance,
     state: &EdgeState,
@@ -285,6 +288,7 @@ pub(crate) fn beyond_orders_from<const K: usize>(
 }
 
 /// The boxes b at which ORDER may exclude something at `c`, b, with the first box given.
+#[inline(always)]
 pub(crate) fn beyond_orders_to<const K: usize>(
     instance: &Instance,
     state: &EdgeState,
@@ -307,6 +311,7 @@ pub(crate) fn beyond_orders_to<const K: usize>(
 }
 
 /// The boxes that are joined with `b` and apart from `a`.
+#[inline(always)]
 pub(crate) fn cycle_thirds<const K: usize>(
     instance: &Instance,
     state: &EdgeState,
@@ -332,6 +337,7 @@ pub(crate) fn cycle_thirds<const K: usize>(
 }
 
 /// The boxes that are joined with `a` and with `c`.
+#[inline(always)]
 pub(crate) fn cycle_seconds<const K: usize>(
     instance: &Instance,
     state: &EdgeState,

@@ -13,8 +13,8 @@ ghost use Rattle.closure_terms.specs.Work.{IsUnordered, IsBehind};
 ghost use Rattle.closure_terms.specs.Work.{IsLookedThrough};
 ghost use Rattle.rule_passes.specs.Reached.{HasNoLonger};
 
-use crate::edges::spread;
 use crate::empties::is_empty_left;
+use crate::following::spread;
 use box_instances::Instance;
 use early_chains::{Guess, shut_pair};
 use edge_state::{BitRow, EdgeState, Exclusion, Mark, Mask, Rel};

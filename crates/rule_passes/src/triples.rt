@@ -2,7 +2,7 @@
 //!
 //! Each call applies some instances one after another and answers whether a mask is empty; it stops
 //! there.
-ghost use Rattle.std.specs.Prelude.{◌≡◌, ◌<◌, ◌≤◌, ◌+◌, ◌⊎◌, ℕ, true};
+ghost use Rattle.std.specs.Prelude.{◌≡◌, ◌<◌, ◌≤◌, ◌+◌, ◌⊎◌, ℕ, true, false};
 ghost use Rattle.packing_terms.specs.Packing.{dims, box_count, side, container_side};
 ghost use Rattle.packing_terms.specs.Rules.{Triple};
 ghost use Rattle.edge_state.specs.BitRows.{HoldsBoxes, row_has};
@@ -36,7 +36,7 @@ fn triple_at(instance: &Instance, state: &mut EdgeState, dim: u32, u: u32, v: u3
 }
 
 // The least side of a third box with which two boxes are together longer than the container.
-#[inline]
+#[inline(always)]
 fn least_third(instance: &Instance, dim: u32, u: u32, x: u32) -> u64
     requires dim { dim < dims instance.now }
     requires u { u < box_count instance.now }
@@ -107,8 +107,41 @@ fn triples_among<const K: usize>(
     false
 }
 
+/// Whether TRIPLE may exclude something with two boxes, in one of their orders: there are thirds that
+/// are apart from the one that comes second, and one may be long enough. None is longer than
+/// `most`.
+#[inline(always)]
+pub(crate) fn may_triple<const K: usize>(
+    instance: &Instance,
+    state: &EdgeState,
+    dim: u32,
+    u: u32,
+    x: u32,
+    most: u32,
+) -> bool
+    requires words { HoldsBoxes K (box_count instance.now) }
+    requires sizes { IsSized instance.now state.now dim }
+    requires u { u < box_count instance.now }
+    requires x { x < box_count instance.now }
+    requires distinct { u ≡ x → ⊥ }
+    requires most { HasNoLonger instance.now dim most }
+    ensures { result ≡ false → IsWorked instance.now state.now state.now false (λ rule.
+        Triples instance.now dim u x rule ⊎ Triples instance.now dim x u rule) }
+{
+    let there = beyond_triples::<K>(instance, state, dim, u, x);
+    let back = beyond_triples::<K>(instance, state, dim, x, u);
+    if is_empty(there.or(back)) {
+        return false;
+    }
+    let least = least_third(instance, dim, u, x);
+    if u64::from(most) < least {
+        return false;
+    }
+    true
+}
+
 /// TRIPLE with two boxes in both orders, for each third that is apart from the one that comes
-/// second, where there are such boxes, and one may be long enough: none is longer than `most`.
+/// second, where that may exclude something.
 #[inline(always)]
 pub(crate) fn triples<const K: usize>(
     instance: &Instance,
@@ -127,15 +160,12 @@ pub(crate) fn triples<const K: usize>(
     ensures { IsWorked instance.now state.old state.new result (λ rule.
         Triples instance.now dim u x rule ⊎ Triples instance.now dim x u rule) }
 {
+    if !may_triple::<K>(instance, state, dim, u, x, most) {
+        return false;
+    }
     let there = beyond_triples::<K>(instance, state, dim, u, x);
     let back = beyond_triples::<K>(instance, state, dim, x, u);
-    if is_empty(there.or(back)) {
-        return false;
-    }
     let least = least_third(instance, dim, u, x);
-    if u64::from(most) < least {
-        return false;
-    }
     if triples_among(instance, state, dim, u, x, there, least) {
         return true;
     }

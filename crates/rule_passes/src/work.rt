@@ -1,12 +1,12 @@
-//! COMPOSE, APART and CYCLE at what a changed edge tells.
+//! COMPOSE and CYCLE at what a changed edge tells.
 //!
 //! Each call applies some instances one after another and answers whether a mask is empty; it stops
 //! there.
-ghost use Rattle.std.specs.Prelude.{◌≡◌, ◌≢◌, ◌<◌, ◌⊎◌, ℕ, true, nat_lt, [], ◌∷◌};
-ghost use Rattle.packing_terms.specs.Packing.{dims, box_count};
-ghost use Rattle.packing_terms.specs.Rules.{Apart, Compose, Cycle, AreBoxes};
+ghost use Rattle.std.specs.Prelude.{◌≡◌, ◌<◌, ◌⊎◌, ℕ, true, false, nat_lt, [], ◌∷◌};
+ghost use Rattle.packing_terms.specs.Packing.{box_count};
+ghost use Rattle.packing_terms.specs.Rules.{Compose, Cycle, AreBoxes};
 ghost use Rattle.edge_state.specs.BitRows.{HoldsBoxes, row_has};
-ghost use Rattle.closure_terms.specs.Instances.{Chords};
+ghost use Rattle.closure_terms.specs.Instances.{Chords, Cycles};
 ghost use Rattle.closure_terms.specs.States.{IsSized};
 ghost use Rattle.closure_terms.specs.Work.{IsWorked};
 
@@ -17,48 +17,7 @@ use crate::rows::{
 use box_instances::Instance;
 use cycle_rules::apply_cycle;
 use edge_state::{BitRow, EdgeState, Rel};
-use orientation_rules::{apply_apart, apply_compose};
-
-// APART in a dimension other than the one that changed.
-#[inline(always)]
-fn apart_at(instance: &Instance, state: &mut EdgeState, dim: u32, i: u32, u: u32, v: u32) -> bool
-    requires sizes { IsSized instance.now state.old dim }
-    requires i { i < dims instance.now }
-    requires u { u < box_count instance.now }
-    requires v { v < box_count instance.now }
-    requires distinct { u ≡ v → ⊥ }
-    ensures { IsWorked instance.now state.old state.new result
-        (λ rule. (dim ≢ i) × (rule ≡ Apart i u v)) }
-{
-    if i == dim {
-        return false;
-    }
-    if !state.mask(i, u, v).has(Rel::Overlap) {
-        return false;
-    }
-    if !apply_apart(state, i, u, v) {
-        return false;
-    }
-    is_empty_at(instance, state, i, u, v)
-}
-
-/// APART in each other dimension.
-#[inline]
-pub(crate) fn aparts(instance: &Instance, state: &mut EdgeState, dim: u32, u: u32, v: u32) -> bool
-    requires sizes { IsSized instance.now state.old dim }
-    requires u { u < box_count instance.now }
-    requires v { v < box_count instance.now }
-    requires distinct { u ≡ v → ⊥ }
-    ensures { IsWorked instance.now state.old state.new result
-        (λ rule. (i : ℕ) × (i < dims instance.now) × ((dim ≢ i) × (rule ≡ Apart i u v))) }
-{
-    for i in 0..instance.dims() {
-        if apart_at(instance, state, dim, i, u, v) {
-            return true;
-        }
-    }
-    false
-}
+use orientation_rules::apply_compose;
 
 // COMPOSE at three boxes.
 #[inline(always)]
@@ -191,6 +150,34 @@ fn cycles_from<const K: usize>(
     cycles_through::<K>(instance, state, dim, a, b, c)
 }
 
+/// Whether CYCLE may exclude something with the first two boxes given: some box is joined with one
+/// and not with the other, and some third closes a path.
+#[inline(always)]
+pub(crate) fn may_cycle<const K: usize>(
+    instance: &Instance,
+    state: &EdgeState,
+    all: BitRow<K>,
+    dim: u32,
+    a: u32,
+    b: u32,
+) -> bool
+    requires words { HoldsBoxes K (box_count instance.now) }
+    requires sizes { IsSized instance.now state.now dim }
+    requires a { a < box_count instance.now }
+    requires b { b < box_count instance.now }
+    requires all { (x : ℕ) → row_has all x ≡ nat_lt x (box_count instance.now) }
+    ensures { result ≡ false → IsWorked instance.now state.now state.now false
+        (Cycles instance.now dim a b) }
+{
+    if is_empty(cycle_fourths::<K>(instance, state, dim, a, b)) {
+        return false;
+    }
+    if is_empty(cycle_thirds(instance, state, all, dim, a, b)) {
+        return false;
+    }
+    true
+}
+
 /// CYCLE with the first two boxes given.
 pub(crate) fn cycles<const K: usize>(
     instance: &Instance,
@@ -210,7 +197,7 @@ pub(crate) fn cycles<const K: usize>(
         (λ rule. (c : ℕ) × (c < box_count instance.now)
         × ((d : ℕ) × (d < box_count instance.now) × (rule ≡ Cycle dim a b c d))) }
 {
-    if is_empty(cycle_fourths::<K>(instance, state, dim, a, b)) {
+    if !may_cycle(instance, state, all, dim, a, b) {
         return false;
     }
     let mut rest = cycle_thirds(instance, state, all, dim, a, b);
@@ -250,8 +237,33 @@ fn chords_from<const K: usize>(
     false
 }
 
-/// CYCLE with the first and the third box given, in both orders, where two boxes are joined with
-/// both.
+/// Whether CYCLE may exclude something with the first and the third box given, in one of the orders:
+/// two boxes are joined with both.
+#[inline(always)]
+pub(crate) fn may_chord<const K: usize>(
+    instance: &Instance,
+    state: &EdgeState,
+    all: BitRow<K>,
+    dim: u32,
+    a: u32,
+    c: u32,
+) -> bool
+    requires words { HoldsBoxes K (box_count instance.now) }
+    requires sizes { IsSized instance.now state.now dim }
+    requires a { a < box_count instance.now }
+    requires c { c < box_count instance.now }
+    requires distinct { a ≡ c → ⊥ }
+    requires all { (x : ℕ) → row_has all x ≡ nat_lt x (box_count instance.now) }
+    ensures { result ≡ false → IsWorked instance.now state.now state.now false
+        (λ rule. Chords instance.now dim a c rule ⊎ Chords instance.now dim c a rule) }
+{
+    if has_no_two(cycle_seconds(instance, state, all, dim, a, c)) {
+        return false;
+    }
+    true
+}
+
+/// CYCLE with the first and the third box given, in both orders, where that may exclude something.
 #[inline(always)]
 pub(crate) fn chords<const K: usize>(
     instance: &Instance,
@@ -270,7 +282,7 @@ pub(crate) fn chords<const K: usize>(
     ensures { IsWorked instance.now state.old state.new result
         (λ rule. Chords instance.now dim a c rule ⊎ Chords instance.now dim c a rule) }
 {
-    if has_no_two(cycle_seconds(instance, state, all, dim, a, c)) {
+    if !may_chord(instance, state, all, dim, a, c) {
         return false;
     }
     if chords_from(instance, state, all, dim, a, c) {

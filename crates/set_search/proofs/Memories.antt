@@ -135,10 +135,10 @@ recalled_no instance scales entries boxes keep budget bin old new (Some cost) ri
     let v = All-contains (IsVerdict instance scales) entries e.entry right e.kept.there in
     let own = v.is keep set (subst (λ (b : List ℕ). HasBoxes b keep) (sym e.kept.same) has) in
     record {
-      tokens = e.tokens;
-      is = verdict_is (set_verdict instance scales keep) (No e.tokens cost) (sym own ∙ e.refuted);
-      within = e.within;
-      appended = e.appended;
+      tokens = e.refuted.tokens;
+      is = verdict_is (set_verdict instance scales keep) (No e.refuted.tokens cost) (sym own ∙ e.refuted.is);
+      within = e.refuted.within;
+      appended = e.refuted.appended;
     }
 
 -- a verdict that is told is right

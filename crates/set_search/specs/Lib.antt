@@ -2,3 +2,4 @@ pub mod Searches
 pub mod Children
 pub mod Memories
 pub mod Entries
+pub mod Kept

@@ -43,16 +43,27 @@ pub record IsRecalled (entries : List PlainEntry) (boxes : List ℕ) (budget : �
   pub kept : IsEntryOf entries boxes entry
   pub told : r ≡ retold budget entry.outcome
 
--- an entry that has these boxes is refuted with this count, which is within the budget, and that is
--- appended to the tokens, with what refutes it
+-- the outcome is no with this count, which is within the budget, and that is appended to the tokens,
+-- with what refutes it
+pub record IsRefutedOutcome (outcome : PlainOutcome) (budget : ℕ) (bin : Option ℕ) (old new : List PlainToken)
+    (cost : ℕ) : Type 0 where
+  pub tokens : List PlainToken
+  pub is : outcome ≡ Decided (No tokens cost)
+  pub within : cost ≤ budget
+  pub appended : new ≡ old ++ SetRefuted bin ∷ tokens
+
+-- the same where a count is told, and else the tokens are as before
+abbrev pub IsToldOutcome :
+    PlainOutcome → ℕ → Option ℕ → List PlainToken → List PlainToken → Option ℕ → Type 0
+IsToldOutcome outcome budget bin old new None = new ≡ old
+IsToldOutcome outcome budget bin old new (Some cost) = IsRefutedOutcome outcome budget bin old new cost
+
+-- an entry that has these boxes is refuted so
 pub record IsRefutedEntry (entries : List PlainEntry) (boxes : List ℕ) (budget : ℕ) (bin : Option ℕ)
     (old new : List PlainToken) (cost : ℕ) : Type 0 where
   pub entry : PlainEntry
-  pub tokens : List PlainToken
   pub kept : IsEntryOf entries boxes entry
-  pub refuted : entry.outcome ≡ Decided (No tokens cost)
-  pub within : cost ≤ budget
-  pub appended : new ≡ old ++ SetRefuted bin ∷ tokens
+  pub refuted : IsRefutedOutcome entry.outcome budget bin old new cost
 
 -- the same where a count is told, and else the tokens are as before
 abbrev pub IsRecalledNo :

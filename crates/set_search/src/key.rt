@@ -39,6 +39,22 @@ impl SetKey {
         key
     }
 
+    /// The key of the boxes of a row.
+    pub fn of_row(row: BitRow<2>) -> SetKey
+        ensures { result.boxes ≡ row }
+    {
+        let mut hash: u64 = 0;
+        let mut rest = row;
+        for _ in 0..128 {
+            let Some(v) = rest.first() else {
+                break;
+            };
+            rest = rest.without(v);
+            hash = hash.wrapping_add(bits_of(v));
+        }
+        SetKey { boxes: row, hash }
+    }
+
     /// The key with one box more.
     pub fn with(self, v: u32) -> SetKey
         requires { v < 128 }

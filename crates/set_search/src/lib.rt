@@ -6,6 +6,7 @@ mod answer;
 mod child;
 mod copies;
 mod insert;
+mod kept;
 mod key;
 mod memory;
 mod search;

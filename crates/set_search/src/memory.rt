@@ -5,19 +5,25 @@ ghost use Rattle.work_share.specs.Outcomes.{plain_outcome};
 ghost use Rattle.proof_tree.specs.Plain.{plain_token};
 ghost use Rattle.set_search.specs.Children.{AreLonger};
 ghost use Rattle.set_search.specs.Entries.{plain_entry};
+ghost use Rattle.set_search.specs.Kept.{plain_kept};
 ghost use Rattle.set_search.specs.Memories.{IsEntryOf, IsPut, IsRecalled, IsRecalledNo};
 
-use crate::copies::{copy_outcome, count_of, size_of};
+use crate::copies::size_of;
+use crate::kept::Kept;
 use crate::key::SetKey;
-use crate::tokens::push_copies;
 use box_instances::NoMemory;
 use edge_state::BitRow;
 use proof_tree::{Outcome, Token};
 use std::alloc::Global;
 use std::marker::Model;
+use std::mem;
 
 // So many sets are kept at most, each at a place of its own.
 const PLACES: usize = 65_536;
+
+// So many places there are at first, and eight times as many where half of them have a set: a run
+// of few sets touches little memory.
+const FIRST_PLACES: usize = 1_024;
 
 // A set stands at the place of its key, or at one of the next ones, so many in all. With one place
 // for each key, sets whose keys agree would drive one another out, at each level anew.
@@ -30,7 +36,7 @@ const MOST_KEPT: usize = 4_194_304;
 #[derive(Drop)]
 pub struct Entry {
     boxes: BitRow<2>,
-    outcome: Outcome,
+    kept: Kept,
 }
 
 /// Decided sets with their outcomes. It is seen as its entries, in no order.
@@ -56,6 +62,13 @@ impl Model for SetMemory {
     ghost Value = { List PlainEntry };
 
     ghost view = { λ m. map plain_entry m.entries.items };
+}
+
+impl Entry {
+    // How many numbers and tokens it held, which are given up.
+    fn size_given_up(self) -> usize {
+        self.kept.size()
+    }
 }
 
 impl SetMemory {
@@ -87,15 +100,17 @@ impl SetMemory {
     // The place of a set that is kept, or else the place for it: the first that is free among those
     // of its key, or, where none is, the first of them.
     fn place_of(&self, key: &SetKey) -> usize {
+        // The number of places is a power of two.
+        let last = self.places.len().saturating_sub(1);
         let first = key.place();
         for k in 0..REACH {
-            let place = first.wrapping_add(k) % PLACES;
+            let place = first.wrapping_add(k) & last;
             let number = self.number_at(place);
             if number == 0 || self.is_number_of(number, key) {
                 return place;
             }
         }
-        first
+        first & last
     }
 
     // The entry of a set, if it is kept.
@@ -132,23 +147,7 @@ impl SetMemory {
         let Some(entry) = self.entry_of(key) else {
             return Ok(None);
         };
-        match &entry.outcome {
-            Outcome::No {
-                tokens: inner,
-                count,
-            } => {
-                if *count > budget {
-                    return Ok(None);
-                }
-                push_copies(alloc, tokens, bin, inner.as_slice())?;
-                Ok(Some(*count))
-            }
-            Outcome::Yes {
-                numbers: _,
-                count: _,
-            } => Ok(None),
-            Outcome::Past => Ok(None),
-        }
+        entry.kept.push_refuted(alloc, budget, bin, tokens)
     }
 
     /// The outcome of a set under a budget, if the set is kept.
@@ -164,23 +163,50 @@ impl SetMemory {
         let Some(entry) = self.entry_of(key) else {
             return Ok(None);
         };
-        if count_of(&entry.outcome) > budget {
+        if entry.kept.count() > budget {
             return Ok(Some(Outcome::Past));
         }
-        let outcome = copy_outcome(alloc, &entry.outcome)?;
+        let outcome = entry.kept.outcome(alloc)?;
         Ok(Some(outcome))
     }
 
-    // Takes the places, none of which has an entry. Answers whether there are places.
+    // Puts the entry of a number at a place of its key.
+    fn place_entry(&mut self, number: usize)
+        ensures { self.new ≡ self.old }
+    {
+        if number == 0 || number > self.entries.len() {
+            return;
+        }
+        let key = SetKey::of_row(self.entries[number - 1].boxes);
+        let place = self.place_of(&key);
+        if place < self.places.len() && number <= PLACES {
+            self.places[place] = number as u32;
+        }
+    }
+
+    // Puts each entry at a place of its key.
+    fn place_entries(&mut self)
+        ensures { self.new ≡ self.old }
+    {
+        for number in 1..=self.entries.len() {
+            self.place_entry(number);
+        }
+    }
+
+    // Takes places, or more of them where half of them have an entry. Answers whether there are any.
     fn has_places(&mut self, alloc: Global) -> bool
         ensures { self.new ≡ self.old }
     {
-        if self.places.is_empty() {
-            let Ok(places) = vec![in alloc; 0; PLACES] else {
-                return false;
-            };
-            self.places = places;
+        let count = self.places.len();
+        if count >= PLACES || self.entries.len() < count / 2 {
+            return true;
         }
+        let wanted = count.saturating_mul(8).max(FIRST_PLACES).min(PLACES);
+        let Ok(places) = vec![in alloc; 0; wanted] else {
+            return count > 0;
+        };
+        self.places = places;
+        self.place_entries();
         true
     }
 
@@ -193,20 +219,20 @@ impl SetMemory {
 
     // Puts an entry in the place of another one.
     fn replace(&mut self, index: usize, entry: Entry)
-        ensures { All (IsPut self.old entry.boxes (plain_outcome entry.outcome)) self.new }
+        ensures { All (IsPut self.old entry.boxes (plain_kept entry.kept)) self.new }
     {
         if index < self.entries.len() {
-            let gone = size_of(&self.entries[index].outcome);
-            self.count_in(size_of(&entry.outcome), gone);
-            self.entries[index] = entry;
+            let size = entry.kept.size();
+            let gone = mem::replace(&mut self.entries[index], entry);
+            self.count_in(size, gone.size_given_up());
         }
     }
 
     // Puts an entry at a place that has none.
     fn add(&mut self, place: usize, entry: Entry)
-        ensures { All (IsPut self.old entry.boxes (plain_outcome entry.outcome)) self.new }
+        ensures { All (IsPut self.old entry.boxes (plain_kept entry.kept)) self.new }
     {
-        let size = size_of(&entry.outcome);
+        let size = entry.kept.size();
         let number = self.entries.len() + 1;
         if number > PLACES || place >= self.places.len() {
             return;
@@ -225,12 +251,12 @@ impl SetMemory {
         if self.kept.saturating_add(size_of(outcome)) > MOST_KEPT || !self.has_places(alloc) {
             return;
         }
-        let Ok(outcome) = copy_outcome(alloc, outcome) else {
+        let Ok(kept) = Kept::of(alloc, outcome) else {
             return;
         };
         let entry = Entry {
             boxes: key.boxes,
-            outcome,
+            kept,
         };
         let place = self.place_of(key);
         let number = self.number_at(place);

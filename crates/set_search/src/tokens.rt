@@ -3,7 +3,9 @@ ghost use Rattle.std.specs.Prelude.{◌≡◌, ◌++◌, ◌∷◌, [], map, OnO
 ghost use Rattle.packing_terms.specs.Tokens.PlainToken.{SetRefuted};
 ghost use Rattle.proof_tree.specs.Plain.{plain_token};
 ghost use Rattle.set_search.specs.Children.{AreLonger};
+ghost use Rattle.set_search.specs.Kept.{plain_short};
 
+use crate::kept::Short;
 use box_instances::NoMemory;
 use proof_tree::{Token, copy_token};
 use std::alloc::Global;
@@ -60,6 +62,27 @@ pub(crate) fn push_copies(
     push_token(tokens, Token::SetRefuted { bin })?;
     for token in inner {
         push_token(tokens, copy_token(alloc, token)?)?;
+    }
+    Ok(())
+}
+
+/// The same of tokens that are kept in a few bytes each.
+pub(crate) fn push_shorts(
+    tokens: &mut Vec<Token>,
+    bin: Option<u32>,
+    inner: &[Short],
+) -> Result<(), NoMemory>
+    ensures appends { OnOk result (map plain_token tokens.new.items
+        ≡ map plain_token tokens.old.items ++ SetRefuted bin ∷ map plain_short inner.now) }
+    ensures front { OnErr result (AreLonger (map plain_token tokens.old.items)
+        (map plain_token tokens.new.items)) }
+{
+    let Ok(()) = tokens.reserve(inner.len().saturating_add(1)) else {
+        return Err(NoMemory);
+    };
+    push_token(tokens, Token::SetRefuted { bin })?;
+    for short in inner {
+        push_token(tokens, short.token())?;
     }
     Ok(())
 }

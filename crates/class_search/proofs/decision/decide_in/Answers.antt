@@ -5,7 +5,7 @@ use Rattle.class_search.proofs.decision.decide_in.Goals as goal
 
 pub returns-clause-right : goal.returns-clause-right
 returns-clause-right c =
-    IfOk-weaker c.searched.result _ _
+    IfOk-weaker c.searched_alone.result _ _
     (λ r h. class_right c.args.instance.now c.len-limits.ensures.limits c.args.scales c.args.budget
     (plain_outcome r) h)
-    c.searched.ensures.outcome
+    c.searched_alone.ensures.outcome

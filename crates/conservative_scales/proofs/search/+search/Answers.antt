@@ -42,28 +42,34 @@ search-requires t c =
           (
             c.requires.few,
             (
-              rw length-set c.requires.count,
+              c.requires.rows_room,
               (
-                omega arith,
+                c.requires.rows,
                 (
-                  omega arith,
+                  rw length-set c.requires.count,
                   (
-                    c.requires.shares_room,
+                    omega arith,
                     (
-                      c.requires.shares,
+                      omega arith,
                       (
-                        (let r = rows_less c.args.dim (c.args.dim - 1) (box_count c.args.instance.now) (omega arith) in
-                            omega (arith, r, c.scale.ensures.length, c.len.ensures.value, c.requires.room)),
+                        c.requires.shares_room,
                         (
-                          legal_written c.args.instance.now 0 c.args.dim (c.args.dim - 1) 0 _ c.args.tuple.now Id
-                              (omega arith) k refl tt c.requires.legal,
-                          partial_written c.args.instance.now 0 c.args.dim (c.args.dim - 1) 0 _ c.args.tuple.now Id
-                              (omega arith) k refl
-                              (λ v. get_or c.args.images.now (c.args.at + v) 0)
-                              (λ v. get_or c.scale.new.images (c.args.at + c.len.result + v) 0) _ _
-                              c.requires.limits c.requires.fit (omega arith) tt
-                              (λ v l. rw c.len.ensures.value (c.scale.ensures.scaled v l))
-                              (ap (λ w. c.args.whole_product * w) c.whole_of.ensures.value) c.requires.partial,
+                          c.requires.shares,
+                          (
+                            (let r = rows_less c.args.dim (c.args.dim - 1) (box_count c.args.instance.now) (omega arith) in
+                                omega (arith, r, c.scale.ensures.length, c.len.ensures.value, c.requires.room)),
+                            (
+                              legal_written c.args.instance.now 0 c.args.dim (c.args.dim - 1) 0 _ c.args.tuple.now Id
+                                  (omega arith) k refl tt c.requires.legal,
+                              partial_written c.args.instance.now 0 c.args.dim (c.args.dim - 1) 0 _ c.args.tuple.now Id
+                                  (omega arith) k refl
+                                  (λ v. get_or c.args.images.now (c.args.at + v) 0)
+                                  (λ v. get_or c.scale.new.images (c.args.at + c.len.result + v) 0) _ _
+                                  c.requires.limits c.requires.fit (omega arith) tt
+                                  (λ v l. rw c.len.ensures.value (c.scale.ensures.scaled v l))
+                                  (ap (λ w. c.args.whole_product * w) c.whole_of.ensures.value) c.requires.partial,
+                            ),
+                          ),
                         ),
                       ),
                     ),
@@ -112,6 +118,9 @@ loop-next-init t c =
             c.next_function-next.ensures.next (rw e at c.if-search.ensures.found);
         legal = c.next_function-next.ensures.legal;
       };
+      rows = c.if-search.ensures.rows;
+      functions = c.if-search.ensures.functions;
+      made = c.if-search.ensures.made;
       length = c.if-search.ensures.length ∙ c.scale.ensures.length;
       products = λ m l. c.if-search.ensures.products m (omega (arith, l)) ∙ c.scale.ensures.kept m l;
     }
@@ -128,43 +137,49 @@ search-requires-in-Some t c =
           (
             c.requires.few,
             (
-              length-set c.loop-next.tuple (c.args.dim - 1) c.in-Some.f
-                  ∙ omega (arith, length-set c.args.tuple.now (c.args.dim - 1) Id),
+              rw (c.loop-next.invariant.functions, c.loop-next.invariant.made) c.requires.rows_room,
               (
-                omega arith,
+                c.loop-next.invariant.rows,
                 (
-                  omega arith,
+                  length-set c.loop-next.tuple (c.args.dim - 1) c.in-Some.f
+                      ∙ omega (arith, length-set c.args.tuple.now (c.args.dim - 1) Id),
                   (
-                    c.requires.shares_room,
+                    omega arith,
                     (
-                      c.requires.shares,
+                      omega arith,
                       (
-                        (let r = rows_less c.args.dim (c.args.dim - 1) (box_count c.args.instance.now) (omega arith) in
-                            omega (
-                              arith,
-                              r,
-                              c.scale-in-Some.ensures.length,
-                              c.loop-next.invariant.length,
-                              c.len.ensures.value,
-                              c.requires.room,
-                            )),
+                        c.requires.shares_room,
                         (
-                          legal_written c.args.instance.now 0 c.args.dim (c.args.dim - 1) 0 _ c.loop-next.tuple c.in-Some.f
-                              (omega arith) k c.loop-next.invariant.open_at.kept
-                              (rw c.in-Some.is at c.loop-next.invariant.open_at.legal) c.requires.legal,
-                          partial_written c.args.instance.now 0 c.args.dim (c.args.dim - 1) 0 _ c.loop-next.tuple
-                              c.in-Some.f (omega arith) k c.loop-next.invariant.open_at.kept
-                              (λ v. get_or c.args.images.now (c.args.at + v) 0)
-                              (λ v. get_or c.scale-in-Some.new.images (c.args.at + c.len.result + v) 0) _ _
-                              c.requires.limits c.requires.fit (omega arith)
-                              (rw c.in-Some.is at c.loop-next.invariant.open_at.legal)
-                              (λ v l. rw (
-                                c.len.ensures.value,
-                                ←
-                                    c.loop-next.invariant.products (c.args.at + v) (omega (arith, l)),
-                              )
-                              (c.scale-in-Some.ensures.scaled v l))
-                              (ap (λ w. c.args.whole_product * w) c.whole_of-in-Some.ensures.value) c.requires.partial,
+                          c.requires.shares,
+                          (
+                            (let r = rows_less c.args.dim (c.args.dim - 1) (box_count c.args.instance.now) (omega arith) in
+                                omega (
+                                  arith,
+                                  r,
+                                  c.scale-in-Some.ensures.length,
+                                  c.loop-next.invariant.length,
+                                  c.len.ensures.value,
+                                  c.requires.room,
+                                )),
+                            (
+                              legal_written c.args.instance.now 0 c.args.dim (c.args.dim - 1) 0 _ c.loop-next.tuple c.in-Some.f
+                                  (omega arith) k c.loop-next.invariant.open_at.kept
+                                  (rw c.in-Some.is at c.loop-next.invariant.open_at.legal) c.requires.legal,
+                              partial_written c.args.instance.now 0 c.args.dim (c.args.dim - 1) 0 _ c.loop-next.tuple
+                                  c.in-Some.f (omega arith) k c.loop-next.invariant.open_at.kept
+                                  (λ v. get_or c.args.images.now (c.args.at + v) 0)
+                                  (λ v. get_or c.scale-in-Some.new.images (c.args.at + c.len.result + v) 0) _ _
+                                  c.requires.limits c.requires.fit (omega arith)
+                                  (rw c.in-Some.is at c.loop-next.invariant.open_at.legal)
+                                  (λ v l. rw (
+                                    c.len.ensures.value,
+                                    ←
+                                        c.loop-next.invariant.products (c.args.at + v) (omega (arith, l)),
+                                  )
+                                  (c.scale-in-Some.ensures.scaled v l))
+                                  (ap (λ w. c.args.whole_product * w) c.whole_of-in-Some.ensures.value) c.requires.partial,
+                            ),
+                          ),
                         ),
                       ),
                     ),
@@ -202,6 +217,9 @@ loop-next-preserved t c =
           (rw c.in-Some.is at c.loop-next.invariant.open_at) c.if-search-2.ensures.found
           c.next_function-next-in-Some.ensures.next c.next_function-next-in-Some.ensures.legal
           c.if-search-2.ensures.kept;
+      rows = c.if-search-2.ensures.rows;
+      functions = c.if-search-2.ensures.functions ∙ c.loop-next.invariant.functions;
+      made = c.if-search-2.ensures.made ∙ c.loop-next.invariant.made;
       length = c.if-search-2.ensures.length ∙ (c.scale-in-Some.ensures.length ∙ c.loop-next.invariant.length);
       products = λ m l. c.if-search-2.ensures.products m (omega (arith, l))
           ∙ (c.scale-in-Some.ensures.kept m l ∙ c.loop-next.invariant.products m l);

@@ -2,9 +2,9 @@ use Rattle.std.proofs.Common.{◌≡◌, ◌⊎◌, false}
 use Rattle.packing_terms.specs.declared.Rel.TheVariants.{Overlap, Before, After}
 use Rattle.packing_terms.specs.Rules.{Rule}
 use Rattle.relation_table.specs.Masks.{mask_has}
-use Rattle.closure_terms.specs.Instances.{OrdersCrossed}
+use Rattle.closure_terms.specs.Instances.{Cycles, OrdersCrossed}
 use Rattle.closure_terms.proofs.Worked.{worked_then, worked_lost, worked_lost_first, worked_kept}
-use Rattle.rule_passes.specs.Reached.{IsReachedJoined, IsReachedOrdered}
+use Rattle.rule_passes.specs.Reached.{IsReachedOrdered}
 use Rattle.rule_passes.proofs.edges.spread_from.Goals as goal
 
 pub returns-then-spread_joined : goal.returns-then-spread_joined
@@ -14,7 +14,7 @@ pub returns-then-spread_ordered : goal.returns-then-spread_ordered
 returns-then-spread_ordered g c =
     let left = mask_has c.args.left in
     let joined : Rule → Type 0 = λ rule. ((left Before ≡ false) × (left After ≡ false))
-    × IsReachedJoined c.args.instance.now c.args.dim c.args.p c.args.q rule in
+    × Cycles c.args.instance.now c.args.dim c.args.p c.args.q rule in
     worked_lost c.args.instance.now _ _ _ _ joined _ _ c.if-spread_ordered.true
     (worked_kept c.args.instance.now _ _ _ joined c.if-spread_joined.false c.spread_joined.ensures)
     c.spread_ordered.ensures
@@ -24,7 +24,7 @@ returns g c =
     let instance = c.args.instance.now in
     let left = mask_has c.args.left in
     let joined : Rule → Type 0 = λ rule. ((left Before ≡ false) × (left After ≡ false))
-    × IsReachedJoined instance c.args.dim c.args.p c.args.q rule in
+    × Cycles instance c.args.dim c.args.p c.args.q rule in
     let ordered : Rule → Type 0 = λ rule. ((left Overlap ≡ false) × (left After ≡ false))
     × IsReachedOrdered instance c.args.dim c.args.p c.args.q rule in
     let crossed : Rule → Type 0 = λ rule. (left Before ≡ false)

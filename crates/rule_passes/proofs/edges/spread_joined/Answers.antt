@@ -1,44 +1,5 @@
-use Rattle.std.proofs.Common.{arith, ◌≡◌, ◌⊎◌, false}
-use Rattle.packing_terms.specs.declared.Rel.TheVariants.{Before, After}
-use Rattle.packing_terms.specs.Rules.{Rule}
-use Rattle.relation_table.specs.Masks.{mask_has}
-use Rattle.closure_terms.proofs.Worked.{worked_as, worked_then, worked_kept, sizes_worked}
-use Rattle.closure_terms.specs.Instances.{Aparts, Cycles}
+use Rattle.closure_terms.proofs.Worked.{worked_as}
 use Rattle.rule_passes.proofs.edges.spread_joined.Goals as goal
 
-pub cycles-requires : goal.cycles-requires
-cycles-requires g c = (
-  omega (arith, c.requires.words.0.1),
-  (
-    c.requires.words,
-    (
-      sizes_worked _ _ _ _ _ _ (worked_kept c.args.instance.now _ _ _
-          (λ (rule : Rule). Aparts c.args.instance.now c.args.dim c.args.p c.args.q rule) c.if-aparts.false
-          c.aparts.ensures) c.requires.sizes,
-      (
-        c.requires.p,
-        (
-          c.requires.q,
-          (
-            c.requires.distinct,
-            c.requires.all,
-          ),
-        ),
-      ),
-    ),
-  ),
-)
-
 pub returns : goal.returns
-returns g c =
-    let instance = c.args.instance.now in
-    let j = c.args.dim in
-    let p = c.args.p in
-    let q = c.args.q in
-    let first = worked_kept instance _ _ _ (λ (rule : Rule). Aparts instance j p q rule) c.if-aparts.false
-    c.aparts.ensures in
-    worked_as instance _ _ _ (λ (rule : Rule). Aparts instance j p q rule ⊎ Cycles instance j p q rule)
-    (λ (rule : Rule). ((mask_has c.args.left Before ≡ false) × (mask_has c.args.left After ≡ false))
-    × (Aparts instance j p q rule ⊎ Cycles instance j p q rule)) (λ rule e. e.1)
-    (worked_then instance _ _ _ _ (λ (rule : Rule). Aparts instance j p q rule)
-    (λ (rule : Rule). Cycles instance j p q rule) first c.cycles.ensures)
+returns g c = worked_as _ _ _ _ _ _ (λ rule e. e.1) c.cycles.ensures

@@ -6,17 +6,17 @@ use Rattle.edge_state.specs.BitRows.{row_has}
 use Rattle.closure_terms.proofs.Worked.{worked_lost, worked_kept, sizes_worked}
 use Rattle.edge_state.proofs.RowBits.{members_fewer}
 use Rattle.closure_terms.proofs.Filters.{covered_never}
-use Rattle.closure_terms.proofs.Members.{worked_rest, worked_row, worked_all, covered_named, none_worked}
+use Rattle.closure_terms.proofs.Members.{worked_rest, worked_row, worked_all, covered_named}
 use Rattle.rule_passes.proofs.orders.orders_crossed.Goals as goal
 
 pub loop-b-init : goal.loop-b-init
 loop-b-init g c = record {
-  work = worked_rest _ _ (box_count c.args.instance.now) (row_has c.gone-seconds.result)
+  work = worked_rest _ _ (box_count c.args.instance.now) (row_has c.gone-rest.result)
       (λ x rule. (y : ℕ) × (y < box_count c.args.instance.now) × (rule ≡ Order c.args.dim c.args.a x y c.args.d))
       (λ x small off rule e. covered_named _ _ rule (Order c.args.dim c.args.a x e.0 c.args.d) e.2
       (covered_never c.args.instance.now _ (Order c.args.dim c.args.a x e.0 c.args.d)
-      (λ is p. c.gone-seconds.ensures.others x small is.1.1.0 off p.0.0 p.0.1)));
-  within = c.gone-seconds.ensures.within;
+      (λ is p. c.gone-rest.ensures.others x small is.1.1.0 off p.0.0 p.0.1)));
+  within = c.gone-rest.ensures.within;
 }
 
 pub loop-b-smaller : goal.loop-b-smaller
@@ -50,10 +50,5 @@ returns g c =
     (λ x rule. (y : ℕ) × (y < box_count c.args.instance.now) × (rule ≡ Order c.args.dim c.args.a x y c.args.d))
     c.in_default.ensures.least c.loop-b.invariant.work
 
-pub returns-then-not-may_order_seconds : goal.returns-then-not-may_order_seconds
-returns-then-not-may_order_seconds g c =
-    none_worked c.args.instance.now _ (box_count c.args.instance.now) (row_has c.gone-seconds.result)
-    (λ x y. Order c.args.dim c.args.a x y c.args.d)
-    (c.may_order_seconds.ensures c.if-not-may_order_seconds.true)
-    (λ x small off y. covered_never c.args.instance.now _ (Order c.args.dim c.args.a x y c.args.d)
-    (λ is p. c.gone-seconds.ensures.others x small is.1.1.0 off p.0.0 p.0.1))
+pub returns-then-not-may_order_crossed : goal.returns-then-not-may_order_crossed
+returns-then-not-may_order_crossed g c = c.may_order_crossed.ensures c.if-not-may_order_crossed.true

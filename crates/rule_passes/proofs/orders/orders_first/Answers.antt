@@ -6,17 +6,17 @@ use Rattle.edge_state.specs.BitRows.{row_has}
 use Rattle.closure_terms.proofs.Worked.{worked_lost, worked_kept, sizes_worked}
 use Rattle.edge_state.proofs.RowBits.{members_fewer}
 use Rattle.closure_terms.proofs.Filters.{covered_never}
-use Rattle.closure_terms.proofs.Members.{worked_rest, worked_row, worked_all, covered_named, none_worked}
+use Rattle.closure_terms.proofs.Members.{worked_rest, worked_row, worked_all, covered_named}
 use Rattle.rule_passes.proofs.orders.orders_first.Goals as goal
 
 pub loop-d-init : goal.loop-d-init
 loop-d-init g c = record {
-  work = worked_rest _ _ (box_count c.args.instance.now) (row_has c.gone-lasts.result)
+  work = worked_rest _ _ (box_count c.args.instance.now) (row_has c.gone-rest.result)
       (λ x rule. (y : ℕ) × (y < box_count c.args.instance.now) × (rule ≡ Order c.args.dim c.args.a c.args.b y x))
       (λ x small off rule e. covered_named _ _ rule (Order c.args.dim c.args.a c.args.b e.0 x) e.2
       (covered_never c.args.instance.now _ (Order c.args.dim c.args.a c.args.b e.0 x)
-      (λ is p. c.gone-lasts.ensures.others x small is.1.1.1.1.0 off p.2 p.2)));
-  within = c.gone-lasts.ensures.within;
+      (λ is p. c.gone-rest.ensures.others x small is.1.1.1.1.0 off p.2 p.2)));
+  within = c.gone-rest.ensures.within;
 }
 
 pub loop-d-smaller : goal.loop-d-smaller
@@ -50,10 +50,5 @@ returns g c =
     (λ x rule. (y : ℕ) × (y < box_count c.args.instance.now) × (rule ≡ Order c.args.dim c.args.a c.args.b y x))
     c.in_default.ensures.least c.loop-d.invariant.work
 
-pub returns-then-not-may_order_lasts : goal.returns-then-not-may_order_lasts
-returns-then-not-may_order_lasts g c =
-    none_worked c.args.instance.now _ (box_count c.args.instance.now) (row_has c.gone-lasts.result)
-    (λ x y. Order c.args.dim c.args.a c.args.b y x)
-    (c.may_order_lasts.ensures c.if-not-may_order_lasts.true)
-    (λ x small off y. covered_never c.args.instance.now _ (Order c.args.dim c.args.a c.args.b y x)
-    (λ is p. c.gone-lasts.ensures.others x small is.1.1.1.1.0 off p.2 p.2))
+pub returns-then-not-may_order_first : goal.returns-then-not-may_order_first
+returns-then-not-may_order_first g c = c.may_order_first.ensures c.if-not-may_order_first.true

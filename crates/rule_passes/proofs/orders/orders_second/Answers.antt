@@ -8,19 +8,19 @@ use Rattle.edge_state.specs.BitRows.{row_has}
 use Rattle.closure_terms.proofs.Worked.{worked_lost, worked_kept, sizes_worked}
 use Rattle.edge_state.proofs.RowBits.{members_fewer}
 use Rattle.closure_terms.proofs.Filters.{covered_never}
-use Rattle.closure_terms.proofs.Members.{worked_rest, worked_row, worked_all, covered_named, none_worked}
+use Rattle.closure_terms.proofs.Members.{worked_rest, worked_row, worked_all, covered_named}
 use Rattle.rule_passes.proofs.orders.orders_second.Goals as goal
 
 pub loop-a-init : goal.loop-a-init
 loop-a-init g c = record {
-  work = worked_rest _ _ (box_count c.args.instance.now) (row_has c.gone-firsts.result)
+  work = worked_rest _ _ (box_count c.args.instance.now) (row_has c.gone-rest.result)
       (λ x rule. (y : ℕ) × (y < box_count c.args.instance.now) × (rule ≡ Order c.args.dim x y c.args.c c.args.d))
       (λ x small off rule e. covered_named _ _ rule (Order c.args.dim x e.0 c.args.c c.args.d) e.2
       (covered_never c.args.instance.now _ (Order c.args.dim x e.0 c.args.c c.args.d)
-      (λ is p. c.gone-firsts.ensures.others x small (λ e. is.1.1.1.1.0 (sym e)) off
+      (λ is p. c.gone-rest.ensures.others x small (λ e. is.1.1.1.1.0 (sym e)) off
       (excludes_symmetric c.args.state.now.trail c.args.dim x c.args.d Before p.2)
       (excludes_symmetric c.args.state.now.trail c.args.dim x c.args.d Before p.2))));
-  within = c.gone-firsts.ensures.within;
+  within = c.gone-rest.ensures.within;
 }
 
 pub loop-a-smaller : goal.loop-a-smaller
@@ -52,12 +52,5 @@ returns g c =
     (λ x rule. (y : ℕ) × (y < box_count c.args.instance.now) × (rule ≡ Order c.args.dim x y c.args.c c.args.d))
     c.in_default.ensures.least c.loop-a.invariant.work
 
-pub returns-then-not-may_order_firsts : goal.returns-then-not-may_order_firsts
-returns-then-not-may_order_firsts g c =
-    none_worked c.args.instance.now _ (box_count c.args.instance.now) (row_has c.gone-firsts.result)
-    (λ x y. Order c.args.dim x y c.args.c c.args.d)
-    (c.may_order_firsts.ensures c.if-not-may_order_firsts.true)
-    (λ x small off y. covered_never c.args.instance.now _ (Order c.args.dim x y c.args.c c.args.d)
-    (λ is p. c.gone-firsts.ensures.others x small (λ e. is.1.1.1.1.0 (sym e)) off
-    (excludes_symmetric c.args.state.now.trail c.args.dim x c.args.d Before p.2)
-    (excludes_symmetric c.args.state.now.trail c.args.dim x c.args.d Before p.2)))
+pub returns-then-not-may_order_second : goal.returns-then-not-may_order_second
+returns-then-not-may_order_second g c = c.may_order_second.ensures c.if-not-may_order_second.true

@@ -1,19 +1,13 @@
-use Rattle.std.proofs.Common.{sym, ◌∙◌, ℕ}
-use Rattle.std.proofs.lemmas.Bool.{or_parts}
+use Rattle.std.proofs.Common.{ℕ}
 use Rattle.packing_terms.specs.Packing.{box_count}
 use Rattle.packing_terms.specs.Rules.{Rule, Triple}
 use Rattle.edge_state.specs.BitRows.{row_has}
 use Rattle.closure_terms.proofs.Worked.{worked_kept, worked_then, worked_lost_first}
-use Rattle.rule_passes.proofs.Guards.{Among, worked_rows, worked_no_rows}
+use Rattle.rule_passes.proofs.Guards.{Among, worked_rows}
 use Rattle.rule_passes.proofs.triples.triples.Goals as goal
 
-pub returns-then-is_empty : goal.returns-then-is_empty
-returns-then-is_empty g c =
-    worked_no_rows c.args.instance.now _ (box_count c.args.instance.now) (row_has c.beyond_triples-there.result)
-    (row_has c.beyond_triples-back.result)
-    (λ v. Triple c.args.dim c.args.u v c.args.x) (λ v. Triple c.args.dim c.args.x v c.args.u)
-    c.beyond_triples-there.ensures.others c.beyond_triples-back.ensures.others
-    (λ v. or_parts _ _ (sym (c.or.ensures v) ∙ c.is_empty.ensures c.if-is_empty.true v))
+pub returns-then-not-may_triple : goal.returns-then-not-may_triple
+returns-then-not-may_triple g c = c.may_triple.ensures c.if-not-may_triple.true
 
 pub returns-then-triples_among : goal.returns-then-triples_among
 returns-then-triples_among g c = worked_lost_first _ _ _ _ _ _ c.if-triples_among.true c.triples_among.ensures

@@ -1,31 +1,10 @@
-use Rattle.std.proofs.Common.{◌⊎◌, inl, inr}
-use Rattle.packing_terms.specs.Rules.{Rule, Cycle}
-use Rattle.edge_state.specs.BitRows.{row_has}
+use Rattle.packing_terms.specs.Rules.{Rule}
 use Rattle.closure_terms.specs.Instances.{Chords}
-use Rattle.closure_terms.specs.Work.{IsCovered}
-use Rattle.packing_terms.specs.Exclusions.{excludes}
-use Rattle.closure_terms.proofs.Members.{covered_named}
-use Rattle.closure_terms.proofs.Worked.{worked_none, worked_then, worked_kept, worked_lost_first}
-use Rattle.rule_passes.proofs.Cycles.{covered_chord, joined_back}
+use Rattle.closure_terms.proofs.Worked.{worked_then, worked_kept, worked_lost_first}
 use Rattle.rule_passes.proofs.work.chords.Goals as goal
 
-pub returns-then-has_no_two : goal.returns-then-has_no_two
-returns-then-has_no_two g c = worked_none c.args.instance.now _ _ (λ rule e. go rule e)
-  where
-    go : (rule : Rule) → Chords c.args.instance.now c.args.dim c.args.a c.args.c rule
-        ⊎ Chords c.args.instance.now c.args.dim c.args.c c.args.a rule
-        → IsCovered c.args.instance.now (excludes c.args.state.now.trail) c.args.state.now.trail rule
-    go rule (inl e) = covered_named c.args.instance.now _ rule (Cycle c.args.dim c.args.a e.0 c.args.c e.2.0) e.2.2
-        (covered_chord c.args.instance.now c.args.state.now.trail c.args.dim c.args.a e.0 c.args.c e.2.0
-        (row_has c.cycle_seconds.result) c.cycle_seconds.ensures.others
-        (c.has_no_two.ensures c.if-has_no_two.true))
-    go rule (inr e) = covered_named c.args.instance.now _ rule (Cycle c.args.dim c.args.c e.0 c.args.a e.2.0) e.2.2
-        (covered_chord c.args.instance.now c.args.state.now.trail c.args.dim c.args.c e.0 c.args.a e.2.0
-        (row_has c.cycle_seconds.result)
-        (λ x small ca aa off one two. c.cycle_seconds.ensures.others x small aa ca off
-        (joined_back c.args.state.now.trail c.args.dim x c.args.a two)
-        (joined_back c.args.state.now.trail c.args.dim c.args.c x one))
-        (c.has_no_two.ensures c.if-has_no_two.true))
+pub returns-then-not-may_chord : goal.returns-then-not-may_chord
+returns-then-not-may_chord g c = c.may_chord.ensures c.if-not-may_chord.true
 
 pub returns-then-chords_from : goal.returns-then-chords_from
 returns-then-chords_from g c = worked_lost_first _ _ _ _ _ _ c.if-chords_from.true c.chords_from.ensures

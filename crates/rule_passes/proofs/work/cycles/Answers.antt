@@ -3,7 +3,7 @@ use Rattle.std.proofs.lemmas.Bool.{and_parts}
 use Rattle.packing_terms.specs.Packing.{box_count}
 use Rattle.packing_terms.specs.Rules.{Cycle}
 use Rattle.edge_state.specs.BitRows.{row_has}
-use Rattle.closure_terms.proofs.Worked.{worked_none, worked_lost, worked_kept, sizes_worked}
+use Rattle.closure_terms.proofs.Worked.{worked_lost, worked_kept, sizes_worked}
 use Rattle.edge_state.proofs.RowBits.{members_fewer}
 use Rattle.closure_terms.proofs.Filters.{covered_never}
 use Rattle.closure_terms.proofs.Members.{worked_rest, worked_row, worked_all, covered_named}
@@ -50,8 +50,5 @@ returns g c =
     (λ x rule. (y : ℕ) × (y < box_count c.args.instance.now) × (rule ≡ Cycle c.args.dim c.args.a c.args.b x y))
     c.in_default.ensures.least c.loop-c.invariant.work
 
-pub returns-then-is_empty : goal.returns-then-is_empty
-returns-then-is_empty g c =
-    worked_none c.args.instance.now _ _
-    (λ rule e. covered_named c.args.instance.now _ rule (Cycle c.args.dim c.args.a c.args.b e.0 e.2.0) e.2.2
-    (c.cycle_fourths.ensures.others e.2.0 e.2.1 (c.is_empty.ensures c.if-is_empty.true e.2.0) e.0))
+pub returns-then-not-may_cycle : goal.returns-then-not-may_cycle
+returns-then-not-may_cycle g c = c.may_cycle.ensures c.if-not-may_cycle.true

@@ -1,0 +1,38 @@
+use Rattle.std.proofs.Common.{sym, ◌∙◌, ◌⊎◌, inl, inr, ◌<◌, arith}
+use Rattle.std.proofs.lemmas.Bool.{or_parts}
+use Rattle.packing_terms.specs.Packing.{box_count, side}
+use Rattle.packing_terms.specs.Exclusions.{excludes}
+use Rattle.packing_terms.specs.Rules.{Rule, Triple}
+use Rattle.edge_state.specs.BitRows.{row_has}
+use Rattle.closure_terms.specs.Instances.{Triples}
+use Rattle.closure_terms.specs.Work.{IsCovered}
+use Rattle.closure_terms.proofs.Filters.{covered_never}
+use Rattle.closure_terms.proofs.Members.{covered_named}
+use Rattle.closure_terms.proofs.Worked.{worked_none}
+use Rattle.rule_passes.proofs.Guards.{worked_no_rows}
+use Rattle.rule_passes.proofs.triples.may_triple.Goals as goal
+
+pub returns-then-is_empty : goal.returns-then-is_empty
+returns-then-is_empty g c e =
+    worked_no_rows c.args.instance.now _ (box_count c.args.instance.now) (row_has c.beyond_triples-there.result)
+    (row_has c.beyond_triples-back.result)
+    (λ v. Triple c.args.dim c.args.u v c.args.x) (λ v. Triple c.args.dim c.args.x v c.args.u)
+    c.beyond_triples-there.ensures.others c.beyond_triples-back.ensures.others
+    (λ v. or_parts _ _ (sym (c.or.ensures v) ∙ c.is_empty.ensures c.if-is_empty.true v))
+
+pub returns-then-from-least : goal.returns-then-from-least
+returns-then-from-least g c h = worked_none c.args.instance.now _ _ (λ rule r. go rule r)
+  where
+    go : (rule : Rule) → Triples c.args.instance.now c.args.dim c.args.u c.args.x rule
+        ⊎ Triples c.args.instance.now c.args.dim c.args.x c.args.u rule
+        → IsCovered c.args.instance.now (excludes c.args.state.now.trail) c.args.state.now.trail rule
+    go rule (inl e) = covered_named c.args.instance.now _ rule (Triple c.args.dim c.args.u e.0 c.args.x) e.2
+        (covered_never c.args.instance.now _ (Triple c.args.dim c.args.u e.0 c.args.x)
+        (λ is p. (let l : side c.args.instance.now e.0 c.args.dim < c.least_third-least.result
+        = omega (arith, c.requires.most e.0 e.1, c.if-from-least.true) in
+        let fits = c.least_third-least.ensures _ l in omega (arith, p.2, fits))))
+    go rule (inr e) = covered_named c.args.instance.now _ rule (Triple c.args.dim c.args.x e.0 c.args.u) e.2
+        (covered_never c.args.instance.now _ (Triple c.args.dim c.args.x e.0 c.args.u)
+        (λ is p. (let l : side c.args.instance.now e.0 c.args.dim < c.least_third-least.result
+        = omega (arith, c.requires.most e.0 e.1, c.if-from-least.true) in
+        let fits = c.least_third-least.ensures _ l in omega (arith, p.2, fits))))
