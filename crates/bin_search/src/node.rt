@@ -1,6 +1,5 @@
 //! The nodes of a bin tree.
-ghost use Rattle.std.specs.Prelude.{◌≡◌, ◌+◌, ◌≤◌, pred, [], length, map, slice_index_or, IfOk, OnOk};
-ghost use Rattle.proof_tree.specs.Plain.{plain_token};
+ghost use Rattle.std.specs.Prelude.{◌≡◌, ◌+◌, ◌≤◌, pred, [], length, slice_index_or, IfOk, OnOk};
 ghost use Rattle.packing_terms.specs.Goals.{IsBoxSet};
 ghost use Rattle.packing_terms.specs.Limits.{most_boxes};
 ghost use Rattle.packing_terms.specs.OuterRefutation.{insert_box};
@@ -11,8 +10,7 @@ ghost use Rattle.bin_search.specs.Nodes.{child_count, plain_placed, plain_change
 
 use crate::lists::{replace_list, restore_list};
 use box_instances::NoMemory;
-use proof_tree::Token;
-use set_search::{Child, SetSearch};
+use set_search::{Child, SetSearch, TokenList};
 use std::alloc::Global;
 
 // A node: so many boxes by rank have bins; the used bins in the order of their first use, the boxes
@@ -59,14 +57,14 @@ pub(crate) fn grow_bin(
     v: u32,
     left: u64,
     bin: Option<u32>,
-    tokens: &mut Vec<Token>,
+    tokens: &mut TokenList,
 ) -> Result<Child, NoMemory>
     requires { IsBoxSet search.old.instance
         (insert_box v (slice_index_or (lists_of bins.now) b [])) }
     ensures same { search.new ≡ search.old }
     ensures child { IfOk result (λ child. IsChild search.old.instance search.old.scales left
         (insert_box v (slice_index_or (lists_of bins.now) b [])) bin
-        (map plain_token tokens.old.items) (map plain_token tokens.new.items) child) }
+        tokens.old tokens.new child) }
 {
     if b < bins.len() {
         search.grow(alloc, bins[b].as_slice(), v, left, bin, tokens)

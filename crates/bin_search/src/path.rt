@@ -19,7 +19,7 @@ use crate::numbers::bin_numbers;
 use crate::walk::{assign, walk};
 use box_instances::{Instance, NoMemory};
 use proof_tree::Outcome;
-use set_search::{Child, MOST_BUDGET, SetSearch, with_box};
+use set_search::{Child, MOST_BUDGET, SetSearch, TokenList, with_box};
 use std::alloc::Global;
 use work_share::Node;
 
@@ -177,7 +177,7 @@ pub(crate) fn explore_step(
         step.placed (lists_of step.bins.items) step.child))) }
 {
     let b = step.child as usize;
-    let mut tokens = Vec::new(alloc);
+    let mut tokens = TokenList::new(alloc);
     let number = Some(step.child + 1);
     match grow_bin(
         alloc,
@@ -190,7 +190,10 @@ pub(crate) fn explore_step(
         &mut tokens,
     )? {
         Child::Past => Ok(Outcome::Past),
-        Child::Refuted { own } => Ok(Outcome::No { tokens, count: own }),
+        Child::Refuted { own } => {
+            let tokens = tokens.tokens(alloc)?;
+            Ok(Outcome::No { tokens, count: own })
+        }
         Child::Fits { set, numbers, own } => {
             let answers = answers_with(alloc, search, &step.bins, b, numbers)?;
             let mut bins = step.bins;
@@ -260,7 +263,7 @@ pub(crate) fn tell_step(
         step.placed (lists_of step.bins.items) step.child)) }
 {
     let b = step.child as usize;
-    let mut tokens = Vec::new(alloc);
+    let mut tokens = TokenList::new(alloc);
     match grow_bin(
         alloc,
         search,

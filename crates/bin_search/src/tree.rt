@@ -19,7 +19,7 @@ use crate::root::scales_token;
 use box_instances::{Instance, NoMemory};
 use class_search::are_same_instances;
 use proof_tree::Outcome;
-use set_search::{SetSearch, push_token};
+use set_search::SetSearch;
 use std::alloc::Global;
 use std::marker::Model;
 use work_share::{Node, Tree};
@@ -94,7 +94,9 @@ impl<'a> BinTree<'a> {
         let _limits = self.instance.len();
         if let Some(token) = scales_token(alloc, self.instance, self.bins, self.scales) {
             let mut tokens = Vec::new(alloc);
-            push_token(&mut tokens, token)?;
+            let Ok(()) = tokens.push(token) else {
+                return Err(NoMemory);
+            };
             return Ok(Outcome::No { tokens, count: 0 });
         }
         let root = Placed {

@@ -1,6 +1,6 @@
 //! The walk through the bin tree below a node, depth first. One node is held, and a stack of what
 //! each step down to it changed, so that no bin is copied.
-ghost use Rattle.std.specs.Prelude.{◌≡◌, ◌≤◌, ◌<◌, ◌∷◌, ◌++◌, [], suc, length, drop, map, slice_index_or, IfOk, OnOk};
+ghost use Rattle.std.specs.Prelude.{◌≡◌, ◌≤◌, ◌<◌, ◌∷◌, ◌++◌, [], suc, length, drop, slice_index_or, IfOk, OnOk};
 ghost use Rattle.packing_terms.specs.Packing.{box_count};
 ghost use Rattle.packing_terms.specs.Limits.{IsInternalInstance};
 ghost use Rattle.packing_terms.specs.Tokens.PlainToken.{Assign};
@@ -16,7 +16,7 @@ use crate::node::{Change, Placed, children, enter_child, grow_bin, leave_child};
 use crate::numbers::bin_numbers;
 use box_instances::{Instance, NoMemory};
 use proof_tree::{Outcome, Token};
-use set_search::{Child, SetSearch, push_token};
+use set_search::{Child, SetSearch, TokenList};
 use std::alloc::Global;
 
 // The token of a node at which so many boxes have bins.
@@ -58,14 +58,17 @@ pub(crate) fn walk(
         (lists_of node.bins.items) (lists_of node.answers.items) own))) }
 {
     let mut stack: Vec<Change> = Vec::new(alloc);
-    let mut tokens = Vec::new(alloc);
+    let mut tokens = TokenList::new(alloc);
     let mut count = own;
     let mut node = node;
-    push_token(&mut tokens, assign(instance, order, node.placed))?;
+    tokens.push(assign(instance, order, node.placed))?;
     loop {
         if node.visited == children(&node.bins, most) {
             match stack.pop() {
-                None => return Ok(Outcome::No { tokens, count }),
+                None => {
+                    let tokens = tokens.tokens(alloc)?;
+                    return Ok(Outcome::No { tokens, count });
+                }
                 Some(change) => leave_child(&mut node, change),
             }
         } else {
@@ -90,7 +93,7 @@ pub(crate) fn walk(
                         let numbers = bin_numbers(alloc, instance, &node.bins, &node.answers)?;
                         return Ok(Outcome::Yes { numbers, count });
                     }
-                    push_token(&mut tokens, assign(instance, order, node.placed))?;
+                    tokens.push(assign(instance, order, node.placed))?;
                     let Ok(()) = stack.push(change) else {
                         return Err(NoMemory);
                     };

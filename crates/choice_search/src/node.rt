@@ -1,6 +1,5 @@
 //! The nodes of a choice tree.
-ghost use Rattle.std.specs.Prelude.{◌≡◌, ◌≤◌, ◌+◌, ℕ, Bool, List, drop, length, map, IfOk};
-ghost use Rattle.proof_tree.specs.Plain.{plain_token};
+ghost use Rattle.std.specs.Prelude.{◌≡◌, ◌≤◌, ◌+◌, ℕ, Bool, List, drop, length, IfOk};
 ghost use Rattle.packing_terms.specs.Rules.{AreBoxes};
 ghost use Rattle.packing_terms.specs.Goals.{worth, IsBoxSet};
 ghost use Rattle.packing_terms.specs.OuterRefutation.{insert_box};
@@ -12,7 +11,7 @@ ghost use Rattle.choice_search.specs.Choices.{IsMet, IsOpened};
 
 use box_instances::{Instance, NoMemory};
 use proof_tree::Token;
-use set_search::{Child, SetSearch};
+use set_search::{Child, SetSearch, TokenList};
 use std::alloc::Global;
 use work_share::Node;
 
@@ -93,12 +92,12 @@ pub(crate) fn open_first(
     node: &Chosen,
     v: u32,
     left: u64,
-    tokens: &mut Vec<Token>,
+    tokens: &mut TokenList,
 ) -> Result<Opened, NoMemory>
     requires { IsBoxSet search.old.instance (insert_box v node.now.taken.items) }
     ensures same { search.new ≡ search.old }
     ensures opened { IfOk result (λ r. IsOpened search.old.instance search.old.scales node.now v left
-        (map plain_token tokens.old.items) (map plain_token tokens.new.items) r) }
+        tokens.old tokens.new r) }
 {
     match search.grow(alloc, &node.taken, v, left, None, tokens)? {
         Child::Past => Ok(Opened::Past),

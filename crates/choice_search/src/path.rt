@@ -14,7 +14,7 @@ use crate::node::{Chosen, meet, tell};
 use crate::walk::walk;
 use box_instances::{Instance, NoMemory};
 use proof_tree::Outcome;
-use set_search::{Child, MOST_BUDGET, SetSearch, put_box};
+use set_search::{Child, MOST_BUDGET, SetSearch, TokenList, put_box};
 use std::alloc::Global;
 use work_share::Node;
 
@@ -79,11 +79,14 @@ pub(crate) fn explore_first(
         (record { instance = instance.now; goal = value; scales = search.old.scales })
         above.decided above.taken.items 0))) }
 {
-    let mut tokens = Vec::new(alloc);
+    let mut tokens = TokenList::new(alloc);
     let v = order[above.decided];
     match search.grow(alloc, &above.taken, v, cap, None, &mut tokens)? {
         Child::Past => Ok(Outcome::Past),
-        Child::Refuted { own } => Ok(Outcome::No { tokens, count: own }),
+        Child::Refuted { own } => {
+            let tokens = tokens.tokens(alloc)?;
+            Ok(Outcome::No { tokens, count: own })
+        }
         Child::Fits { set, numbers, own } => {
             let node = Chosen {
                 decided: above.decided + 1,
@@ -142,7 +145,7 @@ pub(crate) fn tell_first(
         (record { instance = instance.now; goal = value; scales = search.old.scales })
         above.decided above.taken.items 0)) }
 {
-    let mut tokens = Vec::new(alloc);
+    let mut tokens = TokenList::new(alloc);
     let v = order[above.decided];
     match search.grow(alloc, &above.taken, v, MOST_BUDGET, None, &mut tokens)? {
         Child::Past => Ok(Node::Leaf),

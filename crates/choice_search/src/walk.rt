@@ -12,7 +12,7 @@ use crate::node::{Chosen, NodeKind, Opened, meet, open_first};
 use crate::numbers::choice_numbers;
 use box_instances::{Instance, NoMemory};
 use proof_tree::{Outcome, Token};
-use set_search::{SetSearch, push_token};
+use set_search::{SetSearch, TokenList};
 use std::alloc::Global;
 use std::mem;
 
@@ -38,7 +38,7 @@ pub(crate) fn walk(
         node.taken.items node.numbers.items own))) }
 {
     let mut stack: Vec<Chosen> = Vec::new(alloc);
-    let mut tokens = Vec::new(alloc);
+    let mut tokens = TokenList::new(alloc);
     let mut count = own;
     let mut node = node;
     loop {
@@ -48,8 +48,9 @@ pub(crate) fn walk(
                 return Ok(Outcome::Yes { numbers, count });
             }
             NodeKind::Short => {
-                push_token(&mut tokens, Token::ValueShort)?;
+                tokens.push(Token::ValueShort)?;
                 let Some(waiting) = stack.pop() else {
+                    let tokens = tokens.tokens(alloc)?;
                     return Ok(Outcome::No { tokens, count });
                 };
                 if count == cap {
@@ -59,7 +60,7 @@ pub(crate) fn walk(
                 node = waiting;
             }
             NodeKind::Divided(v) => {
-                push_token(&mut tokens, Token::Choose { box_no: v + 1 })?;
+                tokens.push(Token::Choose { box_no: v + 1 })?;
                 node.decided += 1;
                 match open_first(alloc, search, &node, v, cap - count, &mut tokens)? {
                     Opened::Past => return Ok(Outcome::Past),

@@ -4,3 +4,4 @@ pub mod Reaching
 pub mod Memories
 pub mod Entries
 pub mod Grown
+pub mod Shorts

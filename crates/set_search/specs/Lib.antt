@@ -2,4 +2,5 @@ pub mod Searches
 pub mod Children
 pub mod Memories
 pub mod Entries
+pub mod Shorts
 pub mod Kept

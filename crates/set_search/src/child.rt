@@ -1,16 +1,15 @@
 //! A child of an outer tree whose set grew by one box.
-ghost use Rattle.std.specs.Prelude.{◌≡◌, ◌≤◌, IfOk, OnErr, length, map};
+ghost use Rattle.std.specs.Prelude.{◌≡◌, ◌≤◌, IfOk, OnErr, length};
 ghost use Rattle.packing_terms.specs.Goals.{IsBoxSet};
 ghost use Rattle.packing_terms.specs.OuterRefutation.{insert_box};
 ghost use Rattle.tree_terms.specs.OuterTrees.{set_verdict, yes_numbers};
-ghost use Rattle.proof_tree.specs.Plain.{plain_token};
 ghost use Rattle.set_search.specs.Children.{AreLonger, IsChild, IsFoundSet};
 ghost use Rattle.set_search.specs.Memories.{HasBoxes};
 
 use crate::insert::fill_with;
 use crate::key::SetKey;
+use crate::list::TokenList;
 use crate::search::{MOST_BUDGET, SetSearch};
-use crate::tokens::push_refuted;
 use box_instances::NoMemory;
 use proof_tree::{Outcome, Token};
 use std::alloc::Global;
@@ -45,15 +44,14 @@ impl<'a> SetSearch<'a> {
         v: u32,
         left: u64,
         bin: Option<u32>,
-        tokens: &mut Vec<Token>,
+        tokens: &mut TokenList,
     ) -> Result<Child, NoMemory>
         requires { IsBoxSet self.old.instance (insert_box v keep.now) }
         ensures same { self.new ≡ self.old }
         ensures child { IfOk result (λ child.
             IsChild self.old.instance self.old.scales left (insert_box v keep.now) bin
-            (map plain_token tokens.old.items) (map plain_token tokens.new.items) child) }
-        ensures front { OnErr result (AreLonger (map plain_token tokens.old.items)
-            (map plain_token tokens.new.items)) }
+            tokens.old tokens.new child) }
+        ensures front { OnErr result (AreLonger tokens.old tokens.new) }
     {
         if left == 0 {
             return Ok(Child::Past);
@@ -77,7 +75,7 @@ impl<'a> SetSearch<'a> {
         key: &SetKey,
         left: u64,
         bin: Option<u32>,
-        tokens: &mut Vec<Token>,
+        tokens: &mut TokenList,
     ) -> Result<Child, NoMemory>
         requires some { 1 ≤ length set.items }
         requires boxes { HasBoxes key.now.boxes set.items }
@@ -86,9 +84,8 @@ impl<'a> SetSearch<'a> {
         ensures same { self.new ≡ self.old }
         ensures child { IfOk result (λ child.
             IsChild self.old.instance self.old.scales left set.items bin
-            (map plain_token tokens.old.items) (map plain_token tokens.new.items) child) }
-        ensures front { OnErr result (AreLonger (map plain_token tokens.old.items)
-            (map plain_token tokens.new.items)) }
+            tokens.old tokens.new child) }
+        ensures front { OnErr result (AreLonger tokens.old tokens.new) }
     {
         match self.decide_by(alloc, set.as_slice(), key, left - 1)? {
             Outcome::Past => Ok(Child::Past),
@@ -96,7 +93,8 @@ impl<'a> SetSearch<'a> {
                 tokens: inner,
                 count,
             } => {
-                push_refuted(tokens, bin, inner)?;
+                tokens.push(Token::SetRefuted { bin })?;
+                tokens.extend(alloc, inner.as_slice())?;
                 self.put_spare(set);
                 let own = 1 + count;
                 Ok(Child::Refuted { own })

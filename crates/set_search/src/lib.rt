@@ -4,16 +4,17 @@
 
 mod answer;
 mod child;
-mod copies;
+mod function;
 mod insert;
 mod kept;
 mod key;
+mod list;
 mod memory;
 mod search;
-mod tokens;
+mod short;
 
 pub use answer::push_coordinates;
 pub use child::Child;
 pub use insert::{put_box, with_box};
+pub use list::TokenList;
 pub use search::{MOST_BUDGET, SetSearch};
-pub use tokens::push_token;

@@ -2,18 +2,17 @@
 ghost use Rattle.std.specs.Prelude.{◌≡◌, [], map, IfOk, IfSome, OnErr};
 ghost use Rattle.std.specs.List.{All, Contains};
 ghost use Rattle.work_share.specs.Outcomes.{plain_outcome};
-ghost use Rattle.proof_tree.specs.Plain.{plain_token};
 ghost use Rattle.set_search.specs.Children.{AreLonger};
 ghost use Rattle.set_search.specs.Entries.{plain_entry};
 ghost use Rattle.set_search.specs.Kept.{plain_kept};
 ghost use Rattle.set_search.specs.Memories.{IsEntryOf, IsPut, IsRecalled, IsRecalledNo};
 
-use crate::copies::size_of;
 use crate::kept::Kept;
 use crate::key::SetKey;
+use crate::list::TokenList;
 use box_instances::NoMemory;
 use edge_state::BitRow;
-use proof_tree::{Outcome, Token};
+use proof_tree::Outcome;
 use std::alloc::Global;
 use std::marker::Model;
 use std::mem;
@@ -56,7 +55,6 @@ pub struct SetMemory {
 impl Model for SetMemory {
     ghost use Rattle.std.specs.Prelude.{List, map};
     ghost use Rattle.set_search.specs.Memories.{PlainEntry};
-    ghost use Rattle.set_search.specs.Children.{AreLonger};
     ghost use Rattle.set_search.specs.Entries.{plain_entry};
 
     ghost Value = { List PlainEntry };
@@ -137,12 +135,11 @@ impl SetMemory {
         key: &SetKey,
         budget: u64,
         bin: Option<u32>,
-        tokens: &mut Vec<Token>,
+        tokens: &mut TokenList,
     ) -> Result<Option<u64>, NoMemory>
         ensures found { IfOk result (λ found. IsRecalledNo self.now key.now.boxes budget bin
-            (map plain_token tokens.old.items) (map plain_token tokens.new.items) found) }
-        ensures front { OnErr result (AreLonger (map plain_token tokens.old.items)
-            (map plain_token tokens.new.items)) }
+            tokens.old tokens.new found) }
+        ensures front { OnErr result (AreLonger tokens.old tokens.new) }
     {
         let Some(entry) = self.entry_of(key) else {
             return Ok(None);
@@ -248,12 +245,12 @@ impl SetMemory {
     pub fn keep(&mut self, alloc: Global, key: &SetKey, outcome: &Outcome)
         ensures { All (IsPut self.old key.now.boxes (plain_outcome outcome.now)) self.new }
     {
-        if self.kept.saturating_add(size_of(outcome)) > MOST_KEPT || !self.has_places(alloc) {
-            return;
-        }
         let Ok(kept) = Kept::of(alloc, outcome) else {
             return;
         };
+        if self.kept.saturating_add(kept.size()) > MOST_KEPT || !self.has_places(alloc) {
+            return;
+        }
         let entry = Entry {
             boxes: key.boxes,
             kept,

@@ -1,23 +1,23 @@
 //! The decision of sets of the boxes of one instance.
-ghost use Rattle.std.specs.Prelude.{◌≡◌, ◌≤◌, ℕ, List, length, map, IfOk, OnOk, OnErr, []};
+ghost use Rattle.std.specs.Prelude.{◌≡◌, ◌≤◌, ℕ, List, length, IfOk, OnOk, OnErr, []};
 ghost use Rattle.packing_terms.specs.Goals.{subset, IsBoxSet};
 ghost use Rattle.packing_terms.specs.Limits.{IsDimCount, most_boxes};
 ghost use Rattle.set_search.specs.Searches.{AreClosers};
 ghost use Rattle.set_search.specs.Children.{AreLonger};
 ghost use Rattle.set_search.specs.Memories.{HasBoxes, IsToldNo};
 ghost use Rattle.packing_terms.specs.OuterRefutation.{insert_box};
-ghost use Rattle.proof_tree.specs.Plain.{plain_token};
 ghost use Rattle.tree_terms.specs.Trees.{told};
 ghost use Rattle.tree_terms.specs.OuterTrees.{set_verdict};
 ghost use Rattle.work_share.specs.Outcomes.{plain_outcome};
 ghost use Rattle.class_search.specs.Right.{IsRight};
 
 use crate::key::SetKey;
+use crate::list::TokenList;
 use crate::memory::SetMemory;
 use box_instances::{BoxSet, Instance, NoMemory};
 use class_search::decide_in;
 use edge_state::EdgeState;
-use proof_tree::{Outcome, Token};
+use proof_tree::Outcome;
 use rule_closure::Closer;
 use std::alloc::Global;
 use std::marker::Model;
@@ -188,14 +188,13 @@ impl<'a> SetSearch<'a> {
         key: &SetKey,
         budget: u64,
         bin: Option<u32>,
-        tokens: &mut Vec<Token>,
+        tokens: &mut TokenList,
     ) -> Result<Option<u64>, NoMemory>
         ensures told { IfOk result (λ found. (keep : List ℕ) → HasBoxes key.now.boxes keep
             → IsBoxSet self.now.instance keep
             → IsToldNo (set_verdict self.now.instance self.now.scales keep) budget bin
-            (map plain_token tokens.old.items) (map plain_token tokens.new.items) found) }
-        ensures front { OnErr result (AreLonger (map plain_token tokens.old.items)
-            (map plain_token tokens.new.items)) }
+            tokens.old tokens.new found) }
+        ensures front { OnErr result (AreLonger tokens.old tokens.new) }
     {
         self.memory.recall_refuted(alloc, key, budget, bin, tokens)
     }

@@ -1,10 +1,9 @@
-use Rattle.std.proofs.Common.{◌≡◌, ℕ, suc, ◌+◌, ◌++◌, ap, subst, ◌∙◌, arith, List, ◌∷◌, map, Some, IfOk, Vec, Global}
+use Rattle.std.proofs.Common.{◌≡◌, ℕ, suc, ◌+◌, ◌++◌, ap, subst, ◌∙◌, arith, List, ◌∷◌, Some, IfOk, Vec, Global}
 use Rattle.std.proofs.lemmas.List.{length-map}
 use Rattle.packing_terms.specs.Tokens.{PlainToken}
 use Rattle.packing_terms.specs.Tokens.PlainToken.{SetRefuted}
 use Rattle.tree_terms.specs.Trees.{SearchTree, Decided, No, outcome, told}
 use Rattle.work_share.specs.Outcomes.{plain_outcome}
-use Rattle.proof_tree.specs.Plain.{plain_token}
 use Rattle.bin_search.specs.Lists.{lists_of}
 use Rattle.bin_search.specs.Trees.{PlainBinTree}
 use Rattle.bin_search.proofs.Children.{step_set, step_used, step_few, step_past, step_refuted, step_fits, step_placed}
@@ -78,8 +77,8 @@ returns-in-Past c =
     step_past t c.requires.limits c.args.step.placed (lists_of c.args.step.bins.items) c.requires.above
     c.args.step.child c.requires.near c.args.cap h
 
-pub returns-in-Refuted : goal.returns-in-Refuted
-returns-in-Refuted c =
+pub returns-in_ok-tokens-in-Refuted : goal.returns-in_ok-tokens-in-Refuted
+returns-in_ok-tokens-in-Refuted c =
     let t : PlainBinTree = record {
       instance = c.args.instance.now;
       bins = c.args.most;
@@ -88,10 +87,10 @@ returns-in-Refuted c =
     let h = rw (c.requires.search, c.requires.order, c.deref.ensures.value, c.in-Refuted.is)
     at c.in_ok-grow_bin.ensures.child in
     let number : c.args.step.child + 1 ≡ suc c.args.step.child = omega arith in
-    let e = h.appended
-    ∙ (ap (λ (l : List _). map plain_token l ++ SetRefuted (Some (c.args.step.child + 1)) ∷ h.tokens)
-    c.new-tokens.ensures.items
-    ∙ ap (λ n. SetRefuted (Some n) ∷ h.tokens) number) in
+    let e = c.in_ok-tokens-in-Refuted.ensures ∙ (h.appended
+    ∙ (ap (λ (l : List PlainToken). l ++ SetRefuted (Some (c.args.step.child + 1)) ∷ h.tokens)
+    c.new-tokens.ensures
+    ∙ ap (λ n. SetRefuted (Some n) ∷ h.tokens) number)) in
     ap (λ (l : List PlainToken). Decided (No l c.in-Refuted.own)) e
     ∙ step_refuted t c.requires.limits c.args.step.placed (lists_of c.args.step.bins.items) c.requires.above
     c.args.step.child c.requires.near c.args.cap h.tokens h.cost c.in-Refuted.own h.is h.counted h.within

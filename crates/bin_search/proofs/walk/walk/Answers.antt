@@ -7,7 +7,7 @@ use Rattle.packing_terms.specs.Packing.{box_count}
 use Rattle.packing_terms.specs.Rank.{ranked}
 use Rattle.packing_terms.proofs.RankLemmas.{ranked_are_boxes}
 use Rattle.packing_terms.proofs.Boxes.{boxes_few}
-use Rattle.tree_terms.specs.Trees.{Verdict, Yes, Decided, outcome}
+use Rattle.tree_terms.specs.Trees.{Verdict, Yes, No, Decided, outcome}
 use Rattle.tree_terms.specs.OuterTrees.{bin_node}
 use Rattle.tree_terms.proofs.Told.{told_past}
 use Rattle.proof_tree.specs.Plain.{plain_token}
@@ -31,8 +31,8 @@ loop-node-init c =
       bins = c.args.most;
       scales = c.args.search.now.scales;
     } in
-    let e = c.in_ok-push_token.ensures.appends
-    ∙ (ap (λ (l : List _). map plain_token l ++ plain_token c.assign.result ∷ []) c.new-tokens.ensures.items
+    let e = c.in_ok-push.ensures.appends
+    ∙ (ap (λ (l : List PlainToken). l ++ plain_token c.assign.result ∷ []) c.new-tokens.ensures
     ∙ ap (λ (x : PlainToken). x ∷ []) c.assign.ensures) in
     let m = ap length c.requires.order in
     rw (e, c.new-stack.ensures.items) (record {
@@ -58,7 +58,8 @@ returns-in-None-clause-outcome c =
     ∙ sym (placements_count c.args.most held.bins (box_of c.args.instance.now held))) in
     let all : held.visited ≡ width t held = c.if-node-children.true ∙ counted in
     let e = reverse_none c.loop-node.stack.items (omega (arith, c.loop-node.stack.ok.0, c.in-None.ensures.cases.0)) in
-    finished c.args.cap _ whole (pop_last t whole (map plain_token c.loop-node.tokens.items) c.loop-node.count held all
+    ap (λ (l : List PlainToken). Decided (No l c.loop-node.count)) c.in_ok-tokens-in-None.ensures
+    ∙ finished c.args.cap _ whole (pop_last t whole c.loop-node.tokens c.loop-node.count held all
     (rw e at c.loop-node.invariant.left)) c.loop-node.invariant.within
 
 pub loop-node-preserved-in-Some : goal.loop-node-preserved-in-Some
@@ -78,7 +79,7 @@ loop-node-preserved-in-Some c =
     let all : held.visited ≡ width t held = c.if-node-children.true ∙ counted in
     let e = ap reverse c.in-Some.ensures.items ∙ reverse_last c.pop.new.self.items c.in-Some.change in
     rw c.leave_child.ensures (record {
-      left = pop_next t whole (map plain_token c.loop-node.tokens.items) c.loop-node.count held all _ _
+      left = pop_next t whole c.loop-node.tokens c.loop-node.count held all _ _
           (rw e at c.loop-node.invariant.left);
       within = c.loop-node.invariant.within;
       same = c.loop-node.invariant.same;
@@ -168,7 +169,7 @@ returns-in-Past-clause-outcome c =
       c.in-Past.is,
     ) at c.in_ok-grow_bin.ensures.child in
     let h = past.0 in
-    let p = child_past t whole (map plain_token c.loop-node.tokens.items) c.loop-node.count held (nodes_above held hs)
+    let p = child_past t whole c.loop-node.tokens c.loop-node.count held (nodes_above held hs)
     left more in
     sym (told_past c.args.cap whole (omega (arith, p, h, c.loop-node.invariant.within)))
 
@@ -198,11 +199,11 @@ loop-node-preserved-in-Refuted c =
       c.in-Refuted.is,
     ) at c.in_ok-grow_bin.ensures.child in
     let number : held.visited + 1 ≡ suc held.visited = omega arith in
-    let tokens : map plain_token c.grow_bin.new.tokens.items ≡ map plain_token c.loop-node.tokens.items
+    let tokens : c.grow_bin.new.tokens ≡ c.loop-node.tokens
     ++ SetRefuted (Some (suc held.visited)) ∷ h.tokens
-    = h.appended ∙ ap (λ n. map plain_token c.loop-node.tokens.items ++ SetRefuted (Some n) ∷ h.tokens) number in
+    = h.appended ∙ ap (λ n. c.loop-node.tokens ++ SetRefuted (Some n) ∷ h.tokens) number in
     rw (tokens, same_above held (held.visited + 1) hs) (record {
-      left = refuted_next t whole (map plain_token c.loop-node.tokens.items) c.loop-node.count held
+      left = refuted_next t whole c.loop-node.tokens c.loop-node.count held
           (nodes_above held hs) left more h.cost h.tokens c.in-Refuted.own h.is h.counted;
       within = (let l = h.within in omega (arith, l, c.loop-node.invariant.within));
       same = c.in_ok-grow_bin.ensures.same ∙ c.loop-node.invariant.same;
@@ -236,7 +237,7 @@ bin_numbers-requires c =
     let entered = fitting t held (plain_placed c.enter_child.new.node) (c.args.cap - c.loop-node.count) c.in-Fits.own
     c.in-Fits.set.items c.in-Fits.numbers.items h.0 c.in_ok-change-in-Fits.ensures.child in
     let child = plain_placed c.enter_child.new.node in
-    let p = entered_placed t whole (map plain_token c.loop-node.tokens.items) c.loop-node.count held
+    let p = entered_placed t whole c.loop-node.tokens c.loop-node.count held
     (nodes_above held hs) left more _ child c.in-Fits.own entered c.requires.limits in
     let most = c.requires.limits.boxes.count.1 in
     let m = ap length c.requires.order in
@@ -278,7 +279,7 @@ returns-then-node-order-clause-outcome c =
     ap (λ (ns : List ℕ). Decided (Yes ns (c.loop-node.count + c.in-Fits.own)))
     (rw (c.deref-then-node-order.ensures.value, c.deref-then-node-order-2.ensures.value)
     at c.in_ok-numbers-in-Fits.ensures)
-    ∙ finished c.args.cap _ whole (entered_last t whole (map plain_token c.loop-node.tokens.items) c.loop-node.count
+    ∙ finished c.args.cap _ whole (entered_last t whole c.loop-node.tokens c.loop-node.count
     held (nodes_above held hs) left more _ child c.in-Fits.own entered
     (drop_all child.placed (ranked c.args.instance.now) (omega (arith, m, n))))
     (let l = h.0.within in omega (arith, l, c.loop-node.invariant.within))
@@ -311,21 +312,21 @@ loop-node-preserved c =
     let entered = fitting t held (plain_placed c.enter_child.new.node) (c.args.cap - c.loop-node.count) c.in-Fits.own
     c.in-Fits.set.items c.in-Fits.numbers.items h.0 c.in_ok-change-in-Fits.ensures.child in
     let child = plain_placed c.enter_child.new.node in
-    let p = entered_placed t whole (map plain_token c.loop-node.tokens.items) c.loop-node.count held
+    let p = entered_placed t whole c.loop-node.tokens c.loop-node.count held
     (nodes_above held hs) left more _ child c.in-Fits.own entered c.requires.limits in
     let q = p.there in
     let m = ap length c.requires.order in
-    let tokens : map plain_token c.push_token-in-Fits.new.tokens.items ≡ map plain_token c.loop-node.tokens.items
+    let tokens : c.push-in-Fits.new.self ≡ c.loop-node.tokens
     ++ Assign (suc (box_of c.args.instance.now child)) ∷ []
-    = c.in_ok-push_token-in-Fits.ensures.appends
+    = c.in_ok-push-in-Fits.ensures.appends
     ∙ (ap (λ (l : List PlainToken). l ++ plain_token c.assign-in-Fits.result ∷ []) h.1
-    ∙ ap (λ (x : PlainToken). map plain_token c.loop-node.tokens.items ++ x ∷ []) c.assign-in-Fits.ensures) in
+    ∙ ap (λ (x : PlainToken). c.loop-node.tokens ++ x ∷ []) c.assign-in-Fits.ensures) in
     let change = c.in_ok-change-in-Fits.change in
-    let waiting : map plain_change (reverse c.push.new.self.items) ≡ plain_change change ∷ hs
+    let waiting : map plain_change (reverse c.push-in-Fits-2.new.self.items) ≡ plain_change change ∷ hs
     = ap (λ (ws : List Change). map plain_change (reverse ws)) c.in-Ok.ensures.items
     ∙ ap (λ (ws : List Change). map plain_change ws) (reverse_last c.loop-node.stack.items change) in
     rw (tokens, waiting, c.in_ok-change-in-Fits.ensures.back, same_above held (held.visited + 1) hs) (record {
-      left = entered_next t whole (map plain_token c.loop-node.tokens.items) c.loop-node.count held
+      left = entered_next t whole c.loop-node.tokens c.loop-node.count held
           (nodes_above held hs) left more _ child c.in-Fits.own entered c.requires.limits
           (omega (arith, q, m, c.if-node-order.false));
       within = (let l = h.0.within in omega (arith, l, c.loop-node.invariant.within));

@@ -2,7 +2,6 @@ use Rattle.std.proofs.Common.{◌≡◌, ◌≤◌, ◌-◌, ◌+◌, ◌*◌, d
 use Rattle.packing_terms.specs.Rank.{ranked}
 use Rattle.tree_terms.specs.Trees.{outcome}
 use Rattle.tree_terms.specs.OuterTrees.{bin_node}
-use Rattle.proof_tree.specs.Plain.{plain_token}
 use Rattle.bin_search.specs.Lists.{lists_of}
 use Rattle.bin_search.specs.Nodes.{plain_placed, plain_change, nodes_above}
 use Rattle.bin_search.specs.Walks.{IsLeft}
@@ -13,7 +12,7 @@ invariant-loop-node l = record {
   left : IsLeft (record { instance = l.instance; bins = l.most; scales = l.fn.search.scales })
       (outcome (bin_node l.instance l.fn.search.scales l.most (drop l.fn.node.placed (ranked l.instance))
       (lists_of l.fn.node.bins.items) (lists_of l.fn.node.answers.items) l.own))
-      (map plain_token l.tokens.items) l.count (plain_placed l.node)
+      l.tokens l.count (plain_placed l.node)
       (nodes_above (plain_placed l.node) (map plain_change (reverse l.stack.items)));
   within : l.count ≤ l.cap;
   same : l.search ≡ l.fn.search;

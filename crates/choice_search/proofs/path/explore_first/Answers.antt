@@ -1,9 +1,8 @@
-use Rattle.std.proofs.Common.{◌≡◌, ◌+◌, ◌∷◌, ◌++◌, ℕ, List, None, sym, ap, subst, ◌∙◌, map, IfOk}
+use Rattle.std.proofs.Common.{◌≡◌, ◌+◌, ◌∷◌, ◌++◌, ℕ, List, None, sym, ap, subst, ◌∙◌, IfOk}
 use Rattle.tree_terms.specs.Trees.{SearchTree, Decided, No, outcome, told}
 use Rattle.packing_terms.specs.Tokens.{PlainToken}
 use Rattle.packing_terms.specs.Tokens.PlainToken.{SetRefuted}
 use Rattle.work_share.specs.Outcomes.{plain_outcome}
-use Rattle.proof_tree.specs.Plain.{plain_token}
 use Rattle.set_search.proofs.Sets.{places_count}
 use Rattle.choice_search.specs.Choices.{PlainChoiceTree, IsChosen}
 use Rattle.choice_search.proofs.Children.{first_set, first_chosen, first_past, first_refuted, first_fits}
@@ -40,8 +39,8 @@ returns-in-Refuted c =
     } in
     let h = rw (c.requires.search, c.requires.order, c.deref.ensures.value, c.in-Refuted.is)
     at c.in_ok-grow.ensures.child in
-    let e = h.appended
-    ∙ ap (λ (l : List _). map plain_token l ++ SetRefuted None ∷ h.tokens) c.new-tokens.ensures.items in
+    let e = c.in_ok-tokens-in-Refuted.ensures ∙ (h.appended
+    ∙ ap (λ (l : List PlainToken). l ++ SetRefuted None ∷ h.tokens) c.new-tokens.ensures) in
     ap (λ (l : List PlainToken). Decided (No l c.in-Refuted.own)) e
     ∙ first_refuted t c.args.above.decided c.args.above.taken.items c.requires.above c.args.cap
     h.tokens h.cost c.in-Refuted.own h.is h.counted h.within

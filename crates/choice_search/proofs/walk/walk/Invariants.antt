@@ -1,5 +1,4 @@
-use Rattle.std.proofs.Common.{◌≡◌, ◌≤◌, ◌-◌, map, reverse}
-use Rattle.proof_tree.specs.Plain.{plain_token}
+use Rattle.std.proofs.Common.{◌≡◌, ◌≤◌, ◌-◌, reverse}
 use Rattle.choice_search.specs.Walks.{node_verdict, IsLeft}
 use Rattle.choice_search.proofs.walk.walk.Given as goal
 
@@ -7,7 +6,7 @@ abbrev pub invariant-loop-node : goal.invariant-loop-node
 invariant-loop-node l = record {
   left : IsLeft (record { instance = l.instance; goal = l.value; scales = l.fn.search.scales })
       (node_verdict (record { instance = l.instance; goal = l.value; scales = l.fn.search.scales }) l.fn.node l.own)
-      (map plain_token l.tokens.items) l.count l.node (reverse l.stack.items);
+      l.tokens l.count l.node (reverse l.stack.items);
   within : l.count ≤ l.cap;
   same : l.search ≡ l.fn.search;
 }

@@ -1,9 +1,8 @@
-use Rattle.std.proofs.Common.{ℕ, map, List, Option, Result, Ok, Err}
+use Rattle.std.proofs.Common.{ℕ, List, Option, Result, Ok, Err}
 use Rattle.std.specs.Prelude.{IfOk}
 use Rattle.packing_terms.specs.Goals.{IsBoxSet}
 use Rattle.packing_terms.specs.Tokens.{PlainToken}
 use Rattle.tree_terms.specs.OuterTrees.{set_verdict}
-use Rattle.proof_tree.specs.Plain.{plain_token}
 use Rattle.set_search.specs.Memories.{HasBoxes, IsRecalledNo, IsToldNo}
 use Rattle.set_search.proofs.Memories.{recalled_no}
 use Rattle.set_search.proofs.search.SetSearch.told_refuted.Goals as goal
@@ -12,10 +11,10 @@ pub returns-clause-told : goal.returns-clause-told
 returns-clause-told c = rw (← c.self.view_is) (go c.recall_refuted.result c.recall_refuted.ensures.found)
   where
     old : List PlainToken
-    old = map plain_token c.args.tokens.now.items
+    old = c.args.tokens.now
 
     new : List PlainToken
-    new = map plain_token c.recall_refuted.new.tokens.items
+    new = c.recall_refuted.new.tokens
 
     go : {E : Type 0} (r : Result (Option ℕ) E)
         → IfOk r (λ found. IsRecalledNo c.self.inside.memory c.args.key.now.boxes c.args.budget c.args.bin old new found)

@@ -1,6 +1,0 @@
-use Rattle.std.proofs.Common.{◌≡◌, map, take}
-use Rattle.proof_tree.specs.Plain.{plain_token}
-use Rattle.set_search.proofs.copies.copy_tokens.Given as goal
-
-abbrev pub invariant-loop-token : goal.invariant-loop-token
-invariant-loop-token l = map plain_token l.copies.items ≡ map plain_token (take l.token-index l.tokens)
