@@ -1,5 +1,5 @@
 -- Lists of tokens that are held in a few bytes each.
-use Rattle.std.proofs.Common.{◌≡◌, ℕ, ◌+◌, ◌<◌, ◌≤◌, refl, sym, ap, ◌∙◌, arith, List, [], ◌∷◌, ◌++◌, length}
+use Rattle.std.proofs.Common.{◌≡◌, ℕ, suc, ◌+◌, ◌<◌, ◌≤◌, refl, sym, ap, ◌∙◌, arith, List, [], ◌∷◌, ◌++◌, length}
 use Rattle.std.proofs.Common.{Option, Some, None, drop, get_or, append_assoc, append-nil}
 use Rattle.std.proofs.lemmas.List.{drop_more, drop_all}
 use Rattle.packing_terms.specs.Tokens.{PlainToken}
@@ -24,6 +24,19 @@ listed_append (x ∷ xs) ys us ws e = go (shown x) us e (λ vs f. listed_append 
     go (Some t) vs f more = ap (λ (zs : List PlainToken). t ∷ zs) (more vs (omega (arith, f)))
     go None [] f more = absurd (omega (arith, f))
     go None (v ∷ vs) f more = ap (λ (zs : List PlainToken). v ∷ zs) (more vs (omega (arith, f)))
+
+-- as many tokens as there are places
+pub listed_length : (xs : List Short) (us : List PlainToken) → wide_count xs ≡ length us
+    → length (listed xs us) ≡ length xs
+listed_length [] us e = refl
+listed_length (x ∷ xs) us e = go (shown x) us e (λ vs f. listed_length xs vs f)
+  where
+    go : (o : Option PlainToken) (vs : List PlainToken) → count_wide o + wide_count xs ≡ length vs
+        → ((zs : List PlainToken) → wide_count xs ≡ length zs → length (listed xs zs) ≡ length xs)
+        → length (put_shown o (listed xs) vs) ≡ suc (length xs)
+    go (Some t) vs f more = ap suc (more vs (omega (arith, f)))
+    go None [] f more = absurd (omega (arith, f))
+    go None (v ∷ vs) f more = ap suc (more vs (omega (arith, f)))
 
 -- one more that stands for itself
 pub listed_short : (xs : List Short) (s : Short) (us : List PlainToken) → wide_count xs ≡ length us

@@ -1,12 +1,12 @@
 -- The memory of decided sets.
-use Rattle.std.specs.Prelude.{ℕ, ◌≡◌, ◌≤◌, ◌==◌, ◌||◌, ◌⊎◌, List, [], ◌∷◌, ◌++◌, Bool, false, nat_lt, if◌then◌else◌}
+use Rattle.std.specs.Prelude.{ℕ, ◌≡◌, ◌≤◌, ◌==◌, ◌||◌, ◌⊎◌, List, [], ◌∷◌, ◌++◌, length, Bool, false, nat_lt, if◌then◌else◌}
 use Rattle.std.specs.Prelude.{Option, Some, None}
 use Rattle.std.specs.List.{Contains, All}
 use Rattle.packing_terms.specs.Packing.{PlainInstance}
 use Rattle.packing_terms.specs.Goals.{IsBoxSet}
 use Rattle.packing_terms.specs.Tokens.{PlainToken}
 use Rattle.packing_terms.specs.Tokens.PlainToken.{SetRefuted}
-use Rattle.tree_terms.specs.Trees.{Verdict, PlainOutcome, Decided, Past, No, count_of}
+use Rattle.tree_terms.specs.Trees.{Verdict, PlainOutcome, Decided, Past, Yes, No, count_of}
 use Rattle.tree_terms.specs.OuterTrees.{set_verdict}
 use Rattle.edge_state.specs.BitRows.{row_has}
 
@@ -32,6 +32,12 @@ pub record IsEntryOf (entries : List PlainEntry) (boxes : List ℕ) (e : PlainEn
 abbrev pub plain_count : PlainOutcome → ℕ
 plain_count (Decided v) = count_of v
 plain_count Past = 0
+
+-- how many numbers and tokens an outcome holds
+abbrev pub plain_size : PlainOutcome → ℕ
+plain_size (Decided (Yes numbers count)) = length numbers
+plain_size (Decided (No tokens count)) = length tokens
+plain_size Past = 0
 
 -- an outcome without a budget, told under one
 abbrev pub retold : ℕ → PlainOutcome → PlainOutcome

@@ -1,5 +1,5 @@
 -- Lists of tokens that are held in a few bytes each, beside those that are wider.
-use Rattle.std.specs.Prelude.{ℕ, ◌+◌, List, [], ◌∷◌, ◌++◌, Option, Some, None}
+use Rattle.std.specs.Prelude.{ℕ, ◌+◌, List, [], ◌∷◌, ◌++◌, take, drop, Option, Some, None}
 use Rattle.packing_terms.specs.Tokens.{PlainToken}
 use Rattle.packing_terms.specs.Tokens.PlainToken.{Apart as PlainApart, Order as PlainOrder, Rules as PlainRules}
 use Rattle.packing_terms.specs.Tokens.PlainToken.{Assign as PlainAssign, Choose as PlainChoose, SetRefuted}
@@ -34,19 +34,10 @@ shown (BinRefuted b) = Some (SetRefuted (Some b))
 shown ValueShort = Some PlainValueShort
 shown Wide = None
 
--- the first of a list of tokens
-abbrev pub first_of : List PlainToken → List PlainToken
-first_of [] = []
-first_of (t ∷ ts) = t ∷ []
-
-abbrev pub rest_of : List PlainToken → List PlainToken
-rest_of [] = []
-rest_of (t ∷ ts) = ts
-
--- what one stands for before the others
+-- what one stands for before the others: its token, or the next of the wider ones
 abbrev pub put_shown : Option PlainToken → (List PlainToken → List PlainToken) → List PlainToken → List PlainToken
 put_shown (Some t) more wides = t ∷ more wides
-put_shown None more wides = first_of wides ++ more (rest_of wides)
+put_shown None more wides = take 1 wides ++ more (drop 1 wides)
 
 -- the tokens of a list, whose wider ones stand in a list of their own, in the same order
 abbrev pub listed : List Short → List PlainToken → List PlainToken

@@ -3,7 +3,7 @@ ghost use Rattle.std.specs.Prelude.{◌≡◌, IfOk, OnErr, map};
 ghost use Rattle.work_share.specs.Outcomes.{plain_outcome};
 ghost use Rattle.set_search.specs.Children.{AreLonger};
 ghost use Rattle.set_search.specs.Kept.{plain_kept};
-ghost use Rattle.set_search.specs.Memories.{plain_count, IsToldOutcome};
+ghost use Rattle.set_search.specs.Memories.{plain_count, plain_size, IsToldOutcome};
 
 use crate::list::TokenList;
 use box_instances::NoMemory;
@@ -16,6 +16,17 @@ pub enum Kept {
     Past,
     Fits { numbers: Vec<u32>, count: u64 },
     Refuted { tokens: TokenList, count: u64 },
+}
+
+// How many numbers and tokens an outcome holds.
+pub(crate) fn size_of(outcome: &Outcome) -> usize
+    ensures { result ≡ plain_size (plain_outcome outcome.now) }
+{
+    match outcome {
+        Outcome::Yes { numbers, count: _ } => numbers.len(),
+        Outcome::No { tokens, count: _ } => tokens.len(),
+        Outcome::Past => 0,
+    }
 }
 
 fn copy_numbers(alloc: Global, numbers: &[u32]) -> Result<Vec<u32>, NoMemory>
@@ -64,7 +75,9 @@ impl Kept {
     }
 
     // How many numbers and tokens it holds.
-    pub(crate) fn size(&self) -> usize {
+    pub(crate) fn size(&self) -> usize
+        ensures { result ≡ plain_size (plain_kept self.now) }
+    {
         match self {
             Kept::Past => 0,
             Kept::Fits { numbers, count: _ } => numbers.len(),
@@ -95,9 +108,9 @@ impl Kept {
         }
     }
 
-    // The count of one that is refuted, with a count of at most the budget: to the tokens is appended
-    // that the set of a bin, or of the boxes that are in, is refuted, and what refutes it. Else the
-    // tokens are as before.
+    // The count of one that is refuted, with a count of at most the budget: to the tokens is
+    // appended that the set of a bin, or of the boxes that are in, is refuted, and what refutes it.
+    // Else the tokens are as before.
     pub(crate) fn push_refuted(
         &self,
         alloc: Global,

@@ -107,7 +107,9 @@ impl TokenList {
     }
 
     /// How many tokens there are.
-    pub(crate) fn count(&self) -> usize {
+    pub(crate) fn count(&self) -> usize
+        ensures { result ≡ length self.now }
+    {
         self.shorts.len()
     }
 

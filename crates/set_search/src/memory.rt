@@ -5,9 +5,9 @@ ghost use Rattle.work_share.specs.Outcomes.{plain_outcome};
 ghost use Rattle.set_search.specs.Children.{AreLonger};
 ghost use Rattle.set_search.specs.Entries.{plain_entry};
 ghost use Rattle.set_search.specs.Kept.{plain_kept};
-ghost use Rattle.set_search.specs.Memories.{IsEntryOf, IsPut, IsRecalled, IsRecalledNo};
+ghost use Rattle.set_search.specs.Memories.{IsEntryOf, IsPut, IsRecalled, IsRecalledNo, plain_size};
 
-use crate::kept::Kept;
+use crate::kept::{Kept, size_of};
 use crate::key::SetKey;
 use crate::list::TokenList;
 use box_instances::NoMemory;
@@ -64,7 +64,9 @@ impl Model for SetMemory {
 
 impl Entry {
     // How many numbers and tokens it held, which are given up.
-    fn size_given_up(self) -> usize {
+    fn size_given_up(self) -> usize
+        ensures { result ≡ plain_size (plain_kept self.kept) }
+    {
         self.kept.size()
     }
 }
@@ -245,12 +247,12 @@ impl SetMemory {
     pub fn keep(&mut self, alloc: Global, key: &SetKey, outcome: &Outcome)
         ensures { All (IsPut self.old key.now.boxes (plain_outcome outcome.now)) self.new }
     {
+        if self.kept.saturating_add(size_of(outcome)) > MOST_KEPT || !self.has_places(alloc) {
+            return;
+        }
         let Ok(kept) = Kept::of(alloc, outcome) else {
             return;
         };
-        if self.kept.saturating_add(kept.size()) > MOST_KEPT || !self.has_places(alloc) {
-            return;
-        }
         let entry = Entry {
             boxes: key.boxes,
             kept,

@@ -8,8 +8,8 @@ use box_instances::NoMemory;
 use proof_tree::Token;
 use std::alloc::Global;
 
-/// A token whose numbers are below 256, and whose scale functions are of two dimensions, which nearly
-/// all are; or `Wide`, in whose place another one stands.
+/// A token whose numbers are below 256, and whose scale functions are of two dimensions, which
+/// nearly all are; or `Wide`, in whose place another one stands.
 #[derive(Clone, Copy)]
 pub enum Short {
     Apart { dim: u8, u: u8, v: u8 },
