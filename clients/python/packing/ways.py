@@ -1,0 +1,150 @@
+"""Ways to search under a time limit, and the schedule that shares the time among them.
+
+Each way has a budget that rises from run to run. The way that has spent least goes next, so none of
+them takes the time of the others. For bins and knapsack proposals go first. For fit and strip they
+join in once the plain ways have had a part of the time: if they find nothing they take seconds.
+"""
+from .document import parse_document
+from .search import KILL_SECONDS, Level
+
+FIRST_BUDGET = 1_000
+MAX_BUDGET = 10_000_000
+HEAD_START = 0.05
+
+
+class Way:
+    """One job under rising budgets."""
+
+    def __init__(self, search, job, proposals=False):
+        self.search = search
+        self.job = job
+        self.proposals = proposals
+        self.most = search.effort.budget if search.effort.budget is not None else MAX_BUDGET
+        self.budget = min(FIRST_BUDGET, self.most)
+        is_late = proposals and search.job in ("fit", "strip")
+        self.spent = HEAD_START * search.effort.seconds if is_late else 0.0
+        self.share = 0.5 if proposals else 0.35
+        self.is_open = True
+
+    def is_ready(self):
+        """Whether it can run now."""
+        return self.is_open
+
+    def advance(self, share):
+        """One run, with this share of the time that is left."""
+        begin = self.search.clock.spent()
+        text = self.search.run(self.words(), self.search.instance, share)
+        if text is None:
+            self.is_open = False
+        else:
+            self.search.take(text)
+            self.raise_budget(self.search.clock.spent() - begin)
+        self.spent += self.search.clock.spent() - begin
+
+    def words(self):
+        """The words of the next run."""
+        return self.search.words(self.job, self.budget, self.proposals)
+
+    def raise_budget(self, seconds):
+        """Raises the budget so that the next run may end in time; closes the way if it can't."""
+        left = self.search.clock.left() - KILL_SECONDS
+        factor = min(10.0, 0.6 * left / max(seconds, 0.001))
+        grown = min(self.most, int(self.budget * factor))
+        self.is_open = grown >= 1.5 * self.budget
+        self.budget = max(grown, self.budget)
+
+
+class ByFit(Way):
+    """Single heights of a strip, decided by fit: bisects around the heights that stay undecided."""
+
+    def __init__(self, search, proposals=False):
+        super().__init__(search, "fit", proposals)
+        self.low, self.high = None, None
+        self.longest = 0.0
+        self.goes_low = False
+
+    def is_ready(self):
+        """Whether there are levels to narrow."""
+        return self.is_open and self.search.found is not None
+
+    def advance(self, share):
+        """Decides one height, or raises the budget where all that is left was undecided."""
+        begin = self.search.clock.spent()
+        height = self.next_height()
+        if height is None:
+            self.low, self.high = None, None
+            self.raise_budget(self.longest)
+        else:
+            self.decide(height, share)
+        took = self.search.clock.spent() - begin
+        self.longest = max(self.longest, took)
+        self.spent += took
+
+    def next_height(self):
+        """An open height below or above the undecided ones, in turn. None where none is left."""
+        refuted, placed = self.search.found.refuted.number, self.search.found.placed.number
+        if self.low is None or not refuted < self.low <= self.high < placed:
+            self.low, self.high = None, None
+            return (refuted + placed) // 2 if placed - refuted > 1 else None
+        below, above = self.low - refuted > 1, placed - self.high > 1
+        self.goes_low = below and not (above and self.goes_low)
+        if self.goes_low:
+            return (refuted + self.low) // 2
+        return (self.high + placed + 1) // 2 if above else None
+
+    def decide(self, height, share):
+        """Decides one height, and keeps it as undecided where that is past the budget."""
+        instance = self.search.instance.with_last_side(height)
+        job = "reduced" if self.goes_low and not self.proposals else "fit"
+        text = self.search.run(self.search.words(job, self.budget, self.proposals), instance, share)
+        document = text and parse_document(text)
+        before = self.search.found
+        if document and document.result[0] == "yes":
+            self.search.improve(placed=Level(document.height(), document.spots))
+        elif document and document.result[0] == "no":
+            self.search.improve(refuted=Level(height, (), document.heading, document.proof))
+        if self.search.found is before:
+            self.low = height if self.low is None else min(self.low, height)
+            self.high = height if self.high is None else max(self.high, height)
+
+
+def ways_of(search):
+    """The ways for the job of this search; of those that have spent alike the first goes next."""
+    proposed = [Way(search, search.job, True)] if search.effort.proposals else []
+    plain = [Way(search, search.job)]
+    if search.job == "fit":
+        return [*plain, *proposed, Way(search, "reduced")]
+    if search.job == "strip":
+        by_fit = [ByFit(search, it) for it in ((False, True) if proposed else (False,))]
+        return [*plain, *by_fit, *proposed]
+    return [*proposed, *plain]
+
+
+def rise(search):
+    """Searches until the question is decided, time is up, or no way is left."""
+    ways = ways_of(search)
+    while not search.is_over():
+        ready = [it for it in ways if it.is_ready()]
+        if not ready:
+            return
+        way = min(ready, key=lambda it: it.spent)
+        way.advance(0.7 if len(ready) == 1 else way.share)
+
+
+def once(search):
+    """One run of the program, with the given budget."""
+    effort = search.effort
+    text = search.run(search.words(search.job, effort.budget, effort.proposals), search.instance, 1)
+    search.take(text)
+
+
+def go(search):
+    """Runs the search under its effort, and returns it."""
+    try:
+        if search.effort.seconds is None:
+            once(search)
+        else:
+            rise(search)
+    finally:
+        search.progress.clear()
+    return search
