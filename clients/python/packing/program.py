@@ -38,7 +38,7 @@ class Clock:
 
 @dataclass(frozen=True)
 class Run:
-    """What one run of the program did. Seconds are processor seconds."""
+    """What one run of the program did. Seconds are processor seconds, `mib` is the most memory seen."""
 
     status: int
     output: str
@@ -91,19 +91,32 @@ def find_program():
 
 
 def wait_for(process, limit):
-    """Waits up to `limit` seconds, then kills. Returns the status, the usage, whether it was killed."""
+    """Waits up to `limit` seconds, then kills. The status, processor seconds, MiB, whether it was killed."""
     end = None if limit is None else time.monotonic() + limit
-    pause, killed = 0.0005, False
+    pause, killed, mib = 0.0005, False, 0.0
     while True:
+        mib = max(mib, memory_of(process.pid))
         pid, raw, usage = os.wait4(process.pid, os.WNOHANG)
         if pid:
             process.returncode = status_of(raw)
-            return process.returncode, usage, killed
+            return process.returncode, usage.ru_utime + usage.ru_stime, mib, killed
         if end is not None and not killed and time.monotonic() >= end:
             process.kill()
             killed = True
         time.sleep(pause)
         pause = min(pause * 1.5, 0.02)
+
+
+def memory_of(pid):
+    """The highest resident memory of a process so far in MiB; 0 where the system doesn't tell.
+
+    The usage that `wait4` gives has the memory of this process in it, as it was when the child began.
+    """
+    try:
+        with open(f"/proc/{pid}/status", encoding="ascii", errors="replace") as it:
+            return next((int(line.split()[1]) / 1024 for line in it if line.startswith("VmHWM:")), 0.0)
+    except OSError:
+        return 0.0
 
 
 def status_of(raw):
@@ -119,20 +132,19 @@ def run_words(command, text, limit=None):
         source.seek(0)
         process = subprocess.Popen(command, stdin=source, stdout=out, stderr=err)
         try:
-            status, usage, killed = wait_for(process, limit)
+            status, seconds, mib, killed = wait_for(process, limit)
         except BaseException:
             process.kill()
             process.wait()
             raise
         if killed and status == -signal.SIGKILL:
             fault = TimeIsUp("no answer within the time limit", "give more seconds")
-            fault.seconds, fault.mib = usage.ru_utime + usage.ru_stime, usage.ru_maxrss / 1024
+            fault.seconds, fault.mib = seconds, mib
             raise fault
         out.seek(0)
         err.seek(0)
         return Run(status, out.read().decode("utf-8", "surrogateescape"),
-                   err.read().decode("utf-8", "replace").strip(),
-                   usage.ru_utime + usage.ru_stime, usage.ru_maxrss / 1024)
+                   err.read().decode("utf-8", "replace").strip(), seconds, mib)
 
 
 def run_pack(words, text, limit=None):

@@ -28,12 +28,13 @@ class Report:
     cells: Callable = None
     things: Tuple[str, str] = ("box", "boxes")
     rest: str = "free"
-    is_plan: bool = False
+    is_named: bool = False
 
     def size(self, unit):
         """The sides of a container in words."""
-        if self.is_plan:
-            return f"time {shown(self.container[0])} {unit}".rstrip() + f", size {shown(self.container[1])}"
+        if self.is_named:
+            named = (f"{side} {shown(it)}" for side, it in zip(self.sides, self.container))
+            return ", ".join(named) + (f" ({unit})" if unit else "")
         return " × ".join(map(shown, self.container)) + f" {unit}".rstrip()
 
     def use(self, placements):

@@ -33,7 +33,7 @@ def tile(placement, right, up):
     """A placement as a tile, with one dimension to the right and one upwards."""
     return Tile(placement.box, placement.name, placement.corner[right], placement.corner[up],
                 placement.sides[right], placement.sides[up],
-                size_words(placement.sides, placement.turned))
+                size_words((placement.sides[right], placement.sides[up]), placement.turned))
 
 
 def pages_of(report, options, panel_of, many):
@@ -64,7 +64,7 @@ def cut(options):
         raise QuestionRefused("one of --sheet and --roll is needed", "give --sheet 2800x2070 or --roll 330")
     boxes, notes = read_boxes(options, (FIRST, SECOND))
     if options.roll:
-        job, container = "strip", (positive(options.roll, "--roll"),)
+        job, container, boxes = "strip", (positive(options.roll, "--roll"),), in_order(boxes, (1, 0))
     else:
         job, container = "knapsack" if options.take else "bins", parse_sides(options.sheet, (2,), "--sheet")
     question = ask(job, container, boxes, positive_or_zero(options.kerf, "--kerf"), turnable=options.turn)
@@ -72,7 +72,7 @@ def cut(options):
     if options.roll:
         sides = (question.container[0], answer.level or 1)
         report = Report(answer, "Roll", sentence_of(answer, job, "roll", "rolls", options.unit), sides,
-                        ("width", "length"), "roll", None)
+                        ("width", "length"), "roll", None, is_named=True)
         panel = lambda some: Panel(sides[1], sides[0], tuple(tile(it, 1, 0) for it in some))
     else:
         sides = question.container
@@ -189,6 +189,6 @@ def plan_report(answer, options, sides, sentence, one):
     report = Report(answer, "Plan", sentence, tuple(sides), ("time", "size"), one, None)
     axes = (f"time ({options.unit})" if options.unit else "time", "machines or memory")
     panel = lambda some: Panel(sides[0], sides[1], tuple(tile(it, 0, 1) for it in some), "", axes)
-    report.things, report.is_plan = ("job", "jobs"), True
+    report.things, report.is_named = ("job", "jobs"), True
     report.draw = lambda: pages_of(report, options, panel, one == "machine")
     return report

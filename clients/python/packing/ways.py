@@ -4,6 +4,8 @@ Each way has a budget that rises from run to run. The way that has spent least g
 them takes the time of the others. For bins and knapsack proposals go first. For fit and strip they
 join in once the plain ways have had a part of the time: if they find nothing they take seconds.
 """
+from dataclasses import replace
+
 from .document import parse_document
 from .search import KILL_SECONDS, Level
 
@@ -20,10 +22,10 @@ class Way:
         self.job = job
         self.proposals = proposals
         self.most = search.effort.budget if search.effort.budget is not None else MAX_BUDGET
-        self.budget = min(FIRST_BUDGET, self.most)
+        self.budget = min(0 if proposals else FIRST_BUDGET, self.most)
         is_late = proposals and search.job in ("fit", "strip")
         self.spent = HEAD_START * search.effort.seconds if is_late else 0.0
-        self.share = 0.5 if proposals else 0.35
+        self.share = 0.6 if proposals else 0.35
         self.is_open = True
 
     def is_ready(self):
@@ -49,8 +51,11 @@ class Way:
         """Raises the budget so that the next run may end in time; closes the way if it can't."""
         left = self.search.clock.left() - KILL_SECONDS
         factor = min(10.0, 0.6 * left / max(seconds, 0.001))
-        grown = min(self.most, int(self.budget * factor))
-        self.is_open = grown >= 1.5 * self.budget
+        if self.budget < FIRST_BUDGET:
+            grown = min(self.most, FIRST_BUDGET if factor > 1 else 0)
+        else:
+            grown = min(self.most, int(self.budget * factor))
+        self.is_open = grown > 1.5 * self.budget
         self.budget = max(grown, self.budget)
 
 
@@ -108,6 +113,34 @@ class ByFit(Way):
             self.high = height if self.high is None else max(self.high, height)
 
 
+class ByBins(Way):
+    """A first choice for a knapsack: of the containers that `bins` fills, the one that is worth most."""
+
+    def is_ready(self):
+        """Whether there is a document to compose it with, and it wasn't run yet."""
+        return self.is_open and self.search.found is not None
+
+    def advance(self, share):
+        """Fills containers once, and keeps the best as a placed level."""
+        begin = self.search.clock.spent()
+        self.is_open = False
+        text = self.search.run(self.search.words("bins", 0, True), self.search.instance, share)
+        document = text and parse_document(text)
+        if document and document.spots:
+            self.search.improve(placed=best_container(document))
+        self.spent += self.search.clock.spent() - begin
+
+
+def best_container(document):
+    """The boxes of the container that is worth most, as a placed level of a knapsack."""
+    worth = {}
+    for it in document.spots:
+        worth[it.container] = worth.get(it.container, 0) + document.instance.values[it.box - 1]
+    best = max(worth, key=lambda it: (worth[it], -it))
+    spots = tuple(replace(it, container=1) for it in document.spots if it.container == best)
+    return Level(worth[best], spots)
+
+
 def ways_of(search):
     """The ways for the job of this search; of those that have spent alike the first goes next."""
     proposed = [Way(search, search.job, True)] if search.effort.proposals else []
@@ -117,6 +150,8 @@ def ways_of(search):
     if search.job == "strip":
         by_fit = [ByFit(search, it) for it in ((False, True) if proposed else (False,))]
         return [*plain, *by_fit, *proposed]
+    if search.job == "knapsack" and proposed:
+        return [*plain, ByBins(search, "bins"), *proposed]
     return [*proposed, *plain]
 
 
