@@ -5,7 +5,7 @@ from typing import Optional, Tuple
 
 from .errors import QuestionRefused
 from .instance import MAX_BOXES, MAX_VALUE, Instance
-from .units import Scale, choose_scale, plain, to_decimal
+from .units import Scale, choose_scale, fits_range, plain, to_decimal
 
 JOBS = ("fit", "strip", "bins", "knapsack")
 
@@ -143,14 +143,22 @@ def make_question(job, container, kerf, boxes, turnable=False):
 
 
 def choose_scales(container, kerf, boxes, turnable):
-    """The scale of each dimension; `container` has the sides that aren't open."""
-    scales = []
+    """The scale of each dimension; `container` has the sides that aren't open.
+
+    All dimensions share the finest unit where that is possible without rounding.
+    """
+    given = []
     for at in range(len(kerf)):
         axes = (0, 1) if turnable and at < 2 else (at,)
         lengths = [it.sides[axis] for it in boxes for axis in axes]
         sides = [container[axis] for axis in axes if axis < len(container)]
-        scales.append(choose_scale(lengths, sides, max(kerf[axis] for axis in axes)))
-    return tuple(scales)
+        given.append((lengths, sides, max(kerf[axis] for axis in axes)))
+    scales = tuple(choose_scale(*it) for it in given)
+    finest = min(scales, key=lambda it: it.unit)
+    is_common = finest.unit <= 1 and not any(it.is_rounded for it in scales)
+    if is_common and all(fits_range(finest.unit, *it) for it in given):
+        return (finest,) * len(scales)
+    return scales
 
 
 def rounding_notes(scales):

@@ -1,6 +1,6 @@
-"""Decimal sides as whole numbers: chooses a unit for each dimension, and names any rounding.
+"""Decimal sides as whole numbers: chooses the unit of a dimension, and names any rounding.
 
-All sides of one dimension share one unit. Where the finest decimal needs more than 1,000,000 units,
+Where the finest decimal needs more than 1,000,000 units,
 the unit is coarser: boxes and kerfs are rounded up and the container down. What fits the rounded
 sides fits the real ones; a refutation then speaks of the rounded sides alone.
 """

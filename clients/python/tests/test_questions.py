@@ -16,10 +16,14 @@ class ChoosesUnits(unittest.TestCase):
         self.assertEqual(question.instance.boxes, ((3, 4),))
         self.assertFalse(question.is_rounded())
 
-    def test_decimals_choose_the_finest_unit_of_their_dimension(self):
+    def test_decimals_choose_the_finest_unit(self):
         question = ask("fit", ("10.5", 20), [("3.25", 4)])
-        self.assertEqual((question.instance.container, question.instance.boxes), ((1050, 20), ((325, 4),)))
+        self.assertEqual((question.instance.container, question.instance.boxes), ((1050, 2000), ((325, 400),)))
         self.assertEqual(question.notes, ())
+
+    def test_dimensions_of_other_ranges_have_their_own_units(self):
+        question = ask("fit", ("10.5", 900_000), [("3.25", 4)])
+        self.assertEqual((question.instance.container, question.instance.boxes), ((1050, 900_000), ((325, 4),)))
 
     def test_large_numbers_with_a_common_factor_are_exact(self):
         question = ask("fit", (1 << 33, 10), [(1 << 30, 4), (3 << 30, 2)])
