@@ -1,6 +1,6 @@
 """The command `bench`: runs instances, writes a table and a picture of how many are solved over time."""
 import csv
-import os
+import io
 from concurrent.futures import ThreadPoolExecutor
 from dataclasses import asdict, dataclass, fields
 from pathlib import Path
@@ -82,7 +82,7 @@ def run_problem(problem, options):
             return run_once(job, instance, effort, facts)
         question = ask(job, instance.container, instance.boxes, list(instance.kerf),
                        values=list(instance.values))
-        answer = solve_question(question, effort, Progress(open(os.devnull, "w", encoding="utf-8")))
+        answer = solve_question(question, effort, Progress(io.StringIO()))
     except TimeIsUp as fault:
         return Row(**facts, status="time", seconds=round(fault.seconds, 3), mib=round(fault.mib, 1))
     except PackingError as fault:

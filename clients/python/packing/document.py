@@ -56,38 +56,33 @@ def reader_of(text):
 
 
 def parse_document(text):
-    """The parts of a document that the program wrote, or that it has verified."""
-    lines = iter(text.split("\n"))
-    heading, instance_lines, result = (), [], ()
-    for line in lines:
-        words = line.split("#", 1)[0].split()
-        if not heading:
-            heading = tuple(words)
-        elif words[:1] == ["result"]:
-            result = tuple(words[1:])
-            break
-        else:
-            instance_lines.append(line)
-    if len(heading) != 2 or not result:
+    """The parts of a document in the spelling of the program. A long proof is sliced, not split."""
+    begin = text.find("\nresult ") + 1
+    lines = lines_from(text, begin)
+    heading = tuple(text[:text.find("\n")].split())
+    if not begin or len(heading) != 2:
         raise QuestionRefused("the text isn't a document of fit, strip, bins or knapsack",
                               "give a document as `pack` writes it")
-    instance = parse_instance("\n".join(instance_lines))
-    spots, proof = parse_body(heading[1], instance, list(lines))
-    return Document(heading[0], heading[1], instance, result, spots, proof)
+    result = tuple(next(lines)[1].split()[1:])
+    instance = parse_instance(text[text.find("\n"):begin])
+    spots, end = [], text.rfind("end\n")
+    proof_begin = end
+    for at, line in lines:
+        words = line.split()
+        if words[:1] not in (["place"], ["take"]):
+            proof_begin = at + len("proof\n") if words == ["proof"] else at
+            break
+        spots.append(spot_of(heading[1], len(spots) + 1, words, len(instance.container)))
+    return Document(heading[0], heading[1], instance, result, tuple(spots), text[proof_begin:end])
 
 
-def parse_body(job, instance, lines):
-    """The spots, and the token lines, of what stands after the result line."""
-    spots = []
-    for at, line in enumerate(lines):
-        words = line.split("#", 1)[0].split()
-        if words and words[0] not in ("place", "take", "proof"):
-            return tuple(spots), proof_of(lines[at:])
-        if words[:1] == ["proof"]:
-            return tuple(spots), proof_of(lines[at + 1:])
-        if words:
-            spots.append(spot_of(job, len(spots) + 1, words, len(instance.container)))
-    return tuple(spots), ""
+def lines_from(text, at):
+    """The lines of a text from a position on, each with its position."""
+    while at < len(text):
+        end = text.find("\n", at)
+        end = len(text) if end < 0 else end
+        yield at, text[at:end]
+        at = end + 1
 
 
 def spot_of(job, number, words, dims):
@@ -97,16 +92,6 @@ def spot_of(job, number, words, dims):
     if words[0] == "take":
         return Spot(numbers[0], 1, corner)
     return Spot(number, numbers[0] if job == "bins" else 1, corner)
-
-
-def proof_of(lines):
-    """The token lines as one text, up to the line `end`."""
-    kept = []
-    for line in lines:
-        if line.strip() == "end":
-            break
-        kept.append(line)
-    return "".join(f"{line}\n" for line in kept)
 
 
 def spot_lines(job, spots):

@@ -11,11 +11,19 @@ MAX_VALUE = 1_000_000_000
 
 
 def content_lines(text):
-    """The words of each line that isn't blank, without comments, and the number of the line."""
-    for number, line in enumerate(text.split("\n"), 1):
-        words = line.split("#", 1)[0].split()
+    """The words of each line that isn't blank, without comments, and the number of the line.
+
+    The text is read line by line, since it may be a long document of which only the head is wanted.
+    """
+    at, number = 0, 0
+    while at < len(text):
+        end = text.find("\n", at)
+        end = len(text) if end < 0 else end
+        number += 1
+        words = text[at:end].split("#", 1)[0].split()
         if words:
             yield number, words
+        at = end + 1
 
 
 def first_word(text):

@@ -22,17 +22,26 @@ def shown(value):
     return f"{float(value):.3f}".rstrip("0").rstrip(".") if value != int(value) else str(int(value))
 
 
+def legal(words):
+    """Words without the characters that XML doesn't allow."""
+    return "".join(it for it in words if it in "\t\n" or " " <= it <= "\ud7ff" or "\ue000" <= it <= "\ufffd"
+                   or it > "\uffff")
+
+
 def element(tag, content="", **attributes):
     """An element; `_` in names of attributes stands for `-`. Content is markup already."""
-    parts = [f" {name.strip('_').replace('_', '-')}={quoteattr(it if isinstance(it, str) else number(it))}"
-             for name, it in attributes.items() if it is not None]
+    parts = []
+    for name, it in attributes.items():
+        if it is not None:
+            value = quoteattr(legal(it) if isinstance(it, str) else number(it))
+            parts.append(f" {name.strip('_').replace('_', '-')}={value}")
     return f"<{tag}{''.join(parts)}>{content}</{tag}>" if content else f"<{tag}{''.join(parts)}/>"
 
 
 def text(x, y, words, size, anchor="middle", colour=INK, turned=False, weight=None):
     """A line of text whose baseline begins, ends or is centred at a point."""
     how = f"rotate(-90 {number(x)} {number(y)})" if turned else None
-    return element("text", escape(words), x=x, y=y, font_size=size, text_anchor=anchor, fill=colour,
+    return element("text", escape(legal(words)), x=x, y=y, font_size=size, text_anchor=anchor, fill=colour,
                    font_weight=weight, transform=how)
 
 
@@ -45,7 +54,7 @@ def page(content, title, number_of_page=1):
     """A whole SVG of one page."""
     hatch = element("pattern", line(0, 0, 0, 3, 0.25, "#c4c4c4"), id=f"waste{number_of_page}",
                     width=3, height=3, patternUnits="userSpaceOnUse", patternTransform="rotate(45)")
-    body = (element("title", escape(title)) + element("defs", hatch)
+    body = (element("title", escape(legal(title))) + element("defs", hatch)
             + element("rect", width=WIDTH, height=HEIGHT, fill="#ffffff") + content)
     return element("svg", body, xmlns="http://www.w3.org/2000/svg", width=f"{number(WIDTH)}mm",
                    height=f"{number(HEIGHT)}mm", viewBox=f"0 0 {number(WIDTH)} {number(HEIGHT)}",

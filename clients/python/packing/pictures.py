@@ -122,7 +122,7 @@ def draw_tile(tile, area, height, scales, key):
     if label is None and not (tile.is_faded or tile.is_silent):
         label = number_label(tile, width, high, key)
     drawn = paper.draw_label(label, left + width / 2, top + high / 2) if label else ""
-    hint = element("title", paper.escape(" ".join(lines)))
+    hint = element("title", paper.escape(paper.legal(" ".join(lines))))
     return element("g", hint + rect + drawn, class_="faded" if tile.is_faded else "box",
                    data_box=str(tile.box), data_name=tile.name)
 

@@ -12,6 +12,7 @@ from .document import reader_of
 from .errors import NotVerified, ProgramMissing, TimeIsUp, error_of
 
 HERE = Path(__file__).resolve().parent
+CHECKOUT = HERE.parents[2]
 SHIPPED = ("release/pack-x86_64-linux", "crates/pack/out/pack")
 ANSWERED = (0, 1, 3)
 
@@ -53,14 +54,13 @@ def candidates():
     if named:
         yield Path(named)
         return
-    for above in HERE.parents:
-        yield above / "bin" / "pack"
+    if HERE.parent.name.endswith("-packages"):
+        yield HERE.parents[3] / "bin" / "pack"
     found = shutil.which("pack")
     if found:
         yield Path(found)
-    for above in HERE.parents:
-        for name in SHIPPED:
-            yield above / name
+    for name in SHIPPED:
+        yield CHECKOUT / name
 
 
 def is_pack(path):

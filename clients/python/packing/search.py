@@ -12,7 +12,7 @@ from .errors import TimeIsUp
 from .program import Clock, run_pack, verify_text
 from .progress import Progress
 
-KILL_SECONDS = 0.15
+MOST_RESERVE = 0.15
 
 
 @dataclass(frozen=True)
@@ -54,6 +54,7 @@ class Search:
         self.instance = question.instance
         self.effort = effort
         self.clock = Clock(effort.seconds)
+        self.reserve = min(MOST_RESERVE, 0.1 * (effort.seconds or 0))
         self.progress = progress or Progress()
         self.found = None
         self.seconds, self.mib = 0.0, 0.0
@@ -62,7 +63,7 @@ class Search:
     def limit(self, share=1.0):
         """Seconds that the next child may take: a share of those that are left. None for any."""
         left = self.clock.left()
-        return None if left is None else max(0.01, (left - KILL_SECONDS) * share)
+        return None if left is None else max(0.01, (left - self.reserve) * share)
 
     def words(self, job, budget, proposals=False):
         """The words of a run."""
@@ -109,7 +110,7 @@ class Search:
     def is_over(self):
         """Whether it is decided, or nothing more can be done in time."""
         left = self.clock.left()
-        return self.is_decided() or (left is not None and left < 2 * KILL_SECONDS)
+        return self.is_decided() or (left is not None and left < 2 * self.reserve)
 
     def take(self, text):
         """Keeps what a document of the job shows, once it is verified."""
@@ -140,6 +141,7 @@ class Search:
         if verdict:
             is_decided = abs(placed.number - refuted.number) == 1
             self.found = Found(text, verdict, is_decided, placed, refuted)
+            self.report("verified")
 
     @staticmethod
     def is_higher(one, other, upwards):

@@ -63,16 +63,17 @@ def fill(question, left, limit):
 
 
 def fill_sheets(boxes, sizes, kerf, seconds):
-    """Fills sheets of each size in turn. The sheets, and the boxes that are left."""
+    """Fills sheets of each size in turn, until time is up. The sheets, and the boxes that are left."""
     clock, sheets = Clock(seconds), []
     questions = [ask("knapsack", it.sides, boxes, kerf) for it in sizes]
     left = list(range(len(questions[0].boxes)))
     for size, question in zip(sizes, questions):
         count = 0
         while left and (size.count is None or count < size.count):
-            if clock.is_over():
-                raise TimeIsUp(f"{len(left)} parts are left at the time limit", "give more seconds")
-            document, able = fill(question, left, max(1.0, clock.left()))
+            try:
+                document, able = fill(question, left, max(0.3, clock.left()))
+            except TimeIsUp:
+                return sheets, [questions[0].boxes[it] for it in left]
             if document is None or not document.spots:
                 break
             sheets.append(sheet_of(question, document, able))

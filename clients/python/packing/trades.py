@@ -49,8 +49,6 @@ def pages_of(report, options, panel_of, many):
 
 def sentence_of(answer, job, one, many, unit):
     """The answer in a sentence of its trade."""
-    if job == "fit":
-        return f"all boxes: {answer.words()}"
     if job == "strip" and answer.upper is not None:
         return f"length {answer.words()}" + (f" ({unit})" if unit else "")
     return answer.words(one, many)

@@ -13,7 +13,7 @@ from .errors import NotVerified, QuestionRefused, TimeIsUp
 from .program import Clock, run_pack, verify_text
 from .progress import Progress
 from .question import level_back
-from .search import placed_level, refuted_level
+from .search import placed_level
 
 TURNED_NOTE = ("boxes may be turned: which ones are was searched, so only the bound by areas holds "
                "for every way to turn them")
@@ -189,10 +189,9 @@ class Turning:
         try:
             return self.placed_answer(text, notes)
         except NotVerified:
-            own = refuted_level(document)
-            text = compose(self.question.job, document.instance, own.heading, placed.number,
-                           placed.spots, own.number, own.proof)
-            found = self.placed_answer(text, (*notes, "the document doesn't have the bound by areas"))
+            text = compose(self.question.job, document.instance, "answer", placed.number, placed.spots,
+                           0, f"t 1 {len(self.instance.container)}\n")
+            found = self.placed_answer(text, (*notes, "the bound by areas isn't in the document"))
             is_least = placed.number == lower + 1
             return replace(found, status="least" if is_least else "between",
                            lower=level_back(self.question, lower))

@@ -1,13 +1,12 @@
 """The command `verify`: a document from anyone, checked, and compared with one's own question."""
 import sys
 from collections import Counter
-from pathlib import Path
 
 from .document import first_words, reader_of
 from .errors import InputTooLong, NotVerified, ReadFault, TimeIsUp
 from .exchange import question_of_json, read_json
 from .instance import content_lines, parse_instance
-from .program import Clock, run_words, verdict_of
+from .program import CHECKOUT, Clock, run_words, verdict_of
 
 MAX_BYTES = 256 << 20
 CHECKER = "clients/check.py"
@@ -111,12 +110,10 @@ def box_differences(theirs, ours):
 
 def second_opinion(document, line, seconds):
     """The verdict of the second checker in words, and whether it agrees."""
-    for above in Path(__file__).resolve().parents:
-        if (above / CHECKER).is_file():
-            command = [sys.executable, str(above / CHECKER), reader_of(document)]
-            break
-    else:
+    checker = CHECKOUT / CHECKER
+    if not checker.is_file():
         return f"second checker: skipped, {CHECKER} is missing", True
+    command = [sys.executable, str(checker), reader_of(document)]
     try:
         ran = run_words(command, document, seconds)
     except TimeIsUp:

@@ -7,7 +7,7 @@ join in once the plain ways have had a part of the time: if they find nothing th
 from dataclasses import replace
 
 from .document import parse_document
-from .search import KILL_SECONDS, Level
+from .search import Level
 
 FIRST_BUDGET = 1_000
 MAX_BUDGET = 10_000_000
@@ -49,7 +49,7 @@ class Way:
 
     def raise_budget(self, seconds):
         """Raises the budget so that the next run may end in time; closes the way if it can't."""
-        left = self.search.clock.left() - KILL_SECONDS
+        left = self.search.clock.left() - self.search.reserve
         factor = min(10.0, 0.6 * left / max(seconds, 0.001))
         if self.budget < FIRST_BUDGET:
             grown = min(self.most, FIRST_BUDGET if factor > 1 else 0)

@@ -146,3 +146,13 @@ class DrawsCharts(unittest.TestCase):
         heights = [float(it.split(",")[1]) for it in lines[0].get("points").split()]
         self.assertEqual(heights[0] - heights[-1], 3 / 4 * (heights[0] - 32.0))
         self.assertIn("bins: 3 of 4", page)
+
+
+class KeepsXml(unittest.TestCase):
+    """Names may hold any character."""
+
+    def test_characters_that_xml_does_not_allow(self):
+        odd = Placement(1, "a\x00\x07\ud800<&>\"'\U0001f4e6", (0, 0), (90, 90))
+        page = sheet_page(Panel(100, 100, (tile(odd, 0, 1),)), "t\x01", "", "")
+        group = next(it for it in ElementTree.fromstring(page).iter(f"{SVG}g") if it.get("class") == "box")
+        self.assertEqual(group.get("data-name"), "a<&>\"'\U0001f4e6")

@@ -1,12 +1,17 @@
 """Answers compared with the plain program, and under time limits."""
+import io
 import random
 import time
 import unittest
 
 import packing
 from packing.document import parse_document
+from packing.instance import parse_instance
 from packing.program import run_pack
+from packing.progress import Progress
 from packing.question import ask
+from packing.search import Effort
+from packing.solving import solve_question
 from packing.turning import solve_turned
 from tests.helpers import EXAMPLES
 
@@ -70,7 +75,7 @@ class KeepsTimeLimits(unittest.TestCase):
 
     def test_limits(self):
         for job in ("strip", "bins", "knapsack", "fit"):
-            for seconds in (0.6, 2.0):
+            for seconds in (0.3, 2.0):
                 with self.subTest(job=job, seconds=seconds):
                     call, given, values = self.hard_question(job)
                     begin = time.monotonic()
@@ -102,7 +107,6 @@ class KeepsTimeLimits(unittest.TestCase):
 
     def test_between_in_words(self):
         text = (EXAMPLES / "thirty_plates.txt").read_text()
-        from packing.instance import parse_instance
         it = parse_instance(text)
         answer = packing.solve("bins", it.container, it.boxes, list(it.kerf), budget=10000, proposals=False)
         self.assertEqual((answer.status, answer.lower, answer.upper), ("between", 0, 30))
@@ -154,3 +158,24 @@ class TurnsBoxes(unittest.TestCase):
         for job, kerf in (("knapsack", 0), ("fit", (1, 2))):
             with self.assertRaises(packing.QuestionRefused):
                 self.turned(job, (10, 10), [(6, 4)], kerf=kerf)
+
+
+class Terminal(io.StringIO):
+    """A stream that says it is a terminal."""
+
+    def isatty(self):
+        """Yes."""
+        return True
+
+
+class TellsProgress(unittest.TestCase):
+    """One line on a terminal, nothing elsewhere."""
+
+    def test_progress(self):
+        shown, hidden = Terminal(), io.StringIO()
+        for stream in (shown, hidden):
+            question = ask("strip", (10,), [(6, 4), (5, 5), (4, 4), (3, 7)])
+            solve_question(question, Effort(seconds=3.0), Progress(stream))
+        self.assertEqual(hidden.getvalue(), "")
+        self.assertIn("placed", shown.getvalue())
+        self.assertTrue(shown.getvalue().endswith("\r\033[K"))
