@@ -99,7 +99,7 @@ def label_of(lines, width, height, turned):
     """The label with these lines, as large as the tile allows."""
     along, across = (height, width) if turned else (width, height)
     longest = max(map(len, lines))
-    size = min(MOST_FONT, (along - 1.4) / (CHARACTER * longest), (across - 0.8) / (1.25 * len(lines)))
+    size = min(MOST_FONT, (along - 1.4) / (CHARACTER * (longest + 0.7)), (across - 0.8) / (1.25 * len(lines)))
     return Label(lines, size, turned)
 
 

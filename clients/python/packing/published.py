@@ -11,7 +11,7 @@ Columns of an item: `w h`; `w h value`; `number w h`; `w h most value`; `number 
 """
 import re
 from dataclasses import dataclass
-from typing import Optional, Tuple
+from typing import Optional
 
 from .errors import QuestionRefused
 from .exchange import read_json

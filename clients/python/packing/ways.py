@@ -1,8 +1,9 @@
 """Ways to search under a time limit, and the schedule that shares the time among them.
 
-Each way has a budget that rises from run to run. The way that has spent least goes next, so none of
-them takes the time of the others. For bins and knapsack proposals go first. For fit and strip they
-join in once the plain ways have had a part of the time: if they find nothing they take seconds.
+Each way has a budget that rises from run to run. The way that will have spent least after its next
+run goes next, so none of them takes the time of the others. For bins proposals go first. For fit and
+strip they join in once the plain ways have had a part of the time: if they find nothing they take
+seconds.
 """
 from dataclasses import replace
 
@@ -11,7 +12,7 @@ from .search import Level
 
 FIRST_BUDGET = 1_000
 MAX_BUDGET = 10_000_000
-HEAD_START = 0.05
+HEAD_STARTS = {"fit": 0.05, "strip": 0.2}
 
 
 class Way:
@@ -23,9 +24,9 @@ class Way:
         self.proposals = proposals
         self.most = search.effort.budget if search.effort.budget is not None else MAX_BUDGET
         self.budget = min(0 if proposals else FIRST_BUDGET, self.most)
-        is_late = proposals and search.job in ("fit", "strip")
-        self.spent = HEAD_START * search.effort.seconds if is_late else 0.0
-        self.share = 0.6 if proposals else 0.35
+        self.spent = HEAD_STARTS.get(job, 0.0) * search.effort.seconds if proposals else 0.0
+        self.expected = 0.0
+        self.share = 0.6 if proposals and job != "strip" else 0.35
         self.is_open = True
 
     def is_ready(self):
@@ -50,12 +51,13 @@ class Way:
     def raise_budget(self, seconds):
         """Raises the budget so that the next run may end in time; closes the way if it can't."""
         left = self.search.clock.left() - self.search.reserve
-        factor = min(10.0, 0.6 * left / max(seconds, 0.001))
+        factor = min(10.0, 0.8 * self.share * left / max(seconds, 0.001))
         if self.budget < FIRST_BUDGET:
             grown = min(self.most, FIRST_BUDGET if factor > 1 else 0)
         else:
             grown = min(self.most, int(self.budget * factor))
         self.is_open = grown > 1.5 * self.budget
+        self.expected = seconds * grown / max(self.budget, FIRST_BUDGET)
         self.budget = max(grown, self.budget)
 
 
@@ -142,7 +144,7 @@ def best_container(document):
 
 
 def ways_of(search):
-    """The ways for the job of this search; of those that have spent alike the first goes next."""
+    """The ways for the job of this search; of those that have spent the same the first goes next."""
     proposed = [Way(search, search.job, True)] if search.effort.proposals else []
     plain = [Way(search, search.job)]
     if search.job == "fit":
@@ -162,7 +164,7 @@ def rise(search):
         ready = [it for it in ways if it.is_ready()]
         if not ready:
             return
-        way = min(ready, key=lambda it: it.spent)
+        way = min(ready, key=lambda it: it.spent + it.expected)
         way.advance(0.7 if len(ready) == 1 else way.share)
 
 
