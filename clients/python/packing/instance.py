@@ -77,6 +77,8 @@ def parse_instance(text):
                 sides, options = words[1:len(container) + 1], words[len(container) + 1:]
                 named = dict(zip(options[::2], map(int, options[1::2])))
                 times = named.get("times", 1)
+                if len(boxes) + times > MAX_BOXES:
+                    raise ValueError(times)
                 boxes += [tuple(map(int, sides))] * times
                 values += [named.get("value", 1)] * times
             elif words[0] != "format":

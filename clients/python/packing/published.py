@@ -48,10 +48,11 @@ def job_of_name(name):
 
 def make_instance(container, rows, name):
     """An instance of rows `(sides, quantity, value)`."""
+    count = sum(quantity for _, quantity, _ in rows)
+    if not 1 <= count <= MAX_BOXES:
+        raise QuestionRefused(f"{name} has {count} boxes", f"1 to {MAX_BOXES} can be asked")
     boxes = [sides for sides, quantity, _ in rows for _ in range(quantity)]
     values = [value for _, quantity, value in rows for _ in range(quantity)]
-    if not boxes or len(boxes) > MAX_BOXES:
-        raise QuestionRefused(f"{name} has {len(boxes)} boxes", f"1 to {MAX_BOXES} can be asked")
     return Instance(tuple(container), (0,) * len(container), tuple(boxes), tuple(values))
 
 

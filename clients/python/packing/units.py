@@ -11,6 +11,8 @@ from math import gcd
 from .errors import QuestionRefused
 from .instance import MAX_KERF, MAX_SIDE
 
+MAX_POWER = 15
+
 
 def to_decimal(number, what):
     """A positive finite decimal of an int, a float, a Decimal or a string."""
@@ -20,6 +22,8 @@ def to_decimal(number, what):
         value = None
     if value is None or not value.is_finite():
         raise QuestionRefused(f"{what} is {number!r}, which isn't a number", "write it as 60.5")
+    if value and abs(value.adjusted()) > MAX_POWER:
+        raise QuestionRefused(f"{what} is {number!r}, which is out of range", "choose another unit")
     return value
 
 

@@ -67,6 +67,7 @@ class RefusesQuestions(unittest.TestCase):
         self.refused("129 boxes", "fit", (10, 10), [(1, 1)], quantities=[129])
         self.refused("there is no box", "fit", (10, 10), [])
         self.refused("isn't a number", "fit", (10, 10), [("6cm", 1)])
+        self.refused("out of range", "fit", (10, 10), [("1e999999", 1)])
         self.refused("greater than 0", "fit", (10, 10), [(0, 1)])
         self.refused("greater than 0", "fit", (10, -10), [(1, 1)])
         self.refused("the job is", "pile", (10, 10), [(1, 1)])

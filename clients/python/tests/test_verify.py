@@ -68,6 +68,15 @@ class VerifiesDocuments(FolderCase):
                 self.assertIn("another question", out)
                 self.assertIn(words, out)
 
+    def test_questions_that_cannot_be_read(self):
+        for question in ("box 1 1\n", "format 2\ncontainer 9 9\nbox 1 1 times 999999999999\n", "{}", "",
+                         "format 1\ncontainer 9 9\nbox a 1\n", "hello\n"):
+            with self.subTest(question=question):
+                status, _, err = self.verify(EXAMPLES / "two_boxes.fit.document", "--question",
+                                             self.file("q.txt", question))
+                self.assertEqual(status, 2)
+                self.assertTrue(err.startswith("packing: "))
+
     def test_order_and_values_are_remarks(self):
         question = "format 1\ncontainer 10 10\nbox 6 6 value 9\nbox 6 4\n"
         status, out, _ = self.verify(EXAMPLES / "two_boxes.fit.document", "--question",
