@@ -62,13 +62,16 @@ class Way:
 
 
 class ByFit(Way):
-    """Single heights of a strip, decided by fit: bisects around the heights that stay undecided."""
+    """Single heights of a strip, decided by fit: bisects around the heights that stay undecided.
+
+    It goes below and above these in turn; first below, and with proposals first above.
+    """
 
     def __init__(self, search, proposals=False):
         super().__init__(search, "fit", proposals)
         self.low, self.high = None, None
         self.longest = 0.0
-        self.goes_low = False
+        self.goes_low = proposals
 
     def is_ready(self):
         """Whether there are levels to narrow."""
