@@ -27,6 +27,7 @@ class Answer:
     `status` is yes, no, undecided, least, greatest, between or none. `lower` and `upper` bound the
     best level, half open: of strip and bins it is more than `lower` and at most `upper`; of knapsack
     it is at least `lower` and less than `upper`. `document` is the text that `verdict` verifies.
+    `too_long` names the box because of which the status is none.
     """
 
     question: Question
@@ -41,6 +42,7 @@ class Answer:
     processor_seconds: float = 0.0
     mib: float = 0.0
     tried: Tuple[str, ...] = field(default=())
+    too_long: str = ""
 
     @property
     def is_proved(self):
@@ -72,7 +74,7 @@ class Answer:
             return {"yes": "they fit", "no": "they don't fit together",
                     "undecided": "not decided: no packing and no refutation was found"}[self.status]
         if self.status == "none":
-            return f"none: a box is longer than the {one}"
+            return f"none: {self.too_long or 'a box'} is too long for the {one}"
         if job == "bins":
             return bins_words(self, one, many)
         if self.status == "least":
@@ -98,8 +100,9 @@ def answer_of(question, text, verdict, **extra):
     status = document.result[0]
     lower, upper = bounds_of(document)
     placements = placements_of(question, document.spots)
+    too_long = question.boxes[int(document.proof.split()[1]) - 1].name if status == "none" else ""
     return Answer(question, status, level_back(question, lower), level_back(question, upper),
-                  placements, text, verdict, **extra)
+                  placements, text, verdict, too_long=too_long, **extra)
 
 
 def bounds_of(document):

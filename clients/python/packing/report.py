@@ -12,9 +12,13 @@ from .solving import checked_effort, solve_question
 from .turning import solve_turned
 
 
-@dataclass
+@dataclass(frozen=True)
 class Report:
-    """An answer with the words and pictures of a trade. Placements are in the order of its sides."""
+    """An answer with the words and pictures of a trade. Placements are in the order of its sides.
+
+    `draw` makes the pages of the report in a unit. `columns` and `cells` are further columns of the
+    table. With `is_named` sides are named where sizes are told, with `is_single` there is one container.
+    """
 
     answer: Answer
     title: str
@@ -29,6 +33,11 @@ class Report:
     things: Tuple[str, str] = ("box", "boxes")
     rest: str = "free"
     is_named: bool = False
+    is_single: bool = False
+
+    def said(self):
+        """The answer with the line that verifies it."""
+        return f"{self.sentence} ({self.answer.verdict})" if self.answer.verdict else self.sentence
 
     def size(self, unit):
         """The sides of a container in words."""
@@ -87,9 +96,9 @@ def placement_rows(report):
 def say(report):
     """Prints the answer, each container, the notes and the warnings."""
     answer = report.answer
-    print(f"{report.sentence} ({answer.verdict})" if answer.verdict else report.sentence)
+    print(report.said())
     for number, some in groups_of(answer.placements).items():
-        print(f"{report.one} {number}: {report.use(some)}")
+        print(f"{report.one if report.is_single else f'{report.one} {number}'}: {report.use(some)}")
     for it in answer.notes:
         print(f"note: {it}")
     for it in report.warnings:
@@ -100,7 +109,7 @@ def publish(report, options):
     """Writes the files that were asked for, and prints the answer. The exit status."""
     answer = report.answer
     header, rows = placement_rows(report)
-    pages = report.draw() if answer.placements and (options.svg or options.html) else []
+    pages = report.draw(report, options.unit) if answer.placements and (options.svg or options.html) else []
     paths = write_pages(options.svg, pages) if options.svg and pages else []
     texts = (
         (options.html, lambda: html_page(report.title, (report.sentence, answer.verdict, *answer.notes),

@@ -105,7 +105,7 @@ def stock(options):
         name = " × ".join(map(shown, it.sides))
         use = use_words(it.placements, it.sides, ("part", "parts"), "waste")
         print(f"sheet {at}: {name}: {use}")
-        panel = Panel(it.sides[0], it.sides[1], tuple(tile(one, 0, 1) for one in it.placements))
+        panel = Panel(it.sides[0], it.sides[1], tuple(map(tile, it.placements)))
         subtitle = f"{name} {options.unit}".rstrip() + f" · {use}"
         pages.append(sheet_page(panel, f"Sheet {at} of {len(sheets)}", subtitle, CLAIM, options.unit, at,
                                 colours))

@@ -1,5 +1,6 @@
 """The commands of three trades: `cut` for sheets and rolls, `load` for spaces, `plan` for time."""
 from dataclasses import replace
+from functools import partial
 
 from .errors import QuestionRefused
 from .layers import HANGS_BELOW, load_pages
@@ -29,29 +30,47 @@ def in_order(boxes, order):
     return [replace(it, sides=tuple(it.sides[i] for i in order)) for it in boxes]
 
 
-def tile(placement, right, up):
+def positive_or_zero(text, what):
+    """A decimal of 0 or more."""
+    return 0 if not text or not text.strip("0.,") else positive(text, what)
+
+
+def level_words(answer, unit, one):
+    """What is said of a length."""
+    if answer.level is None:
+        return answer.words(one)
+    return f"length {answer.words()}" + (f" ({unit})" if unit else "")
+
+
+# Pictures
+
+def tile(placement, right=0, up=1):
     """A placement as a tile, with one dimension to the right and one upwards."""
     return Tile(placement.box, placement.name, placement.corner[right], placement.corner[up],
                 placement.sides[right], placement.sides[up],
                 size_words((placement.sides[right], placement.sides[up]), placement.turned))
 
 
-def pages_of(report, options, panel_of, many):
+def draw_sheets(report, unit, right=0, up=1, axes=("", "")):
     """A page for each container that is used."""
-    groups = groups_of(report.answer.placements)
-    pages, colours = [], {}
+    groups, pages, colours = groups_of(report.answer.placements), [], {}
     for at, (number, some) in enumerate(groups.items(), 1):
-        name = f"{report.one.capitalize()} {number} of {len(groups)}" if many else report.title
-        pages.append(sheet_page(panel_of(some), name, f"{report.size(options.unit)} · {report.use(some)}",
-                                f"{report.sentence} ({report.answer.verdict})", options.unit, at, colours))
+        panel = Panel(report.container[right], report.container[up],
+                      tuple(tile(it, right, up) for it in some), "", axes)
+        title = report.title if report.is_single else f"{report.one.capitalize()} {number} of {len(groups)}"
+        pages.append(sheet_page(panel, title, f"{report.size(unit)} · {report.use(some)}", report.said(),
+                                unit, at, colours))
     return pages
 
 
-def sentence_of(answer, job, one, many, unit):
-    """The answer in a sentence of its trade."""
-    if job == "strip" and answer.upper is not None:
-        return f"length {answer.words()}" + (f" ({unit})" if unit else "")
-    return answer.words(one, many)
+def draw_load(report, unit):
+    """The pages of all loaded containers."""
+    groups, pages = groups_of(report.answer.placements), []
+    for number, some in groups.items():
+        pages += load_pages(some, report.container, f"Container {number} of {len(groups)}",
+                            f"{report.size(unit)} · {report.use(some)}", report.said(), unit,
+                            len(pages) + 1)
+    return pages
 
 
 # Cutting
@@ -67,24 +86,22 @@ def cut(options):
         job, container = "knapsack" if options.take else "bins", parse_sides(options.sheet, (2,), "--sheet")
     question = ask(job, container, boxes, positive_or_zero(options.kerf, "--kerf"), turnable=options.turn)
     answer = with_notes(answer_question(question, options), notes)
-    if options.roll:
-        sides = (question.container[0], answer.level or 1)
-        report = Report(answer, "Roll", sentence_of(answer, job, "roll", "rolls", options.unit), sides,
-                        ("width", "length"), "roll", None, is_named=True)
-        panel = lambda some: Panel(sides[1], sides[0], tuple(tile(it, 1, 0) for it in some))
-    else:
-        sides = question.container
-        report = Report(answer, "Cutting plan", sentence_of(answer, job, "sheet", "sheets", options.unit),
-                        sides, ("length", "width"), "sheet", None)
-        panel = lambda some: Panel(sides[0], sides[1], tuple(tile(it, 0, 1) for it in some))
-    report.things, report.rest = ("part", "parts"), "waste"
-    report.draw = lambda: pages_of(report, options, panel, not options.roll)
+    report = roll_report(answer, options.unit) if options.roll else sheet_report(answer)
     return publish(report, options)
 
 
-def positive_or_zero(text, what):
-    """A decimal of 0 or more."""
-    return 0 if not text or not text.strip("0.,") else positive(text, what)
+def sheet_report(answer):
+    """The report of sheets."""
+    return Report(answer, "Cutting plan", answer.words("sheet", "sheets"), answer.question.container,
+                  ("length", "width"), "sheet", draw_sheets, things=("part", "parts"), rest="waste")
+
+
+def roll_report(answer, unit):
+    """The report of a roll, which is drawn with its length to the right."""
+    return Report(answer, "Roll", level_words(answer, unit, "roll"),
+                  (answer.question.container[0], answer.level), ("width", "length"), "roll",
+                  partial(draw_sheets, right=1, up=0),
+                  things=("part", "parts"), rest="waste", is_named=True, is_single=True)
 
 
 # Loading
@@ -92,62 +109,45 @@ def positive_or_zero(text, what):
 def load(options):
     """Loads boxes into a space of three dimensions; of two for a single layer."""
     space = parse_sides(options.space, (2, 3), "--space")
-    boxes, notes = read_boxes(options, (FIRST, SECOND, THIRD)[:len(space)])
-    if len(space) == 2:
-        return load_layer(options, space, boxes, notes)
-    if options.length and options.turn:
+    dims = len(space)
+    boxes, notes = read_boxes(options, (FIRST, SECOND, THIRD)[:dims])
+    if dims == 3 and options.length and options.turn:
         raise QuestionRefused("--turn and --length don't go together", "leave one of them out")
-    order = (1, 2, 0) if options.length else (0, 1, 2)
     job = "strip" if options.length else "knapsack" if options.take else "bins"
+    order = (*range(1, dims), 0) if options.length else tuple(range(dims))
     question = ask(job, [space[i] for i in order], in_order(boxes, order),
                    positive_or_zero(options.gap, "--gap"), turnable=options.turn)
     answer = answer_question(question, options)
-    answer = let_down(answer, order.index(2), max(0.7, options.seconds - answer.seconds))
-    back = tuple(order.index(i) for i in range(3))
-    answer = with_notes(permute(answer, back), notes)
-    return publish(load_report(answer, options, job, space), options)
+    if dims == 3:
+        answer = let_down(answer, order.index(2), max(0.7, options.seconds - answer.seconds))
+    answer = with_notes(permute(answer, tuple(order.index(i) for i in range(dims))), notes)
+    if job == "strip" and answer.level is not None:
+        space = (answer.level, *space[1:])
+    make = load_report if dims == 3 else layer_report
+    return publish(make(answer, options.unit, space), options)
 
 
-def load_report(answer, options, job, space):
+def load_words(answer, unit, one, many):
+    """What is said of a load."""
+    return level_words(answer, unit, one) if answer.question.job == "strip" else answer.words(one, many)
+
+
+def load_report(answer, unit, space):
     """The report of a load, with the support of each box."""
     held = {}
     for some in groups_of(answer.placements).values():
         held.update(supports(some))
     warnings = tuple(f"{it.name} (box {it.box}): only {int(held[it.box] * 100)} % of its bottom is held"
                      for it in answer.placements if held[it.box] < HANGS_BELOW)
-    if job == "strip" and answer.level is not None:
-        space = (answer.level, *space[1:])
-    sentence = sentence_of(answer, job, "container", "containers", options.unit)
-    report = Report(answer, "Load", sentence, tuple(space), ("length", "width", "height"), "container",
-                    None, warnings, ("held %",), lambda it: (f"{100 * held[it.box]:.0f}",))
-    report.draw = lambda: draw_load(report, options)
-    return report
+    return Report(answer, "Load", load_words(answer, unit, "container", "containers"), space,
+                  ("length", "width", "height"), "container", draw_load, warnings, ("held %",),
+                  lambda it: (f"{100 * held[it.box]:.0f}",))
 
 
-def draw_load(report, options):
-    """The pages of all loaded containers."""
-    pages = []
-    groups = groups_of(report.answer.placements)
-    for number, some in groups.items():
-        pages += load_pages(some, report.container, f"Container {number} of {len(groups)}",
-                            f"{report.size(options.unit)} · {report.use(some)}",
-                            f"{report.sentence} ({report.answer.verdict})", options.unit, len(pages) + 1)
-    return pages
-
-
-def load_layer(options, space, boxes, notes):
-    """Loads one layer, as on a pallet."""
-    job = "strip" if options.length else "knapsack" if options.take else "bins"
-    order = (1, 0) if options.length else (0, 1)
-    question = ask(job, [space[i] for i in order], in_order(boxes, order),
-                   positive_or_zero(options.gap, "--gap"), turnable=options.turn)
-    answer = with_notes(permute(answer_question(question, options), order), notes)
-    sides = (answer.level, space[1]) if options.length and answer.level is not None else tuple(space)
-    report = Report(answer, "Layer", sentence_of(answer, job, "layer", "layers", options.unit), sides,
-                    ("length", "width"), "layer", None)
-    panel = lambda some: Panel(sides[0], sides[1], tuple(tile(it, 0, 1) for it in some))
-    report.draw = lambda: pages_of(report, options, panel, True)
-    return publish(report, options)
+def layer_report(answer, unit, space):
+    """The report of layers, as on pallets."""
+    return Report(answer, "Layer", load_words(answer, unit, "layer", "layers"), space,
+                  ("length", "width"), "layer", draw_sheets)
 
 
 # Planning
@@ -158,35 +158,26 @@ def plan(options):
         raise QuestionRefused("--capacity or --until is needed",
                               "give the machines or the memory, the time, or both")
     boxes, notes = read_boxes(options, (TIMES, SIZES), (1,))
-    if options.capacity and options.until:
-        return plan_bins(options, boxes, notes)
-    if options.capacity:
-        question = ask("strip", (positive(options.capacity, "--capacity"),), in_order(boxes, (1, 0)))
+    capacity = options.capacity and positive(options.capacity, "--capacity")
+    until = options.until and positive(options.until, "--until")
+    if capacity and until:
+        answer = answer_question(ask("bins", (until, capacity), boxes), options)
+        sides, said, one = answer.question.container, answer.words("machine", "machines"), "machine"
+    elif capacity:
+        question = ask("strip", (capacity,), in_order(boxes, (1, 0)))
         answer = permute(answer_question(question, options), (1, 0))
-        sides = (answer.level, question.container[0])
-        sentence = f"the end: {answer.words()}" if answer.level is not None else answer.words("capacity")
+        sides, said, one = (answer.level, question.container[0]), strip_words(answer, "end", "capacity"), "plan"
     else:
-        question = ask("strip", (positive(options.until, "--until"),), boxes)
-        answer = answer_question(question, options)
-        sides = (question.container[0], answer.level)
-        sentence = f"the capacity: {answer.words()}" if answer.level is not None else answer.words("time")
-    return publish(plan_report(with_notes(answer, notes), options, sides, sentence, "plan"), options)
-
-
-def plan_bins(options, boxes, notes):
-    """The least number of machines of one capacity until a time."""
-    sides = (positive(options.until, "--until"), positive(options.capacity, "--capacity"))
-    question = ask("bins", sides, boxes)
-    answer = with_notes(answer_question(question, options), notes)
-    sentence = answer.words("machine", "machines")
-    return publish(plan_report(answer, options, question.container, sentence, "machine"), options)
-
-
-def plan_report(answer, options, sides, sentence, one):
-    """The report of a plan: time to the right, machines or memory upwards."""
-    report = Report(answer, "Plan", sentence, tuple(sides), ("time", "size"), one, None)
+        answer = answer_question(ask("strip", (until,), boxes), options)
+        sides, said = (answer.question.container[0], answer.level), strip_words(answer, "capacity", "time")
+        one = "plan"
     axes = (f"time ({options.unit})" if options.unit else "time", "machines or memory")
-    panel = lambda some: Panel(sides[0], sides[1], tuple(tile(it, 0, 1) for it in some), "", axes)
-    report.things, report.is_named = ("job", "jobs"), True
-    report.draw = lambda: pages_of(report, options, panel, one == "machine")
-    return report
+    report = Report(with_notes(answer, notes), "Plan", said, sides, ("time", "size"), one,
+                    partial(draw_sheets, axes=axes), things=("job", "jobs"), is_named=True,
+                    is_single=one == "plan")
+    return publish(report, options)
+
+
+def strip_words(answer, what, given):
+    """What is said of the end of a plan or of the capacity that it needs, where the other is given."""
+    return answer.words(given) if answer.level is None else f"the {what}: {answer.words()}"

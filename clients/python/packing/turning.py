@@ -153,7 +153,8 @@ class Turning:
         for name, sides in zip((it.name for it in self.question.boxes), self.instance.boxes):
             if not self.fits(sides) and not self.fits(turn_sides(sides)):
                 return Answer(self.question, "none" if self.question.job != "fit" else "no",
-                              notes=(f"{name} is too long either way",), seconds=self.clock.spent())
+                              notes=(f"{name} is too long either way",), seconds=self.clock.spent(),
+                              too_long=name)
         if self.question.job == "fit":
             return self.fit_answer()
         if self.best is None:

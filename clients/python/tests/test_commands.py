@@ -80,6 +80,14 @@ class Cuts(FolderCase):
         self.assertEqual(status, 1)
         self.assertIn("left: box 1 (50 × 50)", out)
 
+    def test_a_part_that_is_too_long_is_named(self):
+        table = self.file("parts.csv", "name,length,width\nrail,12,1\nshelf,5,5\n")
+        for words, said in ((("--sheet", "10x10"), "none: rail is too long for the sheet (verified bins none)"),
+                            (("--sheet", "10x10", "--turn"), "none: rail is too long for the sheet"),
+                            (("--roll", "4"), "none: shelf is too long for the roll (verified strip none)")):
+            status, out, _ = run_main("cut", table, *words)
+            self.assertEqual((status, out.split("\n")[0]), (1, said))
+
     def test_refusals(self):
         table = self.file("parts.csv", "name,length\na,5\n")
         for words, status in ((("cut", table, "--sheet", "10x10"), 2), (("cut", table), 2),

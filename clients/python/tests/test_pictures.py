@@ -49,7 +49,7 @@ class DrawsSheets(unittest.TestCase):
     def test_rectangles_are_the_placements(self):
         for seed in range(5):
             placements = random_placements(seed)
-            panel = Panel(800, 450, tuple(tile(it, 0, 1) for it in placements))
+            panel = Panel(800, 450, tuple(tile(it) for it in placements))
             page = sheet_page(panel, "Sheet 1", "a < b", "verified", "mm")
             drawn = drawn_boxes(panels_of(page)[0])
             self.assertEqual(len(drawn), len(placements))
@@ -59,7 +59,7 @@ class DrawsSheets(unittest.TestCase):
 
     def test_names_sizes_scale_and_sides_are_written(self):
         answer = packing.solve("bins", (2800, 2070), [(800, 600)], names=["door & frame"])
-        panel = Panel(2800, 2070, (tile(answer.placements[0], 0, 1),))
+        panel = Panel(2800, 2070, (tile(answer.placements[0]),))
         page = sheet_page(panel, "Sheet 1 of 1", "8.3 % used", "verified bins least 1", "mm")
         words = "".join(ElementTree.fromstring(page).itertext())
         for it in ("door & frame", "800 × 600", "2800", "2070", "8.3 % used", "scale 1 : ", "500 mm"):
@@ -73,7 +73,7 @@ class DrawsSheets(unittest.TestCase):
         self.assertAlmostEqual(ratio, 1 / scale, delta=0.06)
 
     def test_everything_is_on_the_page_and_no_text_is_tiny(self):
-        page = sheet_page(Panel(800, 450, tuple(tile(it, 0, 1) for it in random_placements(9))),
+        page = sheet_page(Panel(800, 450, tuple(tile(it) for it in random_placements(9))),
                           "Sheet", "", "", "mm")
         for it in ElementTree.fromstring(page).iter(f"{SVG}rect"):
             self.assertLessEqual(float(it.get("x", 0)) + float(it.get("width")), WIDTH)
@@ -93,7 +93,7 @@ class DrawsSheets(unittest.TestCase):
     def test_small_ones_are_in_the_key(self):
         placements = [Placement(1, "a long name of a part", (0, 0), (9, 9)),
                       Placement(2, "large", (100, 0), (800, 400))]
-        page = sheet_page(Panel(1000, 500, tuple(tile(it, 0, 1) for it in placements)), "", "", "")
+        page = sheet_page(Panel(1000, 500, tuple(tile(it) for it in placements)), "", "", "")
         self.assertIn("1 · a long name of a part · 9 × 9", page)
 
     def test_percent_never_rounds_up_to_all(self):
@@ -153,6 +153,6 @@ class KeepsXml(unittest.TestCase):
 
     def test_characters_that_xml_does_not_allow(self):
         odd = Placement(1, "a\x00\x07\ud800<&>\"'\U0001f4e6", (0, 0), (90, 90))
-        page = sheet_page(Panel(100, 100, (tile(odd, 0, 1),)), "t\x01", "", "")
+        page = sheet_page(Panel(100, 100, (tile(odd),)), "t\x01", "", "")
         group = next(it for it in ElementTree.fromstring(page).iter(f"{SVG}g") if it.get("class") == "box")
         self.assertEqual(group.get("data-name"), "a<&>\"'\U0001f4e6")
