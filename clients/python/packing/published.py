@@ -7,7 +7,8 @@ Words behind the numbers of a line are skipped. A file may hold several problems
 their count.
 
 Columns of an item: `w h`; `w h value`; `number w h`; `w h most value`; `number w h demand`;
-`w h least most value`; `number w h demand most value`.
+`w h least most value`; `number w h demand most value`. A knapsack takes the most copies of an item,
+every other job its demand.
 """
 import re
 from dataclasses import dataclass
@@ -16,28 +17,56 @@ from typing import Optional
 from .errors import QuestionRefused
 from .exchange import read_json
 from .instance import MAX_BOXES, Instance, first_word, parse_instance
-
-JOBS = ("fit", "strip", "bins", "knapsack")
+from .question import JOBS
 
 
 @dataclass(frozen=True)
 class Problem:
-    """One instance with its name, and its job where the form tells it."""
+    """One instance with its name, and its job where name or form tell it."""
 
     name: str
     job: Optional[str]
     instance: Instance
 
 
+@dataclass(frozen=True)
+class Item:
+    """An item of a published form: how many are wanted, and how many may be taken at most."""
+
+    sides: tuple
+    demand: int = 1
+    most: int = 1
+    value: int = 1
+
+    def count(self, job):
+        """How many of it the job has."""
+        return self.most if job == "knapsack" else self.demand or self.most
+
+
+@dataclass(frozen=True)
+class Draft:
+    """What a published form has: the job that it looks like, the container, the items."""
+
+    name: str
+    job: str
+    container: tuple
+    items: tuple
+
+    def problem(self, job):
+        """The problem for this job, else for the one in the name, else for the one that it looks like."""
+        job = job or job_of_name(self.name) or self.job
+        return Problem(self.name, job, make_instance(job, self.container, self.items, self.name))
+
+
 def read_problems(text, name, job=None):
     """The problems in the text of a file. `job` overrides what name and form tell."""
+    if first_word(text) == "format":
+        return [Problem(name, job or job_of_name(name), parse_instance(text))]
     if text.lstrip("\ufeff \r\n\t").startswith("{"):
-        found = [problem_of_json(read_json(text, name), name)]
-    elif first_word(text) == "format":
-        found = [Problem(name, None, parse_instance(text))]
+        drafts = [draft_of_json(read_json(text, name), name)]
     else:
-        found = problems_of_columns(number_lines(text), name)
-    return [Problem(it.name, job or job_of_name(it.name) or it.job, it.instance) for it in found]
+        drafts = drafts_of_columns(number_lines(text), name)
+    return [it.problem(job) for it in drafts]
 
 
 def job_of_name(name):
@@ -46,14 +75,18 @@ def job_of_name(name):
     return next((it for it in JOBS if it in words), None)
 
 
-def make_instance(container, rows, name):
-    """An instance of rows `(sides, quantity, value)`."""
-    count = sum(quantity for _, quantity, _ in rows)
+def make_instance(job, container, items, name):
+    """An instance of items. A strip's last container side isn't looked at, and may be missing."""
+    count = sum(it.count(job) for it in items)
     if not 1 <= count <= MAX_BOXES:
         raise QuestionRefused(f"{name} has {count} boxes", f"1 to {MAX_BOXES} can be asked")
-    boxes = [sides for sides, quantity, _ in rows for _ in range(quantity)]
-    values = [value for _, quantity, value in rows for _ in range(quantity)]
-    return Instance(tuple(container), (0,) * len(container), tuple(boxes), tuple(values))
+    is_open = len(container) < len(items[0].sides)
+    if is_open and job != "strip":
+        raise QuestionRefused(f"{name} has a container of one side", f"ask strip of it, and not {job}")
+    sides = (*container, 1) if is_open else tuple(container)
+    boxes = [it.sides for it in items for _ in range(it.count(job))]
+    values = [it.value for it in items for _ in range(it.count(job))]
+    return Instance(sides, (0,) * len(sides), tuple(boxes), tuple(values))
 
 
 # JSON
@@ -61,6 +94,7 @@ def make_instance(container, rows, name):
 WIDE = ("length", "width", "w", "l")
 HIGH = ("height", "h", "width")
 DEEP = ("depth", "d")
+VALUE = ("value", "profit")
 
 
 def folded(found):
@@ -84,24 +118,25 @@ def sides_of(found, name):
     return tuple(int(found[it]) for it in keys)
 
 
-def problem_of_json(found, name):
-    """The problem of a JSON object with items and objects."""
+def draft_of_json(found, name):
+    """The draft of a JSON object with items and objects."""
     top = folded(found)
     items = first_of(top, ("items", "pieces", "boxes", "rectangles"))
     objects = first_of(top, ("objects", "bins", "bin", "container", "strip", "object"))
-    if not isinstance(items, list) or objects is None:
+    if not isinstance(items, list) or not items or not objects:
         raise QuestionRefused(f"{name} isn't a published form", "it needs lists of Items and Objects")
-    holder = folded(objects[0] if isinstance(objects, list) else objects)
-    rows, valued = [], False
-    for it in map(folded, items):
-        value = first_of(it, ("value", "profit"))
-        valued = valued or value is not None
-        count = first_of(it, ("demandmax", "copies", "demand", "quantity"), 1)
-        rows.append((sides_of(it, name), int(count), int(value if value is not None else 1)))
-    sides = sides_of(holder, name)
-    if len(sides) < len(rows[0][0]):
-        return Problem(name, "strip", make_instance((*sides, 1), rows, name))
-    return Problem(name, "knapsack" if valued else "bins", make_instance(sides, rows, name))
+    container = sides_of(folded(objects[0] if isinstance(objects, list) else objects), name)
+    rows = tuple(item_of_json(folded(it), name) for it in items)
+    has_values = any(first_of(folded(it), VALUE) is not None for it in items)
+    is_strip = len(container) < len(rows[0].sides)
+    return Draft(name, "strip" if is_strip else "knapsack" if has_values else "bins", container, rows)
+
+
+def item_of_json(found, name):
+    """An item of a JSON object."""
+    demand = int(first_of(found, ("demand", "quantity"), 1))
+    most = int(first_of(found, ("demandmax", "copies"), demand))
+    return Item(sides_of(found, name), demand, most, int(first_of(found, VALUE, 1)))
 
 
 # Columns
@@ -116,15 +151,15 @@ def number_lines(text):
     return lines
 
 
-def problems_of_columns(lines, name):
-    """One problem, or several behind their count."""
-    whole = one_problem(lines, 0, name)
+def drafts_of_columns(lines, name):
+    """One draft, or several behind their count."""
+    whole = one_draft(lines, 0, name)
     if whole and whole[1] == len(lines):
         return [whole[0]]
     if lines and len(lines[0]) == 1:
         found, at = [], 1
         for count in range(1, lines[0][0] + 1):
-            one = one_problem(lines, at, f"{name}-{count}")
+            one = one_draft(lines, at, f"{name}-{count}")
             if not one:
                 break
             found.append(one[0])
@@ -135,36 +170,38 @@ def problems_of_columns(lines, name):
                           "the count of items, the sides of the container, a line for each item")
 
 
-def one_problem(lines, at, name):
-    """The problem that begins at a line, and the line behind it. None where none does."""
+def one_draft(lines, at, name):
+    """The draft that begins at a line, and the line after it. None where none does."""
     if at + 1 >= len(lines) or len(lines[at]) != 1 or len(lines[at + 1]) > 2:
         return None
     count, container = lines[at][0], lines[at + 1]
     rows = lines[at + 2:at + 2 + count]
     if count < 1 or len(rows) < count or len({len(it) for it in rows}) != 1:
         return None
-    items = rows_of_columns(rows)
+    items = items_of_columns(rows)
     if items is None:
         return None
-    has_values = any(value != 1 for _, _, value in items)
+    has_values = any(it.value != 1 for it in items)
     job = "strip" if len(container) == 1 else "knapsack" if has_values else "bins"
-    sides = (*container, 1) if job == "strip" else tuple(container)
-    return Problem(name, job, make_instance(sides, items, name)), at + 2 + count
+    return Draft(name, job, tuple(container), tuple(items)), at + 2 + count
 
 
-def rows_of_columns(rows):
+def items_of_columns(rows):
     """The items of rows of equal length; None where the length isn't known."""
     is_numbered = [it[0] for it in rows] in (list(range(len(rows))), list(range(1, len(rows) + 1)))
     width = len(rows[0])
     if width == 2:
-        return [((w, h), 1, 1) for w, h in rows]
+        return [Item((w, h)) for w, h in rows]
+    if width == 3 and is_numbered:
+        return [Item((w, h)) for _, w, h in rows]
     if width == 3:
-        return [((w, h), 1, 1) for _, w, h in rows] if is_numbered else [((w, h), 1, v) for w, h, v in rows]
+        return [Item((w, h), value=v) for w, h, v in rows]
+    if width == 4 and is_numbered:
+        return [Item((w, h), n, n) for _, w, h, n in rows]
     if width == 4:
-        return ([((w, h), n, 1) for _, w, h, n in rows] if is_numbered
-                else [((w, h), n, v) for w, h, n, v in rows])
+        return [Item((w, h), n, n, v) for w, h, n, v in rows]
     if width == 5:
-        return [((w, h), most, v) for w, h, _, most, v in rows]
+        return [Item((w, h), least, most, v) for w, h, least, most, v in rows]
     if width == 6 and is_numbered:
-        return [((w, h), most, v) for _, w, h, _, most, v in rows]
+        return [Item((w, h), demand, most, v) for _, w, h, demand, most, v in rows]
     return None

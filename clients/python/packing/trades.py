@@ -166,7 +166,8 @@ def plan(options):
     elif capacity:
         question = ask("strip", (capacity,), in_order(boxes, (1, 0)))
         answer = permute(answer_question(question, options), (1, 0))
-        sides, said, one = (answer.level, question.container[0]), strip_words(answer, "end", "capacity"), "plan"
+        sides, said = (answer.level, question.container[0]), strip_words(answer, "end", "capacity")
+        one = "plan"
     else:
         answer = answer_question(ask("strip", (until,), boxes), options)
         sides, said = (answer.question.container[0], answer.level), strip_words(answer, "capacity", "time")

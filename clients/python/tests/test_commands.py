@@ -190,6 +190,12 @@ class Benches(FolderCase):
                 self.assertEqual((it.job, it.instance.container, it.instance.boxes, it.instance.values),
                                  (job, container, boxes, values))
 
+    def test_a_knapsack_takes_copies_and_other_jobs_the_demand(self):
+        text = "2\n10 8\n1 3 4 1 3 9\n2 2 2 2 2 5\n"
+        self.assertEqual(len(read_problems(text, "x")[0].instance.boxes), 5)
+        self.assertEqual(len(read_problems(text, "x", "bins")[0].instance.boxes), 3)
+        self.assertEqual(read_problems(text, "x", "strip")[0].job, "strip")
+
     def test_several_problems_in_a_file(self):
         found = read_problems("2\n1\n10 8\n3 4 0 1 5\n2\n6 6\n1 1 0 1 2\n2 2 0 1 3\n", "ngcut")
         self.assertEqual([it.name for it in found], ["ngcut-1", "ngcut-2"])
