@@ -60,7 +60,7 @@ def make_parser():
 
     it = trade(commands, "load", load, "load boxes into containers, or onto a layer")
     it.add_argument("--space", required=True, help="sides of the space, as 1360x245x270 or 1200x800")
-    it.add_argument("--gap", default="0", help="gap that two boxes keep")
+    it.add_argument("--gap", default="0", help="gap that two boxes side by side keep")
     it.add_argument("--turn", action="store_true", help="boxes may be turned on the floor")
     it.add_argument("--take", action="store_true", help="one container: which boxes are worth most")
     it.add_argument("--length", action="store_true", help="the least length of the space that is enough")

@@ -8,7 +8,7 @@ from dataclasses import dataclass
 from typing import Optional, Tuple
 
 from .document import Spot, compose, parse_document
-from .errors import TimeIsUp
+from .errors import InputTooLong, NotVerified, OutOfMemory, TimeIsUp
 from .program import Clock, run_pack, verify_text
 from .progress import Progress
 
@@ -59,6 +59,7 @@ class Search:
         self.found = None
         self.seconds, self.mib = 0.0, 0.0
         self.tried = []
+        self.fault = TimeIsUp("no verified document within the time limit", "give more seconds")
 
     def limit(self, share=1.0):
         """Seconds that the next child may take: a share of those that are left. None for any."""
@@ -75,7 +76,7 @@ class Search:
         return words + (["--proposals", "yes"] if proposals else [])
 
     def run(self, words, instance, share):
-        """The document of a run of the program. None where it was killed at its limit."""
+        """The document of a run of the program. None where it was killed, or out of memory under a limit."""
         self.tried.append(" ".join(words))
         self.report(" ".join(words))
         output = None
@@ -84,17 +85,29 @@ class Search:
             output = ran.output
         except TimeIsUp as fault:
             ran = fault
+        except OutOfMemory as fault:
+            self.set_aside(fault)
+            return None
         self.seconds += ran.seconds
         self.mib = max(self.mib, ran.mib)
         return output
 
     def verified(self, text):
-        """The verdict on a document; None where there is no time for it."""
+        """The verdict on a document; None where there is no time for it, or it can't count."""
         self.report("verifying")
         try:
             return verify_text(text, self.limit())
         except TimeIsUp:
             return None
+        except (InputTooLong, NotVerified, OutOfMemory) as fault:
+            self.set_aside(fault)
+            return None
+
+    def set_aside(self, fault):
+        """Keeps a fault of one run among several, which counts if nothing is found; else raises it."""
+        if self.effort.seconds is None:
+            raise fault
+        self.fault = fault
 
     def report(self, what):
         """Tells the progress on a terminal."""

@@ -1,6 +1,6 @@
 """`solve`: a question in the user's units, its verified answer."""
 from .answer import Answer, answer_of
-from .errors import QuestionRefused, TimeIsUp
+from .errors import QuestionRefused
 from .question import ask
 from .search import Effort, Search
 from .ways import go
@@ -34,7 +34,7 @@ def solve_question(question, effort, progress=None):
     search = go(Search(question, effort, progress))
     found = search.found
     if found is None and question.job != "fit":
-        raise TimeIsUp("no verified document within the time limit", "give more seconds")
+        raise search.fault
     spent = {"notes": question.notes, "seconds": search.clock.spent(), "mib": search.mib,
              "processor_seconds": search.seconds, "tried": tuple(search.tried)}
     if found is None:

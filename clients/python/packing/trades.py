@@ -115,8 +115,10 @@ def load(options):
         raise QuestionRefused("--turn and --length don't go together", "leave one of them out")
     job = "strip" if options.length else "knapsack" if options.take else "bins"
     order = (*range(1, dims), 0) if options.length else tuple(range(dims))
-    question = ask(job, [space[i] for i in order], in_order(boxes, order),
-                   positive_or_zero(options.gap, "--gap"), turnable=options.turn)
+    gap = positive_or_zero(options.gap, "--gap")
+    gaps = (gap, gap, 0)[:dims]
+    question = ask(job, [space[i] for i in order], in_order(boxes, order), [gaps[i] for i in order],
+                   turnable=options.turn)
     answer = answer_question(question, options)
     if dims == 3:
         answer = let_down(answer, order.index(2), max(0.7, options.seconds - answer.seconds))

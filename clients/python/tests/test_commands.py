@@ -117,6 +117,14 @@ class LoadsAndPlans(FolderCase):
         low = [it["name"] for it in rows if float(it["held %"]) < 70]
         self.assertEqual(len(low), out.count("warning:"))
 
+    def test_a_gap_is_between_boxes_side_by_side(self):
+        table = self.file("c.csv", "name,length,width,height,quantity\nA,5,5,5,4\n")
+        status, out, _ = run_main("load", table, "--space", "11x5x10", "--gap", 1, "--out", self.path("o.csv"))
+        self.assertEqual(status, 0)
+        self.assertIn("1 container, and no fewer", out)
+        rows = list(csv.DictReader(io.StringIO((self.folder / "o.csv").read_text())))
+        self.assertEqual({it["held %"] for it in rows}, {"100"})
+
     def test_length_of_a_load_and_a_layer(self):
         table = self.file("c.csv", self.CARTONS)
         status, out, _ = run_main("load", table, "--space", "1360x80x60", "--length", "--seconds", 3)

@@ -54,6 +54,16 @@ class RaisesByStatus(FolderCase):
             packing.solve("bins", (10, 10), [(1, 1)], seconds=0.4)
         self.assertEqual(held.exception.status, 7)
 
+    def test_a_run_out_of_memory_leaves_what_was_found(self):
+        body = f'case "$*" in *"--budget 1000 "*) exit 6;; esac; exec "{find_program()}" "$@"'
+        boxes = [(30 + at * 7 % 40, 25 + at * 11 % 45) for at in range(24)]
+        with self.fake_program(body):
+            answer = packing.solve("strip", (100,), boxes, seconds=0.8)
+        self.assertTrue(answer.verdict.startswith("verified "))
+        with self.fake_program("echo 'pack: out of memory' >&2; exit 6"):
+            with self.assertRaises(packing.OutOfMemory):
+                packing.solve("strip", (100,), boxes, seconds=0.8)
+
     def test_missing_program(self):
         for path in ("/nowhere/pack", "/bin/true"):
             with mock.patch.dict(os.environ, {"PACK": path}), self.assertRaises(packing.ProgramMissing):
