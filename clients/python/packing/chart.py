@@ -1,4 +1,4 @@
-"""How many instances are solved after so many seconds, as an SVG with a step line for each job."""
+"""The number of instances solved over time, as an SVG with a step line for each job."""
 from math import ceil, floor, log10
 
 from . import paper
@@ -29,7 +29,7 @@ def solved_chart(series, all_counts, title):
                              stroke_width=0.8, stroke_dasharray=dashes, class_="solved", data_job=job))
         ends.append((up(len(some)), f"{job}: {len(some)} of {all_counts[job]}", colour))
     parts.append(end_labels(ends))
-    head = paper.heading(title, "instances solved, of each job, after so many processor seconds", "")
+    head = paper.heading(title, "number of solved instances of each job, by processor seconds", "")
     return paper.page(head + "".join(parts), title)
 
 

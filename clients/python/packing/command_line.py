@@ -112,12 +112,12 @@ def add_bench(commands):
     """The command `bench`."""
     it = commands.add_parser("bench", help="run a folder of instances", description=bench.__doc__)
     it.add_argument("instances", nargs="+", help="folders, instances, or tables (.csv) that bench wrote")
-    it.add_argument("--job", choices=JOBS, help="the job of all instances, where no name tells it")
+    it.add_argument("--job", choices=JOBS, help="the job of all instances; by default that of each name")
     it.add_argument("--match", default="", help="only instances with this text in their name")
     it.add_argument("--jobs", type=int, default=1, help="instances at the same time (default %(default)s)")
     it.add_argument("--once", action="store_true", help="one run each with --budget, not rising ones")
     it.add_argument("--out", metavar="FILE", help="the table as CSV")
-    it.add_argument("--svg", metavar="FILE", help="how many are solved after so many seconds")
+    it.add_argument("--svg", metavar="FILE", help="how many are solved over time")
     add_effort(it, 10.0)
     it.set_defaults(run=bench)
 

@@ -170,7 +170,7 @@ def draw_axes(panel, area, width, height, scales):
 
 
 def ticks(length, most):
-    """Round values from 0 to a length, at most about so many."""
+    """Round values from 0 to a length, at most about `most` of them."""
     step = paper.round_length(float(length) / max(1.0, most)) if length else 1.0
     while float(length) / step > most:
         step *= 2

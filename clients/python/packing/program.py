@@ -108,7 +108,7 @@ def wait_for(process, limit):
 
 
 def memory_of(pid):
-    """The highest resident memory of a process so far in MiB; 0 where the system doesn't tell.
+    """The highest resident memory of a process so far in MiB; 0 if /proc is missing.
 
     The usage that `wait4` gives has the memory of this process in it, as it was when the child began.
     """

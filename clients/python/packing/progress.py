@@ -1,4 +1,4 @@
-"""One line on standard error that tells how far a search has come; nothing where it's no terminal."""
+"""Progress of a search: one line on standard error if it is a terminal, else nothing."""
 import sys
 
 

@@ -3,7 +3,7 @@
 Known are the instance texts of `pack`; JSON with a list of items (`Items` with `Length`, `Height`,
 `Demand`, `Value`, and `Objects` with `Length`, `Height`, or their common other names); and columns of
 numbers: the count of items, the sides of the container (one of a strip), then a line for each item.
-Words behind the numbers of a line are skipped. A file may hold several problems, if it begins with
+Words after the numbers of a line are skipped. A file may hold several problems, if it begins with
 their count.
 
 Columns of an item: `w h`; `w h value`; `number w h`; `w h most value`; `number w h demand`;
@@ -22,7 +22,7 @@ from .question import JOBS
 
 @dataclass(frozen=True)
 class Problem:
-    """One instance with its name, and its job where name or form tell it."""
+    """One instance with its name, and the job of its name or form, if either has one."""
 
     name: str
     job: Optional[str]
@@ -59,7 +59,7 @@ class Draft:
 
 
 def read_problems(text, name, job=None):
-    """The problems in the text of a file. `job` overrides what name and form tell."""
+    """The problems in the text of a file. `job` overrides the job of name and form."""
     if first_word(text) == "format":
         return [Problem(name, job or job_of_name(name), parse_instance(text))]
     if text.lstrip("\ufeff \r\n\t").startswith("{"):
@@ -152,7 +152,7 @@ def number_lines(text):
 
 
 def drafts_of_columns(lines, name):
-    """One draft, or several behind their count."""
+    """One draft, or several after their count."""
     whole = one_draft(lines, 0, name)
     if whole and whole[1] == len(lines):
         return [whole[0]]

@@ -17,7 +17,7 @@ class Report:
     """An answer with the words and pictures of a trade. Placements are in the order of its sides.
 
     `draw` makes the pages of the report in a unit. `columns` and `cells` are further columns of the
-    table. With `is_named` sides are named where sizes are told, with `is_single` there is one container.
+    table. With `is_named` sizes are written with the names of the sides, with `is_single` there is one container.
     """
 
     answer: Answer

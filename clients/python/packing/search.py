@@ -110,7 +110,7 @@ class Search:
         self.fault = fault
 
     def report(self, what):
-        """Tells the progress on a terminal."""
+        """Shows the bounds, what runs and the time, if standard error is a terminal."""
         bounds = "nothing yet"
         if self.found and self.found.placed:
             bounds = f"placed {self.found.placed.number}, refuted {self.found.refuted.number}"
