@@ -119,7 +119,7 @@ def draw_tile(tile, area, height, scales, key):
                    stroke_dasharray="1.2 0.8" if tile.is_faded else None)
     lines = [it for it in (tile.name, tile.size_text, tile.note) if it]
     label = None if tile.is_silent else fit_label(lines, width, high)
-    if label is None and not (tile.is_faded or tile.is_silent):
+    if label is None and not tile.is_silent:
         label = number_label(tile, width, high, key)
     drawn = paper.draw_label(label, left + width / 2, top + high / 2) if label else ""
     hint = element("title", paper.escape(paper.legal(" ".join(lines))))

@@ -42,8 +42,9 @@ class Report:
     def size(self, unit):
         """The sides of a container in words."""
         if self.is_named:
-            named = (f"{side} {shown(it)}" for side, it in zip(self.sides, self.container))
-            return ", ".join(named) + (f" ({unit})" if unit else "")
+            units = (unit, "" if self.sides[0] == "time" else unit)
+            return ", ".join(f"{side} {shown(it)} {one}".rstrip()
+                             for side, it, one in zip(self.sides, self.container, units))
         return " × ".join(map(shown, self.container)) + f" {unit}".rstrip()
 
     def use(self, placements):

@@ -121,7 +121,7 @@ def load(options):
                    turnable=options.turn)
     answer = answer_question(question, options)
     if dims == 3:
-        answer = let_down(answer, order.index(2), max(0.7, options.seconds - answer.seconds))
+        answer = let_down(answer, order.index(2), max(0.4, options.seconds - answer.seconds))
     answer = with_notes(permute(answer, tuple(order.index(i) for i in range(dims))), notes)
     if job == "strip" and answer.level is not None:
         space = (answer.level, *space[1:])
