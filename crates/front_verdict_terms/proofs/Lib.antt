@@ -1,3 +1,4 @@
+pub mod Points
 pub mod Verified
 pub mod Told
 pub mod Rows

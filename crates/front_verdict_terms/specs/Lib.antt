@@ -1,3 +1,4 @@
 pub mod Verdicts
 pub mod Fed
+pub mod Points
 pub mod Laws

@@ -3,7 +3,8 @@ ghost use Rattle.front_verdict_terms.specs.Laws.{VerifiedFrontsAreTrue};
 ghost use Rattle.front_verdict_terms.specs.Fed.{FrontsAreFed};
 
 /// Whatever text is verified, what it claims is true of the instance in it, which is within the
-/// limits of instances and has two dimensions.
+/// limits of instances and has two dimensions: the points that its lines `point A B` name are as
+/// many as it says, and are the front of the instance, or all of it up to the last of them.
 pub fn verified_fronts_are_true()
     ensures { VerifiedFrontsAreTrue }
 {}
