@@ -2,5 +2,6 @@ pub mod Passed
 pub mod Limits
 pub mod Told
 pub mod Shown
+pub mod FormTold
 pub mod Rows
 pub mod InstanceLines

@@ -7,5 +7,7 @@ mod laws;
 mod reason;
 
 pub use kind::DocumentKind;
-pub use laws::{explained_documents_are_fed, explained_documents_are_true};
+pub use laws::{
+    explained_documents_are_fed, explained_documents_are_true, explained_documents_have_form,
+};
 pub use reason::ExplainedReason;

@@ -48,7 +48,7 @@ pub record IsTaken (stage : DocumentStage) (n : ℕ) (line : List ℕ) (lines : 
   pub step : front_stage_after stage (line_of line) ≡ Ok next
   pub rest : read_front_lines next (n + 1) lines ≡ Ok r
 
-taken : (stage : DocumentStage) (n : ℕ) (line : List ℕ) (lines : List (List ℕ)) (r : FrontRead)
+pub taken : (stage : DocumentStage) (n : ℕ) (line : List ℕ) (lines : List (List ℕ)) (r : FrontRead)
     → read_front_lines stage n (line ∷ lines) ≡ Ok r → IsTaken stage n line lines r
 taken stage n line lines r e = go (front_stage_after stage (line_of line)) refl e
   where
