@@ -3,5 +3,6 @@ pub mod Limits
 pub mod Told
 pub mod Shown
 pub mod FormTold
+pub mod KindOf
 pub mod Rows
 pub mod InstanceLines

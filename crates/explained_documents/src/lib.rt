@@ -9,5 +9,6 @@ mod reason;
 pub use kind::DocumentKind;
 pub use laws::{
     explained_documents_are_fed, explained_documents_are_true, explained_documents_have_form,
+    reduced_documents_are_of_their_kind,
 };
 pub use reason::ExplainedReason;
