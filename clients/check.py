@@ -18,7 +18,7 @@ from operator import and_, or_
 
 LIMITS = {"check": 1_099_511_627_776, "audit": 16_777_216}
 MAX_BOXES, MAX_SIDE, MAX_KERF, MAX_VALUE = 128, 1_000_000, 100_000, 1_000_000_000
-MAX_HEIGHT, MAX_PARAMETER = MAX_BOXES * MAX_SIDE, 4_294_967_295
+MAX_HEIGHT, MAX_LEVEL, MAX_PARAMETER = MAX_BOXES * MAX_SIDE, MAX_BOXES * MAX_VALUE + 1, 4_294_967_295
 
 
 class Refused(Exception):
@@ -44,11 +44,11 @@ class Line:
         if not test:
             raise Refused(self.number, reason)
 
-    def numbers(self, words, low=None, high=MAX_PARAMETER):
-        """The values of words that must all be numbers (`form`), and from `low` to `high` if `low` is given (`range`)."""
+    def numbers(self, words, low=0, high=MAX_PARAMETER):
+        """The values of words: `form` unless each is a number, `range` unless each is from `low` to `high`."""
         self.need(all(map(is_number, words)), "form")
         values = [int(word) for word in words]
-        self.need(low is None or all(low <= value <= high for value in values), "range")
+        self.need(all(low <= value <= high for value in values), "range")
         return values
 
 
@@ -98,7 +98,10 @@ class Lines:
         return line
 
     def finish(self, is_after=lambda words: False):
-        """Reads the line `end`, and behind it blank lines alone. Another line is `after` if its words belong to what is whole."""
+        """Reads the line `end`, and only blank lines behind it.
+
+        `is_after` tests whether the words of another line belong to the tree that is whole.
+        """
         line = self.wanted()
         line.need(not is_after(line.words), "after")
         line.need(line.words == ["end"], "form")
@@ -201,7 +204,7 @@ def read_claim(result, counts):
     """The word of the claim and its numbers, of which there must be as many as `counts` says of the word."""
     word, *numbers = result.words[1:] or [None]
     result.need(counts.get(word) == len(numbers), "form")
-    return word, result.numbers(numbers)
+    return word, result.numbers(numbers, high=MAX_LEVEL)
 
 
 def spell(heading, word, numbers):
@@ -231,13 +234,13 @@ def are_apart(instance, u, at_u, v, at_v):
 
 
 def read_places(lines, instance, container, bins=None):
-    """Reads a place for each box, in one container or with a bin number from 1 to `bins`, and tests them at the last one."""
+    """Reads a place for each box and tests them at the last one. With `bins` each has a bin number up to that."""
     groups = [[] for _ in range(bins or 1)]
     for box in range(len(instance.boxes)):
         line = lines.wanted()
         line.need(line.words[0] == "place", "form")
         line.need(len(line.words) == 1 + len(container) + bool(bins), "form")
-        numbers = line.numbers(line.words[1:], 0)
+        numbers = line.numbers(line.words[1:])
         number = numbers.pop(0) if bins else 1
         line.need(1 <= number <= len(groups), "range")
         groups[number - 1].append((box, numbers))
@@ -249,7 +252,7 @@ def read_taken(lines, instance, worth):
     taken = []
     while (line := lines.wanted()).words != ["proof"]:
         line.need(line.words[0] == "take" and len(line.words) == 2 + len(instance.container), "form")
-        number, *at = line.numbers(line.words[1:], 0)
+        number, *at = line.numbers(line.words[1:])
         line.need((taken[-1][0] + 1 if taken else 0) < number <= len(instance.boxes), "range")
         taken.append((number - 1, at))
     test_places(line, instance, instance.container, [taken])
@@ -363,7 +366,7 @@ def test_long_side(line, problem, box, i, dims):
 
 
 def edge_of(line, problem, i, u, v):
-    """The dimension and the boxes of a line, counted from 0; `range` unless they exist and the first box is the lower one."""
+    """The dimension and the boxes of a line, counted from 0: `range` unless they exist and `u` is the lower one."""
     line.need(1 <= i <= len(problem.wholes) and 1 <= u < v <= problem.count, "range")
     return i - 1, u - 1, v - 1
 
@@ -371,7 +374,9 @@ def edge_of(line, problem, i, u, v):
 # Relations
 
 OVERLAP, BEFORE, AFTER = 1, 2, 4
+ANY = OVERLAP | BEFORE | AFTER
 MIRROR = {OVERLAP: OVERLAP, BEFORE: AFTER, AFTER: BEFORE}
+PARTS = [[r for r in MIRROR if r & relations] for relations in range(ANY + 1)]  # the relations of each set
 JOINED, APART = BEFORE | AFTER, OVERLAP
 SURELY_BEFORE, SURELY_AFTER = OVERLAP | AFTER, OVERLAP | BEFORE
 SPLITS = {"a": (APART, JOINED), "d": (AFTER, BEFORE)}
@@ -407,23 +412,21 @@ class Relations:
 
     def exclude(self, i, u, others, relations):
         """Excludes the relations between box `u` and each box of the row `others` but itself."""
-        for r in MIRROR:
-            new = others & ~self.out[r][i][u] & ~(1 << u) if r & relations else 0
-            if new:
+        others &= ~(1 << u)
+        for r in PARTS[relations]:
+            if new := others & ~self.out[r][i][u]:
                 self.out[r][i][u] |= new
                 self.changed.add((i, u))
-            for v in bits(new):
-                self.out[MIRROR[r]][i][v] |= 1 << u
-                self.changed.add((i, v))
-        if self.row(i, u, OVERLAP | BEFORE | AFTER):
-            self.has_conflict = True
+                for v in bits(new):
+                    self.out[MIRROR[r]][i][v] |= 1 << u
+                    self.changed.add((i, v))
+                self.has_conflict = self.has_conflict or self.row(i, u, ANY) != 0
 
     def row(self, i, u, relations):
         """The boxes to which `u` has none of these relations."""
         row = -1
-        for r in MIRROR:
-            if r & relations:
-                row &= self.out[r][i][u]
+        for r in PARTS[relations]:
+            row &= self.out[r][i][u]
         return row
 
     def is_out(self, i, u, v, relations):
@@ -445,9 +448,9 @@ class Relations:
 class Closure(Relations):
     """The closure of exclusions under the seven rules, up to the first conflict.
 
-    Rows that grew are taken from a worklist. Each rule but PAIR and CHAIN reads the row of one box and
-    at most one other, so it is applied to whole rows, for a box in each of its parts. CHAIN waits
-    until no other rule adds anything: then the pairs that are surely before are a partial order.
+    PAIR depends on sides alone and comes first. The rows that grew are a worklist: for each, every rule
+    but CHAIN is applied with its box in each part whose premises stand in that row. CHAIN waits until
+    no other rule adds anything: then the pairs that are surely before are a partial order.
     """
 
     def __init__(self, problem, facts):
@@ -497,7 +500,11 @@ class Closure(Relations):
             self.exclude(i, u, apart & self.wider_than(i, self.problem.wholes[i] - widths[u] - widths[x]), JOINED)
 
     def apply_compose(self, i, v):
-        """What follows over `v`: if `u` isn't before `v`, nor `v` before `x`, and two of them are apart, `u` isn't before `x`."""
+        """COMPOSE over `v`, for whole rows of `x`.
+
+        `u` isn't before `x` if it isn't before `v`, nor `v` before `x`, and `u`, `v` or `v`, `x` are apart.
+        `u` and `x` are apart if `x` is surely before `v`, and `v` before `u`.
+        """
         after, not_before = self.row(i, v, SURELY_BEFORE), self.row(i, v, BEFORE)
         before = self.row(i, v, SURELY_AFTER)
         for u in bits(self.row(i, v, AFTER)):
@@ -510,11 +517,11 @@ class Closure(Relations):
     def apply_cycle(self, i, a):
         for c in bits(self.row(i, a, APART)):
             both = self.row(i, a, JOINED) & self.row(i, c, JOINED)
-            for b in bits(both & (both - 1) and both):
+            for b in bits(both):
                 self.exclude(i, b, both, JOINED)
 
     def apply_order(self, i, u):
-        """If `a` is surely before `b` and `c` before `d`, and `a` isn't before `d`, `c` is before `b`: with `u` as `a`, and as `c`."""
+        """ORDER for whole rows of `b` and `d`, with `u` as its box `a` and then as its box `c`."""
         before, not_before = self.row(i, u, SURELY_BEFORE), self.row(i, u, BEFORE)
         for v in self.boxes:
             if self.row(i, v, SURELY_BEFORE) & not_before:
@@ -541,7 +548,7 @@ class Closure(Relations):
 
 
 def symmetry_facts(instance):
-    """The exclusions from which a reduced document begins: of each pair the box of the lower number isn't after the other."""
+    """The exclusions from which reduced trees begin: each is of AFTER, with the lower box first."""
     boxes, working = instance.boxes, instance.problem()
     twins = [pair for pair in combinations(range(len(boxes)), 2) if boxes[pair[0]] == boxes[pair[1]]]
     by_rank = sorted(range(len(boxes)), key=lambda box: -prod(widths[box] for widths in working.widths))
@@ -601,7 +608,7 @@ def read_bin_tree(lines, problem, goal):
 
 
 def read_value_tree(lines, problem, values, goal):
-    """Reads a tree that refutes that a set of boxes worth `goal` fits. A node is the set that is in and the set that is out."""
+    """Reads a tree that refutes a value. A node is the set of boxes that are in and the set of those that are out."""
     open_nodes = [(frozenset(), frozenset())]
     while open_nodes:
         inside, outside = open_nodes.pop()
@@ -621,17 +628,16 @@ def read_value_tree(lines, problem, values, goal):
 
 # Explained trees
 
+COMPOSITIONS = {  # the relations that `u`, `x` may have, by that of `u`, `v` and that of `v`, `x`
+    BEFORE: {BEFORE: BEFORE, OVERLAP: BEFORE | OVERLAP, AFTER: ANY},
+    OVERLAP: {BEFORE: BEFORE | OVERLAP, OVERLAP: ANY, AFTER: OVERLAP | AFTER},
+    AFTER: {BEFORE: ANY, OVERLAP: OVERLAP | AFTER, AFTER: AFTER},
+}
+
 
 def composed(one, two):
-    """The relations that `u`, `x` may have where `u`, `v` and `v`, `x` have some relation of these masks."""
-    table = {(BEFORE, BEFORE): BEFORE, (AFTER, AFTER): AFTER}
-    table.update({(OVERLAP, r): OVERLAP | r for r in (BEFORE, AFTER)})
-    table.update({(r, OVERLAP): OVERLAP | r for r in (BEFORE, AFTER)})
-    mask = 0
-    for r in MIRROR:
-        for s in MIRROR:
-            mask |= table.get((r, s), OVERLAP | BEFORE | AFTER) if r & one and s & two else 0
-    return mask
+    """The relations that `u`, `x` may have, by the masks of `u`, `v` and of `v`, `x`."""
+    return reduce(or_, (COMPOSITIONS[r][s] for r in MIRROR if r & one for s in MIRROR if s & two), 0)
 
 
 def conclusion(node, kind, i, boxes):
@@ -661,7 +667,7 @@ def take_step(line, node, kind, i, boxes):
     """Adds what a step concludes to the node, or refuses the line if it changes no mask."""
     (u, v), holds, left = conclusion(node, kind, i, boxes)
     line.need(holds and node.mask(i, u, v) & ~left, "step")
-    node.exclude(i, u, 1 << v, ~left)
+    node.exclude(i, u, 1 << v, ANY & ~left)
 
 
 def take_chain(lines, node, i, lengths):
@@ -729,12 +735,12 @@ def read_front(lines):
     for number in range(count):
         width, height = read_point(lines, instance, width, height, number == 0)
     last = instance.container[0] if claim == "front" else width
-    is_closed = height == 1 or last == 0
-    if not is_closed:
-        line = lines.wanted()
-        read_corner(lines, line, instance, last, last, height - 1)
-    lines.finish(lambda words: not is_closed and token_of(words, TOKENS, 2) is not None)
-    return spell("front", *(("partial", [count]) if claim == "partial" else (str(count), ())))
+    if height == 1 or last == 0:
+        lines.finish()
+    else:
+        read_corner(lines, lines.wanted(), instance, last, last, height - 1)
+        lines.finish(is_token(TOKENS, 2))
+    return f"front partial {count}" if claim == "partial" else f"front {count}"
 
 
 def read_point(lines, instance, width, height, is_first):
@@ -746,7 +752,7 @@ def read_point(lines, instance, width, height, is_first):
     if not (is_first and line.words[0] == "point"):
         corner = read_corner(lines, line, instance, max(width, 1), instance.container[0] - 1, height - 1)
         line = lines.wanted()
-        line.need(token_of(line.words, TOKENS, 2) is None, "after")
+        line.need(not is_token(TOKENS, 2)(line.words), "after")
     line.need(line.words[0] == "point" and len(line.words) == 3, "form")
     point = line.numbers(line.words[1:])
     line.need(point[0] == corner + 1 and 1 <= point[1] < height, "range")
@@ -755,7 +761,7 @@ def read_point(lines, instance, width, height, is_first):
 
 
 def read_corner(lines, line, instance, low, high, height):
-    """Reads the tree behind a corner, whose width is from `low` to `high` and whose height is given. Returns the width."""
+    """Reads the tree of the corner on a line, whose width must be from `low` to `high`. Returns the width."""
     line.need(line.words[0] == "corner" and len(line.words) == 3, "form")
     sides = line.numbers(line.words[1:])
     line.need(low <= sides[0] <= high and sides[1] == height, "range")
@@ -784,10 +790,12 @@ def read_fit(lines, facts_of=no_facts):
 
 
 def read_levels(result, highest):
-    """The claim of a strip or of bins, its numbers, and the refuted and the placed level (`None` where it is `none`)."""
+    """The claim about a strip or bins, its numbers, and the refuted and the placed level unless it is `none`."""
     claim, numbers = read_claim(result, {"least": 1, "between": 2, "none": 0})
-    refuted, placed = {"least": lambda h: (h - 1, h), "between": lambda a, b: (a, b), "none": lambda: (None, 1)}[claim](*numbers)
-    result.need(claim == "none" or 0 <= refuted < placed <= highest, "range")
+    if claim == "none":
+        return claim, numbers, None, None
+    refuted, placed = numbers if claim == "between" else (numbers[0] - 1, numbers[0])
+    result.need(0 <= refuted < placed <= highest, "range")
     return claim, numbers, refuted, placed
 
 
@@ -830,7 +838,7 @@ def read_knapsack(lines):
     instance, result = read_instance(lines)
     claim, numbers = read_claim(result, {"greatest": 1, "between": 2})
     placed, refuted = numbers if claim == "between" else (numbers[0], numbers[0] + 1)
-    result.need(placed < refuted and max(numbers) <= MAX_BOXES * MAX_VALUE + 1, "range")
+    result.need(placed < refuted, "range")
     read_taken(lines, instance, placed)
     read_value_tree(lines, instance.problem(), instance.values, refuted)
     lines.finish(is_token(TOKENS, len(instance.container)))
@@ -850,7 +858,12 @@ def read_reduced(read):
 
 
 DOCUMENTS = {
-    "check": {"answer fit": read_fit, "answer strip": read_strip, "answer bins": read_bins, "answer knapsack": read_knapsack},
+    "check": {
+        "answer fit": read_fit,
+        "answer strip": read_strip,
+        "answer bins": read_bins,
+        "answer knapsack": read_knapsack,
+    },
     "audit": {
         "reduced fit": read_reduced(read_fit),
         "reduced strip": read_reduced(read_strip),
@@ -887,6 +900,8 @@ def main(words):
     except MemoryError:
         raise Stopped("pack: out of memory", 6)
     try:
+        if sys.stdout is None:
+            raise OSError("standard output is closed")
         print(line, flush=True)
     except OSError:
         sys.stdout = None  # so that its buffer isn't written again at the end

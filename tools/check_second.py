@@ -29,6 +29,7 @@ def load_second():
 BOARD = "answer fit\nformat 1\ncontainer 10 10\nbox 6 6\n"
 TWO = "explained fit\nformat 1\ncontainer 10 10\nbox 6 6\nbox 6 6\nresult no\n"
 CUBES = "explained fit\nformat 1\ncontainer 10 10 10\nbox 6 6 6\nbox 6 6 6\nresult no\n"
+ROWS = "answer fit\nformat 1\ncontainer 10 100\n"
 NAMED = {
     "a place below 0": ("check", BOARD + "result yes\nplace -6 0\nend\n", "refused 6 form"),
     "a second container behind the places": (
@@ -87,6 +88,37 @@ NAMED = {
         "reduced fit\nformat 1\ncontainer 10 10\n" + "box 3 6\n" * 4 + "result no\nx\nend\n",
         "verified reduced fit no",
     ),
+    "a fact of two boxes without a twin": (
+        "audit",
+        "reduced fit\nformat 1\ncontainer 10 10\nbox 3 3\nbox 3 3\nbox 1 2\nbox 2 1\nresult no\na 1 3 4\nd 1 3 4\n",
+        "refused 10 choice",
+    ),
+    "a split that CHAIN rules out": (
+        "check",
+        ROWS + "box 3 1\n" * 3 + "box 2 1\nresult no\na 1 1 2\nd 1 1 2\na 1 3 4\nd 1 3 4\na 1 2 3\nd 1 2 3\n",
+        "refused 14 choice",
+    ),
+    "a split that CYCLE rules out": (
+        "check",
+        ROWS + "box 3 1\nbox 8 1\nbox 3 1\nbox 2 1\nbox 6 1\nbox 6 1\nresult no\n"
+        "a 1 1 3\na 1 4 5\na 1 1 5\na 1 4 6\na 1 3 6\na 1 2 4\n",
+        "refused 16 choice",
+    ),
+    "a split that ORDER rules out": (
+        "check",
+        ROWS + "box 6 1\nbox 3 1\nbox 3 1\nbox 5 1\nresult no\na 1 1 2\nd 1 1 2\na 1 3 4\nd 1 3 4\na 1 2 3\n",
+        "refused 13 choice",
+    ),
+    "half a side under cut": (
+        "check",
+        "answer fit\nformat 1\ncontainer 10 10\nbox 6 10\nbox 6 10\nresult no\nv cut 5 id\nend\n",
+        "verified fit no",
+    ),
+    "half a side under count": (
+        "check",
+        "answer fit\nformat 1\ncontainer 10 10\nbox 5 10\nbox 5 10\nresult no\nv count 2 id\nend\n",
+        "refused 7 excess",
+    ),
     "a front without its closing corner": (
         "audit",
         "front\nformat 1\ncontainer 4 4\nbox 1 2\nresult front 1\npoint 1 2\nplace 0 0\nend\n",
@@ -127,7 +159,8 @@ def fresh_documents(program, rng, rounds):
         for dims in (2, 3, 4):
             text = make_instance(rng, dims)
             for job in jobs if dims == 2 else jobs[:-1]:
-                words = [*job, "--budget", rng.choice(["5", "60", "400"]), "--scales", rng.choice(["yes", "no", "no"])]
+                words = [*job, "--budget", rng.choice(["5", "60", "400"])]
+                words += ["--scales", rng.choice(["yes", "no", "no"])]
                 name = f"{'-'.join(job)}-{dims}-{number}"
                 yield name, run_program(program, words, text.encode())[1]
 
@@ -141,26 +174,28 @@ def explained(program, documents):
 
 # Forged copies
 
-HEADINGS = ["answer fit", "answer strip", "answer bins", "answer knapsack", "reduced fit", "reduced strip", "reduced bins"]
-HEADINGS += ["explained fit", "explained strip", "front", "front fit", "answer", "answer front", "answer pile"]
-RESULTS = ["yes", "no", "undecided", "none", "least 1", "least 2", "least 7", "between 0 1", "between 1 3", "between 3 3"]
-RESULTS += ["greatest 0", "greatest 3", "greatest 128000000001", "greatest 128000000002", "between 0 128000000002"]
-RESULTS += ["least 0", "least 128000000", "least 128000001", "front 0", "front 1", "front 2", "front 1000001", "partial 0"]
-RESULTS += ["partial 1", "maybe", "", "no no", "least", "between 1", "front 4294967296", "front 000001", "least 0002"]
-NUMBERS = ["0", "1", "2", "128", "129", "1000000", "1000001", "128000001", "4294967295", "4294967296", "18446744073709551616"]
-NUMBERS += ["9" * 20, "9" * 21, "0" * 19 + "1", "0" * 20 + "1", "-1", "+1", "1.0", "1e1", "0x1", "", "x"]
-WORDS = ["a", "d", "x", "t", "v", "b", "c", "s", "w", "g", "id", "step", "cut", "count", "pair", "apart", "triple", "compose"]
-WORDS += ["cycle", "order", "chain", "on", "end", "proof", "place", "take", "corner", "point", "result", "format", "container"]
-WORDS += ["kerf", "box", "value", "times", "answer", "reduced", "explained", "front", "crate", "END", "\x7f", "\xff", "\x0b"]
+HEADINGS = """answer fit|answer strip|answer bins|answer knapsack|reduced fit|reduced strip|reduced bins|explained fit
+explained strip|front|front fit|answer|answer front|answer pile""".replace("\n", "|").split("|")
+RESULTS = """yes|no|undecided|none|maybe||no no|least|least 0|least 1|least 2|least 0002|least 7|least 128000000
+least 128000001|between 1|between 0 1|between 1 3|between 3 3|between 0 128000000001|between 0 128000000002
+greatest 0|greatest 3|greatest 128000000001|greatest 128000000002|front 0|front 1|front 2|front 000001
+front 1000001|front 4294967296|partial 0|partial 1|partial 2""".replace("\n", "|").split("|")
+NUMBERS = "0 1 2 128 129 1000000 1000001 128000001 4294967295 4294967296 -1 +1 1.0 1e1 0x1 x".split()
+NUMBERS += ["18446744073709551616", "9" * 20, "9" * 21, "0" * 19 + "1", "0" * 20 + "1", ""]
+WORDS = """a d x t v b c s w g id step cut count pair apart triple compose cycle order chain on end proof place take
+corner point result format container kerf box value times answer reduced explained front crate END""".split()
+WORDS += ["\x7f", "\xff", "\x0b"]
+FUNCTIONS = "id|id|id|id|step 0|step 1|step 2|step 16|step 17|cut 0|cut 2|cut 3|count 0|count 2|count 3".split("|")
+ODD = ["\r", "\r\r", "\t", "  ", "#", " # a comment", "#\xff", "\n", "\r\n", *"\0\x1f\x7f\x80\xff\x0c\x1c"]
+BEHIND = ["end", "", "#", "# x", "x", "x 1 1 2", "\xff", "\t ", "\r", "\r\r", "place 0 0", "answer fit", "proof"]
+ENDINGS = [b"\r\n", b"\r\r\n", b"\r", b" \r\n", b"\n\n", b" # c\r\n", b"#\n"]
+ADDED = [" times 2", " times 1", " value 3 times 2", " times 128", " value 0", " times 2 value 3"]
 # How many numbers a token has, and the tokens of each heading's trees.
 COUNTS = {"a": 3, "d": 3, "x": 0, "t": 2, "b": 1, "c": 1, "s": 1, "w": 0, "on": 1, "pair": 3, "apart": 3, "triple": 4}
 COUNTS.update({"compose": 4, "cycle": 5, "order": 5, "chain": 3})
 INNER = ["a", "d", "x", "x", "t", "v"]
 KINDS = {"answer bins": [*INNER, "b", "s", "g"], "answer knapsack": [*INNER, "c", "s", "w"]}
-KINDS["explained fit"] = ["pair", "apart", "triple", "compose", "cycle", "order", "chain", "on", "a", "d", "x", "t", "v"]
-FUNCTIONS = ["id", "id", "id", "step 1", "step 2", "step 3", "step 16", "step 17", "step 0", "cut 2", "cut 3", "cut 0", "count 2", "count 3"]
-
-
+KINDS["explained fit"] = "pair apart triple compose cycle order chain on a d x t v".split()
 TREE_LINES = {"a ", "d ", "x", "x ", "t ", "v ", "b ", "c ", "s", "s ", "w", "g "}
 
 
@@ -170,8 +205,8 @@ class Forger:
     def __init__(self, rng, documents):
         self.rng, self.documents = rng, [document.decode("latin-1").split("\n")[:-1] for document in documents]
         self.with_trees = [lines for lines in self.documents if sum(line[:2] in TREE_LINES for line in lines) >= 4]
-        self.changes = [self.change_number] * 9 + [self.change_side, self.replace_by_token] * 6 + [self.insert_token] * 3
-        self.changes += [self.change_line] * 3
+        self.changes = [self.change_number] * 9 + [self.change_side, self.replace_by_token] * 6
+        self.changes += [self.insert_token, self.change_line] * 3
         self.changes += [self.change_word, self.move_word, self.move_line, self.borrow_line, self.change_heading]
         self.changes += [self.change_result, self.change_text, self.change_dims, self.add_odd_bytes, self.add_behind]
 
@@ -202,17 +237,17 @@ class Forger:
             k = self.rng.choice(places)
             value = int(words[k])
             near = [value + 1, value - 1, value * 2, value + self.rng.randint(-5, 5), self.rng.randint(0, 9)]
-            words[k] = self.rng.choice([*map(str, near), *map(str, near), "0" * self.rng.randint(1, 20) + words[k], *NUMBERS[:8]])
-            if self.rng.random() < 0.15:
-                words[k] = self.rng.choice(NUMBERS)
+            far = [*NUMBERS, "0" * self.rng.randint(1, 20) + words[k]]
+            words[k] = str(self.rng.choice(near if self.rng.random() < 0.6 else far))
         self.put(lines, at, words)
 
     def change_side(self, lines):
         """Makes a side of the container or of a box 1 longer or shorter, so that the places or the tree may fail."""
         at = [k for k, line in enumerate(lines) if line.startswith(("container", "box", "corner", "point"))]
         if at:
-            k = self.rng.choice(at)
-            lines[k] = re.sub(r"\d+", lambda it: str(int(it[0]) + self.rng.choice([-1, 0, 0, 1])), lines[k], count=self.rng.randint(1, 3))
+            k, count = self.rng.choice(at), self.rng.randint(1, 3)
+            nearby = lambda it: str(int(it[0]) + self.rng.choice([-1, 0, 0, 1]))
+            lines[k] = re.sub(r"\d+", nearby, lines[k], count=count)
 
     def change_word(self, lines):
         at, words = self.line(lines)
@@ -245,7 +280,8 @@ class Forger:
         """Puts a line of another document, or all lines from there on, in a place of its own."""
         other = self.rng.choice(self.documents)
         start, at = self.at(other), self.at(lines)
-        lines[at : at + self.rng.randrange(2)] = other[start:] if self.rng.random() < 0.3 else other[start : start + 1]
+        borrowed = other[start:] if self.rng.random() < 0.3 else other[start : start + 1]
+        lines[at : at + self.rng.randrange(2)] = borrowed
 
     def change_heading(self, lines):
         lines[:1] = [self.rng.choice(HEADINGS)]
@@ -258,9 +294,11 @@ class Forger:
         boxes, dims, heading = sum(line.startswith("box") for line in lines), 2, lines[0] if lines else ""
         for line in lines:
             dims = max(len(line.split()) - 1, 1) if line.startswith("container") else dims
-        kind = self.rng.choice(KINDS.get(heading, INNER) if self.rng.random() < 0.9 else [*COUNTS, "g", "end", "proof", "place", "take"])
+        others = [*COUNTS, "g", "end", "proof", "place", "take"]
+        kind = self.rng.choice(KINDS.get(heading, INNER) if self.rng.random() < 0.9 else others)
         if kind in ("v", "g"):
-            return " ".join([kind, *(self.rng.choice(FUNCTIONS) for _ in range(dims + self.rng.choice([0] * 8 + [1, -1])))])
+            count = dims + self.rng.choice([0] * 8 + [1, -1])
+            return " ".join([kind, *(self.rng.choice(FUNCTIONS) for _ in range(count))])
         if kind in ("place", "take"):
             return " ".join([kind, *(str(self.rng.randint(0, 6)) for _ in range(dims + (kind == "take")))])
         count = 3 if kind == "x" and heading == "explained fit" else COUNTS.get(kind, 0)
@@ -291,17 +329,19 @@ class Forger:
         if how == 1:
             lines[:] = [part for line in lines for part in ([line, kerf] if line.startswith("container") else [line])]
         elif how in (2, 3) and boxes:
-            lines[self.rng.choice(boxes)] += self.rng.choice([" times 2", " times 1", " value 3 times 2", " times 128", " value 0", " times 2 value 3"])
+            lines[self.rng.choice(boxes)] += self.rng.choice(ADDED)
         elif how == 4:
             lines[:] = [kerf if line.startswith("kerf") else line for line in lines]
         elif how == 5:
             lines.insert(self.at(lines), "container " + " ".join(str(self.rng.randint(1, 30)) for _ in range(dims)))
         elif how == 6:
-            lines.insert(self.at(lines), self.rng.choice([kerf, "format 1", "format 2", "format 3", "box 1 1", "box 1 1 1"]))
+            another = [kerf, "format 1", "format 2", "format 3", "box 1 1", "box 1 1 1"]
+            lines.insert(self.at(lines), self.rng.choice(another))
 
     def change_dims(self, lines):
         """Adds or takes away a last number, on all lines that have one for each dimension or on those of one kind."""
-        kinds = self.rng.choice([("container", "kerf", "box", "place", "take"), ("container", "box"), ("box",), ("place", "take")])
+        places = ("place", "take")
+        kinds = self.rng.choice([("container", "kerf", "box", *places), ("container", "box"), ("box",), places])
         last = self.rng.choice([" 0", " 1", " 5", None])
         for k, line in enumerate(lines):
             if line.startswith(kinds):
@@ -311,12 +351,11 @@ class Forger:
         """Adds spaces, comments, blank lines, carriage returns and bad bytes."""
         at = self.at(lines)
         line, k = lines[at] if lines else "", self.rng.randint(0, len(lines[at]) if lines else 0)
-        odd = self.rng.choice(["\r", "\r\r", "\t", "  ", "#", " # a comment", "#\xff", "\x00", "\x1f", "\x7f", "\x80", "\xff", "\n", "\n\n", "\r\n", "\x0c", "\x1c"])
+        odd = self.rng.choice(ODD)
         lines[at : at + 1] = [line + odd if self.rng.random() < 0.4 else line[:k] + odd + line[k:]]
 
     def add_behind(self, lines):
-        behind = ["end", "", "#", "# x", "x", "x 1 1 2", "\xff", "\t ", "\r", "\r\r", "place 0 0", "answer fit", "proof", self.token(lines)]
-        lines += [self.rng.choice(behind) for _ in range(self.rng.choice([1, 1, 2]))]
+        lines += [self.rng.choice([*BEHIND, self.token(lines)]) for _ in range(self.rng.choice([1, 1, 2]))]
 
     def change_bytes(self, data):
         """Cuts the document at some byte, ends its lines otherwise, or changes a byte."""
@@ -324,7 +363,7 @@ class Forger:
         if how == 0:
             return data[:k]
         if how == 1:
-            return data.replace(b"\n", self.rng.choice([b"\r\n", b"\r\r\n", b"\r", b" \r\n", b"\n\n", b" # c\r\n", b"#\n"]))
+            return data.replace(b"\n", self.rng.choice(ENDINGS))
         if how == 2:
             return data[:-1]
         if how == 3:
@@ -378,9 +417,9 @@ class Comparison:
         with open(file, "wb") as it:
             it.write(document)
         if self.lost <= MAX_LINES:
-            told = "{!r} with status {}"
             expected = f", expected {wanted!r}" if wanted else ""
-            what = f"{name}: pack {command} < {file} prints {told.format(*theirs)}, clients/check.py {told.format(*ours)}{expected}"
+            both = "{!r} with status {}, and clients/check.py {!r} with status {}".format(*theirs, *ours)
+            what = f"{name}: pack {command} < {file} prints {both}{expected}"
             print(f"tools/check_second: {what}: find by docs/FORMATS.md which is wrong", file=sys.stderr)
 
 
@@ -409,10 +448,11 @@ def main(program, copies, seed):
         for reason, count in sorted(comparison.reasons.items()):
             print(count, reason)
     if comparison.lost:
-        print(f"tools/check_second: {comparison.lost} differences, each document saved in {comparison.folder}", file=sys.stderr)
+        saved = f"each document is saved in {comparison.folder}"
+        print(f"tools/check_second: {comparison.lost} differences: {saved}", file=sys.stderr)
         return 1
-    count = len(documents) + len(NAMED)
-    print(f"tools/check_second: {count} documents and {copies} forged copies: clients/check.py and the program say the same")
+    what = f"{len(documents) + len(NAMED)} documents and {copies} forged copies"
+    print(f"tools/check_second: {what}: clients/check.py and the program say the same")
     return 0
 
 
