@@ -30,6 +30,7 @@ BOARD = "answer fit\nformat 1\ncontainer 10 10\nbox 6 6\n"
 TWO = "explained fit\nformat 1\ncontainer 10 10\nbox 6 6\nbox 6 6\nresult no\n"
 CUBES = "explained fit\nformat 1\ncontainer 10 10 10\nbox 6 6 6\nbox 6 6 6\nresult no\n"
 ROWS = "answer fit\nformat 1\ncontainer 10 100\n"
+STEPS = ROWS.replace("answer", "explained")
 NAMED = {
     "a place below 0": ("check", BOARD + "result yes\nplace -6 0\nend\n", "refused 6 form"),
     "a second container behind the places": (
@@ -74,7 +75,12 @@ NAMED = {
         TWO.replace("box 6 6", "box 10 6") + "v id step 1\nend\n",
         "verified explained fit no",
     ),
-    "a tuple that does not exceed": ("audit", TWO + "v id id\nend\n", "refused 7 excess"),
+    "a tuple that only fills the container": (
+        "audit",
+        TWO.replace("box 6 6", "box 5 10") + "v id id\nend\n",
+        "refused 7 excess",
+    ),
+    "a step function of 17": ("audit", TWO + "v id step 17\nend\n", "refused 7 range"),
     "a tuple that is not legal": ("audit", TWO + "v id cut 6\nend\n", "refused 7 range"),
     "a tuple of one function": ("audit", TWO + "v id\nend\n", "refused 7 form"),
     "a closure taken for granted": ("audit", TWO + "x 1 1 2\nend\n", "refused 7 conflict"),
@@ -118,6 +124,64 @@ NAMED = {
         "check",
         "answer fit\nformat 1\ncontainer 10 10\nbox 5 10\nbox 5 10\nresult no\nv count 2 id\nend\n",
         "refused 7 excess",
+    ),
+    "a kerf that makes the container too long": (
+        "check",
+        "answer fit\nformat 2\ncontainer 999999 5\nkerf 2 0\n",
+        "refused 4 text 4",
+    ),
+    "a kerf that makes a box too long": (
+        "check",
+        "answer fit\nformat 2\ncontainer 10 10\nkerf 5 0\nbox 999995 1\nbox 999996 1\n",
+        "refused 6 text 4",
+    ),
+    "a box that is taken twice": (
+        "check",
+        "answer knapsack\nformat 1\ncontainer 10 10\nbox 5 5\nbox 5 5\nresult greatest 2\ntake 1 0 0\ntake 1 5 5\n",
+        "refused 8 range",
+    ),
+    "a TRIPLE step of boxes that aren't apart": (
+        "audit",
+        STEPS + "box 4 1\n" * 3 + "result no\ntriple 1 1 2 3\n",
+        "refused 8 step",
+    ),
+    "a CYCLE step across boxes that aren't apart": (
+        "audit",
+        STEPS + "box 6 1\n" * 4 + "result no\npair 1 1 2\npair 1 2 3\npair 1 3 4\npair 1 1 4\ncycle 1 1 2 3 4\n",
+        "refused 13 step",
+    ),
+    "an ORDER step of boxes that may stand in a row": (
+        "audit",
+        STEPS + "box 2 1\n" * 4 + "result no\na 1 1 2\nd 1 1 2\na 1 3 4\nd 1 3 4\norder 1 1 2 3 4\n",
+        "refused 13 step",
+    ),
+    "an ORDER step": (
+        "audit",
+        STEPS + "box 6 1\nbox 3 1\nbox 3 1\nbox 5 1\nresult no\na 1 1 2\nd 1 1 2\na 1 3 4\nd 1 3 4\n"
+        "pair 1 1 4\norder 1 1 2 3 4\na 1 2 3\n",
+        "refused 15 choice",
+    ),
+    "a CHAIN step of boxes that have room": (
+        "audit",
+        STEPS + "box 5 1\n" * 2 + "result no\nchain 1 1 1\non 1\non 2\n",
+        "refused 9 step",
+    ),
+    "a CHAIN step from a box to itself": ("audit", TWO + "chain 1 1 1\non 1\non 1\n", "refused 9 step"),
+    "a chain that comes back to a box": (
+        "audit",
+        TWO.replace("result", "box 6 6\nresult")
+        + "pair 1 1 2\npair 2 1 2\napart 1 1 2\nchain 1 3 1\non 1\non 2\non 1\n",
+        "refused 14 step",
+    ),
+    "a front with a gap between corner and point": (
+        "audit",
+        "front\nformat 1\ncontainer 4 4\nbox 2 1\nresult front 1\ncorner 1 4\nt 1 1\npoint 3 1\n",
+        "refused 8 range",
+    ),
+    "a front whose last point is 1 high": (
+        "audit",
+        "front\nformat 1\ncontainer 4 4\nbox 2 1\nresult front 1\ncorner 1 4\nt 1 1\npoint 2 1\nplace 0 0\nend\n",
+        "verified front 1",
     ),
     "a front without its closing corner": (
         "audit",
@@ -431,11 +495,20 @@ def stored_documents():
                 yield name, it.read()
 
 
+def long_documents(limit):
+    """A document as long as `audit` allows, and one that is a byte longer."""
+    text = NAMED["symmetry facts under reduced"][1].encode()
+    yield "a document at the limit", "audit", text.ljust(limit, b"#"), "verified reduced fit no"
+    yield "a document past the limit", "audit", text.ljust(limit + 1, b"#"), "pack: input too long"
+
+
 def main(program, copies, seed):
     rng, comparison = random.Random(seed), Comparison(program, load_second())
     documents = [*stored_documents(), *fresh_documents(program, rng, 5)]
     documents += [*explained(program, documents)]
-    comparison.compare([(name, command, text.encode(), line) for name, (command, text, line) in NAMED.items()])
+    named = [(name, command, text.encode(), line) for name, (command, text, line) in NAMED.items()]
+    named += long_documents(comparison.second.LIMITS["audit"])
+    comparison.compare(named)
     comparison.compare([(name, command, it, None) for name, it in documents for command in ("check", "audit")])
     forger, cases = Forger(rng, [it for _, it in documents]), []
     for number in range(1, copies + 1):
@@ -451,7 +524,7 @@ def main(program, copies, seed):
         saved = f"each document is saved in {comparison.folder}"
         print(f"tools/check_second: {comparison.lost} differences: {saved}", file=sys.stderr)
         return 1
-    what = f"{len(documents) + len(NAMED)} documents and {copies} forged copies"
+    what = f"{len(documents) + len(named)} documents and {copies} forged copies"
     print(f"tools/check_second: {what}: clients/check.py and the program say the same")
     return 0
 
