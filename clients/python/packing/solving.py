@@ -1,0 +1,42 @@
+"""`solve`: a question in the user's units, its verified answer."""
+from .answer import Answer, answer_of
+from .errors import QuestionRefused, TimeIsUp
+from .question import ask
+from .search import Effort, Search
+from .ways import go
+
+
+def solve(job, container, boxes, kerf=None, names=None, quantities=None, values=None, budget=None,
+          workers=None, seconds=None, proposals=True):
+    """Solves one question and returns its verified `Answer`.
+
+    `job` is fit, strip, bins or knapsack; `boxes` are sequences of sides or `Box`, and `names`,
+    `quantities`, `values` go box by box. A strip's last container side isn't looked at, and may be
+    left out. With `seconds` budgets rise until then, and the best verified document is returned;
+    without, the program runs once with `budget`. Errors are subclasses of `PackingError`.
+    """
+    question = ask(job, container, boxes, kerf, names, quantities, values)
+    return solve_question(question, checked_effort(budget, workers, seconds, proposals))
+
+
+def checked_effort(budget=None, workers=None, seconds=None, proposals=True):
+    """The effort, if its numbers are in range."""
+    for what, number, least, most in (("budget", budget, 0, 10_000_000), ("workers", workers, 1, 64)):
+        if number is not None and not (isinstance(number, int) and least <= number <= most):
+            raise QuestionRefused(f"{what} is {number!r}", f"give a number from {least} to {most:,}")
+    if seconds is not None and not seconds > 0:
+        raise QuestionRefused(f"seconds is {seconds!r}", "give a number greater than 0")
+    return Effort(budget, workers, seconds, bool(proposals))
+
+
+def solve_question(question, effort, progress=None):
+    """The verified answer of a question that `ask` made."""
+    search = go(Search(question, effort, progress))
+    found = search.found
+    if found is None and question.job != "fit":
+        raise TimeIsUp("no verified document within the time limit", "give more seconds")
+    spent = {"notes": question.notes, "seconds": search.clock.spent(), "mib": search.mib,
+             "processor_seconds": search.seconds, "tried": tuple(search.tried)}
+    if found is None:
+        return Answer(question, "undecided", **spent)
+    return answer_of(question, found.text, found.verdict, **spent)
