@@ -17,6 +17,9 @@ use Rattle.explained_documents.specs.Documents.{ExplainedRefusal, explained_verd
 use Rattle.explained_documents.specs.Documents.{code_word, reason_words, IsShown}
 use Rattle.front_verdict_terms.specs.Verdicts.{FrontRead, front_document_verdict, front_verdict_line}
 use Rattle.front_verdict_terms.specs.Verdicts.{front_verdict_status}
+use Rattle.explained_documents.specs.Form.{IsExplainedDocument}
+use Rattle.front_verdict_terms.specs.Points.{points_of_text}
+use Rattle.front_verdict_terms.specs.Form.{IsFrontDocument}
 use Rattle.front_verdict_terms.specs.Laws.{IsTrueFrontOf}
 use Rattle.answer_streams.specs.Lines.{number_line}
 use Rattle.answer_streams.specs.Verdicts.{plain_verdict, verdict_status}
@@ -54,14 +57,21 @@ audit_status (ReducedVerdictOf verdict) = verdict_status verdict
 audit_status (ExplainedVerdictOf verdict) = explained_status verdict
 audit_status (FrontVerdictOf verdict) = front_verdict_status verdict
 
--- what a verified document of a front says of the instance in it, which is within the limits and has
--- two dimensions: the claim is that of so many points, which are the front, or all of it up to the
--- last of them
+-- what a verified explained document says of the instance that its lines are
+pub record IsTrueExplained (text : List ℕ) (instance : PlainInstance) : Type 0 where
+  pub verdict : explained_verdict text ≡ Ok instance
+  pub document : IsExplainedDocument text instance
+  pub shown : IsShown instance
+
+-- what a verified document of a front says of the instance that its lines are, which is within the
+-- limits and has two dimensions: the points that its lines name are as many as the claim says, and are
+-- the front, or all of it up to the last of them
 pub record IsTrueFrontRead (text : List ℕ) (r : FrontRead) : Type 0 where
   pub verdict : front_document_verdict text ≡ Ok r
+  pub document : IsFrontDocument text r
   pub limits : IsInstance r.instance
   pub plane : dims r.instance ≡ 2
-  pub front : IsTrueFrontOf r.instance r.claim
+  pub front : IsTrueFrontOf r.instance r.claim (points_of_text text)
 
 -- What is verified is true: a reduced document is one of its claim, which holds of the instance in
 -- it; the instance of an explained document has no packing; and the points of a document of a front
@@ -70,7 +80,7 @@ abbrev pub IsTrueVerdict : List ℕ → KindVerdict → Type 0
 IsTrueVerdict text (ReducedVerdictOf (Ok claim)) =
     (document : IsReducedDocument text claim) × IsTrueOf document.instance claim
 IsTrueVerdict text (ReducedVerdictOf (Err refusal)) = ⊥
-IsTrueVerdict text (ExplainedVerdictOf (Ok instance)) = (explained_verdict text ≡ Ok instance) × IsShown instance
+IsTrueVerdict text (ExplainedVerdictOf (Ok instance)) = IsTrueExplained text instance
 IsTrueVerdict text (ExplainedVerdictOf (Err refusal)) = ⊥
 IsTrueVerdict text (FrontVerdictOf (Ok r)) = IsTrueFrontRead text r
 IsTrueVerdict text (FrontVerdictOf (Err refusal)) = ⊥

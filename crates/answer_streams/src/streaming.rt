@@ -75,9 +75,10 @@ fn write_through<'a, K: Sink, T: Streamed, B: Behind>(out: &'a mut K, text: &T) 
     hand_back(front, written)
 }
 
-/// Writes a text in pieces of 4,096 bytes, of which the last may be shorter. Where the sink takes
-/// only a part of a piece, the rest of it is offered next; the first failure ends the writing. No
-/// more than one piece is held.
+/// Writes a text whole, unless a write fails: the first failure ends the writing. The text goes
+/// through a block of 4,096 bytes, and no more of it is held. So the sink is offered pieces of that
+/// length, the last one shorter, and next the rest of a piece of which it took a part; tests show
+/// the pieces, and no clause says them.
 pub fn stream<K: Sink, T: Streamed>(out: &mut K, text: &T) -> Written
     requires { T.IsReady text.now }
     ensures { Writes (K.written out.old) (K.written out.new) (K.faults out.old) (K.faults out.new)

@@ -1,2 +1,3 @@
 pub mod TokensBack
+pub mod TokensPlain
 pub mod Cuts

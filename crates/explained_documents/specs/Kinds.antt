@@ -1,7 +1,9 @@
 -- The kind of a document: what its first line that isn't blank says.
-use Rattle.std.specs.Prelude.{ℕ, ◌≡◌, cond, true, false, List, [], ◌∷◌, codes}
+use Rattle.std.specs.Prelude.{ℕ, ◌≡◌, cond, true, false, List, [], ◌∷◌, Ok, codes}
 use Rattle.text_terms.specs.Lines.{Line, line_of, text_lines}
 use Rattle.text_terms.specs.Feeding.{NumberedLine, lines_fed, new_lexer}
+use Rattle.document_terms.specs.declared.claim.Claim.{Claim}
+use Rattle.verdict_terms.specs.Documents.{reduced_verdict}
 use Rattle.verdict_terms.specs.Stages.{is_blank, is_word}
 use Rattle.explained_documents.specs.declared.kind.DocumentKind.{DocumentKind}
 use Rattle.explained_documents.specs.declared.kind.DocumentKind.TheVariants.{Explained, Front, Reduced}
@@ -33,3 +35,8 @@ kind_told (l ∷ ls) = elim (is_blank l.line) [ true ↦ kind_told ls | false �
 -- the lines that the bytes of a text tell have its kind
 abbrev pub KindsAreTold : Type 0
 KindsAreTold = (text : List ℕ) → kind_told (lines_fed new_lexer text) ≡ document_kind text
+
+-- a text that is verified as a reduced document is one by its first line
+abbrev pub ReducedDocumentsAreOfTheirKind : Type 0
+ReducedDocumentsAreOfTheirKind = (text : List ℕ) (claim : Claim) → reduced_verdict text ≡ Ok claim
+    → document_kind text ≡ Reduced

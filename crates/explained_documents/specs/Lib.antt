@@ -1,3 +1,4 @@
 pub mod Stages
 pub mod Documents
 pub mod Kinds
+pub mod Form

@@ -1,6 +1,7 @@
 //! What the definitions promise, each the contract of a function with an empty body.
 ghost use Rattle.explained_documents.specs.Documents.{DocumentsAreFed, DocumentsAreTrue};
-ghost use Rattle.explained_documents.specs.Kinds.{KindsAreTold};
+ghost use Rattle.explained_documents.specs.Form.{DocumentsHaveForm};
+ghost use Rattle.explained_documents.specs.Kinds.{KindsAreTold, ReducedDocumentsAreOfTheirKind};
 
 /// The bytes of a text, fed from its start to a lexer with each line taken as it ends, give its
 /// verdict and its kind. A line is told by its first 12 words of at most 21 bytes.
@@ -13,4 +14,17 @@ pub fn explained_documents_are_fed()
 /// wrote the document.
 pub fn explained_documents_are_true()
     ensures { DocumentsAreTrue }
+{}
+
+/// A text that is verified has no bad byte, and its lines that aren't blank are, in this order,
+/// `explained fit`, the lines of the instance, `result no`, lines of steps that explain why it has
+/// no packing, and `end`.
+pub fn explained_documents_have_form()
+    ensures { DocumentsHaveForm }
+{}
+
+/// A text that is verified as a reduced document is of that kind, so that an audit of it gives that
+/// verdict.
+pub fn reduced_documents_are_of_their_kind()
+    ensures { ReducedDocumentsAreOfTheirKind }
 {}

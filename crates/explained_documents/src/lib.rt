@@ -7,5 +7,8 @@ mod laws;
 mod reason;
 
 pub use kind::DocumentKind;
-pub use laws::{explained_documents_are_fed, explained_documents_are_true};
+pub use laws::{
+    explained_documents_are_fed, explained_documents_are_true, explained_documents_have_form,
+    reduced_documents_are_of_their_kind,
+};
 pub use reason::ExplainedReason;

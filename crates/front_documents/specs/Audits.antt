@@ -8,6 +8,7 @@ use Rattle.verdict_terms.specs.Documents.{Refusal, document_at_line}
 use Rattle.front_verdict_terms.specs.Verdicts.{FrontClaim, FrontRead, DocumentStage, front_filled_line, front_at_end}
 use Rattle.front_verdict_terms.specs.Verdicts.{front_document_verdict}
 use Rattle.front_verdict_terms.specs.Fed.{told_front_verdict}
+use Rattle.front_verdict_terms.specs.Points.{points_of_text}
 use Rattle.front_verdict_terms.specs.Laws.{IsTrueFrontOf}
 use Rattle.line_cursor.specs.declared.cursor.Cursor.{Cursor}
 use Rattle.line_cursor.specs.Lines.{lines_left}
@@ -46,13 +47,13 @@ IsNextTaken bytes old new true = (stage : DocumentStage) → verdict_left bytes 
 IsNextTaken bytes old new false =
     (stage : DocumentStage) → verdict_left bytes old stage ≡ front_at_end stage new.line.number
 
--- what a verified claim says of the instance in the document
+-- what a verified claim says of the instance in the document, and of the points that its lines name
 pub record IsTrueClaim (bytes : List ℕ) (complete : Bool) (points : ℕ) : Type 0 where
   pub instance : PlainInstance
   pub verdict : front_document_verdict bytes ≡ verified_of instance complete points
   pub limits : IsInstance instance
   pub plane : dims instance ≡ 2
-  pub front : IsTrueFrontOf instance (claim_of complete points)
+  pub front : IsTrueFrontOf instance (claim_of complete points) (points_of_text bytes)
 
 abbrev pub IsTrueAudit : List ℕ → FrontAudit → Type 0
 IsTrueAudit bytes (Verified complete points) = IsTrueClaim bytes complete points

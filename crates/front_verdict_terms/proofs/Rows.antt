@@ -5,6 +5,7 @@ use Rattle.text_terms.specs.Lines.{number_of, same_bytes}
 use Rattle.document_terms.specs.TokenLines.{token_of}
 use Rattle.verdict_terms.specs.Reasons.{form, range}
 use Rattle.front_verdict_terms.specs.Verdicts.{front_document_verdict}
+use Rattle.front_verdict_terms.specs.Points.{points_of_text}
 
 abbrev pair : PlainInstance
 pair = record {
@@ -19,6 +20,12 @@ row_4 : front_document_verdict
     ≡ Ok (record { instance = pair; claim = record { complete = true; points = 2 } })
 unfolding front_document_verdict number_of same_bytes token_of
 row_4 = refl
+
+named_4 : points_of_text
+    (codes "front\nformat 1\ncontainer 4 4\nbox 2 1\nbox 2 1\nresult front 2\ncorner 1 4\nt 1 1\npoint 2 2\nplace 0 0\nplace 0 1\ncorner 3 1\nx\n point 4\t1 # 5\nplace 0 0\nplace 2 0\nend\n")
+    ≡ (2, 2) ∷ (4, 1) ∷ []
+unfolding number_of same_bytes
+named_4 = refl
 
 row_5 : front_document_verdict
     (codes "front\nformat 1\ncontainer 4 4\nbox 2 1\nbox 2 1\nresult front 2\ncorner 1 4\nt 1 1\npoint 2 2\nplace 0 0\nplace 0 1\ncorner 2 1\nx\npoint 4 1\nplace 0 0\nplace 2 0\nend\n")

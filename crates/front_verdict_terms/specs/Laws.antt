@@ -4,14 +4,15 @@ use Rattle.packing_terms.specs.Packing.{PlainInstance, dims}
 use Rattle.packing_terms.specs.Limits.{IsInstance}
 use Rattle.front_terms.specs.Fronts.{IsClaimed}
 use Rattle.front_verdict_terms.specs.Verdicts.{FrontClaim, FrontRead, front_document_verdict}
+use Rattle.front_verdict_terms.specs.Points.{points_of_text}
 
--- there are so many points, and they are what the claim says of the instance
-pub record IsTrueFrontOf (instance : PlainInstance) (claim : FrontClaim) : Type 0 where
-  pub sizes : List (ℕ × ℕ)
-  pub count : length sizes ≡ claim.points
-  pub claimed : IsClaimed instance claim.complete sizes
+-- these points are as many as the claim says, and they are what it says of the instance
+pub record IsTrueFrontOf (instance : PlainInstance) (claim : FrontClaim) (points : List (ℕ × ℕ)) : Type 0 where
+  pub count : length points ≡ claim.points
+  pub claimed : IsClaimed instance claim.complete points
 
--- what is verified is true of the instance in the document, which is within the limits
+-- what is verified is true, of the instance in the document, which is within the limits, and of the
+-- points that its lines name
 abbrev pub VerifiedFrontsAreTrue : Type 0
 VerifiedFrontsAreTrue = (text : List ℕ) (r : FrontRead) → front_document_verdict text ≡ Ok r
-    → IsInstance r.instance × (dims r.instance ≡ 2) × IsTrueFrontOf r.instance r.claim
+    → IsInstance r.instance × (dims r.instance ≡ 2) × IsTrueFrontOf r.instance r.claim (points_of_text text)

@@ -1,9 +1,11 @@
 //! The laws over the verdict, each the contract of a function with an empty body.
 ghost use Rattle.front_verdict_terms.specs.Laws.{VerifiedFrontsAreTrue};
 ghost use Rattle.front_verdict_terms.specs.Fed.{FrontsAreFed};
+ghost use Rattle.front_verdict_terms.specs.Form.{FrontsHaveForm};
 
 /// Whatever text is verified, what it claims is true of the instance in it, which is within the
-/// limits of instances and has two dimensions.
+/// limits of instances and has two dimensions: the points that its lines `point A B` name are as
+/// many as it says, and are the front of the instance, or all of it up to the last of them.
 pub fn verified_fronts_are_true()
     ensures { VerifiedFrontsAreTrue }
 {}
@@ -12,4 +14,11 @@ pub fn verified_fronts_are_true()
 /// verdict. A line is told by its first 12 words of at most 21 bytes.
 pub fn fronts_are_fed()
     ensures { FrontsAreFed }
+{}
+
+/// A text that is verified has no bad byte, and its lines that aren't blank are, in this order,
+/// `front`, the lines of the instance, which has two dimensions, the result line of the claim, good
+/// lines of corners and points, and `end`.
+pub fn fronts_have_form()
+    ensures { FrontsHaveForm }
 {}

@@ -3,4 +3,4 @@
 
 mod laws;
 
-pub use laws::{fronts_are_fed, verified_fronts_are_true};
+pub use laws::{fronts_are_fed, fronts_have_form, verified_fronts_are_true};

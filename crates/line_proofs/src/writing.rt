@@ -1,4 +1,6 @@
 //! The line of a step, in its one spelling.
+ghost use Rattle.std.specs.Prelude.{◌≤◌, ℕ};
+ghost use Rattle.explained_terms.specs.StepLines.{HasStepLine, IsFedBack};
 ghost use Rattle.pack_streams.specs.Writing.{Continues, Writes};
 ghost use Rattle.line_proofs.specs.Plain.{plain_step};
 ghost use Rattle.line_proofs.specs.StepTexts.{step_line};
@@ -67,13 +69,16 @@ fn write_line<K: Sink>(sink: &mut K, so_far: Written, step: &Step) -> Written
     }
 }
 
-/// Writes the line of a step, and takes no memory.
+/// Writes the line of a step, and takes no memory. The bytes of that line, fed to a lexer from its
+/// start, are read back as the step.
 ///
 /// After a `WriteFault`, which comes only where the sink's faults rose, a part from the front of
 /// the line was written.
 pub fn write_step<K: Sink>(step: &Step, sink: &mut K) -> Result<(), WriteFault>
-    ensures { Writes (K.written sink.old) (K.written sink.new) (K.faults sink.old)
+    ensures written { Writes (K.written sink.old) (K.written sink.new) (K.faults sink.old)
         (K.faults sink.new) (step_line (plain_step step.now)) result }
+    ensures read_back { (dims : ℕ) → dims ≤ 4 → HasStepLine dims (plain_step step.now)
+        → IsFedBack dims (step_line (plain_step step.now)) (plain_step step.now) }
 {
     write_line(sink, Ok(()), step)
 }

@@ -9,6 +9,7 @@ use Rattle.answer_terms.specs.declared.job.ReducedJob.TheVariants.{Fit, Strip}
 use Rattle.answer_terms.specs.Answers.Answer.{Claimed}
 use Rattle.answer_terms.specs.Reduced.{reduced_text, solving_job}
 use Rattle.answer_terms.proofs.Reduced.{reduced_shown}
+use Rattle.explained_documents.proofs.KindOf.{reduced_documents}
 use Rattle.own_documents.specs.Own.{OwnReducedDocumentsAreVerified}
 use Rattle.own_documents.proofs.Accepted.{shown_headed}
 
@@ -22,10 +23,12 @@ own_reduced job budget scales instance claim numbers tokens limits e =
     let shown = reduced_shown job budget scales instance claim numbers tokens limits e in
     let is = shown_headed Reduced instance claim numbers tokens limits
     (subst (λ (j : SolvingJob). MayName Reduced j) (sym shown.of_job) (may_name job)) shown.shown in
+    let verified = (documents_have_form Reduced (reduced_text instance (Claimed claim numbers tokens)) claim).1
+    is.document in
     record {
       of_job = shown.of_job;
       document = is.document;
       about = is.about;
-      verified = (documents_have_form Reduced (reduced_text instance (Claimed claim numbers tokens)) claim).1
-          is.document;
+      kind = reduced_documents (reduced_text instance (Claimed claim numbers tokens)) claim verified;
+      verified = verified;
     }

@@ -21,8 +21,8 @@ use Rattle.explained_terms.specs.StepLines.{HasPlainLine, HasStepLine, step_word
 use Rattle.explained_terms.specs.Explaining.{Explains, by_clash, by_side, by_scales, by_step, by_apart, by_order}
 use Rattle.answer_terms.specs.Explained.{step_lines}
 use Rattle.own_documents.proofs.Filled.{AreFilled}
-use Rattle.own_documents.proofs.Written.{IsBounded, one_plain, three_plain, token_plain, tuple_written, named_written}
-use Rattle.own_documents.proofs.Written.{large_written}
+use Rattle.explained_terms.proofs.StepsPlain.{step_plain}
+use Rattle.own_documents.proofs.Written.{IsBounded, tuple_written, named_written, large_written}
 
 -- each step has a line with d dimensions
 abbrev pub HaveStepLines : ℕ → List PlainStep → Type 0
@@ -36,43 +36,6 @@ steps_joined d z xs ys e h k = subst (HaveStepLines d) (sym e) (go xs h)
     go : (ts : List PlainStep) → HaveStepLines d ts → HaveStepLines d (ts ++ ys)
     go [] h = k
     go (t ∷ ts) h = (h.0, go ts h.1)
-
--- ---- their words
-
-four_plain : (x y z u : ℕ) → IsParameter x → IsParameter y → IsParameter z → IsParameter u
-    → AreWords (decimal x ∷ decimal y ∷ decimal z ∷ decimal u ∷ [])
-four_plain x y z u h k l m = word_decimal x (omega (arith, h)) (decimal y ∷ decimal z ∷ decimal u ∷ [])
-    (three_plain y z u k l m)
-
-five_plain : (x y z u v : ℕ) → IsParameter x → IsParameter y → IsParameter z → IsParameter u → IsParameter v
-    → AreWords (decimal x ∷ decimal y ∷ decimal z ∷ decimal u ∷ decimal v ∷ [])
-five_plain x y z u v h k l m n =
-    word_decimal x (omega (arith, h)) (decimal y ∷ decimal z ∷ decimal u ∷ decimal v ∷ []) (four_plain y z u v k l m n)
-
-plain_plain : (d : ℕ) (t : PlainToken) → HasPlainLine d t → AreWords (step_words (Plain t))
-    × (is_none (step_words (Plain t)) ≡ false)
-plain_plain d (ApartToken i u v) h = token_plain d (ApartToken i u v) h
-plain_plain d (OrderToken i u v) h = token_plain d (OrderToken i u v) h
-plain_plain d (TooLarge v i) h = token_plain d (TooLarge v i) h
-plain_plain d (Scales fs) h = token_plain d (Scales fs) h
-plain_plain d Rules h = absurd h
-plain_plain d (Assign v) h = absurd h
-plain_plain d (Choose v) h = absurd h
-plain_plain d (SetRefuted b) h = absurd h
-plain_plain d ValueShort h = absurd h
-plain_plain d (GlobalScales fs) h = absurd h
-
-step_plain : (d : ℕ) (s : PlainStep) → HasStepLine d s → AreWords (step_words s) × (is_none (step_words s) ≡ false)
-step_plain d (Pair i u v) h = ((omega arith, refl, three_plain i u v h.0 h.1 h.2), refl)
-step_plain d (Apart i u v) h = ((omega arith, refl, three_plain i u v h.0 h.1 h.2), refl)
-step_plain d (Triple i u v x) h = ((omega arith, refl, four_plain i u v x h.0 h.1 h.2 h.3), refl)
-step_plain d (Compose i u v x) h = ((omega arith, refl, four_plain i u v x h.0 h.1 h.2 h.3), refl)
-step_plain n (Cycle i a b c d) h = ((omega arith, refl, five_plain i a b c d h.0 h.1 h.2 h.3 h.4), refl)
-step_plain n (Order i a b c d) h = ((omega arith, refl, five_plain i a b c d h.0 h.1 h.2 h.3 h.4), refl)
-step_plain d (Chain i p q) h = ((omega arith, refl, three_plain i p q h.0 h.1 h.2), refl)
-step_plain d (On v) h = ((omega arith, refl, one_plain v h), refl)
-step_plain d (Clash i u v) h = ((omega arith, refl, three_plain i u v h.0 h.1 h.2), refl)
-step_plain d (Plain token) h = plain_plain d token h
 
 pub steps_filled : (d : ℕ) (ss : List PlainStep) → HaveStepLines d ss → AreFilled (step_lines ss)
 steps_filled d [] h = tt

@@ -1,6 +1,9 @@
 -- The document that says undecided is verified with no claim.
 use Rattle.std.proofs.Common.{◌≡◌, ℕ, refl, ap, sym, ◌∙◌, arith, List, [], ◌∷◌, ◌++◌, length, codes, Option, Some, None}
+use Rattle.std.proofs.Common.{Result, Ok, Err}
 use Rattle.packing_terms.specs.Packing.{PlainInstance, PlainBox}
+use Rattle.packing_terms.specs.Limits.{IsInstance}
+use Rattle.text_terms.specs.Lines.{text_lines}
 use Rattle.text_terms.specs.Spelling.{instance_words, lines_text}
 use Rattle.text_terms.specs.Form.{HasForm, AreBoxLines, IsKerfPart}
 use Rattle.document_terms.specs.declared.claim.Claim.{Claim}
@@ -9,6 +12,7 @@ use Rattle.document_terms.specs.declared.claim.Claim.TheVariants.{Fitting, NotFi
 use Rattle.document_terms.specs.declared.claim.Claim.TheVariants.{NoHeight, LeastBins, BinsBetween, NoBins}
 use Rattle.document_terms.specs.declared.claim.Claim.TheVariants.{GreatestValue, ValueBetween}
 use Rattle.verdict_terms.specs.declared.heading.Heading.TheVariants.{Answer, Reduced}
+use Rattle.verdict_terms.specs.Documents.{Refusal, reduced_verdict}
 use Rattle.verdict_terms.specs.Form.{IsReducedDocument, IsDocument, IsResult}
 use Rattle.verdict_terms.proofs.FormGiven.{documents_have_form}
 use Rattle.answer_terms.specs.Answers.{Lines, answer_text, answer_lines}
@@ -18,10 +22,13 @@ use Rattle.tree_terms.specs.ClassTree.{first_too_large_box, first_too_wide}
 use Rattle.tree_terms.specs.Levels.{height_run, bin_run}
 use Rattle.reduced_levels.specs.Heights.{reduced_height_run}
 use Rattle.own_documents.specs.Own.{OnlyFitIsUndecided, OnlyReducedFitIsUndecided, UndecidedIsRefused}
-use Rattle.own_documents.specs.Own.{ReducedUndecidedIsRefused}
+use Rattle.own_documents.specs.Own.{ReducedUndecidedIsRefused, IsReducedRefused}
 use Rattle.answer_terms.specs.declared.job.ReducedJob.TheVariants.{Fit as ReducesFit, Strip as ReducesStrip}
 use Rattle.answer_terms.specs.Reduced.{reduced_solved, reduced_text, reduced_answer_lines}
-use Rattle.own_documents.proofs.Filled.{filled_text, instance_form}
+use Rattle.explained_documents.specs.declared.kind.DocumentKind.TheVariants.{Reduced as ReducedKind}
+use Rattle.explained_documents.specs.Kinds.{document_kind}
+use Rattle.explained_documents.proofs.KindOf.{filled_kind, job_kind}
+use Rattle.own_documents.proofs.Filled.{AreFilled, clean_text, filled_text, instance_form}
 use Rattle.own_documents.proofs.Accepted.{filled_document}
 
 -- the first byte of the first word
@@ -133,9 +140,9 @@ only_reduced_fit ReducesStrip budget scales instance e = absurd (by_wide (first_
     by_wide (Some p) f = absurd (cc (f))
     by_wide None f = absurd (cc (f))
 
-pub reduced_undecided_refused : ReducedUndecidedIsRefused
-unfolding reduced_text
-reduced_undecided_refused instance claim limits e =
+reduced_unverified : (instance : PlainInstance) (claim : Claim) → IsInstance instance
+    → ¬ (reduced_verdict (lines_text (reduced_answer_lines instance Undecided)) ≡ Ok claim)
+reduced_unverified instance claim limits e =
     let d : IsReducedDocument (lines_text (reduced_answer_lines instance Undecided)) claim =
     (documents_have_form Reduced (lines_text (reduced_answer_lines instance Undecided)) claim).0 e in
     let lines = sym (filled_text (reduced_answer_lines instance Undecided)
@@ -148,3 +155,25 @@ reduced_undecided_refused instance claim limits e =
     (form_no_result (instance_words instance) instance (instance_form instance limits))
     (form_no_result d.written d.instance d.is_instance) rest in
     no_claim d.instance claim d.result same d.is_result
+
+pub reduced_undecided_refused : ReducedUndecidedIsRefused
+unfolding reduced_text
+reduced_undecided_refused instance limits =
+    go (reduced_verdict (lines_text (reduced_answer_lines instance Undecided))) refl
+  where
+    filled : AreFilled (reduced_answer_lines instance Undecided)
+    filled = filled_document Reduced instance Fit (codes "undecided" ∷ []) [] limits (omega arith, refl, tt) tt
+
+    kind : document_kind (lines_text (reduced_answer_lines instance Undecided)) ≡ ReducedKind
+    kind = filled_kind (text_lines (lines_text (reduced_answer_lines instance Undecided)))
+        (codes "reduced" ∷ codes "fit" ∷ [])
+        (instance_words instance ++ (codes "result" ∷ codes "undecided" ∷ []) ∷ (codes "end" ∷ []) ∷ [])
+        (clean_text (reduced_answer_lines instance Undecided) filled)
+        (filled_text (reduced_answer_lines instance Undecided) filled)
+        ∙ job_kind Fit
+
+    go : (verdict : Result Claim Refusal)
+        → reduced_verdict (lines_text (reduced_answer_lines instance Undecided)) ≡ verdict
+        → IsReducedRefused (lines_text (reduced_answer_lines instance Undecided))
+    go (Ok claim) is = absurd (reduced_unverified instance claim limits is)
+    go (Err refusal) is = record { kind = kind; refusal = refusal; refused = is }

@@ -23,6 +23,7 @@ use Rattle.document_terms.specs.TokenLines.{token_words}
 use Rattle.verdict_terms.specs.Form.{AreTokenLines}
 use Rattle.document_terms.proofs.TokensBack.{tokens_are_read_back}
 use Rattle.answer_terms.specs.Answers.{token_lines}
+use Rattle.document_terms.proofs.TokensPlain.{token_plain}
 use Rattle.own_documents.proofs.Filled.{AreFilled}
 
 -- each token has a line with d dimensions
@@ -38,36 +39,6 @@ lines_joined d z xs ys e h k = subst (HaveLines d) (sym e) (go xs h)
     go (t ∷ ts) h = (h.0, go ts h.1)
 
 -- ---- their lines
-
-functions_plain : (fs : List ScaleFn) → AreWritten fs → AreWords (flat_map function_words fs)
-functions_plain [] h = tt
-functions_plain (Id ∷ fs) h = (omega arith, refl, functions_plain fs h)
-functions_plain (Step k ∷ fs) h = (omega arith, refl, word_decimal k (omega (arith, h.0)) _ (functions_plain fs h.1))
-functions_plain (Cut e ∷ fs) h = (omega arith, refl, word_decimal e (omega (arith, h.0)) _ (functions_plain fs h.1))
-functions_plain (Count e ∷ fs) h = (omega arith, refl, word_decimal e (omega (arith, h.0)) _ (functions_plain fs h.1))
-
-pub one_plain : (x : ℕ) → IsParameter x → AreWords (decimal x ∷ [])
-one_plain x h = word_decimal x (omega (arith, h)) [] tt
-
-two_plain : (x y : ℕ) → IsParameter x → IsParameter y → AreWords (decimal x ∷ decimal y ∷ [])
-two_plain x y h k = word_decimal x (omega (arith, h)) (decimal y ∷ []) (one_plain y k)
-
-pub three_plain : (x y z : ℕ) → IsParameter x → IsParameter y → IsParameter z
-    → AreWords (decimal x ∷ decimal y ∷ decimal z ∷ [])
-three_plain x y z h k l = word_decimal x (omega (arith, h)) (decimal y ∷ decimal z ∷ []) (two_plain y z k l)
-
-pub token_plain : (d : ℕ) (t : PlainToken) → HasLine d t → AreWords (token_words t) × (is_none (token_words t) ≡ false)
-token_plain d (Apart i u v) h = ((omega arith, refl, three_plain i u v h.0 h.1 h.2), refl)
-token_plain d (Order i u v) h = ((omega arith, refl, three_plain i u v h.0 h.1 h.2), refl)
-token_plain d Rules h = ((omega arith, refl, tt), refl)
-token_plain d (TooLarge v i) h = ((omega arith, refl, two_plain v i h.0 h.1), refl)
-token_plain d (Scales fs) h = ((omega arith, refl, functions_plain fs h.1), refl)
-token_plain d (Assign v) h = ((omega arith, refl, one_plain v h), refl)
-token_plain d (Choose v) h = ((omega arith, refl, one_plain v h), refl)
-token_plain d (SetRefuted None) h = ((omega arith, refl, tt), refl)
-token_plain d (SetRefuted (Some b)) h = ((omega arith, refl, one_plain b h), refl)
-token_plain d ValueShort h = ((omega arith, refl, tt), refl)
-token_plain d (GlobalScales fs) h = ((omega arith, refl, functions_plain fs h.1), refl)
 
 pub tokens_filled : (d : ℕ) (ts : List PlainToken) → HaveLines d ts → AreFilled (token_lines ts)
 tokens_filled d [] h = tt

@@ -1,12 +1,12 @@
 -- The verdict on the documents of answers: the checker's definitions meet those of the solver here,
 -- and nowhere else.
-use Rattle.std.specs.Prelude.{ℕ, ◌≡◌, Bool, List, [], Ok}
+use Rattle.std.specs.Prelude.{ℕ, ◌≡◌, Bool, List, [], Ok, Err}
 use Rattle.packing_terms.specs.Packing.{PlainInstance}
 use Rattle.packing_terms.specs.Limits.{IsInstance}
 use Rattle.packing_terms.specs.Tokens.{PlainToken}
 use Rattle.document_terms.specs.declared.claim.SolvingJob.{SolvingJob}
 use Rattle.document_terms.specs.declared.claim.Claim.{Claim}
-use Rattle.verdict_terms.specs.Documents.{document_verdict, reduced_verdict}
+use Rattle.verdict_terms.specs.Documents.{Refusal, document_verdict, reduced_verdict}
 use Rattle.verdict_terms.specs.Form.{IsDocument, IsReducedDocument}
 use Rattle.answer_terms.specs.Answers.{answer_text}
 use Rattle.answer_terms.specs.Answers.Answer.{Undecided, Claimed}
@@ -18,7 +18,7 @@ use Rattle.answer_terms.specs.Shown.{Shows}
 use Rattle.answer_terms.specs.Explained.{explained_text}
 use Rattle.explained_terms.specs.Steps.{PlainStep}
 use Rattle.explained_terms.specs.Explaining.{Explains}
-use Rattle.explained_documents.specs.declared.kind.DocumentKind.TheVariants.{Explained}
+use Rattle.explained_documents.specs.declared.kind.DocumentKind.TheVariants.{Explained, Reduced as ReducedKind}
 use Rattle.explained_documents.specs.Kinds.{document_kind}
 use Rattle.explained_documents.specs.Documents.{explained_verdict}
 use Rattle.document_terms.specs.Claims.{job_of}
@@ -59,12 +59,13 @@ abbrev pub UndecidedIsRefused : Type 0
 UndecidedIsRefused = (instance : PlainInstance) (claim : Claim) → IsInstance instance
     → ¬ (document_verdict (answer_text instance Undecided) ≡ Ok claim)
 
--- the text is a reduced document of the claim, verified with it, which is one of the job, and the
--- instance in it is this one
+-- the text is a reduced document of the claim, also by its first line, verified with the claim, which
+-- is one of the job, and the instance in it is this one
 pub record IsReducedFor (job : ReducedJob) (instance : PlainInstance) (text : List ℕ) (claim : Claim) : Type 0 where
   pub of_job : job_of claim ≡ solving_job job
   pub document : IsReducedDocument text claim
   pub about : document.instance ≡ instance
+  pub kind : document_kind text ≡ ReducedKind
   pub verified : reduced_verdict text ≡ Ok claim
 
 -- the document with which something is claimed from the symmetry facts on is verified with it, and
@@ -81,10 +82,16 @@ abbrev pub OnlyReducedFitIsUndecided : Type 0
 OnlyReducedFitIsUndecided = (job : ReducedJob) (budget : ℕ) (scales : Bool) (instance : PlainInstance)
     → reduced_solved job budget scales instance ≡ Undecided → job ≡ ReducesFit
 
--- where it says undecided, it is verified with no claim
+-- the text is a reduced document by its first line, and refused as one
+pub record IsReducedRefused (text : List ℕ) : Type 0 where
+  pub kind : document_kind text ≡ ReducedKind
+  pub refusal : Refusal
+  pub refused : reduced_verdict text ≡ Err refusal
+
+-- so is the document that says undecided
 abbrev pub ReducedUndecidedIsRefused : Type 0
-ReducedUndecidedIsRefused = (instance : PlainInstance) (claim : Claim) → IsInstance instance
-    → ¬ (reduced_verdict (reduced_text instance Undecided) ≡ Ok claim)
+ReducedUndecidedIsRefused = (instance : PlainInstance) → IsInstance instance
+    → IsReducedRefused (reduced_text instance Undecided)
 
 -- the text is an explained document by its first line, verified, and about this instance
 pub record IsExplainedFor (instance : PlainInstance) (text : List ℕ) : Type 0 where

@@ -23,8 +23,9 @@ pub fn undecided_is_refused()
     ensures { UndecidedIsRefused }
 {}
 
-/// A document with which something is claimed from the symmetry facts on is verified with that
-/// claim, which is one of the job, and the instance in it is the asked one.
+/// A document with which something is claimed from the symmetry facts on is of the kind of reduced
+/// documents, and verified as one with that claim, which is one of the job, and the instance in it
+/// is the asked one.
 pub fn own_reduced_documents_are_verified()
     ensures { OwnReducedDocumentsAreVerified }
 {}
@@ -35,7 +36,8 @@ pub fn only_reduced_fit_is_undecided()
     ensures { OnlyReducedFitIsUndecided }
 {}
 
-/// The document that says undecided under `reduced` is verified with no claim.
+/// The document that says undecided under `reduced` is of the kind of reduced documents, and refused
+/// as one.
 pub fn reduced_undecided_is_refused()
     ensures { ReducedUndecidedIsRefused }
 {}

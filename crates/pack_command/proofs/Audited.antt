@@ -18,9 +18,11 @@ use Rattle.explained_documents.specs.declared.kind.DocumentKind.TheVariants.{Red
 use Rattle.explained_documents.specs.Kinds.{document_kind}
 use Rattle.explained_documents.specs.Documents.{ExplainedRefusal, explained_verdict, explained_line, explained_status}
 use Rattle.explained_documents.proofs.Shown.{documents_are_true as explained_are_true}
+use Rattle.explained_documents.proofs.FormTold.{documents_have_form as explained_have_form}
 use Rattle.front_verdict_terms.specs.Verdicts.{FrontRead, front_document_verdict, front_verdict_line}
 use Rattle.front_verdict_terms.specs.Verdicts.{front_verdict_status}
 use Rattle.front_verdict_terms.proofs.Verified.{verified_fronts_are_true}
+use Rattle.front_verdict_terms.proofs.FormTold.{fronts_have_form}
 use Rattle.answer_streams.specs.declared.verdict.Verdict.{Verdict}
 use Rattle.answer_streams.specs.declared.audited.AuditedVerdict.{AuditedVerdict}
 use Rattle.answer_streams.specs.declared.audited.AuditedVerdict.TheVariants.{Reduced as ToldReduced}
@@ -122,14 +124,18 @@ true_verdict bytes OfExplained zero = go (explained_verdict bytes) refl zero
   where
     go : (verdict : Result PlainInstance ExplainedRefusal) → explained_verdict bytes ≡ verdict
         → explained_status verdict ≡ 0 → IsTrueVerdict bytes (ExplainedVerdictOf verdict)
-    go (Ok instance) is ok = (is, explained_are_true bytes instance is)
+    go (Ok instance) is ok = record {
+      verdict = is;
+      document = explained_have_form bytes instance is;
+      shown = explained_are_true bytes instance is;
+    }
     go (Err refusal) is bad = absurd (cc (bad))
 true_verdict bytes OfFront zero = go (front_document_verdict bytes) refl zero
   where
     go : (verdict : Result FrontRead Refusal) → front_document_verdict bytes ≡ verdict
         → front_verdict_status verdict ≡ 0 → IsTrueVerdict bytes (FrontVerdictOf verdict)
     go (Ok r) is ok = let t = verified_fronts_are_true bytes r is in
-        record { verdict = is; limits = t.0; plane = t.1; front = t.2 }
+        record { verdict = is; document = fronts_have_form bytes r is; limits = t.0; plane = t.1; front = t.2 }
     go (Err refusal) is bad = absurd (cc (bad))
 
 pub audited_claimed : (old new sunk_old sunk_new : Option (List ℕ)) (status : ℕ) → status ≡ 0

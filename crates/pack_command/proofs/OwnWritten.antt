@@ -1,9 +1,15 @@
 -- The documents that are written are verified, and about the instance that was asked.
-use Rattle.std.proofs.Common.{ℕ, ◌≡◌, ◌⊎◌, inl, inr, refl, sym, subst, List, Option, Ok, Some, String, Global}
+use Rattle.std.proofs.Common.{ℕ, ◌≡◌, ◌⊎◌, inl, inr, refl, sym, ap, subst, ◌∙◌, List, Option, Result, Ok, Err, Some}
+use Rattle.std.proofs.Common.{String, Global}
 use Rattle.packing_terms.specs.Packing.{PlainInstance}
 use Rattle.packing_terms.specs.Limits.{IsInstance}
 use Rattle.text_terms.specs.Texts.{text_instance}
 use Rattle.document_terms.specs.declared.claim.SolvingJob.{SolvingJob}
+use Rattle.document_terms.specs.declared.claim.Claim.{Claim}
+use Rattle.verdict_terms.specs.Documents.{Refusal, reduced_verdict}
+use Rattle.explained_documents.specs.declared.kind.DocumentKind.TheVariants.{Reduced as ReducedKind}
+use Rattle.explained_documents.specs.Kinds.{document_kind}
+use Rattle.answer_streams.specs.Audited.{ReducedVerdictOf, verdict_of_kind, audit_verdict}
 use Rattle.answer_terms.specs.declared.job.DocumentJob.{DocumentJob}
 use Rattle.answer_terms.specs.declared.job.DocumentJob.TheVariants.{Solving as Solves, Reduced as Reduces}
 use Rattle.answer_terms.specs.declared.job.ReducedJob.{ReducedJob}
@@ -41,6 +47,11 @@ own_answer job settings instance limits (Claimed claim numbers tokens) e =
       status_is = refl;
     })
 
+-- an audit of a text of its kind gives the verdict on reduced documents
+audited_reduced : (text : List ℕ) (verdict : Result Claim Refusal) → document_kind text ≡ ReducedKind
+    → reduced_verdict text ≡ verdict → audit_verdict text ≡ ReducedVerdictOf verdict
+audited_reduced text verdict kind is = ap (λ k. verdict_of_kind k text) kind ∙ ap ReducedVerdictOf is
+
 reduced_answer : (job : ReducedJob) (settings : Settings) (instance : PlainInstance) → IsInstance instance
     → (a : Answer)
     → reduced_solved job settings.budget settings.scales instance ≡ a
@@ -51,12 +62,18 @@ reduced_answer job settings instance limits Undecided e =
     inr (record {
       asked = subst (λ j. AsksWhetherFits (Reduces j)) (sym fit) tt;
       undecided = refl;
-      refused = (λ claim v. reduced_undecided_refused instance claim limits v);
+      refused = let r = reduced_undecided_refused instance limits in
+          (r.refusal, audited_reduced (reduced_text instance Undecided) (Err r.refusal) r.kind r.refused);
     })
 reduced_answer job settings instance limits (Claimed claim numbers tokens) e =
     inl (record {
       claim = claim;
-      verified = own_reduced job settings.budget settings.scales instance claim numbers tokens limits e;
+      verified = let is = own_reduced job settings.budget settings.scales instance claim numbers tokens limits e in
+          record {
+            is = is;
+            audited = audited_reduced (reduced_text instance (Claimed claim numbers tokens)) (Ok claim) is.kind
+                is.verified;
+          };
       status_is = refl;
     })
 

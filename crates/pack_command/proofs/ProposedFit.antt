@@ -1,5 +1,5 @@
 -- What the answer of `fit` with proposals says.
-use Rattle.std.proofs.Common.{ℕ, ◌≡◌, ◌+◌, ◌≤◌, ◌<◌, inl, inr, arith, refl, sym, subst, List, []}
+use Rattle.std.proofs.Common.{ℕ, ◌≡◌, ◌+◌, ◌≤◌, ◌<◌, inl, inr, arith, refl, sym, subst, false, List, []}
 use Rattle.std.specs.declared.option.Option.{Option}
 use Rattle.packing_terms.specs.Packing.{PlainInstance}
 use Rattle.packing_terms.specs.Limits.{IsInstance, IsInternalInstance}
@@ -15,22 +15,23 @@ use Rattle.answer_terms.specs.Solved.{fit_answer}
 use Rattle.class_search.specs.Right.{IsRight}
 use Rattle.proof_tree.specs.declared.outcome.Outcome.{Outcome}
 use Rattle.work_share.specs.Outcomes.{plain_outcome}
-use Rattle.proposed_answers.specs.Behind.{IsBehind}
-use Rattle.proposed_answers.proofs.Behind.{outcome_right, outcome_past}
+use Rattle.proposed_answers.specs.Behind.{IsWithoutScales}
 use Rattle.answer_streams.specs.declared.solution.Solution.TheVariants.{Fit}
 use Rattle.pack_streams.specs.Moves.{Gains}
 use Rattle.pack_command.specs.Answered.{branchings, class_bound}
 use Rattle.pack_command.specs.Decides.{IsExactlyFit}
-use Rattle.pack_command.specs.Proposed.{IsProposedFit, IsProposedSolution, IsProposedFitDecided, IsProposedAnswer}
+use Rattle.pack_command.specs.Proposed.{IsProposedFit, IsProposedSolution, IsProposedFitDecided}
 use Rattle.pack_command.proofs.Found.{right_placed}
 use Rattle.pack_command.proofs.ProposedOwn.{IsOwnAnswer}
 
 -- an outcome that was found is a solution
 pub fit_proposed : (settings : Settings) (instance : PlainInstance) (o : Outcome)
-    → IsBehind instance settings.budget settings.scales (plain_outcome o)
-    → IsRight instance [] (plain_outcome o) → IsProposedSolution SolvesFit settings instance (Fit o)
-fit_proposed settings instance o behind right = record {
-  is = record { outcome = plain_outcome o; is = behind; answer_is = refl };
+    → IsRight instance [] (plain_outcome o)
+    → (plain_outcome o ≡ Past → settings.budget < branchings settings instance)
+    → (settings.scales ≡ false → IsWithoutScales (plain_outcome o))
+    → IsProposedSolution SolvesFit settings instance (Fit o)
+fit_proposed settings instance o right past plain = record {
+  is = record { outcome = plain_outcome o; right = right; past = past; plain = plain; answer_is = refl };
   text = refl;
   placed = right_placed instance [] (plain_outcome o) right;
 }
@@ -39,19 +40,20 @@ fit_proposed settings instance o behind right = record {
 decided_by : (settings : Settings) (instance : PlainInstance) → IsInternalInstance instance
     → (old new : Option (List ℕ)) (o : PlainOutcome)
     → IsRight instance [] o → (o ≡ Past → settings.budget < branchings settings instance)
-    → Gains old new (answer_text instance (fit_answer o))
+    → (settings.scales ≡ false → IsWithoutScales o) → Gains old new (answer_text instance (fit_answer o))
     → IsProposedFitDecided instance settings old new (status_of (fit_answer o))
-decided_by settings instance limits old new (Decided (Yes places count)) right past written =
+decided_by settings instance limits old new (Decided (Yes places count)) right past plain written =
     inl (record { status_is = refl; places = places; packing = right; written = written })
-decided_by settings instance limits old new (Decided (No tokens count)) right past written =
+decided_by settings instance limits old new (Decided (No tokens count)) right past plain written =
     inr (inl (record {
       status_is = refl;
       none = none_fits excess_law instance (internal_sides instance limits) tokens right;
       tokens = tokens;
       refutation = right;
+      plain = plain;
       written = written;
     }))
-decided_by settings instance limits old new Past right past written =
+decided_by settings instance limits old new Past right past plain written =
     inr (inr (record { status_is = refl; past = past refl; written = written }))
 
 own_by : (instance : PlainInstance) (o : PlainOutcome) → IsRight instance [] o
@@ -62,32 +64,19 @@ own_by instance Past right = tt
 
 module _ (settings : Settings) (instance : PlainInstance) (limits : IsInstance instance) (answer : Answer)
     (is : IsProposedFit settings instance answer) where
-  right : IsRight instance [] is.outcome
-  right =
-      let b = is.is in
-      outcome_right instance (written_internal instance limits) settings.budget settings.scales b.proposal is.outcome
-      b.is b.counted
-
-  past : is.outcome ≡ Past → settings.budget < branchings settings instance
-  past = let b = is.is in outcome_past instance (written_internal instance limits) settings.budget settings.scales
-      b.proposal is.outcome b.is
-
   pub fit_own : IsOwnAnswer SolvesFit instance answer
   fit_own = subst (λ (a : Answer). IsOwnAnswer SolvesFit instance a) (sym is.answer_is)
-      (own_by instance is.outcome right)
+      (own_by instance is.outcome is.right)
 
   module _ (old new : Option (List ℕ)) (written : Gains old new (answer_text instance answer)) where
     of_outcome : Gains old new (answer_text instance (fit_answer is.outcome))
     of_outcome = subst (λ (a : Answer). Gains old new (answer_text instance a)) is.answer_is written
 
     pub fit_proposed_decided : IsProposedFitDecided instance settings old new (status_of answer)
-        × IsProposedAnswer instance settings old new (status_of answer)
     fit_proposed_decided =
-        subst (λ (a : Answer). IsProposedFitDecided instance settings old new (status_of a)
-        × IsProposedAnswer instance settings old new (status_of a)) (sym is.answer_is) (
-          decided_by settings instance (written_internal instance limits) old new is.outcome right past of_outcome,
-          record { outcome = is.outcome; is = is.is; status_is = refl; written = of_outcome },
-        )
+        subst (λ (a : Answer). IsProposedFitDecided instance settings old new (status_of a)) (sym is.answer_is)
+        (decided_by settings instance (written_internal instance limits) old new is.outcome is.right is.past is.plain
+        of_outcome)
 
 module _ (settings : Settings) (instance : PlainInstance) (old new : Option (List ℕ)) (status : ℕ) where
   pub fit_within : IsProposedFitDecided instance settings old new status

@@ -1,5 +1,5 @@
 -- What the solving jobs with proposals promise.
-use Rattle.std.specs.Prelude.{ℕ, suc, pred, ◌<◌, ◌≤◌, ◌≡◌, ◌⊎◌, List, [], String, Ok, Err}
+use Rattle.std.specs.Prelude.{ℕ, suc, pred, ◌<◌, ◌≤◌, ◌≡◌, ◌⊎◌, false, List, [], String, Ok, Err}
 use Rattle.std.specs.declared.option.Option.{Option}
 use Rattle.std.specs.declared.alloc.Global.{Global}
 use Rattle.packing_terms.specs.Packing.{PlainInstance, IsPacking, Fits}
@@ -9,7 +9,7 @@ use Rattle.packing_terms.specs.Tokens.{PlainToken}
 use Rattle.packing_terms.specs.Refutation.{Refutes}
 use Rattle.packing_terms.specs.OuterRefutation.{IsBinRefutation, IsValueRefutation}
 use Rattle.tree_terms.specs.OuterSearch.{AreBinNumbers, AreTakenNumbers}
-use Rattle.tree_terms.specs.Trees.{PlainOutcome}
+use Rattle.tree_terms.specs.Trees.{PlainOutcome, Past}
 use Rattle.text_terms.specs.Texts.{text_instance}
 use Rattle.text_terms.specs.declared.settings.Settings.{Settings}
 use Rattle.document_terms.specs.Claims.{IsHeightBetween, IsBinsBetween, IsValueBetween}
@@ -30,7 +30,8 @@ use Rattle.bin_knapsack.specs.declared.bins.Bins.{Bins as FoundBins}
 use Rattle.bin_knapsack.specs.BinAnswers.{AreTrueBins}
 use Rattle.bin_knapsack.specs.declared.choice.Choice.{Choice as FoundChoice}
 use Rattle.bin_knapsack.specs.Choices.{IsTrueChoice}
-use Rattle.proposed_answers.specs.Behind.{IsBehind}
+use Rattle.class_search.specs.Right.{IsRight}
+use Rattle.proposed_answers.specs.Behind.{has_scale_line, IsWithoutScales}
 use Rattle.proposed_levels.specs.Heights.{height_count, IsNamedStrip, IsLimitedStrip, IsPastBeside}
 use Rattle.proposed_bins.specs.Counts.{bins_count, AreNamedBins, AreLimitedBins, IsPastBeside as IsPastBins}
 use Rattle.proposed_choice.specs.Values.{value_count, IsLimitedChoice, IsPastBeside as IsPastChoice}
@@ -45,15 +46,13 @@ use Rattle.pack_command.specs.declared.stop.Stop.{Stop}
 use Rattle.pack_command.specs.declared.stop.Stop.TheVariants.{Words, TooLong, Text, Dimensions, ReadFault, WriteFault}
 use Rattle.pack_command.specs.declared.stop.Stop.TheVariants.{NoMemory}
 
--- an outcome behind some proposal: the proposal where it passes its test, and else what is told of
--- the class tree under the budget; the number of workers has no part in what stands behind it
-abbrev pub IsOutcome : Settings → PlainInstance → PlainOutcome → Type 0
-IsOutcome settings instance outcome = IsBehind instance settings.budget settings.scales outcome
-
--- the answer of such an outcome
+-- The answer for `fit`: a yes has a packing and a no a refutation, which has no line of scale functions
+-- if these aren't wanted; it is undecided only where the class tree has more branchings than the budget.
 pub record IsProposedFit (settings : Settings) (instance : PlainInstance) (answer : Answer) : Type 0 where
   pub outcome : PlainOutcome
-  pub is : IsOutcome settings instance outcome
+  pub right : IsRight instance [] outcome
+  pub past : outcome ≡ Past → settings.budget < branchings settings instance
+  pub plain : settings.scales ≡ false → IsWithoutScales outcome
   pub answer_is : answer ≡ fit_answer outcome
 
 -- The answer for a strip, which is true; it is two heights only where the class trees of the height above
@@ -155,12 +154,15 @@ pub record IsProposedYes (instance : PlainInstance) (sunk_old sunk_new : Option 
   pub packing : IsPacking instance places
   pub written : Gains sunk_old sunk_new (answer_text instance (Claimed Fitting places []))
 
--- no, with the tokens of a refutation, where the instance doesn't fit
-pub record IsProposedNo (instance : PlainInstance) (sunk_old sunk_new : Option (List ℕ)) (status : ℕ) : Type 0 where
+-- no, with the tokens of a refutation, where the instance doesn't fit; none of them is a line of scale
+-- functions if these aren't wanted
+pub record IsProposedNo (instance : PlainInstance) (settings : Settings) (sunk_old sunk_new : Option (List ℕ))
+    (status : ℕ) : Type 0 where
   pub status_is : status ≡ 1
   pub none : ¬ Fits instance
   pub tokens : List PlainToken
   pub refutation : Refutes instance [] tokens
+  pub plain : settings.scales ≡ false → has_scale_line tokens ≡ false
   pub written : Gains sunk_old sunk_new (answer_text instance (Claimed NotFitting [] tokens))
 
 -- undecided, only where the count of branchings of the class tree is greater than the budget
@@ -174,15 +176,8 @@ pub record IsProposedUndecided (instance : PlainInstance) (settings : Settings) 
 abbrev pub IsProposedFitDecided : PlainInstance → Settings → (sunk_old sunk_new : Option (List ℕ)) → ℕ → Type 0
 IsProposedFitDecided instance settings sunk_old sunk_new status =
     IsProposedYes instance sunk_old sunk_new status
-    ⊎ (IsProposedNo instance sunk_old sunk_new status ⊎ IsProposedUndecided instance settings sunk_old sunk_new status)
-
--- the status and the document are those of an outcome behind some proposal
-pub record IsProposedAnswer (instance : PlainInstance) (settings : Settings) (sunk_old sunk_new : Option (List ℕ))
-    (status : ℕ) : Type 0 where
-  pub outcome : PlainOutcome
-  pub is : IsOutcome settings instance outcome
-  pub status_is : status ≡ status_of (fit_answer outcome)
-  pub written : Gains sunk_old sunk_new (answer_text instance (fit_answer outcome))
+    ⊎ (IsProposedNo instance settings sunk_old sunk_new status
+    ⊎ IsProposedUndecided instance settings sunk_old sunk_new status)
 
 -- ---- what the answer of `strip` says
 
@@ -304,7 +299,6 @@ abbrev pub IsProposedDecided : SolvingJob → PlainInstance → Settings → (su
     → ℕ → Type 0
 IsProposedDecided SolvesFit instance settings sunk_old sunk_new status =
     IsProposedFitDecided instance settings sunk_old sunk_new status
-    × IsProposedAnswer instance settings sunk_old sunk_new status
 IsProposedDecided SolvesStrip instance settings sunk_old sunk_new status =
     IsProposedStripDecided instance settings sunk_old sunk_new status
 IsProposedDecided SolvesBins instance settings sunk_old sunk_new status =

@@ -11,7 +11,8 @@ use text_terms::TextFault;
 pub enum Stop {
     /// The words are no job.
     Words,
-    /// The input is longer than 1,048,576 bytes.
+    /// The input is longer than the job takes: 1,048,576 bytes of an instance text, 16,777,216 of a
+    /// document for `explain` or `audit`, and 1,099,511,627,776 of one for `check`.
     TooLong,
     /// The input is no instance text.
     Text(TextFault),

@@ -47,14 +47,16 @@ use work_share::{Gate, Settings};
 /// Status 0 is yes, least, greatest, verified or a whole front, 1 is no, none, refused or an empty
 /// front, and 3 is undecided, between or a part of a front: the answer is whole before its first
 /// byte goes to `out`, the document, the one line of `check` or `audit` or the three lines of
-/// `make` are written whole in pieces of 4,096 bytes, and nothing to `err`. With every other status
-/// one line on `err` names the cause: 2 the words, the length or the text of the input, or for
-/// `front` that it hasn't two dimensions; 4 a failed read; 5 a failed write, after a part at the
-/// front of what was to be written; 6 want of memory. With 2, 4 and 6 nothing was written to `out`.
+/// `make` are written whole, and nothing to `err`. With every other status one line on `err` names
+/// the cause: 2 the words, the length or the text of the input, or for `front` that it hasn't two
+/// dimensions; 4 a failed read; 5 a failed write, after a part at the front of what was to be
+/// written; 6 out of memory. With 2, 4 and 6 nothing was written to `out`. In what pieces bytes go
+/// out is said by no clause: the tests show pieces of 4,096 bytes.
 ///
 /// Several workers share each search tree. Nothing that is written depends on their number, or on
-/// the gate, which they call around the exploring of each task. With proposals that is said of what
-/// stands behind a proposal; the search for one knows nothing of workers.
+/// the gate, which they call around the exploring of each task. For jobs with proposals no clause
+/// says so: it holds by structure, since a search for a proposal takes neither the number of workers
+/// nor the budget, and the tree is decided with the same outcome by any number of workers.
 pub fn run<R: Threads + Wait + Sync, S: Source, K: Sink, E: Sink, G: Gate + Sync>(
     rt: &R,
     alloc: Global,
@@ -148,9 +150,9 @@ pub fn run<R: Threads + Wait + Sync, S: Source, K: Sink, E: Sink, G: Gate + Sync
         → IsOwnFront instance (K.written out.old) (K.written out.new) result }
 
     // The answer of a job with proposals is true of the instance that the input is the text of.
-    // `fit` is yes only with a packing, no only with a refutation, and undecided only where the
-    // class tree has more branchings than the budget; it is the answer behind some proposal, in
-    // which the number of workers has no part. `strip` is the least height over all packings with
+    // `fit` is yes only with a packing, no only with a refutation, which has no `v` line under
+    // `--scales no`, and undecided only where the class tree has more branchings than the budget.
+    // `strip` is the least height over all packings with
     // both certificates, none exactly where there is none, or between two heights with both
     // certificates, only where the class trees of both heights beside the two have more branchings
     // than the budget. `bins` is the same of numbers of bins and their bin trees, and `knapsack` of

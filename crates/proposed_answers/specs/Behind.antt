@@ -1,9 +1,11 @@
--- What is answered behind a proposal: the proposal where it passes its test, and else what is told
--- of the class tree. The number of workers has no part.
+-- The outcome with a proposal: the proposal where it passes its test, and else the outcome of the class
+-- tree under the budget. The number of workers has no part.
 use Rattle.std.specs.Prelude.{ℕ, ◌≡◌, ◌*◌, ◌/◌, Bool, true, false, List, [], length, map}
+use Rattle.std.specs.List.{list_any}
 use Rattle.packing_terms.specs.Packing.{PlainInstance, dims, box_count}
 use Rattle.packing_terms.specs.Tokens.{PlainToken}
-use Rattle.tree_terms.specs.Trees.{PlainOutcome, Decided, Yes, No, outcome, told, count_of}
+use Rattle.packing_terms.specs.Tokens.PlainToken.{Scales, GlobalScales}
+use Rattle.tree_terms.specs.Trees.{PlainOutcome, Decided, Past, Yes, No, outcome, told, count_of}
 use Rattle.tree_terms.specs.ClassTree.{class_tree}
 use Rattle.check_terms.specs.declared.answers.PlaceVerdict.{PlaceVerdict}
 use Rattle.check_terms.specs.declared.answers.PlaceVerdict.TheVariants.{Good, Outside, Overlap}
@@ -60,8 +62,23 @@ tree_count instance scales = count_of (outcome (class_tree instance [] scales))
 abbrev pub tree_told : PlainInstance → ℕ → Bool → PlainOutcome
 tree_told instance budget scales = told budget (outcome (class_tree instance [] scales))
 
--- the outcome is the one behind some proposal
-pub record IsBehind (instance : PlainInstance) (budget : ℕ) (scales : Bool) (outcome : PlainOutcome) : Type 0 where
-  pub proposal : PlainProposal
-  pub counted : IsCounted instance proposal
-  pub is : outcome ≡ answer_behind instance proposal (tree_told instance budget scales)
+-- whether a token compares the images of scale functions
+abbrev pub is_scale_line : PlainToken → Bool
+is_scale_line (Scales fs) = true
+is_scale_line (GlobalScales fs) = true
+is_scale_line _ = false
+
+abbrev pub has_scale_line : List PlainToken → Bool
+has_scale_line tokens = list_any is_scale_line tokens
+
+-- a no has no such token
+abbrev pub IsWithoutScales : PlainOutcome → Type 0
+IsWithoutScales (Decided (No tokens count)) = has_scale_line tokens ≡ false
+IsWithoutScales (Decided (Yes numbers count)) = Unit {0}
+IsWithoutScales Past = Unit {0}
+
+-- a proposal has no such token
+abbrev pub IsPlainProposal : PlainProposal → Type 0
+IsPlainProposal (Tokens tokens) = has_scale_line tokens ≡ false
+IsPlainProposal (Places places) = Unit {0}
+IsPlainProposal Nothing = Unit {0}

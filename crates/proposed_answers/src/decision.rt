@@ -1,14 +1,14 @@
 //! The decision of one instance by proposals first, and then by the described tree.
-ghost use Rattle.std.specs.Prelude.{◌≡◌, ◌<◌, ◌≤◌, ◌+◌, ◌-◌, ◌*◌, ◌/◌, ◌^◌, IfOk, []};
+ghost use Rattle.std.specs.Prelude.{◌≡◌, ◌<◌, ◌≤◌, ◌+◌, ◌-◌, ◌*◌, ◌/◌, ◌^◌, IfOk, false, []};
 ghost use Rattle.packing_terms.specs.Packing.{dims, box_count};
 ghost use Rattle.tree_terms.specs.Trees.{Past as PlainPast};
 ghost use Rattle.work_share.specs.Outcomes.{plain_outcome};
 ghost use Rattle.class_search.specs.Right.{IsRight, Decides, IsYesOrNo};
 ghost use Rattle.conflict_search.specs.Sizes.{IsSized};
-ghost use Rattle.proposed_answers.specs.Behind.{plain_proposal, answer_behind, tree_count, tree_told, IsBehind};
+ghost use Rattle.proposed_answers.specs.Behind.{plain_proposal, answer_behind, tree_count, tree_told, IsWithoutScales};
 
 use crate::proposing::propose;
-use crate::testing::is_refutation;
+use crate::testing::{is_refutation, wanted};
 use box_instances::{Instance, NoMemory};
 use check_terms::PlaceVerdict;
 use class_search::decide;
@@ -86,11 +86,12 @@ pub fn decide_behind<R: Threads + Wait + Sync, G: Gate + Sync>(
 
 /// Whether an instance fits, by proposals first and then by the class tree under the budget.
 ///
-/// A yes comes only with a packing, and a no only with a refutation of the instance. `Past` comes
-/// only where the class tree has more branchings than the budget: where it has at most so many, the
-/// answer is yes or no. Which packing, which refutation and how few branchings isn't promised, but
-/// the proposal is made by one worker that doesn't know how many there are, and behind a proposal
-/// the outcome is what `decide_behind` says.
+/// A yes comes only with a packing, and a no only with a refutation of the instance, which has no
+/// `v` line if the settings want no scales. `Past` comes only where the class tree has more
+/// branchings than the budget: where it has at most so many, the answer is yes or no. Which packing,
+/// which refutation and how few branchings isn't promised. That the outcome is the same for every
+/// number of workers is seen in the code and said by no clause: `propose` takes neither the number
+/// of workers nor the budget, and `decide_behind` gives one outcome for its proposal.
 pub fn decide_proposed<R: Threads + Wait + Sync, G: Gate + Sync>(
     rt: &R,
     alloc: Global,
@@ -107,11 +108,12 @@ pub fn decide_proposed<R: Threads + Wait + Sync, G: Gate + Sync>(
     ensures enough { 3 ^ (dims instance.now * box_count instance.now
         * (box_count instance.now - 1) / 2) ≤ settings.now.budget + 1
         → IfOk result (λ r. IsYesOrNo (plain_outcome r)) }
-    ensures behind { IfOk result (λ r. IsBehind instance.now settings.now.budget
-        settings.now.scales (plain_outcome r)) }
+    ensures plain { settings.now.scales ≡ false
+        → IfOk result (λ r. IsWithoutScales (plain_outcome r)) }
 {
     // For the proof alone: tells the limits of the instance.
     let _limits = instance.len();
     let proposal = propose(alloc, instance, settings.scales)?;
+    let proposal = wanted(instance, proposal, settings.scales);
     decide_behind(rt, alloc, instance, proposal, settings, gate)
 }

@@ -276,13 +276,13 @@ reading_told heading job parts n (line ∷ lines) told e =
 
 -- ---- the whole
 
-filled_append : (xs ys : List (List ℕ)) → filled_lines (xs ++ ys) ≡ filled_lines xs ++ filled_lines ys
+pub filled_append : (xs ys : List (List ℕ)) → filled_lines (xs ++ ys) ≡ filled_lines xs ++ filled_lines ys
 filled_append xs ys =
     ap (filter (λ words. not (is_none words))) (map-append (λ line. words_of (content line)) xs ys)
     ∙ filter-append (λ words. not (is_none words)) (map (λ line. words_of (content line)) xs)
     (map (λ line. words_of (content line)) ys)
 
-clean_append : (xs ys : List (List ℕ)) → AreClean xs → AreClean ys → AreClean (xs ++ ys)
+pub clean_append : (xs ys : List (List ℕ)) → AreClean xs → AreClean ys → AreClean (xs ++ ys)
 clean_append xs ys c d = list_any-append (λ line. list_any is_bad (content line)) xs ys ∙ or_from _ _ c d
 
 filled_line_is : (line : List ℕ) (lines : List (List ℕ)) (words : List (List ℕ))

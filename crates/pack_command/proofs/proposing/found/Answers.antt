@@ -13,7 +13,8 @@ returns-in_ok-outcome-in-Fit g c =
     subst (λ (job : SolvingJob). IsProposedSolution job c.args.settings.now c.args.instance.now
     (Fit c.in_ok-outcome-in-Fit.outcome)) (sym c.in-Fit.is)
     (fit_proposed c.args.settings.now c.args.instance.now c.in_ok-outcome-in-Fit.outcome
-    c.in_ok-outcome-in-Fit.ensures.behind c.in_ok-outcome-in-Fit.ensures.right)
+    c.in_ok-outcome-in-Fit.ensures.right c.in_ok-outcome-in-Fit.ensures.past
+    c.in_ok-outcome-in-Fit.ensures.plain)
 
 pub returns-in_ok-strip-in-Strip : goal.returns-in_ok-strip-in-Strip
 returns-in_ok-strip-in-Strip g c =

@@ -5,16 +5,17 @@ use Rattle.tree_terms.proofs.Counts.{class_count}
 use Rattle.work_share.specs.Outcomes.{plain_outcome}
 use Rattle.proposed_answers.specs.Behind.{plain_proposal}
 use Rattle.proposed_answers.proofs.Behind.{proposal_counted, outcome_right, outcome_past, outcome_within, right_decides}
+use Rattle.proposed_answers.proofs.Plain.{outcome_without}
 use Rattle.proposed_answers.proofs.decision.decide_proposed.Goals as goal
 
 pub returns-clause-right : goal.returns-clause-right
 returns-clause-right g c =
     let instance = c.args.instance.now in
-    let p = c.in_ok-proposal.proposal in
+    let p = c.wanted-proposal.result in
     IfOk-weaker c.decide_behind.result _ _
     (λ r h. outcome_right instance c.len-limits.ensures.limits c.args.settings.now.budget c.args.settings.now.scales
     (plain_proposal p) (plain_outcome r) h
-    (proposal_counted instance p c.in_ok-proposal.ensures))
+    (proposal_counted instance p c.wanted-proposal.ensures.sized))
     c.decide_behind.ensures.outcome
 
 pub returns-clause-decides : goal.returns-clause-decides
@@ -27,7 +28,7 @@ pub returns-clause-past : goal.returns-clause-past
 returns-clause-past g c =
     IfOk-weaker c.decide_behind.result _ _
     (λ r h. outcome_past c.args.instance.now c.len-limits.ensures.limits c.args.settings.now.budget
-    c.args.settings.now.scales (plain_proposal c.in_ok-proposal.proposal)
+    c.args.settings.now.scales (plain_proposal c.wanted-proposal.result)
     (plain_outcome r) h)
     c.decide_behind.ensures.outcome
 
@@ -36,7 +37,7 @@ returns-clause-within g c l =
     IfOk-weaker c.decide_behind.result _ _
     (λ r h. outcome_within c.args.instance.now c.len-limits.ensures.limits c.args.settings.now.budget
     c.args.settings.now.scales
-    (plain_proposal c.in_ok-proposal.proposal) (plain_outcome r) h l)
+    (plain_proposal c.wanted-proposal.result) (plain_outcome r) h l)
     c.decide_behind.ensures.outcome
 
 pub returns-clause-enough : goal.returns-clause-enough
@@ -45,13 +46,9 @@ returns-clause-enough g c l =
     c.args.settings.now.scales in
     returns-clause-within g c (omega (arith, b, l))
 
-pub returns-clause-behind : goal.returns-clause-behind
-returns-clause-behind g c =
-    let p = c.in_ok-proposal.proposal in
+pub returns-clause-plain : goal.returns-clause-plain
+returns-clause-plain g c off =
     IfOk-weaker c.decide_behind.result _ _
-    (λ r h. record {
-      proposal = plain_proposal p;
-      counted = proposal_counted c.args.instance.now p c.in_ok-proposal.ensures;
-      is = h;
-    })
+    (λ r h. outcome_without c.args.instance.now c.args.settings.now.budget c.args.settings.now.scales
+    (plain_proposal c.wanted-proposal.result) (plain_outcome r) h off (c.wanted-proposal.ensures.plain off))
     c.decide_behind.ensures.outcome
