@@ -4,6 +4,7 @@ use Rattle.std.proofs.Common.{length, get_or, take, drop, add-one, drop-cons, ap
 use Rattle.std.proofs.Math.ListN.{set}
 use Rattle.std.specs.Io.KnownBytes.{prepend_known}
 use Rattle.std.proofs.lemmas.List.{length-append}
+use Rattle.pack_streams.specs.Faults.{exactly}
 use Rattle.verdict_terms.specs.declared.heading.Heading.{Heading}
 use Rattle.verdict_terms.specs.Documents.{Refusal, headed_verdict}
 use Rattle.verdict_terms.specs.Fed.{EndsRefused}
@@ -33,7 +34,7 @@ Audits heading bytes ReadFault = ⊥
 Audits heading bytes NoMemory = Unit {0}
 
 pub audited : (heading : Heading) (bytes left : List ℕ) (result : CheckEnd) → length bytes ≤ most_document_bytes
-    → IsCheckedUnder heading (Some bytes) (Some left) 0 0 result
+    → IsCheckedUnder heading (Some bytes) (Some left) (exactly 0) (exactly 0) result
     → Audits heading bytes result
 audited heading bytes left result few h = go result h.faults h.comes
   where
@@ -49,7 +50,8 @@ audited heading bytes left result few h = go result h.faults h.comes
         → headed_verdict heading bytes ≡ Err refusal
     ended refusal e none = subst (λ b. headed_verdict heading b ≡ Err refusal) (whole bytes h.taken left are none) e
 
-    go : (r : CheckEnd) → CountsCheck 0 0 r → Comes heading (Some left) h.taken r → Audits heading bytes r
+    go : (r : CheckEnd) → CountsCheck (exactly 0) (exactly 0) r → Comes heading (Some left) h.taken r
+        → Audits heading bytes r
     go (Verified claim) faults (e, small, none) =
         subst (λ b. headed_verdict heading b ≡ Ok claim) (whole bytes h.taken left are none) e
     go (Refused line reason) faults (e, small, inl ends) = stays (record { line = line; reason = reason }) e ends

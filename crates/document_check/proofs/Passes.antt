@@ -1,6 +1,8 @@
 -- A pass over a document, phase by phase.
 use Rattle.std.proofs.Common.{◌≡◌, ◌∙◌, ℕ, ◌+◌, ◌≤◌, inr, true, refl, sym, ap, subst, arith, List, [], Option, Some}
 use Rattle.std.proofs.Common.{None, Result, Ok, Err}
+use Rattle.pack_streams.specs.Faults.{FaultCount, Stays}
+use Rattle.pack_streams.proofs.Faults.{stays_here, stays_on, fails_then}
 use Rattle.text_terms.specs.Feeding.{Lexer, new_lexer}
 use Rattle.document_terms.specs.declared.claim.Claim.{Claim}
 use Rattle.verdict_terms.specs.declared.reason.Reason.{Reason}
@@ -11,13 +13,13 @@ use Rattle.verdict_terms.specs.Stages.Stage.{Beginning, Reading, Placing, Sharin
 use Rattle.verdict_terms.specs.Stages.Stage.{Ending, Ended}
 use Rattle.verdict_terms.specs.Documents.{Refusal, document_at_end}
 use Rattle.document_check.specs.declared.check.CheckEnd.{CheckEnd}
-use Rattle.document_check.specs.declared.check.CheckEnd.TheVariants.{Refused, TooLong, ReadFault, NoMemory}
+use Rattle.document_check.specs.declared.check.CheckEnd.TheVariants.{Verified, Refused, TooLong, ReadFault, NoMemory}
 use Rattle.document_lines.specs.declared.judge.ReadEnd.{ReadEnd}
 use Rattle.document_lines.specs.declared.judge.ReadEnd.TheVariants.{End, Paused, Refused as ReadRefused}
 use Rattle.document_lines.specs.declared.judge.ReadEnd.TheVariants.{TooLong as ReadTooLong, ReadFault as ReadFailed}
 use Rattle.document_lines.specs.declared.judge.ReadEnd.TheVariants.{NoMemory as ReadNoMemory}
 use Rattle.document_check.specs.declared.position.Position.{Position}
-use Rattle.document_check.specs.Checked.{most_document_bytes, IsCheckedUnder}
+use Rattle.document_check.specs.Checked.{most_document_bytes, CountsCheck, IsCheckedUnder}
 use Rattle.document_lines.specs.Reading.{PlainJudge, IsAt, IsRead, IsReadBehind, ended_claim}
 use Rattle.document_check.specs.Passes.{end_of, IsCheckedFrom, IsReadOn, Goes}
 use Rattle.document_check.proofs.Beginnings.{at_behind}
@@ -40,8 +42,8 @@ at_end_is (Exceeding instance claim m) n = refl
 at_end_is (Ending claim behind) n = refl
 at_end_is (Ended claim) n = refl
 
-module _ (old left : Option (List ℕ)) (before now : ℕ) (at : Position) (stage : Stage) (next : Lexer) (behind : Stage)
-    (count : ℕ) where
+module _ (old left : Option (List ℕ)) (before now : FaultCount) (at : Position) (stage : Stage) (next : Lexer)
+    (behind : Stage) (count : ℕ) where
   abbrev pub Behind : ReadEnd → Type 0
   Behind end = IsReadBehind most_document_bytes old left before now at.lexer stage at.count next behind count end
 
@@ -97,38 +99,52 @@ module _ (old left : Option (List ℕ)) (before now : ℕ) (at : Position) (stag
       (r.faults, record { taken = r.taken; gives = r.gives; counted = r.ends.0; so_far = r.ends.1 })
 
 -- memory was refused between two lines
-pub memory_here : (old : Option (List ℕ)) (faults : ℕ) (at : Position) (stage : Stage) → at.count ≤ most_document_bytes
-    → IsCheckedFrom old old faults faults at stage NoMemory
+pub memory_here : (old : Option (List ℕ)) (faults : FaultCount) (at : Position) (stage : Stage)
+    → at.count ≤ most_document_bytes → IsCheckedFrom old old faults faults at stage NoMemory
 memory_here old faults at stage few heading first taking = record {
   taken = taking.taken;
   gives = taking.gives;
-  faults = refl;
+  faults = stays_here faults;
   comes = (
     (let c = taking.counted in omega (arith, c, few)),
     none_before heading at.lexer stage taking.taken taking.so_far,
   );
 }
 
+-- the count of a check that comes after reads of which none failed
+counts_after : (before between now : FaultCount) (result : CheckEnd) → Stays before between
+    → CountsCheck between now result → CountsCheck before now result
+counts_after before between now ReadFault p q = fails_then before between now p q
+counts_after before between now (Verified claim) p q = stays_on before between now p q
+counts_after before between now (Refused line reason) p q = stays_on before between now p q
+counts_after before between now TooLong p q = stays_on before between now p q
+counts_after before between now NoMemory p q = stays_on before between now p q
+
 -- one phase, and then what is left
-module _ (old mid left : Option (List ℕ)) (before between now : ℕ) (at next : Position) (stage behind : Stage)
+module _ (old mid left : Option (List ℕ)) (before between now : FaultCount) (at next : Position) (stage behind : Stage)
     (result : CheckEnd) where
   pub then_from : IsReadOn old mid before between at stage next behind → (rest : Stage) → behind ≡ rest
       → IsCheckedFrom mid left between now next rest result
       → IsCheckedFrom old left before now at stage result
   then_from on rest same more heading first taking =
       let go = on heading first taking in
-      subst (λ n. IsCheckedUnder heading first left n now result) go.0
-      (subst (λ s. IsCheckedFrom mid left between now next s result) (sym same) more heading first go.1)
+      let after = subst (λ s. IsCheckedFrom mid left between now next s result) (sym same) more heading first go.1 in
+      record {
+        taken = after.taken;
+        gives = after.gives;
+        faults = counts_after before between now result go.0 after.faults;
+        comes = after.comes;
+      }
 
 -- from the first byte on
-pub from_start : (heading : Heading) (old left : Option (List ℕ)) (before now : ℕ) (result : CheckEnd)
+pub from_start : (heading : Heading) (old left : Option (List ℕ)) (before now : FaultCount) (result : CheckEnd)
     → IsCheckedFrom old left before now (record { lexer = new_lexer; count = 0 }) (Beginning heading) result
     → IsCheckedUnder heading old left before now result
 from_start heading old left before now result from =
     from heading old (record { taken = []; gives = gives_none old; counted = refl; so_far = so_far_start heading })
 
 -- lines of a judge that tells where the document stands behind them
-pub goes_known : (old left : Option (List ℕ)) (before now : ℕ) (at next : Position) (judge : PlainJudge)
+pub goes_known : (old left : Option (List ℕ)) (before now : FaultCount) (at next : Position) (judge : PlainJudge)
     (stage behind known : Stage) (result : Option CheckEnd)
     → judge ≡ record { stage = stage; takes = true; behind = Some known }
     → Goes old left before now at judge.stage next behind result
@@ -141,7 +157,7 @@ goes_known old left before now at next judge stage behind known None is goes e =
     (subst (λ s. IsReadOn old left before now at s next behind) (ap (λ (j : PlainJudge). j.stage) is) goes)
 
 -- the same, where it is known behind them
-pub goes_on : (old left : Option (List ℕ)) (before now : ℕ) (at next : Position) (judge : PlainJudge)
+pub goes_on : (old left : Option (List ℕ)) (before now : FaultCount) (at next : Position) (judge : PlainJudge)
     (stage behind known : Stage) (result : Option CheckEnd)
     → judge.stage ≡ stage → Goes old left before now at judge.stage next behind result → result ≡ None → behind ≡ known
     → IsReadOn old left before now at stage next known

@@ -1,7 +1,7 @@
 -- What the check of a document comes to. `taken` are the bytes that were taken from the source.
 use Rattle.std.specs.Prelude.{ℕ, ◌+◌, ◌≤◌, ◌≡◌, List, length, take, Option, Ok, Err}
 use Rattle.std.specs.Io.KnownBytes.{IsAtEnd}
-use Rattle.pack_streams.specs.Faults.{FailedOnce}
+use Rattle.pack_streams.specs.Faults.{FaultCount, Stays, FailedOnce}
 use Rattle.pack_streams.specs.Moves.{Gives}
 use Rattle.verdict_terms.specs.declared.heading.Heading.{Heading}
 use Rattle.verdict_terms.specs.declared.heading.Heading.TheVariants.{Answer}
@@ -30,22 +30,22 @@ Comes heading left taken TooLong =
 Comes heading left taken ReadFault = (length taken ≤ most_document_bytes) × NoneRefusedUnder heading taken
 Comes heading left taken NoMemory = (length taken ≤ most_document_bytes) × NoneBeforeUnder heading taken
 
--- the count of faults of the source: the first read that fails is the last
-abbrev pub CountsCheck : ℕ → ℕ → CheckEnd → Type 0
+-- the count of faults of the source: by an exact one, the first read that fails is the last
+abbrev pub CountsCheck : FaultCount → FaultCount → CheckEnd → Type 0
 CountsCheck before now ReadFault = FailedOnce before now
-CountsCheck before now (Verified claim) = now ≡ before
-CountsCheck before now (Refused line reason) = now ≡ before
-CountsCheck before now TooLong = now ≡ before
-CountsCheck before now NoMemory = now ≡ before
+CountsCheck before now (Verified claim) = Stays before now
+CountsCheck before now (Refused line reason) = Stays before now
+CountsCheck before now TooLong = Stays before now
+CountsCheck before now NoMemory = Stays before now
 
 -- what the check of a document with this heading takes from a source, and what it comes to
-pub record IsCheckedUnder (heading : Heading) (old left : Option (List ℕ)) (before now : ℕ) (result : CheckEnd) :
-    Type 0 where
+pub record IsCheckedUnder (heading : Heading) (old left : Option (List ℕ)) (before now : FaultCount)
+    (result : CheckEnd) : Type 0 where
   pub taken : List ℕ
   pub gives : Gives old left taken
   pub faults : CountsCheck before now result
   pub comes : Comes heading left taken result
 
 -- the same of an answer
-abbrev pub IsChecked : Option (List ℕ) → Option (List ℕ) → ℕ → ℕ → CheckEnd → Type 0
+abbrev pub IsChecked : Option (List ℕ) → Option (List ℕ) → FaultCount → FaultCount → CheckEnd → Type 0
 IsChecked old left before now result = IsCheckedUnder Answer old left before now result

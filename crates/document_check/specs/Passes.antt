@@ -1,6 +1,7 @@
 -- A pass over a document, phase by phase: each phase goes on from where the last one left the
 -- source, behind any bytes that were taken before.
-use Rattle.std.specs.Prelude.{ℕ, ◌+◌, ◌≡◌, ◌≤◌, List, Option, Some, None, Result, Ok, Err}
+use Rattle.std.specs.Prelude.{ℕ, ◌+◌, ◌≤◌, List, Option, Some, None, Result, Ok, Err}
+use Rattle.pack_streams.specs.Faults.{FaultCount, Stays}
 use Rattle.document_terms.specs.declared.claim.Claim.{Claim}
 use Rattle.verdict_terms.specs.declared.reason.Reason.TheVariants.{TooShort}
 use Rattle.verdict_terms.specs.declared.heading.Heading.{Heading}
@@ -23,24 +24,26 @@ end_of (Some claim) n = Verified claim
 end_of None n = Refused (n + 1) TooShort
 
 -- what the rest of a document comes to under any heading: `first` is what the source told before the first byte
-abbrev pub IsCheckedFrom : Option (List ℕ) → Option (List ℕ) → ℕ → ℕ → Position → Stage → CheckEnd → Type 0
+abbrev pub IsCheckedFrom : Option (List ℕ) → Option (List ℕ) → FaultCount → FaultCount → Position → Stage → CheckEnd
+    → Type 0
 IsCheckedFrom old left before now at stage result =
     (heading : Heading) (first : Option (List ℕ)) → IsTaking heading first old at.lexer stage at.count
     → IsCheckedUnder heading first left before now result
 
 -- lines were taken without a fault, and the document goes on at another stage
-abbrev pub IsReadOn : Option (List ℕ) → Option (List ℕ) → ℕ → ℕ → Position → Stage → Position → Stage → Type 0
+abbrev pub IsReadOn : Option (List ℕ) → Option (List ℕ) → FaultCount → FaultCount → Position → Stage → Position → Stage
+    → Type 0
 IsReadOn old left before now at stage next behind =
     (heading : Heading) (first : Option (List ℕ)) → IsTaking heading first old at.lexer stage at.count
-    → (now ≡ before) × IsTaking heading first left next.lexer behind next.count
+    → Stays before now × IsTaking heading first left next.lexer behind next.count
 
-abbrev pub Goes : Option (List ℕ) → Option (List ℕ) → ℕ → ℕ → Position → Stage → Position → Stage
+abbrev pub Goes : Option (List ℕ) → Option (List ℕ) → FaultCount → FaultCount → Position → Stage → Position → Stage
     → Option CheckEnd → Type 0
 Goes old left before now at stage next behind (Some result) = IsCheckedFrom old left before now at stage result
 Goes old left before now at stage next behind None = IsReadOn old left before now at stage next behind
 
 -- the same up to the result line, behind which the document goes on with its claim
-abbrev pub GoesBehind : Heading → Option (List ℕ) → Option (List ℕ) → ℕ → ℕ → Position → Position
+abbrev pub GoesBehind : Heading → Option (List ℕ) → Option (List ℕ) → FaultCount → FaultCount → Position → Position
     → Result Claimed CheckEnd → Type 0
 GoesBehind heading old left before now at next (Ok c) =
     IsReadOn old left before now at (Beginning heading) next (claimed c.heading c.instance c.claim)

@@ -1,5 +1,6 @@
 //! The audit of a document that stands in memory.
 ghost use Rattle.std.specs.Prelude.{◌≡◌, ◌≤◌, ◌<◌, length};
+ghost use Rattle.pack_streams.specs.Faults.{exactly};
 ghost use Rattle.pack_streams.specs.Moves.{ReadsPiece, CountsRead};
 ghost use Rattle.document_check.specs.Audited.{IsAudited, IsTrueAudit};
 ghost use Rattle.document_check.specs.Checked.{most_document_bytes};
@@ -53,12 +54,12 @@ impl<'a> Source for BytesSource<'a> {
 
     ghost left = { λ s. Some s };
 
-    ghost faults = { λ s. 0 };
+    ghost faults = { λ s. exactly 0 };
 
     fn read(&mut self, into: &mut [u8]) -> ReadAnswer
         requires { 0 < length into.old }
         ensures moves { ReadsPiece (Some self.old) (Some self.new) result into.new }
-        ensures count { CountsRead 0 0 result }
+        ensures count { CountsRead (exactly 0) (exactly 0) result }
     {
         if self.given == self.bytes.len() {
             return ReadAnswer::End;

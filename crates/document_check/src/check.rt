@@ -78,9 +78,9 @@ fn check_claimed<S: Source>(
 /// first refused line, and no further, in one pass.
 ///
 /// `TooLong`, `ReadFault` and `NoMemory` come only where no line that was whole before is refused.
-/// The first read that fails is the last, and `TooLong` takes one byte more than the limit. It
-/// holds the instance, the places of its boxes, the open nodes of one tree and the words of one
-/// line.
+/// By an exact count of faults, the first read that fails is the last. `TooLong` takes one byte
+/// more than the limit. It holds the instance, the places of its boxes, the open nodes of one tree
+/// and the words of one line.
 pub fn check_document<S: Source>(alloc: Global, heading: Heading, input: &mut S) -> CheckEnd
     ensures { IsCheckedUnder heading (S.left input.old) (S.left input.new) (S.faults input.old)
         (S.faults input.new) result }

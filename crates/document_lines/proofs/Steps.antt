@@ -21,7 +21,7 @@ use Rattle.verdict_terms.specs.Documents.{Refusal, document_at_line, document_at
 use Rattle.verdict_terms.specs.Fed.{taken_line, fed_verdict, NoneRefusedUnder, EndsRefused}
 use Rattle.verdict_terms.proofs.FedGiven.{documents_are_fed}
 use Rattle.verdict_terms.proofs.Stays.{refusals_stay, split_feed, end_append, end_line}
-use Rattle.pack_streams.specs.Faults.{FailedOnce}
+use Rattle.pack_streams.specs.Faults.{FaultCount, Stays, FailedOnce}
 use Rattle.pack_streams.specs.Moves.{ReadsPiece}
 use Rattle.pack_streams.specs.declared.source.ReadAnswer.TheVariants.{Got, End as SourceEnd}
 use Rattle.pack_streams.proofs.Runs.{gives_more}
@@ -218,9 +218,9 @@ single (x ∷ []) e = refl
 single (x ∷ y ∷ xs) e = absurd (omega (arith, e))
 
 -- so many bytes were taken, and then a read that didn't fail
-module _ (heading : Heading) (limit m : ℕ) (old mid now : Option (List ℕ)) (before after : ℕ) (s : Lexer)
+module _ (heading : Heading) (limit m : ℕ) (old mid now : Option (List ℕ)) (before after : FaultCount) (s : Lexer)
     (stage : Stage) (n : ℕ) (so_far : IsTaking heading old mid s stage n)
-    (same : after ≡ before) where
+    (stays : Stays before after) where
   -- the end of the source
   pub ends_here : (piece : List ℕ) (new : Lexer) (next : Stage) (result : ReadEnd) → n ≤ limit
       → ReadsPiece mid now SourceEnd piece → TakesEnd s stage new next result
@@ -228,7 +228,7 @@ module _ (heading : Heading) (limit m : ℕ) (old mid now : Option (List ℕ)) (
   ends_here piece new next End few reads ends = record {
     taken = so_far.taken;
     gives = subst (λ x. Gives old x so_far.taken) (sym reads.1) so_far.gives;
-    faults = same;
+    faults = stays;
     ends = (
       subst IsAtEnd (sym reads.1) reads.0,
       (let c = so_far.counted in omega (arith, c, few)),
@@ -239,7 +239,7 @@ module _ (heading : Heading) (limit m : ℕ) (old mid now : Option (List ℕ)) (
   ends_here piece new next (Refused reason) few reads ends = record {
     taken = so_far.taken;
     gives = subst (λ x. Gives old x so_far.taken) (sym reads.1) so_far.gives;
-    faults = same;
+    faults = stays;
     ends = (
       ap (headed_verdict heading) (sym (append-nil so_far.taken)) ∙ sym (so_far.so_far.goes []) ∙ ends,
       (let c = so_far.counted in omega (arith, c, few)),
@@ -252,7 +252,7 @@ module _ (heading : Heading) (limit m : ℕ) (old mid now : Option (List ℕ)) (
   ends_here piece new next NoMemory few reads ends = record {
     taken = so_far.taken;
     gives = subst (λ x. Gives old x so_far.taken) (sym reads.1) so_far.gives;
-    faults = same;
+    faults = stays;
     ends = ((let c = so_far.counted in omega (arith, c, few)), none_before heading s stage so_far.taken so_far.so_far);
   }
 
@@ -298,7 +298,7 @@ module _ (heading : Heading) (limit m : ℕ) (old mid now : Option (List ℕ)) (
       let line : (feed b s).number ≡ new.number = ap (λ (x : Lexer). x.number) (sym refused.0) in record {
         taken = so_far.taken ++ b ∷ [];
         gives = gives_one k piece e reads;
-        faults = same;
+        faults = stays;
         ends = (
           subst (λ l. headed_verdict heading (so_far.taken ++ b ∷ [])
               ≡ Err (record { line = l; reason = reason })) line h.0,
@@ -314,7 +314,7 @@ module _ (heading : Heading) (limit m : ℕ) (old mid now : Option (List ℕ)) (
   no_memory_at k piece next new room e reads = record {
     taken = so_far.taken ++ get_or piece 0 0 ∷ [];
     gives = gives_one k piece e reads;
-    faults = same;
+    faults = stays;
     ends = (
       (let l = one_more_byte (get_or piece 0 0) in omega (arith, l, room)),
       none_before_one heading s stage so_far.taken (get_or piece 0 0) so_far.so_far,
@@ -328,7 +328,7 @@ module _ (heading : Heading) (limit m : ℕ) (old mid now : Option (List ℕ)) (
       let b : ℕ = get_or piece 0 0 in record {
         taken = so_far.taken ++ b ∷ [];
         gives = gives_one k piece e reads;
-        faults = same;
+        faults = stays;
         ends = (
           one_more_byte b ∙ ap (λ x. x + 1) full,
           subst (NoneRefusedUnder heading) (sym (take_at so_far.taken (b ∷ []) limit (so_far.counted ∙ full)))
@@ -345,13 +345,13 @@ module _ (heading : Heading) (limit m : ℕ) (old mid now : Option (List ℕ)) (
       let l = taking_more k piece next new e reads step in record {
         taken = l.taken;
         gives = l.gives;
-        faults = same;
+        faults = stays;
         ends = (l.counted ∙ sym counted, l.so_far);
       }
 
 -- so many bytes were taken, and then a read failed
-pub fails_here : (heading : Heading) (limit m : ℕ) (old mid now : Option (List ℕ)) (before after : ℕ) (s : Lexer)
-    (stage : Stage) (n : ℕ) → IsTaking heading old mid s stage n → FailedOnce before after
+pub fails_here : (heading : Heading) (limit m : ℕ) (old mid now : Option (List ℕ)) (before after : FaultCount)
+    (s : Lexer) (stage : Stage) (n : ℕ) → IsTaking heading old mid s stage n → FailedOnce before after
     → n ≤ limit → now ≡ mid → IsRead heading limit old now before after s stage m ReadFault
 fails_here heading limit m old mid now before after s stage n so_far once few same = record {
   taken = so_far.taken;
@@ -363,14 +363,14 @@ fails_here heading limit m old mid now before after s stage n so_far once few sa
 -- ---- the loop
 
 -- what holds in the loop, behind any bytes that were taken before
-pub record IsReading (old now : Option (List ℕ)) (before after : ℕ) (s0 : Lexer) (stage0 : Stage) (n0 : ℕ) (s : Lexer)
-    (stage : Stage) (n : ℕ) (takes : Bool) (piece : List ℕ) : Type 0 where
+pub record IsReading (old now : Option (List ℕ)) (before after : FaultCount) (s0 : Lexer) (stage0 : Stage) (n0 : ℕ)
+    (s : Lexer) (stage : Stage) (n : ℕ) (takes : Bool) (piece : List ℕ) : Type 0 where
   pub taking : (heading : Heading) (first : Option (List ℕ)) → IsTaking heading first old s0 stage0 n0
       → IsTaking heading first now s stage n
   pub one : length piece ≡ 1
   pub number : s.number ≤ n
   pub few : n ≤ 1099511627776
-  pub same : after ≡ before
+  pub stays : Stays before after
   pub ready : takes ≡ true
 
 -- a byte ends at most one line

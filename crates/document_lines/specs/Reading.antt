@@ -3,7 +3,7 @@ use Rattle.std.specs.Prelude.{ℕ, pred, ◌+◌, ◌≤◌, ◌≡◌, ◌⊎�
 use Rattle.std.specs.Prelude.{None, Result, Ok, Err}
 use Rattle.std.specs.List.{slice_split}
 use Rattle.std.specs.Io.KnownBytes.{IsAtEnd}
-use Rattle.pack_streams.specs.Faults.{FailedOnce}
+use Rattle.pack_streams.specs.Faults.{FaultCount, Stays, FailedOnce}
 use Rattle.pack_streams.specs.Moves.{Gives}
 use Rattle.text_terms.specs.Lines.{is_line_feed}
 use Rattle.text_terms.specs.Feeding.{Lexer, ended_line, feed}
@@ -81,16 +81,16 @@ EndsAs heading limit left taken s stage count TooLong =
 EndsAs heading limit left taken s stage count ReadFault = (length taken ≤ limit) × NoneRefusedUnder heading taken
 EndsAs heading limit left taken s stage count NoMemory = (length taken ≤ limit) × NoneBeforeUnder heading taken
 
--- the count of faults of the source: the first read that fails is the last
-abbrev pub CountsLines : ℕ → ℕ → ReadEnd → Type 0
+-- the count of faults of the source: by an exact one, the first read that fails is the last
+abbrev pub CountsLines : FaultCount → FaultCount → ReadEnd → Type 0
 CountsLines before now ReadFault = FailedOnce before now
-CountsLines before now End = now ≡ before
-CountsLines before now Paused = now ≡ before
-CountsLines before now (Refused reason) = now ≡ before
-CountsLines before now TooLong = now ≡ before
-CountsLines before now NoMemory = now ≡ before
+CountsLines before now End = Stays before now
+CountsLines before now Paused = Stays before now
+CountsLines before now (Refused reason) = Stays before now
+CountsLines before now TooLong = Stays before now
+CountsLines before now NoMemory = Stays before now
 
-pub record IsRead (heading : Heading) (limit : ℕ) (old left : Option (List ℕ)) (before now : ℕ) (s : Lexer)
+pub record IsRead (heading : Heading) (limit : ℕ) (old left : Option (List ℕ)) (before now : FaultCount) (s : Lexer)
     (stage : Stage) (count : ℕ) (result : ReadEnd) : Type 0 where
   pub taken : List ℕ
   pub gives : Gives old left taken
@@ -99,8 +99,8 @@ pub record IsRead (heading : Heading) (limit : ℕ) (old left : Option (List ℕ
 
 -- What a reading does under any heading, behind any bytes that were taken before: `first` is what
 -- the source told before the first of them.
-abbrev pub IsReadBehind : ℕ → Option (List ℕ) → Option (List ℕ) → ℕ → ℕ → Lexer → Stage → ℕ → Lexer → Stage → ℕ
-    → ReadEnd → Type 0
+abbrev pub IsReadBehind : ℕ → Option (List ℕ) → Option (List ℕ) → FaultCount → FaultCount → Lexer → Stage → ℕ → Lexer
+    → Stage → ℕ → ReadEnd → Type 0
 IsReadBehind limit old left before now s stage n new next count result =
     (heading : Heading) (first : Option (List ℕ)) → IsTaking heading first old s stage n
     → IsRead heading limit first left before now new next count result

@@ -94,10 +94,10 @@ fn take_end<J: LineJudge>(judge: &mut J, lexer: &mut LineLexer) -> ReadEnd
 /// Reads a document byte by byte, behind the bytes that were taken before, up to its first refused
 /// line, and gives each line to the judge as it ends.
 ///
-/// No byte behind the line feed of a refused line is taken, and the first read that fails is the
-/// last. `TooLong`, `ReadFault` and `NoMemory` come only where no line that was whole before is
-/// refused, and `TooLong` takes one byte more than the limit. `Paused` leaves what is held as
-/// another judge needs it.
+/// No byte behind the line feed of a refused line is taken. By an exact count of faults, the first
+/// read that fails is the last. `TooLong`, `ReadFault` and `NoMemory` come only where no line that
+/// was whole before is refused, and `TooLong` takes one byte more than the limit. `Paused` leaves
+/// what is held as another judge needs it.
 pub fn take_lines<S: Source, J: LineJudge>(
     input: &mut S,
     judge: &mut J,

@@ -208,10 +208,11 @@ struct EndedSource {
 
 impl Source for EndedSource {
     ghost use Rattle.std.specs.Prelude.{None};
+    ghost use Rattle.pack_streams.specs.Faults.{exactly};
 
     ghost left = { λ _. None };
 
-    ghost faults = { λ _. 0 };
+    ghost faults = { λ _. exactly 0 };
 
     fn read(&mut self, _into: &mut [u8]) -> ReadAnswer {
         self.calls = self.calls.wrapping_add(1);
@@ -226,5 +227,88 @@ fn nothing_is_read_behind_the_end(rt: HostRuntime) -> Result<(), Fail> {
     let bytes = read_up_to(alloc, &mut source, 9)?;
     assert!(rt; bytes.is_empty());
     assert!(rt; source.calls == 1);
+    Ok(())
+}
+
+// Tries each failed read once more. Its count of faults isn't exact: it rises at a read that is
+// mended, and by two at one that isn't.
+#[derive(Drop)]
+struct RetryingSource {
+    source: MemorySource,
+}
+
+impl Source for RetryingSource {
+    ghost use Rattle.std.specs.Prelude.{Some, false};
+
+    ghost left = { λ s. Some s.source.left };
+
+    ghost faults = { λ s. record { count = s.source.faults; is_exact = false } };
+
+    fn read(&mut self, into: &mut [u8]) -> ReadAnswer {
+        match self.source.read(into) {
+            ReadAnswer::Failed => self.source.read(into),
+            answer => answer,
+        }
+    }
+}
+
+// Tries each failed write once more, and counts both failures.
+#[derive(Drop)]
+struct RetryingSink {
+    sink: MemorySink,
+}
+
+impl Sink for RetryingSink {
+    ghost use Rattle.std.specs.Prelude.{Some, false};
+
+    ghost written = { λ s. Some s.sink.written };
+
+    ghost faults = { λ s. record { count = s.sink.faults; is_exact = false } };
+
+    fn write(&mut self, piece: &[u8]) -> WriteAnswer {
+        match self.sink.write(piece) {
+            WriteAnswer::Failed => self.sink.write(piece),
+            answer => answer,
+        }
+    }
+}
+
+#[test]
+fn a_stream_that_retries_loses_nothing_at_one_failure(rt: HostRuntime) -> Result<(), Fail> {
+    let alloc = rt.alloc();
+    let reads = [ReadStep::Fail, ReadStep::Give(2), ReadStep::Fail];
+    let mut source = RetryingSource {
+        source: MemorySource::new(
+            Vec::from_slice(alloc, b"abc")?,
+            Vec::from_slice(alloc, &reads)?,
+        ),
+    };
+    assert!(rt; read_up_to(alloc, &mut source, 3)?.as_slice() == b"abc".as_slice());
+    let writes = [WriteStep::Fail, WriteStep::Take(2), WriteStep::Fail];
+    let mut sink = RetryingSink {
+        sink: MemorySink::new(alloc, 3, Vec::from_slice(alloc, &writes)?)?,
+    };
+    assert!(rt; write_all(&mut sink, b"abc") == Ok(()));
+    assert!(rt; sink.sink.written() == b"abc".as_slice());
+    Ok(())
+}
+
+#[test]
+fn a_stream_that_retries_fails_at_two_failures(rt: HostRuntime) -> Result<(), Fail> {
+    let alloc = rt.alloc();
+    let reads = [ReadStep::Give(1), ReadStep::Fail, ReadStep::Fail];
+    let mut source = RetryingSource {
+        source: MemorySource::new(
+            Vec::from_slice(alloc, b"abc")?,
+            Vec::from_slice(alloc, &reads)?,
+        ),
+    };
+    assert!(rt; read_up_to(alloc, &mut source, 3).err() == Some(ReadStop::ReadFault));
+    let writes = [WriteStep::Take(1), WriteStep::Fail, WriteStep::Fail];
+    let mut sink = RetryingSink {
+        sink: MemorySink::new(alloc, 3, Vec::from_slice(alloc, &writes)?)?,
+    };
+    assert!(rt; write_all(&mut sink, b"abc") == Err(WriteFault));
+    assert!(rt; sink.sink.written() == b"a".as_slice());
     Ok(())
 }
