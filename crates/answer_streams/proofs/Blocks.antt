@@ -3,7 +3,8 @@ use Rattle.std.proofs.Common.{ℕ, ◌≡◌, ◌≤◌, ◌+◌, ◌-◌, min, 
 use Rattle.std.proofs.Common.{subst, ◌∙◌, append-nil, append_assoc, Option, Some, None, Bool, true, false, Result, Ok}
 use Rattle.std.proofs.Common.{Err, OnOk}
 use Rattle.std.specs.Result.{is_err}
-use Rattle.pack_streams.specs.Faults.{FailedOnce}
+use Rattle.pack_streams.specs.Faults.{FaultCount, Stays, FailedOnce}
+use Rattle.pack_streams.proofs.Faults.{stays_on, fails_then}
 use Rattle.std.proofs.lemmas.Bool.{true≢false}
 use Rattle.std.proofs.lemmas.List.{drop-take, drop-drop, drop-append-le, take-append-drop, length-take, length-take-le}
 use Rattle.std.proofs.lemmas.List.{take-take, append_cancel_left}
@@ -111,7 +112,7 @@ whole_part : (w v : Option (List ℕ)) (text : List ℕ) → Gains w v text → 
 whole_part w v text gains = (length text, gains ∙ ap (append_known w) (sym (take-length text)))
 
 -- a failed text through a front is a failed text to the sink behind it
-pub behind_err : {E : Type 0} (w s v : Option (List ℕ)) (held : List ℕ) (f g h : ℕ) (text : List ℕ) (e d : E)
+pub behind_err : {E : Type 0} (w s v : Option (List ℕ)) (held : List ℕ) (f g h : FaultCount) (text : List ℕ) (e d : E)
     → s ≡ w → g ≡ f → IsToldFront w v → Writes {E = E} s (append_known v held) g h text (Err e)
     → Writes {E = E} w v f h text (Err d)
 behind_err w s v held f g h text e d p q front t =
@@ -122,7 +123,8 @@ behind_err w s v held f g h text e d p q front t =
     }
 
 -- a whole text through a front, and then what is held back, or a part of it
-pub behind_end : {E : Type 0} (w s u v : Option (List ℕ)) (block : List ℕ) (start end : ℕ) (f g h k : ℕ) (text : List ℕ)
+pub behind_end : {E : Type 0} (w s u v : Option (List ℕ)) (block : List ℕ) (start end : ℕ) (f g h k : FaultCount)
+    (text : List ℕ)
     (r : Result (Unit {0}) E)
     → s ≡ w → g ≡ f → IsToldFront w v → Writes {E = E} s u g h text (Ok tt) → shown v block start end ≡ u
     → OnOk r (start ≡ end)
@@ -130,17 +132,21 @@ pub behind_end : {E : Type 0} (w s u v : Option (List ℕ)) (block : List ℕ) (
 behind_end w s u v block start end f g h k text (Ok x) p q front t same none count =
     let gains : v ≡ append_known w text =
     sym (known_none v) ∙ sym (shown_none v block start end none) ∙ same ∙ t.whole ∙ ap (λ z. append_known z text) p in
-    record { whole = gains; part = whole_part w v text gains; count = count ∙ t.count ∙ q }
+    record {
+      whole = gains;
+      part = whole_part w v text gains;
+      count = subst (λ n. Stays n k) q (stays_on g h k t.count count);
+    }
 behind_end w s u v block start end f g h k text (Err x) p q front t same none count =
     record {
       whole = tt;
       part = part_behind w v (part_of block start end) text front
           (whole_part w (shown v block start end) text (same ∙ t.whole ∙ ap (λ z. append_known z text) p));
-      count = subst (λ n. FailedOnce n k) (t.count ∙ q) count;
+      count = subst (λ n. FailedOnce n k) q (fails_then g h k t.count count);
     }
 
 -- a text that was written from the same start
-pub same_start : {E : Type 0} (s w u : Option (List ℕ)) (f g h : ℕ) (text : List ℕ) (r : Result (Unit {0}) E)
+pub same_start : {E : Type 0} (s w u : Option (List ℕ)) (f g h : FaultCount) (text : List ℕ) (r : Result (Unit {0}) E)
     → s ≡ w → f ≡ g
     → Writes {E = E} s u f h text r → Writes {E = E} w u g h text r
 same_start s w u f g h text r p q wrote =

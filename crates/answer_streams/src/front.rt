@@ -1,6 +1,6 @@
 //! A sink that stands before another one and holds back up to 4,096 bytes.
 ghost use Rattle.std.specs.Prelude.{◌≡◌, ◌<◌, ◌≤◌, ◌+◌, ◌-◌, ◌++◌, ℕ, List, min, length, take, OnOk};
-ghost use Rattle.pack_streams.specs.Faults.{FailedOnce};
+ghost use Rattle.pack_streams.specs.Faults.{FaultCount, Stays, FailedOnce};
 ghost use Rattle.pack_streams.specs.Moves.{Gains};
 ghost use Rattle.pack_streams.specs.Writing.{CountsWriting, Writes};
 ghost use Rattle.answer_streams.specs.Fronts.{IsToldFront, part_of, shown};
@@ -56,7 +56,7 @@ pub struct Front<'a, K: Sink, B: Behind> {
 fn give<K: Sink>(out: &mut K, piece: &[u8]) -> usize
     ensures within { result ≤ length piece.now }
     ensures moves { Gains (K.written out.old) (K.written out.new) (take result piece.now) }
-    ensures still { result ≡ length piece.now → K.faults out.new ≡ K.faults out.old }
+    ensures still { result ≡ length piece.now → Stays (K.faults out.old) (K.faults out.new) }
     ensures cause { result < length piece.now
         → FailedOnce (K.faults out.old) (K.faults out.new) }
 {
@@ -77,7 +77,7 @@ fn give_part<K: Sink>(out: &mut K, block: &[u8], start: usize, end: usize) -> us
     ensures within { result ≤ end - start }
     ensures moves { Gains (K.written out.old) (K.written out.new)
         (take result (part_of block.now start end)) }
-    ensures still { result ≡ end - start → K.faults out.new ≡ K.faults out.old }
+    ensures still { result ≡ end - start → Stays (K.faults out.old) (K.faults out.new) }
     ensures cause { result < end - start → FailedOnce (K.faults out.old) (K.faults out.new) }
 {
     give(out, &block[start..end])
@@ -182,7 +182,7 @@ pub(crate) fn hand_back<'a, K: Sink, B: Behind>(
     written: Result<(), WriteFault>,
 ) -> Done<'a, K>
     ensures same { result.out.ghost_name ≡ front.entry.out.ghost_name }
-    ensures written { (before : ℕ) (text : List ℕ)
+    ensures written { (before : FaultCount) (text : List ℕ)
         → Writes B.begun (shown (K.written front.entry.out.now) front.entry.block front.entry.start
         front.entry.end)
         before (K.faults front.entry.out.now) text written

@@ -8,7 +8,7 @@ use Rattle.document_terms.specs.declared.claim.SolvingJob.{SolvingJob}
 use Rattle.answer_terms.specs.declared.job.DocumentJob.{DocumentJob}
 use Rattle.document_terms.specs.declared.claim.Claim.{Claim}
 use Rattle.verdict_terms.specs.Documents.{Refusal}
-use Rattle.pack_streams.specs.Faults.{FailedOnce}
+use Rattle.pack_streams.specs.Faults.{FaultCount, Stays, FailedOnce}
 use Rattle.pack_command.specs.Answered.{IsAnswerStatus}
 use Rattle.pack_command.specs.Asked.{AsksToSolve, AsksCheck, AsksToMake, AsksNothing, IsSolving, IsChecking, IsReading}
 use Rattle.pack_command.specs.Asked.{IsFronting, IsProposing, HasAnswer, ReadsNothing, IsLongInstance, IsLongDocument}
@@ -70,38 +70,40 @@ not_fault fault status four (inl e) f = omega (arith, four, e, f)
 not_fault fault status four (inr (inl e)) f = omega (arith, four, e, f)
 not_fault fault status four (inr (inr e)) f = omega (arith, four, e, f)
 
-pub answer_counts : (fault status before now : ℕ) → 4 ≤ fault → IsAnswerStatus status → now ≡ before
-    → CountsStatus fault status before now
+pub answer_counts : (fault status : ℕ) (before now : FaultCount) → 4 ≤ fault → IsAnswerStatus status
+    → Stays before now → CountsStatus fault status before now
 answer_counts fault status before now four answer same =
     record { failed = (λ e. absurd (not_fault fault status four answer e)); still = (λ n. same) }
 
 -- another fault
-stays : (fault n status before now : ℕ) → n ≢ fault → status ≡ n → now ≡ before → CountsStatus fault status before now
-stays fault n status before now other is same =
+other_fault : (fault n status : ℕ) (before now : FaultCount) → n ≢ fault → status ≡ n → Stays before now
+    → CountsStatus fault status before now
+other_fault fault n status before now other is same =
     record { failed = (λ e. absurd (other (sym is ∙ e))); still = (λ k. same) }
 
-rises : (fault status before now : ℕ) → status ≡ fault → FailedOnce before now → CountsStatus fault status before now
+rises : (fault status : ℕ) (before now : FaultCount) → status ≡ fault → FailedOnce before now
+    → CountsStatus fault status before now
 rises fault status before now is failed = record { failed = (λ e. failed); still = (λ n. absurd (n is)) }
 
-pub stop_reads : (stop : Stop) (status before now : ℕ) → status ≡ stop_status stop
+pub stop_reads : (stop : Stop) (status : ℕ) (before now : FaultCount) → status ≡ stop_status stop
     → CountsReads {A = ℕ} before now (Err stop) → CountsStatus 4 status before now
-stop_reads Words status before now is c = stays 4 2 status before now (omega arith) is c
-stop_reads TooLong status before now is c = stays 4 2 status before now (omega arith) is c
-stop_reads (Text fault) status before now is c = stays 4 2 status before now (omega arith) is c
-stop_reads Dimensions status before now is c = stays 4 2 status before now (omega arith) is c
+stop_reads Words status before now is c = other_fault 4 2 status before now (omega arith) is c
+stop_reads TooLong status before now is c = other_fault 4 2 status before now (omega arith) is c
+stop_reads (Text fault) status before now is c = other_fault 4 2 status before now (omega arith) is c
+stop_reads Dimensions status before now is c = other_fault 4 2 status before now (omega arith) is c
 stop_reads ReadFault status before now is c = rises 4 status before now is c
-stop_reads WriteFault status before now is c = stays 4 5 status before now (omega arith) is c
-stop_reads NoMemory status before now is c = stays 4 6 status before now (omega arith) is c
+stop_reads WriteFault status before now is c = other_fault 4 5 status before now (omega arith) is c
+stop_reads NoMemory status before now is c = other_fault 4 6 status before now (omega arith) is c
 
-pub stop_writes : (stop : Stop) (status before now : ℕ) → status ≡ stop_status stop
+pub stop_writes : (stop : Stop) (status : ℕ) (before now : FaultCount) → status ≡ stop_status stop
     → CountsWrites {A = ℕ} before now (Err stop) → CountsStatus 5 status before now
-stop_writes Words status before now is c = stays 5 2 status before now (omega arith) is c
-stop_writes TooLong status before now is c = stays 5 2 status before now (omega arith) is c
-stop_writes (Text fault) status before now is c = stays 5 2 status before now (omega arith) is c
-stop_writes Dimensions status before now is c = stays 5 2 status before now (omega arith) is c
-stop_writes ReadFault status before now is c = stays 5 4 status before now (omega arith) is c
+stop_writes Words status before now is c = other_fault 5 2 status before now (omega arith) is c
+stop_writes TooLong status before now is c = other_fault 5 2 status before now (omega arith) is c
+stop_writes (Text fault) status before now is c = other_fault 5 2 status before now (omega arith) is c
+stop_writes Dimensions status before now is c = other_fault 5 2 status before now (omega arith) is c
+stop_writes ReadFault status before now is c = other_fault 5 4 status before now (omega arith) is c
 stop_writes WriteFault status before now is c = rises 5 status before now is c
-stop_writes NoMemory status before now is c = stays 5 6 status before now (omega arith) is c
+stop_writes NoMemory status before now is c = other_fault 5 6 status before now (omega arith) is c
 
 -- ---- the check of a document
 

@@ -5,6 +5,7 @@ use Rattle.std.specs.declared.alloc.Global.{Global}
 use Rattle.packing_terms.specs.Packing.{PlainInstance}
 use Rattle.packing_terms.specs.Limits.{IsInstance}
 use Rattle.text_terms.specs.Texts.{text_instance}
+use Rattle.pack_streams.specs.Faults.{FaultCount}
 use Rattle.pack_streams.specs.Moves.{Gains}
 use Rattle.pack_streams.specs.Writing.{GainsPart, Writes}
 use Rattle.text_terms.specs.declared.settings.Settings.{Settings}
@@ -65,6 +66,6 @@ pub record IsWritten (words : List (String Global)) (old new sunk_old sunk_new :
   pub written : Gains sunk_old sunk_new document
 
 -- the message is written whole, unless a write of the sink fails, which is the last one then
-abbrev pub IsTold : (sunk_old sunk_new : Option (List ℕ)) → ℕ → ℕ → List ℕ → Type 0
+abbrev pub IsTold : (sunk_old sunk_new : Option (List ℕ)) → FaultCount → FaultCount → List ℕ → Type 0
 IsTold sunk_old sunk_new before now message =
     (told : Result (Unit {0}) WriteFailed) × Writes sunk_old sunk_new before now message told

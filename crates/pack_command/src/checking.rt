@@ -70,7 +70,8 @@ pub fn check_stream<S: Source, K: Sink>(alloc: Global, input: &mut S, out: &mut 
         (K.written out.new) stop }
     ensures unwritten { ¬ IsVerdictStatus result → result ≢ 5 → out.new ≡ out.old }
 
-    // The first read or write that fails is the last, and has its status.
+    // With status 4 the source's count of faults rose, with status 5 the sink's. By an exact count
+    // one call failed, and it was the last one; with any other status none failed.
     ensures reads { CountsStatus 4 result (S.faults input.old) (S.faults input.new) }
     ensures writes { CountsStatus 5 result (K.faults out.old) (K.faults out.new) }
 

@@ -216,7 +216,8 @@ pub fn run<R: Threads + Wait + Sync, S: Source, K: Sink, E: Sink, G: Gate + Sync
     ensures unwritten { ¬ IsAnswerStatus result → result ≢ 5 → out.new ≡ out.old }
     ensures unread { ReadsNothing words.now → (input.new ≡ input.old) × (result ≢ 4) }
 
-    // The first read or write that fails is the last, and has its status.
+    // With status 4 the source's count of faults rose, with status 5 the sink's. By an exact count
+    // one call failed, and it was the last one; with any other status none failed.
     ensures reads { CountsStatus 4 result (S.faults input.old) (S.faults input.new) }
     ensures writes { CountsStatus 5 result (K.faults out.old) (K.faults out.new) }
 {

@@ -1,5 +1,6 @@
-use Rattle.std.proofs.Common.{◌∙◌, arith}
+use Rattle.std.proofs.Common.{arith}
 use Rattle.std.proofs.lemmas.List.{take_rest, length-drop}
+use Rattle.pack_streams.proofs.Faults.{stays_on}
 use Rattle.pack_streams.proofs.Runs.{wrote_more}
 use Rattle.answer_streams.proofs.front.give.Goals as goal
 
@@ -10,5 +11,5 @@ loop-done-preserved g c =
     record {
       within = omega arith;
       bytes = wrote_more _ _ _ c.args.piece.now c.loop-done.done c.in-Took.count c.loop-done.invariant.bytes m.2;
-      count = c.in-Took.ensures.count ∙ c.loop-done.invariant.count;
+      count = stays_on _ _ _ c.loop-done.invariant.count c.in-Took.ensures.count;
     }
