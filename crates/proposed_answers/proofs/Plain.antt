@@ -1,8 +1,9 @@
 -- Without scales no token of an outcome compares images of scale functions.
 use Rattle.std.proofs.Common.{◌≡◌, ℕ, zero, suc, ◌+◌, refl, sym, ap, subst, ◌∙◌, Bool, true, false, ltb, if◌then◌else◌}
-use Rattle.std.proofs.Common.{List, [], ◌∷◌, ◌++◌, Option, Some, None}
+use Rattle.std.proofs.Common.{◌<◌, arith, List, [], ◌∷◌, ◌++◌, length, map, take, get_or, Option, Some, None}
 use Rattle.std.specs.List.{find}
-use Rattle.std.proofs.lemmas.Bool.{or_from}
+use Rattle.std.proofs.lemmas.Bool.{or_from, or_left, or_right}
+use Rattle.std.proofs.lemmas.List.{map_push, take_more}
 use Rattle.std.proofs.lemmas.List.Folds.{list_any-append}
 use Rattle.packing_terms.specs.declared.Exclusion.{Exclusion}
 use Rattle.packing_terms.specs.declared.ScaleFn.{ScaleFn}
@@ -16,10 +17,13 @@ use Rattle.check_terms.specs.Placing.{place_verdict}
 use Rattle.rule_terms.specs.Rounds.{closure, has_empty_mask}
 use Rattle.tree_terms.specs.Trees.{SearchTree, Verdict, Yes, No, join, join_from, outcome, PlainOutcome, Decided, Past}
 use Rattle.tree_terms.specs.Trees.{told, count_of}
-use Rattle.tree_terms.specs.InnerTree.{chosen_split, split_at, is_unsettled, node_of, node_tree, tree_below}
+use Rattle.tree_terms.specs.InnerTree.{SplitNode, chosen_split, split_at, is_unsettled, node_of, node_tree, tree_below}
 use Rattle.tree_terms.specs.ClassTree.{first_too_large_box, scales_after, root_of, closes_in_conflict, class_tree}
+use Rattle.proof_tree.specs.declared.token.Token.{Token}
+use Rattle.proof_tree.specs.Plain.{plain_token}
 use Rattle.proposed_answers.specs.Behind.{PlainProposal, Places, Tokens, Nothing, is_refutation, by_places, by_tokens}
-use Rattle.proposed_answers.specs.Behind.{answer_behind, tree_told, is_scale_line, IsWithoutScales, IsPlainProposal}
+use Rattle.proposed_answers.specs.Behind.{answer_behind, tree_told, is_scale_line, has_scale_line, IsWithoutScales}
+use Rattle.proposed_answers.specs.Behind.{IsPlainProposal}
 
 -- ---- verdicts
 
@@ -41,6 +45,23 @@ from_without k (suc more) verdicts h = go (verdicts k) (h k) (from_without (k + 
     go (Yes ns c) e later = tt
     go (No ts c) e later = join_without (No ts c) (join_from (k + 1) more verdicts) e later
 
+-- ---- tokens one by one
+
+pub some_line : (tokens : List Token) (k : ℕ) (t : Token) → k < length tokens → t ≡ get_or tokens k t
+    → is_scale_line (plain_token t) ≡ true → has_scale_line (map plain_token tokens) ≡ true
+some_line [] k t l e h = absurd (omega (arith, l))
+some_line (x ∷ xs) zero t l e h = or_left _ _ (subst (λ (y : Token). is_scale_line (plain_token y) ≡ true) e h)
+some_line (x ∷ xs) (suc k) t l e h = or_right _ _ (some_line xs k t (omega (arith, l)) e h)
+
+pub none_more : (tokens : List Token) (k : ℕ) (t : Token) → k < length tokens → t ≡ get_or tokens k t
+    → has_scale_line (map plain_token (take k tokens)) ≡ false → is_scale_line (plain_token t) ≡ false
+    → has_scale_line (map plain_token (take (k + 1) tokens)) ≡ false
+none_more tokens k t l is h e =
+    ap has_scale_line (ap (map plain_token) (take_more tokens k t l
+    ∙ ap (λ (x : Token). take k tokens ++ x ∷ []) (sym is)) ∙ map_push plain_token (take k tokens) t)
+    ∙ (list_any-append is_scale_line (map plain_token (take k tokens)) (plain_token t ∷ [])
+    ∙ or_from _ _ h (or_from _ _ e refl))
+
 -- ---- trees
 
 split_without : (p : ℕ × ℕ) (apart : Bool) (i j : Option ℕ) → is_scale_line (chosen_split p apart i j).token ≡ false
@@ -49,6 +70,10 @@ split_without p true None j = refl
 split_without p false i (Some j) = refl
 split_without p false i None = refl
 
+-- the child of a split
+abbrev child_of : SplitNode → (List Exclusion → SearchTree) → ℕ → SearchTree
+child_of s tree k = elim k [ zero ↦ tree s.first | suc _ ↦ tree s.second ]
+
 module _ (instance : PlainInstance) where
   node_by : (X : Exclusions) (conflict : Bool) (pair : Option (ℕ × ℕ)) (tree : List Exclusion → SearchTree)
       → ((es : List Exclusion) → Without (outcome (tree es))) → Without (outcome (node_of instance X conflict pair tree))
@@ -56,14 +81,11 @@ module _ (instance : PlainInstance) where
   node_by X false None tree h = tt
   node_by X false (Some p) tree h =
       join_without (No ((split_at instance X p).token ∷ []) 1)
-      (join_from 0 2 (λ k. outcome (child k)))
-      (or_from _ _ (split_without p _ _ _) refl) (from_without 0 2 (λ k. outcome (child k)) children)
+      (join_from 0 2 (λ k. outcome (child_of (split_at instance X p) tree k)))
+      (or_from _ _ (split_without p _ _ _) refl)
+      (from_without 0 2 (λ k. outcome (child_of (split_at instance X p) tree k)) children)
     where
-      abbrev child : ℕ → SearchTree
-      child k = elim k
-          [ zero ↦ tree (split_at instance X p).first | suc _ ↦ tree (split_at instance X p).second ]
-
-      children : (k : ℕ) → Without (outcome (child k))
+      children : (k : ℕ) → Without (outcome (child_of (split_at instance X p) tree k))
       children zero = h (split_at instance X p).first
       children (suc k) = h (split_at instance X p).second
 
