@@ -127,7 +127,7 @@ module _ (words : List (String Global)) (old new sunk_old sunk_new : Option (Lis
 within_by : (job : SolvingJob) (settings : Settings) (instance : PlainInstance) (old new : Option (List ℕ)) (status : ℕ)
     → IsProposedDecided job instance settings old new status
     → IsAmple job settings instance → ¬ (status ≡ 3)
-within_by SolvesFit settings instance old new status d ample = fit_within settings instance old new status d.0 ample
+within_by SolvesFit settings instance old new status d ample = fit_within settings instance old new status d ample
 within_by SolvesStrip settings instance old new status d ample = strip_within settings instance old new status d ample
 within_by SolvesBins settings instance old new status d ample = bins_within settings instance old new status d ample
 within_by SolvesKnapsack settings instance old new status d ample =
@@ -148,4 +148,4 @@ module _ (words : List (String Global)) (old new sunk_old sunk_new : Option (Lis
   proposed_exactly settings instance s w enough =
       fit_proposed_exactly settings instance sunk_old sunk_new status
       (proposed_limits words old new sunk_old sunk_new status SolvesFit settings instance s w) enough
-      (proposed_decided words old new sunk_old sunk_new status SolvesFit settings instance s w).0
+      (proposed_decided words old new sunk_old sunk_new status SolvesFit settings instance s w)
