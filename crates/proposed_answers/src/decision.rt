@@ -88,10 +88,10 @@ pub fn decide_behind<R: Threads + Wait + Sync, G: Gate + Sync>(
 ///
 /// A yes comes only with a packing, and a no only with a refutation of the instance, which has no
 /// `v` line if the settings want no scales. `Past` comes only where the class tree has more
-/// branchings than the budget: where it has at most so many, the answer is yes or no. Which packing,
-/// which refutation and how few branchings isn't promised. That the outcome is the same for every
-/// number of workers is seen in the code and said by no clause: `propose` takes neither the number
-/// of workers nor the budget, and `decide_behind` gives one outcome for its proposal.
+/// branchings than the budget: within the budget the answer is yes or no. Which packing, which
+/// refutation and how few branchings isn't promised. That the outcome is the same for every number
+/// of workers is seen in the code and said by no clause: `propose` takes neither the number of
+/// workers nor the budget, and `decide_behind` gives one outcome for its proposal.
 pub fn decide_proposed<R: Threads + Wait + Sync, G: Gate + Sync>(
     rt: &R,
     alloc: Global,
