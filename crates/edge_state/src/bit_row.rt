@@ -25,7 +25,7 @@ impl<const K: usize> Model for BitRow<K> {
 
 // The word in which a number stands. Of one word it is told without looking at the number.
 #[inline]
-fn word_of<const K: usize>(number: u32) -> usize
+pub(crate) fn word_of<const K: usize>(number: u32) -> usize
     requires width { IsRowWidth K }
     requires number { number < 64 * K }
     ensures { result ≡ number / 64 }

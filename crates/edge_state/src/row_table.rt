@@ -4,6 +4,7 @@ ghost use Rattle.edge_state.specs.BitRows.{IsRowWidth, row_has};
 ghost use Rattle.edge_state.specs.RowTables.{filled_table, IsRowSet};
 
 use crate::BitRow;
+use crate::bit_row::word_of;
 use box_instances::NoMemory;
 use std::alloc::Global;
 use std::marker::Model;
@@ -81,7 +82,7 @@ impl RowTable {
 
     // A word of a row, 0 where it isn't kept.
     #[inline]
-    fn word(&self, at: usize, part: u32) -> u64
+    fn word(&self, at: usize, part: usize) -> u64
         requires { at < length self.now.rows }
         ensures value { result ≡ slice_index (slice_index_or self.now.rows at []) part }
         ensures words { length (slice_index_or self.now.rows at []) ≡ 2 }
@@ -97,7 +98,7 @@ impl RowTable {
 
     // Writes a word of a row that is kept.
     #[inline]
-    fn put(&mut self, at: usize, part: u32, word: u64)
+    fn put(&mut self, at: usize, part: usize, word: u64)
         requires at { at < length self.old.rows }
         requires part { part < 2 }
         requires kept { 0 < part → at < self.old.seconds }
@@ -125,40 +126,47 @@ impl RowTable {
         BitRow::of_words(self.word(at, 0), self.word(at, 1))
     }
 
-    /// Whether the number is in the row.
+    /// Whether the number is in the row, read in rows of `K` words.
     #[inline]
-    pub fn has(&self, at: usize, number: u32) -> bool
-        requires { at < length self.now.rows }
+    pub fn has<const K: usize>(&self, at: usize, number: u32) -> bool
+        requires width { IsRowWidth K }
+        requires at { at < length self.now.rows }
+        requires number { number < 64 * K }
         ensures { result ≡ row_has (slice_index_or self.now.rows at []) number }
     {
-        let word = self.word(at, number / 64);
+        let part = word_of::<K>(number);
+        let word = self.word(at, part);
         word >> (number % 64) & 1 == 1
     }
 
-    /// Puts the number into the row. Its word is kept.
+    /// Puts the number into the row, in rows of `K` words. Its word is kept.
     #[inline]
-    pub fn insert(&mut self, at: usize, number: u32)
+    pub fn insert<const K: usize>(&mut self, at: usize, number: u32)
+        requires width { IsRowWidth K }
         requires at { at < length self.old.rows }
-        requires number { number < 128 }
+        requires number { number < 64 * K }
+        requires most { number < 128 }
         requires kept { 64 ≤ number → at < self.old.seconds }
         ensures { IsRowSet self.old self.new at
             (λ x. row_has (slice_index_or self.old.rows at []) x || x == number) }
     {
-        let part = number / 64;
+        let part = word_of::<K>(number);
         let word = self.word(at, part);
         self.put(at, part, word | 1 << (number % 64));
     }
 
-    /// Takes the number out of the row. Its word is kept.
+    /// Takes the number out of the row, in rows of `K` words. Its word is kept.
     #[inline]
-    pub fn remove(&mut self, at: usize, number: u32)
+    pub fn remove<const K: usize>(&mut self, at: usize, number: u32)
+        requires width { IsRowWidth K }
         requires at { at < length self.old.rows }
-        requires number { number < 128 }
+        requires number { number < 64 * K }
+        requires most { number < 128 }
         requires kept { 64 ≤ number → at < self.old.seconds }
         ensures { IsRowSet self.old self.new at
             (λ x. row_has (slice_index_or self.old.rows at []) x && not (x == number)) }
     {
-        let part = number / 64;
+        let part = word_of::<K>(number);
         let word = self.word(at, part);
         self.put(at, part, word & !(1 << (number % 64)));
     }

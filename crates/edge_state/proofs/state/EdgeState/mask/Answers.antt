@@ -1,9 +1,0 @@
-use Rattle.std.proofs.Common.{◌∙◌}
-use Rattle.edge_state.proofs.Kept.{by_rel}
-use Rattle.edge_state.proofs.state.EdgeState.mask.Goals as goal
-
-pub returns : goal.returns
-returns c =
-    by_rel _ _ (c.mask_of.ensures.overlap ∙ c.allows-overlap.ensures)
-    (c.mask_of.ensures.before ∙ c.allows-before.ensures)
-    (c.mask_of.ensures.after ∙ c.allows-after.ensures)
