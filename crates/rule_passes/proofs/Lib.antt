@@ -1,5 +1,7 @@
 mod Compositions
-mod Cycles
+mod CycleRows
 mod Guards
 mod Quiet
+mod RowRules
+mod RowStates
 pub mod Levels

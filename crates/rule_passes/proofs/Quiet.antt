@@ -22,7 +22,7 @@ use Rattle.closure_terms.specs.Work.{IsWorked, IsCovered, IsAppliedAt}
 use Rattle.closure_terms.proofs.Worked.{worked_none, worked_applied}
 use Rattle.orientation_rules.proofs.Keeps.{rest_drops, rest_only}
 use Rattle.rule_passes.specs.Reached.{IsReachedOrdered, IsReachedBoth, IsReachedLater}
-use Rattle.rule_passes.proofs.Cycles.{joined_back}
+use Rattle.rule_passes.proofs.CycleRows.{joined_back}
 use Rattle.rule_passes.proofs.Guards.{GuardedBoth, worked_guarded}
 
 -- APART adds the same with its boxes swapped

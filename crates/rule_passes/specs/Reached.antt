@@ -1,14 +1,34 @@
 -- The instances that are applied for one edge, in one order of its boxes, by what they ask of it.
-use Rattle.std.specs.Prelude.{ℕ, ◌≡◌, ◌≢◌, ◌<◌, ◌≤◌, ◌⊎◌, Bool, false}
+use Rattle.std.specs.Prelude.{ℕ, ◌≡◌, ◌≢◌, ◌<◌, ◌≤◌, ◌⊎◌, Bool, true, false, ◌&&◌, ◌||◌, IsTrue}
 use Rattle.packing_terms.specs.declared.Rel.{Rel}
 use Rattle.packing_terms.specs.declared.Rel.TheVariants.{Overlap, Before, After}
 use Rattle.packing_terms.specs.Packing.{PlainInstance, dims, box_count, side}
+use Rattle.packing_terms.specs.Exclusions.{Exclusions}
 use Rattle.packing_terms.specs.Rules.{Rule, Apart, Triple, Cycle, Order}
 use Rattle.closure_terms.specs.Instances.{OrdersCrossed, Aparts, Cycles, Chords, Triples}
 
 -- no box is longer
 abbrev pub HasNoLonger : PlainInstance → ℕ → ℕ → Type 0
 HasNoLonger instance i most = (v : ℕ) → v < box_count instance → side instance v i ≤ most
+
+-- no instance
+abbrev pub NoRule : Rule → Type 0
+NoRule rule = ⊥
+
+-- Which relations of u and x the compositions leave, of those that aren't left of u and v: told by
+-- what is left of u, v and of v, x.
+abbrev pub composed : Rel → (left row : Rel → Bool) → Bool
+composed Overlap left row = (row Overlap || (row After && left Before)) || (row Before && left After)
+composed Before left row = (row Overlap && left Overlap) || row Before
+composed After left row = (row Overlap && left Overlap) || row After
+
+-- both relations to y of some member of the row, another box, are excluded
+pub record IsGoneOf (X : Exclusions) (i : ℕ) (row : ℕ → Bool) (first second : Rel) (y : ℕ) : Type 0 where
+  pub box : ℕ
+  pub member : row box ≡ true
+  pub distinct : box ≡ y → ⊥
+  pub one : IsTrue (X i box y first)
+  pub other : IsTrue (X i box y second)
 
 -- those that ask for boxes that are apart
 abbrev pub IsReachedApart : PlainInstance → ℕ → ℕ → ℕ → Rule → Type 0

@@ -12,49 +12,17 @@ ghost use Rattle.packing_terms.specs.Packing.{box_count};
 ghost use Rattle.packing_terms.specs.Exclusions.{excludes};
 ghost use Rattle.relation_table.specs.Masks.{mask_has};
 ghost use Rattle.edge_state.specs.BitRows.{HoldsBoxes, row_has};
-ghost use Rattle.closure_terms.specs.Instances.{Aparts, Chords, Composes, Cycles, OrdersCrossed, Triples};
+ghost use Rattle.closure_terms.specs.Instances.{Aparts, Chords, Cycles, OrdersCrossed, Triples};
 ghost use Rattle.closure_terms.specs.States.{IsSized};
 ghost use Rattle.closure_terms.specs.Work.{IsWorked};
 ghost use Rattle.rule_passes.specs.Reached.{HasNoLonger, IsReachedOrdered, IsReachedRest};
 
+use crate::cycles::{chords, cycles};
 use crate::orders::{orders_crossed, orders_first, orders_second};
 use crate::overlaps::aparts;
-use crate::rows::beyond_compositions;
 use crate::triples::triples;
-use crate::work::{chords, composes, cycles};
 use box_instances::Instance;
 use edge_state::{BitRow, EdgeState, Mask, Rel};
-use relation_table::flip;
-
-/// COMPOSE in both orders. The boxes at which it may exclude something are found first, so that the
-/// rows of the two are read once.
-#[inline(always)]
-pub(crate) fn spread_composed<const K: usize>(
-    instance: &Instance,
-    state: &mut EdgeState,
-    all: BitRow<K>,
-    dim: u32,
-    u: u32,
-    v: u32,
-    left: Mask,
-) -> bool
-    requires words { HoldsBoxes K (box_count instance.now) }
-    requires sizes { IsSized instance.now state.old dim }
-    requires u { u < box_count instance.now }
-    requires v { v < box_count instance.now }
-    requires distinct { u ≡ v → ⊥ }
-    requires all { (x : ℕ) → row_has all x ≡ nat_lt x (box_count instance.now) }
-    requires left { (r : PlainRel) → mask_has left r ≡ not (excludes state.old.trail dim u v r) }
-    ensures { IsWorked instance.now state.old state.new result (λ rule.
-        Composes instance.now dim u v rule ⊎ Composes instance.now dim v u rule) }
-{
-    let there = beyond_compositions(instance, state, all, dim, u, v, left);
-    let back = beyond_compositions(instance, state, all, dim, v, u, flip(left));
-    if composes(instance, state, dim, u, v, there) {
-        return true;
-    }
-    composes(instance, state, dim, v, u, back)
-}
 
 /// TRIPLE with two boxes that are apart: none where the mask has overlap.
 #[inline(always)]

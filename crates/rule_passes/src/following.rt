@@ -15,7 +15,8 @@ ghost use Rattle.closure_terms.specs.Work.{IsWorked, IsAppliedAt};
 ghost use Rattle.rule_passes.specs.Reached.{HasNoLonger, IsReachedBoth, IsReachedChorded, IsReachedLater};
 
 use crate::chances::{may_compose, may_spread_apart, may_spread_both, may_spread_chords};
-use crate::edges::{spread_apart, spread_chords, spread_composed, spread_from, spread_near};
+use crate::composing::spread_composed;
+use crate::edges::{spread_apart, spread_chords, spread_from, spread_near};
 use box_instances::Instance;
 use edge_state::{BitRow, EdgeState, Mask, Rel};
 use relation_table::flip;

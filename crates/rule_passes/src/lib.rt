@@ -5,8 +5,11 @@
 mod chains;
 mod chances;
 mod closing;
+mod composing;
+mod cycles;
 mod edges;
 mod empties;
+mod excluding;
 mod following;
 mod orders;
 mod overlaps;
@@ -16,6 +19,5 @@ mod rows;
 mod settle;
 mod sides;
 mod triples;
-mod work;
 
 pub use room::ClosingRoom;

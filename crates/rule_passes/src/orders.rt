@@ -1,109 +1,17 @@
-//! ORDER at what a changed edge tells: each call applies some instances one after another and
-//! answers whether a mask is empty; it stops there.
-ghost use Rattle.std.specs.Prelude.{◌≡◌, ◌<◌, ℕ, true, false, nat_lt, [], ◌∷◌};
-ghost use Rattle.packing_terms.specs.Packing.{dims, box_count};
+//! ORDER at what a changed edge tells: each call answers whether a mask is empty, and stops there.
+ghost use Rattle.std.specs.Prelude.{◌≡◌, ◌<◌, ℕ, true, false, nat_lt};
+ghost use Rattle.packing_terms.specs.Packing.{box_count};
 ghost use Rattle.packing_terms.specs.Exclusions.{excludes};
-ghost use Rattle.packing_terms.specs.Rules.{Order, AreBoxes};
+ghost use Rattle.packing_terms.specs.Rules.{Order};
 ghost use Rattle.edge_state.specs.BitRows.{HoldsBoxes, row_has};
 ghost use Rattle.closure_terms.specs.Instances.{OrdersFirst, OrdersSecond, OrdersCrossed};
 ghost use Rattle.closure_terms.specs.States.{IsSized};
 ghost use Rattle.closure_terms.specs.Work.{IsCovered, IsWorked};
 
-use crate::empties::is_empty_at;
-use crate::rows::{beyond_orders_from, beyond_orders_to, gone, is_empty};
+use crate::excluding::{exclude_between, exclude_both};
+use crate::rows::{beyond_orders_from, beyond_orders_to, either, gone, gone_of_any, is_empty};
 use box_instances::Instance;
-use cycle_rules::apply_order;
 use edge_state::{BitRow, EdgeState, Rel};
-
-// ORDER at four boxes.
-#[inline(always)]
-fn order_at(
-    instance: &Instance,
-    state: &mut EdgeState,
-    dim: u32,
-    a: u32,
-    b: u32,
-    c: u32,
-    d: u32,
-) -> bool
-    requires sizes { IsSized instance.now state.old dim }
-    requires a { a < box_count instance.now }
-    requires b { b < box_count instance.now }
-    requires c { c < box_count instance.now }
-    requires d { d < box_count instance.now }
-    ensures { IsWorked instance.now state.old state.new result (λ rule. rule ≡ Order dim a b c d) }
-{
-    if a == b || a == c || a == d {
-        return false;
-    }
-    if b == c || b == d || c == d {
-        return false;
-    }
-    if !apply_order(state, dim, a, b, c, d) {
-        return false;
-    }
-    is_empty_at(instance, state, dim, c, b)
-}
-
-// ORDER at the first ordered pair and the last box, with each third.
-fn orders_from<const K: usize>(
-    instance: &Instance,
-    state: &mut EdgeState,
-    dim: u32,
-    a: u32,
-    b: u32,
-    d: u32,
-) -> bool
-    requires words { HoldsBoxes K (box_count instance.now) }
-    requires sizes { IsSized instance.now state.old dim }
-    requires a { a < box_count instance.now }
-    requires b { b < box_count instance.now }
-    requires d { d < box_count instance.now }
-    ensures { IsWorked instance.now state.old state.new result
-        (λ rule. (c : ℕ) × (c < box_count instance.now) × (rule ≡ Order dim a b c d)) }
-{
-    if a == b || a == d || b == d {
-        return false;
-    }
-    let mut rest = beyond_orders_from::<K>(instance, state, dim, a, b, d);
-    while let Some(c) = rest.first() {
-        rest = rest.without(c);
-        if order_at(instance, state, dim, a, b, c, d) {
-            return true;
-        }
-    }
-    false
-}
-
-// ORDER at the second ordered pair and the first box, with each second.
-fn orders_to<const K: usize>(
-    instance: &Instance,
-    state: &mut EdgeState,
-    dim: u32,
-    a: u32,
-    c: u32,
-    d: u32,
-) -> bool
-    requires words { HoldsBoxes K (box_count instance.now) }
-    requires sizes { IsSized instance.now state.old dim }
-    requires a { a < box_count instance.now }
-    requires c { c < box_count instance.now }
-    requires d { d < box_count instance.now }
-    ensures { IsWorked instance.now state.old state.new result
-        (λ rule. (b : ℕ) × (b < box_count instance.now) × (rule ≡ Order dim a b c d)) }
-{
-    if a == c || a == d || c == d {
-        return false;
-    }
-    let mut rest = beyond_orders_to::<K>(instance, state, dim, a, c, d);
-    while let Some(b) = rest.first() {
-        rest = rest.without(b);
-        if order_at(instance, state, dim, a, b, c, d) {
-            return true;
-        }
-    }
-    false
-}
 
 // Whether ORDER may exclude something with its first pair, for one of the last boxes.
 #[inline(always)]
@@ -244,14 +152,22 @@ pub(crate) fn orders_first<const K: usize>(
     if !may_order_first(instance, state, all, dim, a, b) {
         return false;
     }
-    let mut rest = gone(instance, state, all, dim, a, Rel::Before, Rel::Before);
-    while let Some(d) = rest.first() {
-        rest = rest.without(d);
-        if orders_from::<K>(instance, state, dim, a, b, d) {
-            return true;
-        }
+    if !state.sure_before_in::<K>(dim, a, b) {
+        return false;
     }
-    false
+    let lasts = gone(instance, state, all, dim, a, Rel::Before, Rel::Before);
+    let thirds = gone_of_any(
+        instance,
+        state,
+        all,
+        dim,
+        lasts.without(b),
+        Rel::Overlap,
+        Rel::Before,
+    );
+    let open = either::<K>(instance, state, dim, b, Rel::Overlap, Rel::Before);
+    let row = thirds.and(open).without(a);
+    exclude_both(instance, state, dim, b, Rel::Overlap, Rel::Before, row)
 }
 
 /// Whether ORDER may exclude something with the second pair given.
@@ -300,14 +216,22 @@ pub(crate) fn orders_second<const K: usize>(
     if !may_order_second(instance, state, all, dim, c, d) {
         return false;
     }
-    let mut rest = gone(instance, state, all, dim, d, Rel::After, Rel::After);
-    while let Some(a) = rest.first() {
-        rest = rest.without(a);
-        if orders_to::<K>(instance, state, dim, a, c, d) {
-            return true;
-        }
+    if !state.sure_before_in::<K>(dim, c, d) {
+        return false;
     }
-    false
+    let firsts = gone(instance, state, all, dim, d, Rel::After, Rel::After);
+    let seconds = gone_of_any(
+        instance,
+        state,
+        all,
+        dim,
+        firsts.without(c),
+        Rel::Overlap,
+        Rel::After,
+    );
+    let open = either::<K>(instance, state, dim, c, Rel::Overlap, Rel::After);
+    let row = seconds.and(open).without(d);
+    exclude_both(instance, state, dim, c, Rel::Overlap, Rel::After, row)
 }
 
 /// Whether ORDER may exclude something with the first and the last box given.
@@ -356,12 +280,18 @@ pub(crate) fn orders_crossed<const K: usize>(
     if !may_order_crossed(instance, state, all, dim, a, d) {
         return false;
     }
-    let mut rest = gone(instance, state, all, dim, a, Rel::Overlap, Rel::After);
-    while let Some(b) = rest.first() {
-        rest = rest.without(b);
-        if orders_from::<K>(instance, state, dim, a, b, d) {
-            return true;
-        }
+    if state.mask_in::<K>(dim, a, d).has(Rel::Before) {
+        return false;
     }
-    false
+    let seconds = gone(instance, state, all, dim, a, Rel::Overlap, Rel::After);
+    let thirds = gone(instance, state, all, dim, d, Rel::Overlap, Rel::Before);
+    exclude_between(
+        instance,
+        state,
+        dim,
+        seconds.without(d),
+        thirds.without(a),
+        Rel::Overlap,
+        Rel::Before,
+    )
 }

@@ -5,12 +5,14 @@ ghost use Rattle.packing_terms.specs.declared.Rel.TheVariants.{Overlap};
 ghost use Rattle.packing_terms.specs.Packing.{box_count};
 ghost use Rattle.packing_terms.specs.Exclusions.{excludes, IsApart, IsJoined};
 ghost use Rattle.packing_terms.specs.Limits.{IsBoxCount};
-ghost use Rattle.packing_terms.specs.Rules.{Triple, Compose, Cycle, Order};
+ghost use Rattle.packing_terms.specs.Rules.{Triple, Compose, Cycle, Order, Follows, Concludes, IsRuleInstance};
 ghost use Rattle.relation_table.specs.Masks.{mask_has};
 ghost use Rattle.edge_state.specs.BitRows.{IsRowWidth, HoldsBoxes, row_has};
 ghost use Rattle.edge_state.specs.Edges.{is_other_box};
-ghost use Rattle.closure_terms.specs.States.{IsSized};
+ghost use Rattle.closure_terms.specs.States.{IsSized, HasEmptyMask};
 ghost use Rattle.closure_terms.specs.Work.{IsCovered};
+ghost use Rattle.closure_terms.specs.Rows.{in_each_relation};
+ghost use Rattle.rule_passes.specs.Reached.{IsGoneOf, composed};
 
 use box_instances::Instance;
 use edge_state::{BitRow, EdgeState, Mask, Rel};
@@ -159,6 +161,8 @@ pub(crate) fn either<const K: usize>(
     requires sizes { IsSized instance.now state.now dim }
     requires u { u < box_count instance.now }
     ensures within { (v : ℕ) → row_has result v ≡ true → v < box_count instance.now }
+    ensures other { (v : ℕ) → row_has result v ≡ true
+        → is_other_box (box_count instance.now) u v ≡ true }
     ensures shut { (v : ℕ) → v < box_count instance.now → (u ≡ v → ⊥) → row_has result v ≡ false
         → IsTrue (excludes state.now.trail dim u v first)
         × IsTrue (excludes state.now.trail dim u v second) }
@@ -187,12 +191,143 @@ pub(crate) fn gone<const K: usize>(
     requires u { u < box_count instance.now }
     requires all { (x : ℕ) → row_has all x ≡ nat_lt x (box_count instance.now) }
     ensures within { (v : ℕ) → row_has result v ≡ true → v < box_count instance.now }
+    ensures distinct { (v : ℕ) → row_has result v ≡ true → u ≡ v → ⊥ }
+    ensures shut { (v : ℕ) → row_has result v ≡ true
+        → IsTrue (excludes state.now.trail dim u v first)
+        × IsTrue (excludes state.now.trail dim u v second) }
     ensures others { (v : ℕ) → v < box_count instance.now → (u ≡ v → ⊥) → row_has result v ≡ false
         → IsTrue (excludes state.now.trail dim u v first)
         → IsTrue (excludes state.now.trail dim u v second) → ⊥ }
 {
     let left = either::<K>(instance, state, dim, u, first, second);
     all.minus(left).without(u)
+}
+
+/// The boxes for which both relations to some other member of a row are excluded.
+#[inline(always)]
+pub(crate) fn gone_of_any<const K: usize>(
+    instance: &Instance,
+    state: &EdgeState,
+    all: BitRow<K>,
+    dim: u32,
+    row: BitRow<K>,
+    first: Rel,
+    second: Rel,
+) -> BitRow<K>
+    requires words { HoldsBoxes K (box_count instance.now) }
+    requires sizes { IsSized instance.now state.now dim }
+    requires all { (x : ℕ) → row_has all x ≡ nat_lt x (box_count instance.now) }
+    requires within { (x : ℕ) → row_has row x ≡ true → x < box_count instance.now }
+    ensures within { (y : ℕ) → row_has result y ≡ true → y < box_count instance.now }
+    ensures gone { (y : ℕ) → row_has result y ≡ true
+        → IsGoneOf (excludes state.now.trail) dim (row_has row.entry) first second y }
+    ensures others { (x y : ℕ) → row_has row.entry x ≡ true → y < box_count instance.now
+        → (x ≡ y → ⊥) → row_has result y ≡ false
+        → IsTrue (excludes state.now.trail dim x y first)
+        → IsTrue (excludes state.now.trail dim x y second) → ⊥ }
+{
+    let mut rest = row;
+    let mut found = BitRow::empty();
+    while let Some(x) = rest.first() {
+        rest = rest.without(x);
+        found = found.or(gone(instance, state, all, dim, x, first, second));
+    }
+    found
+}
+
+/// Whether the mask of `u` and some other box is empty.
+#[inline(always)]
+pub(crate) fn has_empty_mask<const K: usize>(
+    instance: &Instance,
+    state: &EdgeState,
+    all: BitRow<K>,
+    dim: u32,
+    u: u32,
+) -> bool
+    requires words { HoldsBoxes K (box_count instance.now) }
+    requires sizes { IsSized instance.now state.now dim }
+    requires u { u < box_count instance.now }
+    requires all { (x : ℕ) → row_has all x ≡ nat_lt x (box_count instance.now) }
+    ensures empty { result ≡ true → HasEmptyMask instance.now (excludes state.now.trail) }
+    ensures left { result ≡ false → (x : ℕ) → x < box_count instance.now → (u ≡ x → ⊥)
+        → (r : PlainRel) × (excludes state.now.trail dim u x r ≡ false) }
+{
+    let overlap = state.row_in::<K>(dim, u, Rel::Overlap);
+    let before = state.row_in::<K>(dim, u, Rel::Before);
+    let after = state.row_in::<K>(dim, u, Rel::After);
+    let lost = all.minus(one_of(overlap, before, after)).without(u);
+    match lost.first() {
+        Some(_) => true,
+        None => false,
+    }
+}
+
+// The boxes to which the compositions leave a relation of the first box that isn't left of the
+// first and the second: told by the mask of these and the rows of the second.
+#[inline(always)]
+fn composed_row<const K: usize>(
+    left: Mask,
+    overlap: BitRow<K>,
+    before: BitRow<K>,
+    after: BitRow<K>,
+    rel: Rel,
+) -> BitRow<K>
+    requires { IsRowWidth K }
+    ensures { (x : ℕ) → row_has result x ≡ composed rel (mask_has left)
+        (in_each_relation (row_has overlap.entry x) (row_has before.entry x)
+        (row_has after.entry x)) }
+{
+    match rel {
+        Rel::Overlap => one_of(
+            overlap,
+            pick(after, left.has(Rel::Before)),
+            pick(before, left.has(Rel::After)),
+        ),
+        Rel::Before => pick(overlap, left.has(Rel::Overlap)).or(before),
+        Rel::After => pick(overlap, left.has(Rel::Overlap)).or(after),
+    }
+}
+
+/// The boxes x for which COMPOSE at `u`, `v`, x excludes a relation of `u` and x, where the mask
+/// of `u`, `v` is given and no mask of `v` is empty.
+///
+/// A relation that is left of `u`, `v` is left of `u`, x, whatever is left of `v`, x.
+#[inline(always)]
+pub(crate) fn uncomposed<const K: usize>(
+    instance: &Instance,
+    state: &EdgeState,
+    dim: u32,
+    u: u32,
+    v: u32,
+    left: Mask,
+    rel: Rel,
+) -> BitRow<K>
+    requires words { HoldsBoxes K (box_count instance.now) }
+    requires sizes { IsSized instance.now state.now dim }
+    requires u { u < box_count instance.now }
+    requires v { v < box_count instance.now }
+    requires distinct { u ≡ v → ⊥ }
+    requires left { (r : PlainRel) → mask_has left r ≡ not (excludes state.now.trail dim u v r) }
+    ensures other { (x : ℕ) → row_has result x ≡ true
+        → is_other_box (box_count instance.now) u x ≡ true }
+    ensures follows { (x : ℕ) → row_has result x ≡ true
+        → Follows instance.now (excludes state.now.trail) dim u x rel }
+    ensures shut { (x : ℕ) → row_has result x ≡ false
+        → ((q : PlainRel) × (mask_has left q ≡ true))
+        → ((s : PlainRel) × (excludes state.now.trail dim v x s ≡ false))
+        → IsRuleInstance instance.now (Compose dim u v x)
+        → Concludes (excludes state.now.trail) (Compose dim u v x) rel
+        → IsTrue (excludes state.now.trail dim u x rel) }
+{
+    if left.has(rel) {
+        return BitRow::empty();
+    }
+    let overlap = state.row_in::<K>(dim, v, Rel::Overlap);
+    let before = state.row_in::<K>(dim, v, Rel::Before);
+    let after = state.row_in::<K>(dim, v, Rel::After);
+    let allowed = composed_row(left, overlap, before, after, rel);
+    let open = state.row_in::<K>(dim, u, rel);
+    open.minus(allowed).without(v)
 }
 
 /// The boxes v at which TRIPLE may exclude something at `u`, v with `x`.
@@ -209,6 +344,10 @@ pub(crate) fn beyond_triples<const K: usize>(
     requires u { u < box_count instance.now }
     requires x { x < box_count instance.now }
     ensures within { (v : ℕ) → row_has result v ≡ true → v < box_count instance.now }
+    ensures other { (v : ℕ) → row_has result v ≡ true
+        → is_other_box (box_count instance.now) u v ≡ true }
+    ensures apart { (v : ℕ) → row_has result v ≡ true
+        → (v ≡ x → ⊥) × IsApart (excludes state.now.trail) dim v x }
     ensures others { (v : ℕ) → v < box_count instance.now → row_has result v ≡ false
         → IsCovered instance.now (excludes state.now.trail) state.now.trail (Triple dim u v x) }
 {
@@ -231,37 +370,16 @@ pub(crate) fn cycle_fourths<const K: usize>(
     requires sizes { IsSized instance.now state.now dim }
     requires a { a < box_count instance.now }
     requires b { b < box_count instance.now }
+    ensures other { (d : ℕ) → row_has result d ≡ true
+        → is_other_box (box_count instance.now) b d ≡ true }
+    ensures joined { (d : ℕ) → row_has result d ≡ true
+        → (a ≡ d → ⊥) × IsJoined (excludes state.now.trail) dim a d }
     ensures others { (d : ℕ) → d < box_count instance.now → row_has result d ≡ false → (c : ℕ)
         → IsCovered instance.now (excludes state.now.trail) state.now.trail (Cycle dim a b c d) }
 {
     let free = either::<K>(instance, state, dim, b, Rel::Before, Rel::After);
     let first = either::<K>(instance, state, dim, a, Rel::Before, Rel::After);
-    free.minus(first)
-}
-
-/// The boxes d at which CYCLE may exclude something at `b`, d.
-#[inline(always)]
-pub(crate) fn beyond_cycles<const K: usize>(
-    instance: &Instance,
-    state: &EdgeState,
-    dim: u32,
-    a: u32,
-    b: u32,
-    c: u32,
-) -> BitRow<K>
-    requires words { HoldsBoxes K (box_count instance.now) }
-    requires sizes { IsSized instance.now state.now dim }
-    requires a { a < box_count instance.now }
-    requires b { b < box_count instance.now }
-    requires c { c < box_count instance.now }
-    ensures within { (d : ℕ) → row_has result d ≡ true → d < box_count instance.now }
-    ensures others { (d : ℕ) → d < box_count instance.now → row_has result d ≡ false
-        → IsCovered instance.now (excludes state.now.trail) state.now.trail (Cycle dim a b c d) }
-{
-    let free = either::<K>(instance, state, dim, b, Rel::Before, Rel::After);
-    let third = either::<K>(instance, state, dim, c, Rel::Before, Rel::After);
-    let first = either::<K>(instance, state, dim, a, Rel::Before, Rel::After);
-    free.minus(third).minus(first)
+    free.minus(first).without(a)
 }
 
 /// The boxes c at which ORDER may exclude something at c, `b`, with the last box given.
@@ -326,6 +444,9 @@ pub(crate) fn cycle_thirds<const K: usize>(
     requires b { b < box_count instance.now }
     requires all { (x : ℕ) → row_has all x ≡ nat_lt x (box_count instance.now) }
     ensures within { (c : ℕ) → row_has result c ≡ true → c < box_count instance.now }
+    ensures members { (c : ℕ) → row_has result c ≡ true → (a ≡ c → ⊥) × ((b ≡ c → ⊥)
+        × (IsJoined (excludes state.now.trail) dim b c
+        × IsApart (excludes state.now.trail) dim a c)) }
     ensures others { (c : ℕ) → c < box_count instance.now → (a ≡ c → ⊥) → (b ≡ c → ⊥)
         → row_has result c ≡ false → IsJoined (excludes state.now.trail) dim b c
         → IsApart (excludes state.now.trail) dim a c
@@ -352,6 +473,9 @@ pub(crate) fn cycle_seconds<const K: usize>(
     requires c { c < box_count instance.now }
     requires all { (x : ℕ) → row_has all x ≡ nat_lt x (box_count instance.now) }
     ensures within { (b : ℕ) → row_has result b ≡ true → b < box_count instance.now }
+    ensures members { (b : ℕ) → row_has result b ≡ true → (a ≡ b → ⊥) × ((c ≡ b → ⊥)
+        × (IsJoined (excludes state.now.trail) dim a b
+        × IsJoined (excludes state.now.trail) dim c b)) }
     ensures others { (b : ℕ) → b < box_count instance.now → (a ≡ b → ⊥) → (c ≡ b → ⊥)
         → row_has result b ≡ false → IsJoined (excludes state.now.trail) dim a b
         → IsJoined (excludes state.now.trail) dim b c → ⊥ }

@@ -1,39 +1,21 @@
 //! TRIPLE at what a changed edge tells.
 //!
-//! Each call applies some instances one after another and answers whether a mask is empty; it stops
-//! there.
+//! Each call answers whether a mask is empty, and stops there.
 ghost use Rattle.std.specs.Prelude.{◌≡◌, ◌<◌, ◌≤◌, ◌+◌, ◌⊎◌, ℕ, true, false};
 ghost use Rattle.packing_terms.specs.Packing.{dims, box_count, side, container_side};
+ghost use Rattle.packing_terms.specs.Exclusions.{excludes, IsApart};
 ghost use Rattle.packing_terms.specs.Rules.{Triple};
 ghost use Rattle.edge_state.specs.BitRows.{HoldsBoxes, row_has};
+ghost use Rattle.edge_state.specs.Edges.{is_other_box};
 ghost use Rattle.closure_terms.specs.Instances.{Triples};
 ghost use Rattle.closure_terms.specs.States.{IsSized};
 ghost use Rattle.closure_terms.specs.Work.{IsWorked};
 ghost use Rattle.rule_passes.specs.Reached.{HasNoLonger};
 
-use crate::empties::is_empty_at;
+use crate::excluding::exclude_both;
 use crate::rows::{beyond_triples, is_empty};
 use box_instances::Instance;
-use edge_state::{BitRow, EdgeState};
-use orientation_rules::apply_triple;
-
-// TRIPLE at three boxes.
-#[inline(always)]
-fn triple_at(instance: &Instance, state: &mut EdgeState, dim: u32, u: u32, v: u32, x: u32) -> bool
-    requires sizes { IsSized instance.now state.old dim }
-    requires u { u < box_count instance.now }
-    requires v { v < box_count instance.now }
-    requires x { x < box_count instance.now }
-    ensures { IsWorked instance.now state.old state.new result (λ rule. rule ≡ Triple dim u v x) }
-{
-    if u == v || u == x || v == x {
-        return false;
-    }
-    if !apply_triple(instance, state, dim, u, v, x) {
-        return false;
-    }
-    is_empty_at(instance, state, dim, u, v)
-}
+use edge_state::{BitRow, EdgeState, Rel};
 
 // The least side of a third box with which two boxes are together longer than the container.
 #[inline(always)]
@@ -41,41 +23,44 @@ fn least_third(instance: &Instance, dim: u32, u: u32, x: u32) -> u64
     requires dim { dim < dims instance.now }
     requires u { u < box_count instance.now }
     requires x { x < box_count instance.now }
-    ensures { (w : ℕ) → w < result
+    ensures least { (w : ℕ) → w < result
         → side instance.now u dim + w + side instance.now x dim ≤ container_side instance.now dim }
+    ensures over { (w : ℕ) → result ≤ w
+        → container_side instance.now dim < side instance.now u dim + w + side instance.now x dim }
 {
     let together = u64::from(instance.side(u, dim)) + u64::from(instance.side(x, dim));
     (u64::from(instance.container_side(dim)) + 1).saturating_sub(together)
 }
 
-// TRIPLE at three boxes, where the side of the second one isn't less than the least with which the
-// three are too long.
+// The boxes of a row whose side isn't less than `least`.
 #[inline(always)]
-fn triple_over(
+fn long_among<const K: usize>(
     instance: &Instance,
-    state: &mut EdgeState,
     dim: u32,
-    u: u32,
-    v: u32,
-    x: u32,
+    row: BitRow<K>,
     least: u64,
-) -> bool
-    requires sizes { IsSized instance.now state.old dim }
-    requires u { u < box_count instance.now }
-    requires v { v < box_count instance.now }
-    requires x { x < box_count instance.now }
-    requires least { (w : ℕ) → w < least
-        → side instance.now u dim + w + side instance.now x dim ≤ container_side instance.now dim }
-    ensures { IsWorked instance.now state.old state.new result (λ rule. rule ≡ Triple dim u v x) }
+) -> BitRow<K>
+    requires words { HoldsBoxes K (box_count instance.now) }
+    requires dim { dim < dims instance.now }
+    requires within { (v : ℕ) → row_has row v ≡ true → v < box_count instance.now }
+    ensures long { (v : ℕ) → row_has result v ≡ true
+        → (row_has row.entry v ≡ true) × (least ≤ side instance.now v dim) }
+    ensures others { (v : ℕ) → row_has row.entry v ≡ true → row_has result v ≡ false
+        → side instance.now v dim < least }
 {
-    if u64::from(instance.side(v, dim)) < least {
-        return false;
+    let mut rest = row;
+    let mut found = BitRow::empty();
+    while let Some(v) = rest.first() {
+        rest = rest.without(v);
+        if u64::from(instance.side(v, dim)) >= least {
+            found = found.with(v);
+        }
     }
-    triple_at(instance, state, dim, u, v, x)
+    found
 }
 
-// TRIPLE with two boxes, for each third of a row whose side isn't less than the least with which
-// the three are too long.
+// TRIPLE with two boxes that are apart, for each third of a row, which are apart from `x`, whose
+// side isn't less than the least with which the three are too long.
 #[inline(always)]
 fn triples_among<const K: usize>(
     instance: &Instance,
@@ -90,21 +75,23 @@ fn triples_among<const K: usize>(
     requires sizes { IsSized instance.now state.old dim }
     requires u { u < box_count instance.now }
     requires x { x < box_count instance.now }
+    requires distinct { u ≡ x → ⊥ }
+    requires apart { IsApart (excludes state.old.trail) dim u x }
     requires within { (v : ℕ) → row_has thirds v ≡ true → v < box_count instance.now }
+    requires other { (v : ℕ) → row_has thirds v ≡ true
+        → is_other_box (box_count instance.now) u v ≡ true }
+    requires thirds { (v : ℕ) → row_has thirds v ≡ true
+        → (v ≡ x → ⊥) × IsApart (excludes state.old.trail) dim v x }
     requires least { (w : ℕ) → w < least
         → side instance.now u dim + w + side instance.now x dim ≤ container_side instance.now dim }
+    requires over { (w : ℕ) → least ≤ w
+        → container_side instance.now dim < side instance.now u dim + w + side instance.now x dim }
     ensures { IsWorked instance.now state.old state.new result
         (λ rule. (v : ℕ) × (v < box_count instance.now)
         × ((row_has thirds.entry v ≡ true) × (rule ≡ Triple dim u v x))) }
 {
-    let mut rest = thirds;
-    while let Some(v) = rest.first() {
-        rest = rest.without(v);
-        if triple_over(instance, state, dim, u, v, x, least) {
-            return true;
-        }
-    }
-    false
+    let long = long_among(instance, dim, thirds, least);
+    exclude_both(instance, state, dim, u, Rel::Before, Rel::After, long)
 }
 
 /// Whether TRIPLE may exclude something with two boxes, in one of their orders: there are thirds that
@@ -161,6 +148,9 @@ pub(crate) fn triples<const K: usize>(
         Triples instance.now dim u x rule ⊎ Triples instance.now dim x u rule) }
 {
     if !may_triple::<K>(instance, state, dim, u, x, most) {
+        return false;
+    }
+    if state.mask_in::<K>(dim, u, x).has(Rel::Overlap) {
         return false;
     }
     let there = beyond_triples::<K>(instance, state, dim, u, x);

@@ -8,6 +8,13 @@ use Rattle.rule_passes.proofs.rows.cycle_seconds.Goals as goal
 pub returns-clause-within : goal.returns-clause-within
 returns-clause-within g c x on = c.gone-first.ensures.within x (and_parts _ _ (sym (c.and.ensures x) ∙ on)).0
 
+pub returns-clause-members : goal.returns-clause-members
+returns-clause-members g c x on =
+    let both = and_parts _ _ (sym (c.and.ensures x) ∙ on) in (
+      c.gone-first.ensures.distinct x both.0,
+      (c.gone.ensures.distinct x both.1, (c.gone-first.ensures.shut x both.0, c.gone.ensures.shut x both.1)),
+    )
+
 pub returns-clause-others : goal.returns-clause-others
 returns-clause-others g c x small first second off one two = go (and_cases _ _ (sym (c.and.ensures x) ∙ off))
   where

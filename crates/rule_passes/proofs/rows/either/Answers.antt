@@ -1,11 +1,18 @@
 use Rattle.packing_terms.specs.Packing.{box_count}
 use Rattle.packing_terms.specs.Exclusions.{excludes}
 use Rattle.closure_terms.proofs.Filters.{either_within, either_shut, either_some}
+use Rattle.rule_passes.proofs.RowStates.{either_other}
 use Rattle.rule_passes.proofs.rows.either.Goals as goal
 
 pub returns-clause-within : goal.returns-clause-within
 returns-clause-within g c v on =
     either_within (box_count c.args.instance.now) c.args.u v _ _ _ _ _
+    ((rw c.requires.sizes.same_boxes at c.row_in-one.ensures) v)
+    ((rw c.requires.sizes.same_boxes at c.row_in-other.ensures) v) (c.or.ensures v) on
+
+pub returns-clause-other : goal.returns-clause-other
+returns-clause-other g c v on =
+    either_other (box_count c.args.instance.now) c.args.u v _ _ _ _ _
     ((rw c.requires.sizes.same_boxes at c.row_in-one.ensures) v)
     ((rw c.requires.sizes.same_boxes at c.row_in-other.ensures) v) (c.or.ensures v) on
 

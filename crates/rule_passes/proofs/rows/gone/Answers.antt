@@ -1,14 +1,27 @@
 use Rattle.std.proofs.Common.{◌≡◌, ◌⊎◌, inl, inr, sym, ◌∙◌, false}
-use Rattle.std.proofs.lemmas.Bool.{and_parts, lt-ltb}
+use Rattle.std.proofs.lemmas.Bool.{and_parts, lt-ltb, eq-eqb, true≢false}
 use Rattle.packing_terms.specs.Packing.{box_count}
 use Rattle.edge_state.specs.BitRows.{row_has}
 use Rattle.closure_terms.proofs.Filters.{gone_within, gone_other, without_off}
+use Rattle.rule_passes.proofs.RowStates.{not_true}
 use Rattle.rule_passes.proofs.rows.gone.Goals as goal
 
 pub returns-clause-within : goal.returns-clause-within
 returns-clause-within g c v on =
     gone_within (box_count c.args.instance.now) v _ _ _ (c.requires.all v) (c.minus.ensures v)
     (and_parts _ _ (sym (c.without.ensures v) ∙ on)).0
+
+pub returns-clause-distinct : goal.returns-clause-distinct
+returns-clause-distinct g c v on e =
+    true≢false (sym (eq-eqb v c.args.u (sym e)) ∙ not_true _ (and_parts _ _ (sym (c.without.ensures v) ∙ on)).1)
+
+pub returns-clause-shut : goal.returns-clause-shut
+returns-clause-shut g c v on =
+    let both = and_parts _ _ (sym (c.without.ensures v) ∙ on) in
+    let within = gone_within (box_count c.args.instance.now) v _ _ _ (c.requires.all v) (c.minus.ensures v) both.0 in
+    c.either-left.ensures.shut v within
+    (λ e. true≢false (sym (eq-eqb v c.args.u (sym e)) ∙ not_true _ both.1))
+    (not_true _ (and_parts _ _ (sym (c.minus.ensures v) ∙ both.0)).1)
 
 pub returns-clause-others : goal.returns-clause-others
 returns-clause-others g c v small ne off one other = go (without_off _ v c.args.u (sym (c.without.ensures v) ∙ off))

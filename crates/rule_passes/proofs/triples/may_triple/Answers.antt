@@ -30,9 +30,9 @@ returns-then-from-least g c h = worked_none c.args.instance.now _ _ (λ rule r. 
         (covered_never c.args.instance.now _ (Triple c.args.dim c.args.u e.0 c.args.x)
         (λ is p. (let l : side c.args.instance.now e.0 c.args.dim < c.least_third-least.result
         = omega (arith, c.requires.most e.0 e.1, c.if-from-least.true) in
-        let fits = c.least_third-least.ensures _ l in omega (arith, p.2, fits))))
+        let fits = c.least_third-least.ensures.least _ l in omega (arith, p.2, fits))))
     go rule (inr e) = covered_named c.args.instance.now _ rule (Triple c.args.dim c.args.x e.0 c.args.u) e.2
         (covered_never c.args.instance.now _ (Triple c.args.dim c.args.x e.0 c.args.u)
         (λ is p. (let l : side c.args.instance.now e.0 c.args.dim < c.least_third-least.result
         = omega (arith, c.requires.most e.0 e.1, c.if-from-least.true) in
-        let fits = c.least_third-least.ensures _ l in omega (arith, p.2, fits))))
+        let fits = c.least_third-least.ensures.least _ l in omega (arith, p.2, fits))))

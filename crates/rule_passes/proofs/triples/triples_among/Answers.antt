@@ -1,48 +1,60 @@
-use Rattle.std.proofs.Common.{◌*◌, ◌≡◌, ◌∙◌, sym, true}
-use Rattle.std.proofs.lemmas.Bool.{and_parts, true≢false}
-use Rattle.packing_terms.specs.Packing.{box_count}
-use Rattle.packing_terms.specs.Rules.{Triple}
+use Rattle.std.proofs.Common.{◌≡◌, ◌≢◌, ◌<◌, ◌+◌, ◌⊎◌, inl, inr, ◌∙◌, ℕ, sym, arith, true, false}
+use Rattle.std.proofs.lemmas.Bool.{cases_Bool}
+use Rattle.packing_terms.specs.declared.Rel.{Rel}
+use Rattle.packing_terms.specs.declared.Rel.TheVariants.{Overlap, Before, After}
+use Rattle.packing_terms.specs.Packing.{box_count, side, container_side}
+use Rattle.packing_terms.specs.Exclusions.{excludes}
+use Rattle.packing_terms.specs.Rules.{Triple, Follows}
 use Rattle.edge_state.specs.BitRows.{row_has}
-use Rattle.closure_terms.proofs.Worked.{worked_as, worked_lost, worked_kept, sizes_worked}
-use Rattle.edge_state.proofs.RowBits.{members_fewer}
-use Rattle.closure_terms.proofs.Members.{worked_rest, worked_row, worked_all}
+use Rattle.edge_state.proofs.RowSteps.{box_apart}
+use Rattle.closure_terms.specs.Work.{IsCovered}
+use Rattle.rule_passes.proofs.RowRules.{worked_from, covered_shut, named_shut, shut_joined, triple_follows}
 use Rattle.rule_passes.proofs.triples.triples_among.Goals as goal
-
-pub loop-v-init : goal.loop-v-init
-loop-v-init g c = record {
-  work = worked_rest _ _ (box_count c.args.instance.now) (row_has c.args.thirds)
-      (λ x rule. (row_has c.args.thirds x ≡ true) × (rule ≡ Triple c.args.dim c.args.u x c.args.x))
-      (λ x small off rule e. absurd (true≢false (sym e.0 ∙ off)));
-  within = c.requires.within;
-}
-
-pub loop-v-smaller : goal.loop-v-smaller
-loop-v-smaller g c =
-    members_fewer (row_has c.loop-v.rest) (row_has c.without-rest.result) c.in-Some.v (64 * g.row.K)
-    c.without-rest.ensures c.in-Some.ensures.least.there c.in-Some.ensures.limit
-
-pub triple_over-requires-clause-sizes : goal.triple_over-requires-clause-sizes
-triple_over-requires-clause-sizes g c = sizes_worked _ _ _ _ _ _ c.loop-v.invariant.work c.requires.sizes
-
-pub triple_over-requires-clause-v : goal.triple_over-requires-clause-v
-triple_over-requires-clause-v g c = c.loop-v.invariant.within _ c.in-Some.ensures.least.there
-
-pub returns-then-triple_over : goal.returns-then-triple_over
-returns-then-triple_over g c =
-    worked_lost _ _ _ _ _ _ _ _ c.if-triple_over.true c.loop-v.invariant.work c.triple_over.ensures
-
-pub loop-v-preserved : goal.loop-v-preserved
-loop-v-preserved g c = record {
-  work = worked_row _ _ _ _ _ (box_count c.args.instance.now) c.in-Some.v (row_has c.loop-v.rest)
-      (row_has c.without-rest.result)
-      (λ x rule. (row_has c.args.thirds x ≡ true) × (rule ≡ Triple c.args.dim c.args.u x c.args.x))
-      c.without-rest.ensures c.loop-v.invariant.work
-      (worked_kept _ _ _ _ _ c.if-triple_over.false (worked_as _ _ _ _ _ _ (λ rule e. e.1) c.triple_over.ensures));
-  within = λ x h. c.loop-v.invariant.within x (and_parts _ _ (sym (c.without-rest.ensures x) ∙ h)).0;
-}
 
 pub returns : goal.returns
 returns g c =
-    worked_all _ _ _ (box_count c.args.instance.now) (row_has c.loop-v.rest)
-    (λ x rule. (row_has c.args.thirds x ≡ true) × (rule ≡ Triple c.args.dim c.args.u x c.args.x))
-    c.in_default.ensures.least c.loop-v.invariant.work
+    worked_from c.args.instance.now _ _ _ _ (λ e rule r. named_shut c.args.instance.now _ _ rule _ r.2.1
+    (covered_shut c.args.instance.now _ _ (Triple c.args.dim c.args.u r.0 c.args.x)
+    (λ is p s k. go e r.0 r.2.0 p.2 s k (cases_Bool (row_has c.long_among-long.result r.0)))))
+    c.exclude_both.ensures.worked
+  where
+    go : c.exclude_both.result ≡ false → (v : ℕ) → row_has c.args.thirds v ≡ true
+        → container_side c.args.instance.now c.args.dim < side c.args.instance.now c.args.u c.args.dim
+        + side c.args.instance.now v c.args.dim + side c.args.instance.now c.args.x c.args.dim
+        → (s : Rel) → s ≢ Overlap
+        → (row_has c.long_among-long.result v ≡ true) ⊎ (row_has c.long_among-long.result v ≡ false)
+        → excludes c.exclude_both.new.state.trail c.args.dim c.args.u v s ≡ true
+    go e v on over s k (inl h) = shut_joined (excludes c.exclude_both.new.state.trail) c.args.dim c.args.u v s k (c.exclude_both.ensures.shut e v h)
+    go e v on over s k (inr h) =
+        let fits = c.requires.least _ (c.long_among-long.ensures.others v on h) in absurd (omega (arith, over, fits))
+
+pub exclude_both-requires : goal.exclude_both-requires
+exclude_both-requires g c = (
+  omega (arith, c.requires.words.0.1),
+  (
+    c.requires.words,
+    (
+      c.requires.sizes,
+      (c.requires.u, (λ v on. c.requires.other v (c.long_among-long.ensures.long v on).0, follows)),
+    ),
+  ),
+)
+  where
+    follows : (v : ℕ) → row_has c.long_among-long.result v ≡ true
+        → Follows c.args.instance.now (excludes c.args.state.now.trail) c.args.dim c.args.u v Before
+        × Follows c.args.instance.now (excludes c.args.state.now.trail) c.args.dim c.args.u v After
+    follows v on =
+        let long = c.long_among-long.ensures.long v on in
+        let apart = c.requires.thirds v long.0 in
+        triple_follows c.args.instance.now (excludes c.args.state.now.trail) c.args.dim c.args.u v c.args.x (
+          c.requires.sizes.there,
+          (
+            c.requires.u,
+            (
+              box_apart (box_count c.args.instance.now) c.args.u v (c.requires.other v long.0),
+              (c.requires.distinct, tt),
+            ),
+            (c.requires.within v long.0, (apart.0, tt), (c.requires.x, tt, tt)),
+          ),
+        )
+        (c.requires.apart, apart.1, c.requires.over _ long.1)
