@@ -69,7 +69,14 @@ fn joined_beside<const K: usize>(
 
 // Excludes overlap of two boxes that are joined in each other dimension: APART.
 #[inline(always)]
-fn shut_overlap(instance: &Instance, state: &mut EdgeState, i: u32, u: u32, v: u32) -> bool
+fn shut_overlap<const K: usize>(
+    instance: &Instance,
+    state: &mut EdgeState,
+    i: u32,
+    u: u32,
+    v: u32,
+) -> bool
+    requires words { HoldsBoxes K (box_count instance.now) }
     requires sizes { IsSized instance.now state.old i }
     requires u { u < box_count instance.now }
     requires v { v < box_count instance.now }
@@ -79,7 +86,7 @@ fn shut_overlap(instance: &Instance, state: &mut EdgeState, i: u32, u: u32, v: u
     ensures { IsWorked instance.now state.old state.new result (λ rule. rule ≡ Apart i u v) }
 {
     // What it answers isn't asked anywhere, so that it isn't computed.
-    let _ = state.exclude(i, u, v, Rel::Overlap);
+    let _ = state.exclude_in::<K>(i, u, v, Rel::Overlap);
     is_empty_at(instance, state, i, u, v)
 }
 
@@ -112,7 +119,7 @@ fn apart_at<const K: usize>(
     if !joined_beside::<K>(instance, state, i, u, v) {
         return false;
     }
-    shut_overlap(instance, state, i, u, v)
+    shut_overlap::<K>(instance, state, i, u, v)
 }
 
 /// APART in each other dimension.
