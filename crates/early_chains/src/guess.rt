@@ -122,15 +122,17 @@ impl Guess {
         }
     }
 
-    // How many closings are on the way to the one that began at this position, or to the next one.
+    // The number of kept closings that began before this position. Positions rise along the way, so
+    // the search from the newest one down ends at the first of these.
     fn depth_of(&self, closed: Mark) -> usize {
         for k in 0..self.depth {
-            let place = self.depth - 1 - k;
-            if place < self.closings.len() && self.closings[place].0 == closed {
-                return place;
+            let depth = self.depth - k;
+            let newest = depth - 1;
+            if newest < self.closings.len() && self.closings[newest].0.is_before(closed) {
+                return depth;
             }
         }
-        self.depth
+        0
     }
 
     /// Begins a closing from a position of the list. Where one began there before, what rose since

@@ -5,3 +5,4 @@ mod Quiet
 mod RowRules
 mod RowStates
 pub mod Levels
+mod ChainRows
