@@ -6,7 +6,7 @@ ghost use Rattle.box_instances.specs.Plain.{plain_box, plain_instance, without_k
 ghost use Rattle.box_instances.specs.Faults.{AreKerfsOf, IsFirstFaultySide, IsFirstKerfOutside, IsFirstFault, IsFirstBoxFault};
 
 use crate::InstanceFault;
-use crate::working::{working_row, working_sides};
+use crate::working::{longest_sides, working_row, working_sides};
 use smallvec::SmallVec;
 use std::alloc::Global;
 use std::marker::Model;
@@ -42,7 +42,8 @@ pub const MOST_VALUE: u32 = 1_000_000_000;
 /// set to anything from 0 to 128,000,000. A working side is a written one with the kerf. Contracts
 /// see an instance as the plain instance of the written numbers.
 ///
-/// Searches ask for working sides all the time, so these are held too, each in its place.
+/// Searches ask for working sides all the time, so these are held too, each in its place, and for
+/// each dimension a bound on them.
 #[derive(Drop)]
 pub struct Instance {
     pub(crate) container: Sides,
@@ -50,6 +51,7 @@ pub struct Instance {
     pub(crate) boxes: Vec<BoxItem>,
     pub(crate) limits: [u32; 4],
     pub(crate) working: [[u32; 4]; MOST_BOXES],
+    pub(crate) longest: [u32; 4],
 }
 
 impl Model for Instance {
@@ -62,7 +64,8 @@ impl Model for Instance {
 
     ghost view = { λ i. plain_instance i.container i.kerf i.boxes };
 
-    ghost invariant = { λ i. IsHeld (plain_instance i.container i.kerf i.boxes) i.limits i.working };
+    ghost invariant = { λ i. IsHeld (plain_instance i.container i.kerf i.boxes) i.limits
+        i.working i.longest };
 }
 
 // Kerf `i`, and 0 where there is none.
@@ -146,12 +149,14 @@ impl Instance {
     {
         let limits = working_row(kerf.as_slice(), container.as_slice());
         let working = working_sides(kerf.as_slice(), boxes.as_slice());
+        let longest = longest_sides(&working, boxes.len());
         Instance {
             container,
             kerf,
             boxes,
             limits,
             working,
+            longest,
         }
     }
 
@@ -242,6 +247,17 @@ impl Instance {
         ensures { result ≡ side self.now box_no dim }
     {
         self.working[box_no as usize][dim as usize]
+    }
+
+    /// A bound on the working sides of the boxes in a dimension: none is longer. Of an instance that
+    /// was made of its boxes it is the greatest side; a `BoxSet` may answer that of a box that it no
+    /// longer has.
+    #[inline]
+    pub fn longest_side(&self, dim: u32) -> u32
+        requires { dim < dims self.now }
+        ensures { (v : ℕ) → v < box_count self.now → side self.now v dim ≤ result }
+    {
+        self.longest[dim as usize]
     }
 
     /// The kerf in a dimension: the least gap between boxes that are apart there. Every instance is

@@ -7,6 +7,7 @@ ghost use Rattle.packing_terms.specs.Limits.{IsInternalInstance};
 ghost use Rattle.box_instances.specs.Plain.{plain_box};
 ghost use Rattle.box_instances.specs.Sets.{all_boxes, AreFirstSets};
 
+use crate::working::greater_sides;
 use crate::{Instance, NoMemory};
 use std::alloc::Global;
 use std::marker::Model;
@@ -29,6 +30,7 @@ impl Instance {
             .copy_from_slice(item.sides.as_slice());
         own.value = item.value;
         self.working[at as usize] = from.working[box_no as usize];
+        self.longest = greater_sides(&self.longest, &from.working[box_no as usize]);
     }
 }
 

@@ -40,3 +40,28 @@ pub(crate) fn working_sides(kerf: &[u32], boxes: &[BoxItem]) -> [[u32; 4]; MOST_
     }
     rows
 }
+
+/// The greater side of two boxes in each dimension.
+pub(crate) fn greater_sides(first: &[u32; 4], second: &[u32; 4]) -> [u32; 4]
+    ensures first { (i : ℕ) → i < 4 → slice_index first.now i ≤ slice_index result i }
+    ensures second { (i : ℕ) → i < 4 → slice_index second.now i ≤ slice_index result i }
+{
+    let mut row = *first;
+    for i in 0..4 {
+        row[i] = first[i].max(second[i]);
+    }
+    row
+}
+
+/// The greatest side of the first rows in each dimension.
+pub(crate) fn longest_sides(rows: &[[u32; 4]; MOST_BOXES], count: usize) -> [u32; 4]
+    requires { count ≤ most_boxes }
+    ensures { (v i : ℕ) → v < count → i < 4
+        → slice_index (slice_index_or rows.now v []) i ≤ slice_index result i }
+{
+    let mut longest = [0; 4];
+    for v in 0..count {
+        longest = greater_sides(&longest, &rows[v]);
+    }
+    longest
+}

@@ -13,7 +13,6 @@ ghost use Rattle.rule_passes.specs.Rooms.{AreKept, AreMade};
 
 use crate::chains::cover_chains;
 use crate::settle::settle;
-use crate::sides::longest_sides;
 use box_instances::Instance;
 use early_chains::Guess;
 use edge_state::{BitRow, EdgeState, Mark};
@@ -71,16 +70,7 @@ pub(crate) fn close_with<const K: usize>(
 {
     begin_each(kept);
     guess.begin(closed);
-    let longest = longest_sides(instance);
-    let Some(first) = settle(
-        instance,
-        state,
-        all,
-        closed,
-        BitRow::empty(),
-        &longest,
-        guess,
-    ) else {
+    let Some(first) = settle(instance, state, all, closed, BitRow::empty(), guess) else {
         return true;
     };
     let mut dirty = first;
@@ -91,7 +81,7 @@ pub(crate) fn close_with<const K: usize>(
             return true;
         }
         let rest = dirty.without(dim);
-        let Some(more) = settle(instance, state, all, next, rest, &longest, guess) else {
+        let Some(more) = settle(instance, state, all, next, rest, guess) else {
             return true;
         };
         // For the proof alone: tells the limits of the state.

@@ -17,7 +17,6 @@ mod pairs;
 mod room;
 mod rows;
 mod settle;
-mod sides;
 mod triples;
 
 pub use room::ClosingRoom;

@@ -1,5 +1,5 @@
 //! Going along what changed: the worklist is the newer part of the state's list of exclusions.
-ghost use Rattle.std.specs.Prelude.{◌≡◌, ◌<◌, ◌≤◌, ◌+◌, ◌-◌, ◌⊎◌, ℕ, true, false, not, nat_lt, length, drop, slice_index, MatchOption};
+ghost use Rattle.std.specs.Prelude.{◌≡◌, ◌<◌, ◌≤◌, ◌+◌, ◌-◌, ◌⊎◌, ℕ, true, false, not, nat_lt, length, drop, MatchOption};
 ghost use Rattle.packing_terms.specs.Packing.{dims, box_count};
 ghost use Rattle.packing_terms.specs.declared.Rel.{Rel as PlainRel};
 ghost use Rattle.packing_terms.specs.Exclusions.{excludes};
@@ -11,7 +11,6 @@ ghost use Rattle.edge_state.specs.Edges.{oldest};
 ghost use Rattle.closure_terms.specs.States.{HasEmptyMask};
 ghost use Rattle.closure_terms.specs.Work.{IsUnordered, IsBehind};
 ghost use Rattle.closure_terms.specs.Work.{IsLookedThrough};
-ghost use Rattle.rule_passes.specs.Reached.{HasNoLonger};
 
 use crate::empties::is_empty_left;
 use crate::following::spread;
@@ -66,15 +65,13 @@ fn dirtied(state: &EdgeState, dirty: BitRow<1>, change: Exclusion, left: Mask) -
 /// Looks through the exclusions that came after a position of the list, and those that follow, the
 /// oldest first. Afterwards no rule but CHAIN adds anything, and CHAIN only in the dimensions of
 /// the answer; to those that were given come those in which two boxes became ordered. `None` comes
-/// where a mask is empty. `longest` has the greatest side of a box in each dimension, and `guess`
-/// the weights of chains as they are thought to be.
+/// where a mask is empty. `guess` has the weights of chains as they are thought to be.
 pub(crate) fn settle<const K: usize>(
     instance: &Instance,
     state: &mut EdgeState,
     all: BitRow<K>,
     closed: Mark,
     dirty: BitRow<1>,
-    longest: &[u32],
     guess: &mut Guess,
 ) -> Option<BitRow<1>>
     requires words { HoldsBoxes K (box_count instance.now) }
@@ -84,9 +81,6 @@ pub(crate) fn settle<const K: usize>(
     requires mark { closed ≤ length state.old.trail }
     requires looked { IsLookedThrough instance.now
         (oldest closed state.old.trail) state.old.trail dirty }
-    requires count { length longest.now ≡ 4 }
-    requires longest { (i : ℕ) → i < dims instance.now
-        → HasNoLonger instance.now i (slice_index longest.now i) }
     ensures sizes { state.new ≡ record state.old { trail = state.new.trail } }
     ensures extends { Extends instance.now state.old.trail state.new.trail }
     ensures looked { MatchOption result (HasEmptyMask instance.now (excludes state.new.trail))
@@ -110,7 +104,7 @@ pub(crate) fn settle<const K: usize>(
         }
         let after = behind(state, next, change);
         let more = dirtied(state, chains, change, left);
-        let most = longest[change.dim as usize];
+        let most = instance.longest_side(change.dim);
         if spread(
             instance, state, all, change.dim, change.u, change.v, left, most,
         ) {

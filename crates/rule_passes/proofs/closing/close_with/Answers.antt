@@ -74,12 +74,9 @@ settle-requires-in-Some-first g c = (
           c.requires.all,
           (
             marked _ _ _ _ c.mark-next.ensures c.cover_chains.ensures.worked.extends,
-            (
-              looked_after _ _ _ _ _ _ _ c.loop-dim.invariant.looked
-                  (worked_kept _ _ _ _ _ c.if-cover_chains.false c.cover_chains.ensures.worked) c.mark-next.ensures
-                  c.without-rest.ensures,
-              (c.longest_sides-longest.ensures.count, c.longest_sides-longest.ensures.each),
-            ),
+            looked_after _ _ _ _ _ _ _ c.loop-dim.invariant.looked
+                (worked_kept _ _ _ _ _ c.if-cover_chains.false c.cover_chains.ensures.worked) c.mark-next.ensures
+                c.without-rest.ensures,
           ),
         ),
       ),

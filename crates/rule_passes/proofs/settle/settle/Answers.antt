@@ -62,12 +62,12 @@ dirtied-more-requires-clause-dim g c =
     c.dims-sizes.ensures.limits.trail c.in-Some.ensures in
     omega (arith, edge.dim, c.dims-sizes.ensures.limits.dimensions.1)
 
-pub bounds-longest-change : goal.bounds-longest-change
-bounds-longest-change g c =
+pub longest_side-most-requires : goal.longest_side-most-requires
+longest_side-most-requires g c =
     let s = c.loop-change.state in
     let edge = change_edge s.dims s.boxes s.trail c.loop-change.next _ c.in-Some.change
     c.dims-sizes.ensures.limits.trail c.in-Some.ensures in
-    omega (arith, edge.dim, c.dims-sizes.ensures.limits.dimensions.1, c.requires.count)
+    omega (arith, edge.dim, c.loop-change.invariant.same_dims, c.requires.dims)
 
 pub spread-requires : goal.spread-requires
 spread-requires g c =
@@ -93,12 +93,7 @@ spread-requires g c =
                   c.requires.all,
                   (
                     c.mask_in-left.ensures,
-                    c.requires.longest _ (omega (
-                      arith,
-                      edge.dim,
-                      c.loop-change.invariant.same_dims,
-                      c.requires.dims,
-                    )),
+                    c.longest_side-most.ensures,
                   ),
                 ),
               ),

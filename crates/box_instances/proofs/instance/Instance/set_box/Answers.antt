@@ -43,14 +43,16 @@ invariant_of-self c =
     subst (λ (l : List PlainBox). IsHeld
     (record { container = c.self.inside.container.items; kerfs = c.self.inside.kerf.items; boxes = l })
     c.self.inside.limits
-    (slice_set c.self.inside.working c.args.at (get_or c.from.inside.working c.args.box_no [])))
+    (slice_set c.self.inside.working c.args.at (get_or c.from.inside.working c.args.box_no []))
+    c.greater_sides-self-inside.result)
     (sym (boxes_replaced c.self.inside.boxes.items c.args.at c.index_mut-own.result.now c.index-item.result.now
     c.copy_from_slice.new.self
     (c.copy_from_slice.ensures.after ∙ c.as_slice.ensures)
     (c.copy_from_slice.ensures.len ∙ ap length c.as_mut_slice.ensures.value)))
     (held_replaced _ c.args.at (plain_box c.index-item.result.now) c.self.inside.limits c.self.inside.working
-    (get_or c.from.inside.working c.args.box_no []) c.self.invariant good
-    (box_there _ _ c.args.at c.self.view_is c.requires.at) row)
+    (get_or c.from.inside.working c.args.box_no []) c.self.inside.longest c.greater_sides-self-inside.result c.self.invariant good
+    (box_there _ _ c.args.at c.self.view_is c.requires.at) row c.greater_sides-self-inside.ensures.first
+    c.greater_sides-self-inside.ensures.second)
 
 pub returns : goal.returns
 returns c =
