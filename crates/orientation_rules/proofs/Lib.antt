@@ -6,3 +6,4 @@ pub mod TakenOut
 pub mod Finished
 pub mod HandedOn
 pub mod KeptRuns
+mod OverLong

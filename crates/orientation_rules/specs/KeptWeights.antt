@@ -50,13 +50,23 @@ pub record StillHolds (instance : PlainInstance) (s : PlainEdges) (i : ℕ) (kno
       → Leads (excludes s.trail) i Forwards u x → GoesOn rows u x
   pub ahead_within : (u : ℕ) → row_has first u ≡ true → u < s.boxes
 
--- what is seen of kept weights: how many boxes there is memory for, the limit, and the weights of
--- the chains that end in each box and that start there
+-- what is seen of kept weights: how many boxes there is memory for, the limit, and the sides, the
+-- weights of the chains that end in each box and that start there, and the rows of what a chain of
+-- each box may go on to
 pub record PlainWeights : Type 0 where
   pub most : ℕ
   pub limit : ℕ
+  pub sides : List ℕ
   pub head : List ℕ
   pub tail : List ℕ
+  pub rows : List (List ℕ)
+
+-- the weights were made for as many boxes with these sides in this container, and still hold
+pub record StillHold (instance : PlainInstance) (s : PlainEdges) (i : ℕ) (k : PlainWeights) (first : List ℕ) :
+    Type 0 where
+  pub count : length k.head ≡ box_count instance
+  pub limit : k.limit ≡ container_side instance i
+  pub rows : StillHolds instance s i k.sides k.rows first
 
 -- the weights are those of the heaviest chains of the boxes, and the limit is the container's side
 pub record AreHeaviestWeights (instance : PlainInstance) (s : PlainEdges) (i : ℕ) (k : PlainWeights) : Type 0 where

@@ -1,20 +1,19 @@
 //! Weights of heaviest chains that are kept, and made those of a later state.
-ghost use Rattle.std.specs.Prelude.{◌≡◌, ◌+◌, ◌*◌, ◌<◌, ◌≤◌, ◌⊎◌, ℕ, true, false, length, slice_index, slice_index_or, vec_capacity, IfOk, MatchOption};
-ghost use Rattle.packing_terms.specs.Packing.{dims, box_count, container_side, side};
+ghost use Rattle.std.specs.Prelude.{◌≡◌, ◌+◌, ◌*◌, ◌<◌, ◌≤◌, ◌⊎◌, ◌&&◌, ℕ, nat_lt, true, false, length, slice_index, slice_index_or, vec_capacity, IfOk, MatchOption};
+ghost use Rattle.packing_terms.specs.Packing.{box_count};
 ghost use Rattle.packing_terms.specs.Limits.{IsBoxCount};
 ghost use Rattle.packing_terms.specs.Exclusions.{excludes};
-ghost use Rattle.packing_terms.specs.declared.Rel.TheVariants.{Before};
 ghost use Rattle.edge_state.specs.BitRows.{IsRowWidth, row_has, HoldsBoxes};
 ghost use Rattle.rule_terms.specs.declared.Direction.TheVariants.{Forwards, Backwards};
 ghost use Rattle.rule_terms.specs.Runs.{Leads};
 ghost use Rattle.orientation_rules.specs.Weights.{HasOneWayChains, IsHeaviest};
-ghost use Rattle.orientation_rules.specs.KeptWeights.{GoesOn, StillHolds, AreHeaviestWeights};
+ghost use Rattle.orientation_rules.specs.KeptWeights.{GoesOn, StillHolds, StillHold, AreHeaviestWeights};
 
 use crate::leads::leads_row;
 use crate::refills::{clear_rows, refill, refill_rows, write_sides};
 use crate::rises::{raise_heads, raise_tails};
 use box_instances::{Instance, NoMemory};
-use edge_state::{BitRow, EdgeState, Rel};
+use edge_state::{BitRow, EdgeState};
 use rule_terms::Direction;
 use std::alloc::Global;
 use std::marker::Model;
@@ -42,8 +41,10 @@ impl<const K: usize> Model for KeptWeights<K> {
     ghost view = { λ k. record {
       most = k.most;
       limit = k.limit;
+      sides = k.sides.items;
       head = k.head.items;
       tail = k.tail.items;
+      rows = k.rows.items;
     } };
 
     ghost invariant = { λ k. AreRoomy k.most k.limit k.sides.items k.head.items k.tail.items
@@ -80,6 +81,31 @@ fn with_if_any<const K: usize>(row: BitRow<K>, number: u32, other: BitRow<K>) ->
     }
 }
 
+// Adds a box to `ahead` if its row isn't what it was. Answers whether it has all that it had. Mostly
+// nothing changed, which one comparison tells.
+#[inline]
+fn add_changed<const K: usize>(
+    ahead: &mut BitRow<K>,
+    number: u32,
+    kept: BitRow<K>,
+    row: BitRow<K>,
+) -> bool
+    requires width { IsRowWidth K }
+    requires number { number < 64 * K }
+    ensures held { result ≡ true → (x : ℕ) → row_has kept.entry x ≡ true
+        → row_has row.entry x ≡ true }
+    ensures off { (x : ℕ) → row_has ahead.new x ≡ false → (row_has ahead.old x ≡ false)
+        × (number ≡ x → (y : ℕ) → row_has row.entry y ≡ true → row_has kept.entry y ≡ true) }
+    ensures on { (x : ℕ) → row_has ahead.new x ≡ true
+        → (row_has ahead.old x ≡ true) ⊎ (x ≡ number) }
+{
+    if row == kept {
+        return true;
+    }
+    *ahead = ahead.with(number);
+    has_none(kept.minus(row))
+}
+
 // Whether the sides are those of the boxes, and each box still goes on to those of its row. The
 // boxes that go on to another one come to a row.
 fn still_holds<const K: usize>(
@@ -104,13 +130,12 @@ fn still_holds<const K: usize>(
         let at = v as usize;
         let kept = rows[at];
         let now = leads_row(state, dim, Direction::Forwards, v);
-        if !has_none(kept.minus(now)) {
-            return false;
-        }
         if sides[at] != u64::from(instance.side(v, dim)) {
             return false;
         }
-        *ahead = with_if_any(*ahead, v, now.minus(kept));
+        if !add_changed(ahead, v, kept, now) {
+            return false;
+        }
     }
     true
 }
@@ -165,20 +190,6 @@ fn boxes_ahead<const K: usize>(instance: &Instance, state: &EdgeState, dim: u32)
     ahead
 }
 
-// Writes for each box the boxes that it may be before.
-fn write_before<const K: usize>(state: &EdgeState, dim: u32, fits: &mut [BitRow<K>])
-    requires words { HoldsBoxes K state.now.boxes }
-    requires dim { dim < state.now.dims }
-    requires count { length fits.old ≡ state.now.boxes }
-    ensures count { length fits.new ≡ length fits.old }
-    ensures before { (u v : ℕ) → u < state.now.boxes → GoesOn fits.new u v → (v < state.now.boxes)
-        × (u ≡ v → ⊥) × (excludes state.now.trail dim u v Before ≡ false) }
-{
-    for u in 0..state.boxes() {
-        fits[u as usize] = state.row_in::<K>(dim, u, Rel::Before);
-    }
-}
-
 // What is in the row and not in the other, or nothing.
 #[inline]
 fn outside<const K: usize>(row: BitRow<K>, other: BitRow<K>, none: bool) -> BitRow<K>
@@ -206,6 +217,25 @@ fn drop_risen<const K: usize>(heads: BitRow<K>, tails: BitRow<K>, fits: &mut [Bi
     for at in 0..fits.len() {
         fits[at] = outside(fits[at], tails, heads.has(at as u32));
     }
+}
+
+// The boxes of a row with a weight above `most`.
+#[inline]
+fn heavier<const K: usize>(row: BitRow<K>, weights: &[u64], most: u64) -> BitRow<K>
+    requires width { IsRowWidth K }
+    requires within { (v : ℕ) → row_has row v ≡ true → v < length weights.now }
+    ensures { (v : ℕ) → row_has result v ≡ row_has row.entry v
+        && nat_lt most (slice_index weights.now v) }
+{
+    let mut rest = row;
+    let mut heavy = BitRow::empty();
+    while let Some(v) = rest.first() {
+        rest = rest.without(v);
+        if weights[v as usize] > most {
+            heavy = heavy.with(v);
+        }
+    }
+    heavy
 }
 
 impl<const K: usize> KeptWeights<K> {
@@ -284,99 +314,100 @@ impl<const K: usize> KeptWeights<K> {
         set_rows(instance, state, dim, ahead, rows);
     }
 
-    /// Makes them others that were kept. It answers `false` where these are of another number of
-    /// boxes, and then nothing changes.
-    pub fn copy_from(&mut self, from: &KeptWeights<K>) -> bool
-        ensures count { length self.new.head ≡ length self.old.head }
-        ensures most { self.new.most ≡ self.old.most }
+    /// Whether weights of a state can be made from them: they are of as many boxes with the same
+    /// sides, the limit is the container's side, and each box still goes on to those of its row. If
+    /// so, `ahead` becomes a row of boxes with all that go on to another one too.
+    pub fn holds(
+        &self,
+        instance: &Instance,
+        state: &EdgeState,
+        dim: u32,
+        ahead: &mut BitRow<K>,
+    ) -> bool
+        requires words { HoldsBoxes K state.now.boxes }
+        requires ordered { HasOneWayChains instance.now state.now dim Forwards }
+        ensures { result ≡ true → StillHold instance.now state.now dim self.now ahead.new }
     {
-        if from.head.len() != self.head.len() {
+        if self.head.len() != instance.len() as usize {
             return false;
         }
+        if self.limit != u64::from(instance.container_side(dim)) {
+            return false;
+        }
+        still_holds(
+            instance,
+            state,
+            dim,
+            self.sides.as_slice(),
+            self.rows.as_slice(),
+            ahead,
+        )
+    }
+
+    /// Makes them others that were kept, of as many boxes.
+    pub fn copy_from(&mut self, from: &KeptWeights<K>)
+        requires { length from.now.head ≡ length self.old.head }
+        ensures { self.new ≡ record from.now { most = self.old.most } }
+    {
         self.limit = from.limit;
         self.sides.copy_from_slice(&from.sides);
         self.head.copy_from_slice(&from.head);
         self.tail.copy_from_slice(&from.tail);
         self.rows.copy_from_slice(&from.rows);
         self.fits.copy_from_slice(&from.fits);
-        true
     }
 
-    /// Makes them the weights of a state, from those that they are. It answers `false` where these
-    /// are of other sides, or where a box doesn't go on to one any more, and then nothing changes.
-    pub fn renew(
+    /// Makes them the weights of a state in which they still hold, where only boxes of `ahead` go on
+    /// to more than their rows tell. Answers whether a weight rose.
+    pub fn raise(
         &mut self,
         instance: &Instance,
         state: &EdgeState,
         dim: u32,
-        risen: &mut bool,
+        ahead: BitRow<K>,
     ) -> bool
         requires words { HoldsBoxes K state.now.boxes }
-        requires room { length self.old.head ≡ box_count instance.now }
         requires ordered_back { HasOneWayChains instance.now state.now dim Backwards }
         requires ordered { HasOneWayChains instance.now state.now dim Forwards }
+        requires still { StillHold instance.now state.now dim self.old ahead }
         ensures most { self.new.most ≡ self.old.most }
-        ensures unchanged { result ≡ false → self.new ≡ self.old }
-        ensures renewed { result ≡ true → AreHeaviestWeights instance.now state.now dim self.new }
+        ensures weights { AreHeaviestWeights instance.now state.now dim self.new }
     {
         // For the proof alone: tells the limits of the state.
         let _boxes = state.boxes();
-        if self.limit != u64::from(instance.container_side(dim)) {
-            return false;
-        }
-        let mut ahead = BitRow::empty();
-        let sides = self.sides.as_slice();
         let rows = self.rows.as_slice();
-        if !still_holds(instance, state, dim, sides, rows, &mut ahead) {
-            return false;
-        }
         let head = self.head.as_mut_slice();
         let heads = raise_heads(instance, state, dim, ahead, rows, head);
         let tail = self.tail.as_mut_slice();
         let tails = raise_tails(instance, state, dim, ahead, rows, tail);
         set_rows(instance, state, dim, ahead, self.rows.as_mut_slice());
         drop_risen(heads, tails, self.fits.as_mut_slice());
-        *risen = !has_none(heads.or(tails));
-        true
+        !has_none(heads.or(tails))
     }
 
-    /// Makes known that each two boxes fit of which the first may be before the second.
-    pub fn set_fits(&mut self, state: &EdgeState, dim: u32)
-        requires words { HoldsBoxes K state.now.boxes }
-        requires dim { dim < state.now.dims }
-        requires room { length self.old.head ≡ state.now.boxes }
-        requires fit { (u v : ℕ) → u < state.now.boxes → v < state.now.boxes → (u ≡ v → ⊥)
-            → excludes state.now.trail dim u v Before ≡ false
-            → slice_index self.old.head u + slice_index self.old.tail v ≤ self.old.limit }
-        ensures { self.new ≡ self.old }
-    {
-        write_before(state, dim, self.fits.as_mut_slice());
-    }
-
-    /// The weights of the heaviest chains that end in each box.
+    /// The boxes of `row` that `u` can't be before: a heaviest chain that ends in `u` and one that
+    /// starts in such a box are together longer than the limit. The other boxes of `row` are known
+    /// to fit from then on, until a weight of the pair rises, and aren't weighed again.
     #[inline]
-    pub fn head(&self) -> &[u64]
-        ensures { result.now ≡ self.now.head }
+    pub fn find_over_long(&mut self, u: u32, row: BitRow<K>) -> BitRow<K>
+        requires width { IsRowWidth K }
+        requires u { u < length self.old.head }
+        requires within { (v : ℕ) → row_has row v ≡ true → v < length self.old.head }
+        ensures same { self.new ≡ self.old }
+        ensures over { (v : ℕ) → row_has result v ≡ row_has row.entry v
+            && nat_lt self.old.limit (slice_index self.old.head u + slice_index self.old.tail v) }
     {
-        self.head.as_slice()
-    }
-
-    /// The weights of the heaviest chains that start in each box.
-    #[inline]
-    pub fn tail(&self) -> &[u64]
-        ensures { result.now ≡ self.now.tail }
-    {
-        self.tail.as_slice()
-    }
-
-    /// Boxes beside which `u` is known to fit: a chain that ends in `u` and one that starts in such
-    /// a box aren't longer together than the limit.
-    #[inline]
-    pub fn fitting(&self, u: u32) -> BitRow<K>
-        requires { u < length self.now.head }
-        ensures { (v : ℕ) → v < length self.now.head → row_has result v ≡ true
-            → slice_index self.now.head u + slice_index self.now.tail v ≤ self.now.limit }
-    {
-        self.fits[u as usize]
+        let known = self.fits[u as usize];
+        let unknown = row.minus(known);
+        if has_none(unknown) {
+            return unknown;
+        }
+        let Some(most) = self.limit.checked_sub(self.head[u as usize]) else {
+            return unknown;
+        };
+        let over_long = heavier(unknown, self.tail.as_slice(), most);
+        let fits = self.fits.as_mut_slice();
+        fits[u as usize] = known.or(unknown.minus(over_long));
+        over_long
     }
 }

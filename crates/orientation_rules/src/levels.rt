@@ -1,8 +1,7 @@
 //! Kept weights of one dimension, level by level: those of the nodes above in a search.
-ghost use Rattle.std.specs.Prelude.{◌≡◌, ◌+◌, ◌<◌, ◌≤◌, ℕ, true, false, length, slice_index, IfOk};
+ghost use Rattle.std.specs.Prelude.{◌≡◌, ◌+◌, ◌<◌, ◌≤◌, ◌&&◌, ℕ, nat_lt, true, false, length, slice_index, IfOk};
 ghost use Rattle.packing_terms.specs.Packing.{dims, box_count, container_side};
 ghost use Rattle.packing_terms.specs.Exclusions.{excludes, IsSurelyBefore};
-ghost use Rattle.packing_terms.specs.declared.Rel.TheVariants.{Before};
 ghost use Rattle.edge_state.specs.BitRows.{IsRowWidth, row_has, HoldsBoxes};
 ghost use Rattle.rule_terms.specs.declared.Direction.TheVariants.{Forwards, Backwards};
 ghost use Rattle.rule_terms.specs.Places.{HasNoEmptyMask};
@@ -28,7 +27,6 @@ pub struct KeptLevels<const K: usize> {
     most: u32,
     used: usize,
     rose: bool,
-    risen: bool,
     fresh: bool,
     work: KeptWeights<K>,
     levels: Vec<KeptWeights<K>>,
@@ -63,7 +61,6 @@ impl<const K: usize> KeptLevels<K> {
             most: boxes,
             used: 0,
             rose: false,
-            risen: false,
             fresh: false,
             work,
             levels,
@@ -102,12 +99,12 @@ impl<const K: usize> KeptLevels<K> {
         ensures renewed { result ≡ true
             → AreHeaviestWeights instance.now state.now dim self.new.weights }
     {
-        let mut risen = false;
-        if !self.work.renew(instance, state, dim, &mut risen) {
+        let mut ahead = BitRow::empty();
+        if !self.work.holds(instance, state, dim, &mut ahead) {
             return false;
         }
-        self.risen = risen;
-        self.rose = self.rose | risen;
+        let rose = self.work.raise(instance, state, dim, ahead);
+        self.rose = self.rose | rose;
         true
     }
 
@@ -125,11 +122,10 @@ impl<const K: usize> KeptLevels<K> {
     {
         while self.used > 0 {
             let level = &self.levels[self.used - 1];
-            self.work.copy_from(level);
-            let mut risen = false;
-            if self.work.renew(instance, state, dim, &mut risen) {
-                self.risen = risen;
-                self.rose = risen;
+            let mut ahead = BitRow::empty();
+            if level.holds(instance, state, dim, &mut ahead) {
+                self.work.copy_from(level);
+                self.rose = self.work.raise(instance, state, dim, ahead);
                 return true;
             }
             self.used -= 1;
@@ -156,7 +152,6 @@ impl<const K: usize> KeptLevels<K> {
             return;
         }
         self.work.weigh(instance, state, dim);
-        self.risen = true;
         self.rose = true;
     }
 
@@ -185,6 +180,7 @@ impl<const K: usize> KeptLevels<K> {
         // For the proof alone: tells the limits of the state.
         let _boxes = state.boxes();
         self.weigh(instance, state, dim);
+        self.fresh = true;
     }
 
     // Gives up every other level, the older of each two, so that there is room on top. Levels that
@@ -215,24 +211,6 @@ impl<const K: usize> KeptLevels<K> {
         self.used = at + 1;
     }
 
-    /// Keeps with the weights that each two boxes fit of which the first may be before the second:
-    /// the chains that end in the one and start in the other aren't longer together than the limit.
-    pub fn keep(&mut self, state: &EdgeState, dim: u32)
-        requires words { HoldsBoxes K state.now.boxes }
-        requires dim { dim < state.now.dims }
-        requires room { self.old.boxes ≡ state.now.boxes }
-        requires fit { (u v : ℕ) → u < state.now.boxes → v < state.now.boxes → (u ≡ v → ⊥)
-            → excludes state.now.trail dim u v Before ≡ false
-            → slice_index self.old.weights.head u + slice_index self.old.weights.tail v
-            ≤ self.old.weights.limit }
-        ensures { self.new ≡ self.old }
-    {
-        self.fresh = true;
-        if self.risen {
-            self.work.set_fits(state, dim);
-        }
-    }
-
     /// Ends a closing, and keeps its weights on top if one rose in it.
     pub fn finish(&mut self)
         requires { IsRowWidth K }
@@ -249,31 +227,18 @@ impl<const K: usize> KeptLevels<K> {
         self.fresh = false;
     }
 
-    /// The weights of the heaviest chains that end in each box.
+    /// The boxes of `row` that `u` can't be before: a heaviest chain that ends in `u` and one that
+    /// starts in such a box are together longer than the limit.
     #[inline]
-    pub fn head(&self) -> &[u64]
-        ensures { result.now ≡ self.now.weights.head }
+    pub fn find_over_long(&mut self, u: u32, row: BitRow<K>) -> BitRow<K>
+        requires width { IsRowWidth K }
+        requires u { u < self.old.boxes }
+        requires within { (v : ℕ) → row_has row v ≡ true → v < self.old.boxes }
+        ensures same { self.new ≡ self.old }
+        ensures over { (v : ℕ) → row_has result v ≡ row_has row.entry v
+            && nat_lt self.old.weights.limit (slice_index self.old.weights.head u
+            + slice_index self.old.weights.tail v) }
     {
-        self.work.head()
-    }
-
-    /// The weights of the heaviest chains that start in each box.
-    #[inline]
-    pub fn tail(&self) -> &[u64]
-        ensures { result.now ≡ self.now.weights.tail }
-    {
-        self.work.tail()
-    }
-
-    /// Boxes beside which `u` is known to fit: a chain that ends in `u` and one that starts in such
-    /// a box aren't longer together than the limit.
-    #[inline]
-    pub fn fitting(&self, u: u32) -> BitRow<K>
-        requires { u < self.now.boxes }
-        ensures { (v : ℕ) → v < self.now.boxes → row_has result v ≡ true
-            → slice_index self.now.weights.head u + slice_index self.now.weights.tail v
-            ≤ self.now.weights.limit }
-    {
-        self.work.fitting(u)
+        self.work.find_over_long(u, row)
     }
 }

@@ -1,16 +1,18 @@
--- Levels of kept weights, and what CHAIN at all pairs says of boxes that fit.
-use Rattle.std.proofs.Common.{◌≡◌, ◌≢◌, ℕ, zero, suc, ◌+◌, ◌<◌, ◌≤◌, ◌⊎◌, inl, inr, refl, sym, ap, ◌∙◌, arith, Bool}
-use Rattle.std.proofs.Common.{true, false, not, ◌&&◌, List, [], ◌∷◌, ◌++◌, length, slice_index, get_or}
+-- Levels of kept weights, and CHAIN at all pairs with them.
+use Rattle.std.proofs.Common.{◌≡◌, ◌≢◌, ℕ, zero, suc, ◌+◌, ◌<◌, ◌⊎◌, inl, inr, refl, sym, ap, ◌∙◌, arith, Bool}
+use Rattle.std.proofs.Common.{true, false, List, [], ◌∷◌, ◌++◌, length, get_or}
 use Rattle.std.proofs.Math.ListN.{set}
-use Rattle.std.proofs.lemmas.Bool.{true≢false, cases_lt, cases_eq}
+use Rattle.std.proofs.lemmas.Bool.{true≢false, cases_eq}
 use Rattle.std.proofs.lemmas.List.{length-set, length-append, get_or-set_same, get_or-set_other}
 use Rattle.packing_terms.specs.declared.Exclusion.{Exclusion}
-use Rattle.packing_terms.specs.declared.Rel.TheVariants.{Before}
-use Rattle.packing_terms.specs.Packing.{PlainInstance, container_side}
+use Rattle.packing_terms.specs.Packing.{PlainInstance, box_count}
 use Rattle.packing_terms.specs.Exclusions.{excludes}
+use Rattle.rule_terms.specs.Runs.{AreHeaviestHeads, AreHeaviestTails}
 use Rattle.rule_terms.proofs.Applied.{extends_trans}
-use Rattle.edge_state.specs.Edges.{PlainEdges, is_other_box}
-use Rattle.edge_state.proofs.Kept.{row_shut}
+use Rattle.edge_state.specs.Edges.{PlainEdges}
+use Rattle.closure_terms.specs.States.{HasEmptyMask}
+use Rattle.closure_terms.specs.Work.{IsChainIn, IsWorked}
+use Rattle.closure_terms.proofs.Passes.{pass_as, worked_heaviest}
 use Rattle.closure_terms.specs.Passes.{IsPass, IsShut}
 use Rattle.orientation_rules.specs.KeptWeights.{PlainLevels}
 use Rattle.orientation_rules.proofs.KeptRuns.{each_more}
@@ -50,29 +52,6 @@ each_push d m f kept level old new = record {
       (let e = length-append kept (level ∷ []) in omega (arith, e, old.count, l));
 }
 
--- two boxes fit where CHAIN left the first before the second
-pub fits_shut : (instance : PlainInstance) (i limit : ℕ) (head tail : List ℕ) (u v : ℕ) (es : List Exclusion)
-    → limit ≡ container_side instance i → IsShut instance i head tail u v es
-    → (u ≡ v → ⊥) → excludes es i u v Before ≡ false → slice_index head u + slice_index tail v ≤ limit
-fits_shut instance i limit head tail u v es e shut ne open_still =
-    go (cases_lt (container_side instance i) (slice_index head u + slice_index tail v))
-  where
-    go : (container_side instance i < slice_index head u + slice_index tail v)
-        ⊎ (slice_index head u + slice_index tail v ≤ container_side instance i)
-        → slice_index head u + slice_index tail v ≤ limit
-    go (inl l) = absurd (true≢false (sym (shut.shut ne l) ∙ open_still))
-    go (inr l) = omega (arith, e, l)
-
--- beside boxes that are known to fit, and those that aren't in the row, CHAIN excludes nothing
-pub shut_known : (instance : PlainInstance) (i : ℕ) (head tail : List ℕ) (u v : ℕ) (es : List Exclusion)
-    (row known left : Bool) → left ≡ row && not known → left ≡ false
-    → (known ≡ true → slice_index head u + slice_index tail v ≤ container_side instance i)
-    → (row ≡ false → IsShut instance i head tail u v es) → IsShut instance i head tail u v es
-shut_known instance i head tail u v es row true left e off fit none =
-    record { shut = λ ne wide. (let h = fit refl in absurd (omega (arith, h, wide))) }
-shut_known instance i head tail u v es false false left e off fit none = none refl
-shut_known instance i head tail u v es true false left e off fit none = absurd (true≢false (sym e ∙ off))
-
 -- a pass that ends at an empty mask says nothing of what is done
 pub pass_lost : (instance : PlainInstance) (a b c : PlainEdges) (lost : Bool) (P Q R : List Exclusion → Type 0)
     → lost ≡ true → IsPass instance a b P → IsPass instance b c Q
@@ -85,12 +64,19 @@ pass_lost instance a b c lost P Q R e h k = record {
   done = λ f. absurd (true≢false (sym e ∙ f));
 }
 
--- the same of what is in the row of the boxes that u may be before, and not known to fit
-pub shut_unless : (instance : PlainInstance) (i n : ℕ) (head tail : List ℕ) (u v : ℕ) (es : List Exclusion)
-    (row known left : Bool) → v < n
-    → row ≡ is_other_box n u v && not (excludes es i u v Before) → left ≡ row && not known → left ≡ false
-    → (known ≡ true → slice_index head u + slice_index tail v ≤ container_side instance i)
-    → IsShut instance i head tail u v es
-shut_unless instance i n head tail u v es row known left hv is e off fit =
-    shut_known instance i head tail u v es row known left e off fit
-    (λ none. record { shut = λ ne wide. row_shut n i u v (excludes es) Before row hv ne is none })
+-- with the weights of heaviest chains a pass over all pairs covers what CHAIN adds, or ends at an empty mask
+pub worked_chains : (instance : PlainInstance) (a b : PlainEdges) (lost : Bool) (i : ℕ) (head tail : List ℕ)
+    → AreHeaviestHeads instance (excludes a.trail) i head → AreHeaviestTails instance (excludes a.trail) i tail
+    → IsPass instance a b (λ es. lost ≡ false → (u : ℕ) → u < box_count instance → (v : ℕ) → v < box_count instance
+    → IsShut instance i head tail u v es)
+    → (lost ≡ true → HasEmptyMask instance (excludes b.trail)) → IsWorked instance a b lost (IsChainIn i)
+worked_chains instance a b true i head tail heads tails h empty = record {
+  same_dims = h.same_dims;
+  same_boxes = h.same_boxes;
+  same_room = h.same_room;
+  extends = h.extends;
+  empty = λ e. empty e;
+  done = λ e. absurd (true≢false e);
+}
+worked_chains instance a b false i head tail heads tails h empty =
+    worked_heaviest instance i a b head tail heads tails (pass_as _ _ _ _ _ (λ es f. f refl) h)

@@ -3,3 +3,4 @@ mod Cycles
 mod Guards
 mod Quiet
 pub mod Levels
+mod ChainRows

@@ -6,7 +6,7 @@ use Rattle.edge_state.specs.BitRows.{row_has}
 use Rattle.rule_terms.specs.declared.Direction.TheVariants.{Forwards}
 use Rattle.rule_terms.specs.Runs.{Leads}
 use Rattle.orientation_rules.specs.KeptWeights.{GoesOn}
-use Rattle.orientation_rules.proofs.KeptRuns.{below_next, none_out, row_of, get_any}
+use Rattle.orientation_rules.proofs.KeptRuns.{below_next, row_of, get_any}
 use Rattle.orientation_rules.proofs.kept.still_holds.Goals as goal
 
 pub loop-v-preserved : goal.loop-v-preserved
@@ -28,14 +28,12 @@ loop-v-preserved g c =
       sides = below_next v (λ u. slice_index c.args.sides.now u ≡ side c.args.instance.now u c.args.dim) i.sides
           (omega (arith, c.if-sides-at.false, c.from.ensures, c.side.ensures));
       old = λ u x l. below_next v (λ u. GoesOn rows u x → R u x) (λ u l. i.old u x l)
-          (λ g. (c.leads_row-now.ensures.leads x
-          (none_out _ _ _ (c.minus.ensures x) (c.if-not-has_none.ensures refl x) ((rw same at g)))).1) u l;
+          (λ g. (c.leads_row-now.ensures.leads x (c.if-not-add_changed.ensures.held refl x (rw same at g))).1) u l;
       first = λ u x l hx. below_next v
-          (λ u. row_has c.with_if_any.result u ≡ false → (u ≡ x → ⊥) → R u x → GoesOn rows u x)
-          (λ u l off. i.first u x l hx (c.with_if_any.ensures.off u off).0)
-          (λ off ne lead. rw same (none_out _ _ _ (c.minus-in-loop-v.ensures x)
-          ((c.with_if_any.ensures.off v off).1 refl x) (on x hx ne lead))) u l;
-      ahead = λ u h. ahead_at u (c.with_if_any.ensures.on u h);
+          (λ u. row_has c.add_changed.new.ahead u ≡ false → (u ≡ x → ⊥) → R u x → GoesOn rows u x)
+          (λ u l off. i.first u x l hx (c.add_changed.ensures.off u off).0)
+          (λ off ne lead. rw same ((c.add_changed.ensures.off v off).1 refl x (on x hx ne lead))) u l;
+      ahead = λ u h. ahead_at u (c.add_changed.ensures.on u h);
     }
   where
     ahead_at : (u : ℕ) → (row_has c.loop-v.ahead u ≡ true) ⊎ (u ≡ c.loop-v.v) → u < c.loop-v.v + 1

@@ -1,9 +1,12 @@
-use Rattle.std.proofs.Common.{◌<◌, ℕ}
+use Rattle.std.proofs.Common.{◌≡◌, ◌<◌, ℕ}
 use Rattle.packing_terms.specs.Packing.{box_count}
 use Rattle.closure_terms.specs.Passes.{IsPass, IsShut}
 use Rattle.rule_passes.proofs.chains.shut_all.Given as goal
 
 abbrev pub invariant-loop-u : goal.invariant-loop-u
-invariant-loop-u g l = IsPass l.instance l.fn.state l.state
-    (λ es. (u : ℕ) → u < l.u → (v : ℕ) → v < box_count l.instance
-    → IsShut l.instance l.dim l.kept.weights.head l.kept.weights.tail u v es)
+invariant-loop-u g l = record {
+  same : l.kept ≡ l.fn.kept;
+  pass : IsPass l.instance l.fn.state l.state
+      (λ es. (u : ℕ) → u < l.u → (v : ℕ) → v < box_count l.instance
+      → IsShut l.instance l.dim l.fn.kept.weights.head l.fn.kept.weights.tail u v es);
+}

@@ -40,4 +40,5 @@ weigh-requires g c =
 
 pub returns-clause-heads : goal.returns-clause-heads
 returns-clause-heads g c v hv =
-    head_of (excludes c.args.state.now.trail) c.args.dim c.args.instance.now v _ (c.weigh.ensures.weights.heads v hv)
+    rw (← c.self.view_is)
+    at (head_of (excludes c.args.state.now.trail) c.args.dim c.args.instance.now v _ (c.weigh.ensures.weights.heads v hv))

@@ -1,18 +1,18 @@
-use Rattle.std.proofs.Common.{◌≡◌, ◌∙◌, ℕ, refl, ap, List, length, slice_index, arith, rules}
+use Rattle.std.proofs.Common.{◌≡◌, ◌∙◌, ℕ, refl, ap, List, length, slice_index, rules}
 use Rattle.std.proofs.lemmas.List.{with_items_is}
 use Rattle.packing_terms.specs.Packing.{box_count}
 use Rattle.orientation_rules.specs.KeptWeights.{StillHolds}
 use Rattle.orientation_rules.proofs.KeptRuns.{kept_from, kept_same, heads_run, tails_run, heads_settled, heads_known}
 use Rattle.orientation_rules.proofs.KeptRuns.{tails_settled, tails_known, fits_left}
-use Rattle.orientation_rules.proofs.kept.KeptWeights.renew.Goals as goal
+use Rattle.orientation_rules.proofs.kept.KeptWeights.raise.Goals as goal
 
 pub raise_heads-heads-requires : goal.raise_heads-heads-requires
 raise_heads-heads-requires g c =
     let n = box_count c.args.instance.now in
-    let count : length c.self.inside.head.items ≡ n = rw (← c.self.view_is) at c.requires.room in
+    let count : length c.self.inside.head.items ≡ n = rw (← c.self.view_is) at c.requires.still.count in
     let still : StillHolds c.args.instance.now c.args.state.now c.args.dim c.self.inside.sides.items
-    c.self.inside.rows.items c.still_holds.new.ahead
-    = rw (c.as_slice-sides.ensures.value, c.as_slice-rows.ensures.value) at (c.if-not-still_holds.ensures refl) in
+    c.self.inside.rows.items c.args.ahead
+    = rw (← c.self.view_is) at c.requires.still.rows in
     let head_is : c.as_mut_slice-head.result.now ≡ c.self.inside.head.items = c.as_mut_slice-head.ensures.value in
     let rows_are : c.as_slice-rows.result.now ≡ c.self.inside.rows.items = c.as_slice-rows.ensures.value in (
       search rules,
@@ -49,10 +49,10 @@ raise_heads-heads-requires g c =
 pub raise_tails-tails-requires : goal.raise_tails-tails-requires
 raise_tails-tails-requires g c =
     let n = box_count c.args.instance.now in
-    let count : length c.self.inside.head.items ≡ n = rw (← c.self.view_is) at c.requires.room in
+    let count : length c.self.inside.head.items ≡ n = rw (← c.self.view_is) at c.requires.still.count in
     let still : StillHolds c.args.instance.now c.args.state.now c.args.dim c.self.inside.sides.items
-    c.self.inside.rows.items c.still_holds.new.ahead
-    = rw (c.as_slice-sides.ensures.value, c.as_slice-rows.ensures.value) at (c.if-not-still_holds.ensures refl) in
+    c.self.inside.rows.items c.args.ahead
+    = rw (← c.self.view_is) at c.requires.still.rows in
     let tail_is : c.as_mut_slice-tail.result.now ≡ c.self.inside.tail.items = c.as_mut_slice-tail.ensures.value in
     let rows_are : c.as_slice-rows.result.now ≡ c.self.inside.rows.items = c.as_slice-rows.ensures.value in (
       search rules,
@@ -86,10 +86,10 @@ raise_tails-tails-requires g c =
 pub set_rows-requires : goal.set_rows-requires
 set_rows-requires g c =
     let n = box_count c.args.instance.now in
-    let count : length c.self.inside.head.items ≡ n = rw (← c.self.view_is) at c.requires.room in
+    let count : length c.self.inside.head.items ≡ n = rw (← c.self.view_is) at c.requires.still.count in
     let still : StillHolds c.args.instance.now c.args.state.now c.args.dim c.self.inside.sides.items
-    c.self.inside.rows.items c.still_holds.new.ahead
-    = rw (c.as_slice-sides.ensures.value, c.as_slice-rows.ensures.value) at (c.if-not-still_holds.ensures refl) in
+    c.self.inside.rows.items c.args.ahead
+    = rw (← c.self.view_is) at c.requires.still.rows in
     let rows_are : c.as_mut_slice.result.now ≡ c.self.inside.rows.items = c.as_mut_slice.ensures.value in (
       search rules,
       (
@@ -110,10 +110,10 @@ set_rows-requires g c =
 pub invariant_of-self : goal.invariant_of-self
 invariant_of-self g c =
     let n = box_count c.args.instance.now in
-    let count : length c.self.inside.head.items ≡ n = rw (← c.self.view_is) at c.requires.room in
+    let count : length c.self.inside.head.items ≡ n = rw (← c.self.view_is) at c.requires.still.count in
     let still : StillHolds c.args.instance.now c.args.state.now c.args.dim c.self.inside.sides.items
-    c.self.inside.rows.items c.still_holds.new.ahead
-    = rw (c.as_slice-sides.ensures.value, c.as_slice-rows.ensures.value) at (c.if-not-still_holds.ensures refl) in
+    c.self.inside.rows.items c.args.ahead
+    = rw (← c.self.view_is) at c.requires.still.rows in
     let head_is : c.as_mut_slice-head.result.now ≡ c.self.inside.head.items = c.as_mut_slice-head.ensures.value in
     let tail_is : c.as_mut_slice-tail.result.now ≡ c.self.inside.tail.items = c.as_mut_slice-tail.ensures.value in
     let rows_are : c.as_mut_slice.result.now ≡ c.self.inside.rows.items = c.as_mut_slice.ensures.value in
@@ -156,13 +156,10 @@ invariant_of-self g c =
       fits_fit = c.self.invariant.fits_fit;
     }
 
-pub returns-clause-renewed : goal.returns-clause-renewed
-returns-clause-renewed g c is =
+pub returns-clause-weights : goal.returns-clause-weights
+returns-clause-weights g c =
     let n = box_count c.args.instance.now in
-    let count : length c.self.inside.head.items ≡ n = rw (← c.self.view_is) at c.requires.room in
-    let still : StillHolds c.args.instance.now c.args.state.now c.args.dim c.self.inside.sides.items
-    c.self.inside.rows.items c.still_holds.new.ahead
-    = rw (c.as_slice-sides.ensures.value, c.as_slice-rows.ensures.value) at (c.if-not-still_holds.ensures refl) in
+    let count : length c.self.inside.head.items ≡ n = rw (← c.self.view_is) at c.requires.still.count in
     let head_is : c.as_mut_slice-head.result.now ≡ c.self.inside.head.items = c.as_mut_slice-head.ensures.value in
     let tail_is : c.as_mut_slice-tail.result.now ≡ c.self.inside.tail.items = c.as_mut_slice-tail.ensures.value in
     let heads = with_items_is c.self.inside.head c.raise_heads-heads.new.into
@@ -170,7 +167,7 @@ returns-clause-renewed g c is =
     let tails = with_items_is c.self.inside.tail c.raise_tails-tails.new.into
     (c.raise_tails-tails.auto.into ∙ c.as_mut_slice-tail.ensures.len) in
     record {
-      limit = omega (arith, c.if-self-from.false, c.from.ensures, c.container_side.ensures);
+      limit = rw (← c.self.view_is) at c.requires.still.limit;
       head_count = rw heads (c.raise_heads-heads.auto.into ∙ (ap (λ (l : List ℕ). length l) head_is ∙ count));
       tail_count = rw tails (c.raise_tails-tails.auto.into
           ∙ (ap (λ (l : List ℕ). length l) tail_is ∙ (c.self.invariant.kept.tail_count ∙ count)));
