@@ -175,8 +175,11 @@ impl Guess {
     #[inline]
     pub(crate) fn rise(&mut self, place: usize, weight: u32) -> bool {
         let old = at(&self.weights, place);
+        if weight <= old {
+            return false;
+        }
         let used = self.used;
-        if weight <= old || used >= self.risen.len() {
+        if used >= self.risen.len() {
             return false;
         }
         self.risen[used] = (place, old);

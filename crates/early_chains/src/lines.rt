@@ -43,7 +43,7 @@ fn chain_of<const K: usize>(
         if known.has(next) {
             return None;
         }
-        if !state.sure_before(dim, next, first) {
+        if !state.sure_before_in::<K>(dim, next, first) {
             return None;
         }
         let Some(more) = weight.checked_add(u64::from(instance.side(next, dim))) else {
@@ -80,7 +80,7 @@ pub(crate) fn long_pair<const K: usize>(
     if u >= instance.len() || u == v {
         return None;
     }
-    if !state.sure_before(dim, u, v) {
+    if !state.sure_before_in::<K>(dim, u, v) {
         return None;
     }
     let Some(together) = weight.checked_add(u64::from(instance.side(u, dim))) else {

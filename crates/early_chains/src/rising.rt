@@ -43,10 +43,7 @@ impl Guess {
         let shift = if forwards { 0 } else { PLACES };
         let weight = self.weight_at(place_of(dim, x).wrapping_add(shift));
         let mut row: BitRow<K> = next_boxes(state, dim, x, forwards);
-        for _ in 0..state.boxes() {
-            let Some(y) = row.first() else {
-                return None;
-            };
+        while let Some(y) = row.first() {
             row = row.without(y);
             let place = place_of(dim, y);
             let more = weight.saturating_add(self.own_at(place));

@@ -29,10 +29,7 @@ impl Guess {
         let weight = self.weight_at(place.wrapping_add(shift));
         let own = self.own_at(place);
         let mut row: BitRow<K> = next_boxes(state, dim, x, !forwards);
-        for _ in 0..state.boxes() {
-            let Some(y) = row.first() else {
-                return None;
-            };
+        while let Some(y) = row.first() {
             row = row.without(y);
             let there = self.weight_at(place_of(dim, y).wrapping_add(shift));
             if there.saturating_add(own) == weight {

@@ -89,6 +89,12 @@ none_out true true m e f h = refl
 none_out true false m e f h = absurd (true≢false (sym e ∙ f))
 none_out false b m e f h = absurd (true≢false (sym h))
 
+-- a member of what a row has and another one hasn't
+pub minus_parts : (a b m : Bool) → m ≡ a && not b → m ≡ true → (b ≡ false) × (a ≡ true)
+minus_parts true false m e h = (refl, refl)
+minus_parts true true m e h = absurd (true≢false (sym h ∙ e))
+minus_parts false b m e h = absurd (true≢false (sym h ∙ e))
+
 -- an entry that is there doesn't depend on what is read where none is
 pub get_any : {A : Type 0} (xs : List A) (i : ℕ) (d e : A) → i < length xs → get_or xs i d ≡ get_or xs i e
 get_any [] i d e l = absurd (omega (arith, l))

@@ -10,7 +10,7 @@ ghost use Rattle.orientation_rules.specs.Weights.{HasOneWayChains, IsHeaviest};
 ghost use Rattle.orientation_rules.specs.KeptWeights.{GoesOn, StillHolds, StillHold, AreHeaviestWeights};
 
 use crate::leads::leads_row;
-use crate::refills::{clear_rows, refill, refill_rows, write_sides};
+use crate::refills::{clear_rows, drop_members, empty_rows, refill, refill_rows, write_sides};
 use crate::rises::{raise_heads, raise_tails};
 use box_instances::{Instance, NoMemory};
 use edge_state::{BitRow, EdgeState};
@@ -190,33 +190,17 @@ fn boxes_ahead<const K: usize>(instance: &Instance, state: &EdgeState, dim: u32)
     ahead
 }
 
-// What is in the row and not in the other, or nothing.
-#[inline]
-fn outside<const K: usize>(row: BitRow<K>, other: BitRow<K>, none: bool) -> BitRow<K>
-    requires { IsRowWidth K }
-    ensures { (x : ℕ) → row_has result x ≡ true → (none ≡ false)
-        × (row_has row.entry x ≡ true) × (row_has other.entry x ≡ false) }
-{
-    if none {
-        BitRow::empty()
-    } else {
-        row.minus(other)
-    }
-}
-
 // Leaves in each row only boxes that it has and whose tail didn't rise, and none where the head of
-// the row's box rose.
+// the row's box rose. All rows lose the same boxes, in a loop without a branch, and few are emptied.
 fn drop_risen<const K: usize>(heads: BitRow<K>, tails: BitRow<K>, fits: &mut [BitRow<K>])
-    requires width { IsRowWidth K }
-    requires few { length fits.old ≤ 64 * K }
+    requires { IsRowWidth K }
     ensures count { length fits.new ≡ length fits.old }
     ensures left { (u x : ℕ) → u < length fits.old → GoesOn fits.new u x
         → (row_has heads.entry u ≡ false) × (row_has tails.entry x ≡ false)
         × GoesOn fits.old u x }
 {
-    for at in 0..fits.len() {
-        fits[at] = outside(fits[at], tails, heads.has(at as u32));
-    }
+    drop_members(tails, fits);
+    empty_rows(heads, fits);
 }
 
 // The boxes of a row with a weight above `most`.

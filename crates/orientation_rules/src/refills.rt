@@ -1,7 +1,7 @@
 //! Lists that are written anew in the memory that they have.
-ghost use Rattle.std.specs.Prelude.{◌≡◌, ◌<◌, ◌≤◌, ℕ, length, slice_index, replicate, vec_capacity};
+ghost use Rattle.std.specs.Prelude.{◌≡◌, ◌<◌, ◌≤◌, ℕ, false, length, slice_index, replicate, vec_capacity};
 ghost use Rattle.packing_terms.specs.Packing.{dims, box_count, side};
-ghost use Rattle.edge_state.specs.BitRows.{IsRowWidth};
+ghost use Rattle.edge_state.specs.BitRows.{IsRowWidth, row_has};
 ghost use Rattle.orientation_rules.specs.KeptWeights.{GoesOn};
 
 use box_instances::Instance;
@@ -71,5 +71,33 @@ pub(crate) fn clear_rows<const K: usize>(rows: &mut [BitRow<K>])
 {
     for at in 0..rows.len() {
         rows[at] = BitRow::empty();
+    }
+}
+
+/// Takes the boxes of `dropped` out of each row.
+pub(crate) fn drop_members<const K: usize>(dropped: BitRow<K>, rows: &mut [BitRow<K>])
+    requires { IsRowWidth K }
+    ensures count { length rows.new ≡ length rows.old }
+    ensures left { (u x : ℕ) → u < length rows.old → GoesOn rows.new u x
+        → (row_has dropped.entry x ≡ false) × GoesOn rows.old u x }
+{
+    for at in 0..rows.len() {
+        rows[at] = rows[at].minus(dropped);
+    }
+}
+
+/// Makes the rows of these boxes empty.
+pub(crate) fn empty_rows<const K: usize>(boxes: BitRow<K>, rows: &mut [BitRow<K>])
+    requires { IsRowWidth K }
+    ensures count { length rows.new ≡ length rows.old }
+    ensures left { (u x : ℕ) → u < length rows.old → GoesOn rows.new u x
+        → (row_has boxes.entry u ≡ false) × GoesOn rows.old u x }
+{
+    let mut rest = boxes;
+    while let Some(u) = rest.first() {
+        rest = rest.without(u);
+        if (u as usize) < rows.len() {
+            rows[u as usize] = BitRow::empty();
+        }
     }
 }

@@ -18,5 +18,5 @@ loop-k-preserved g c =
           c.in-Some.more
           (row_has c.loop-k.known) (row_has c.with-known-in-loop-k.result) c.loop-k.invariant.1 there
           (sym c.has.ensures ∙ c.if-has.false)
-          (and_parts _ _ (sym c.sure_before.ensures ∙ c.if-not-sure_before.false)) heavy c.with-known-in-loop-k.ensures,
+          (and_parts _ _ (sym c.sure_before_in.ensures ∙ c.if-not-sure_before_in.false)) heavy c.with-known-in-loop-k.ensures,
     )

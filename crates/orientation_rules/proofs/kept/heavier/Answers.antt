@@ -1,4 +1,4 @@
-use Rattle.std.proofs.Common.{◌*◌, ◌<◌, ◌∙◌, ℕ, arith, true, sym, nat_lt, slice_index}
+use Rattle.std.proofs.Common.{◌*◌, ◌∙◌, sym, nat_lt, slice_index}
 use Rattle.std.proofs.lemmas.Bool.{and_parts, lt-ltb}
 use Rattle.edge_state.specs.BitRows.{row_has}
 use Rattle.edge_state.proofs.RowBits.{members_fewer}

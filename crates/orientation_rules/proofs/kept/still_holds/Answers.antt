@@ -6,7 +6,7 @@ use Rattle.edge_state.specs.BitRows.{row_has}
 use Rattle.rule_terms.specs.declared.Direction.TheVariants.{Forwards}
 use Rattle.rule_terms.specs.Runs.{Leads}
 use Rattle.orientation_rules.specs.KeptWeights.{GoesOn}
-use Rattle.orientation_rules.proofs.KeptRuns.{below_next, none_out, row_of, get_any}
+use Rattle.orientation_rules.proofs.KeptRuns.{below_next, row_of, get_any}
 use Rattle.orientation_rules.proofs.kept.still_holds.Goals as goal
 
 pub loop-v-preserved : goal.loop-v-preserved

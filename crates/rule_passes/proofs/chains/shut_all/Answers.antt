@@ -1,4 +1,4 @@
-use Rattle.std.proofs.Common.{◌≡◌, ◌<◌, ◌∙◌, ℕ, refl, ap, arith, rules, true}
+use Rattle.std.proofs.Common.{◌<◌, ◌∙◌, ℕ, refl, ap, arith, rules, true}
 use Rattle.packing_terms.specs.Packing.{box_count}
 use Rattle.closure_terms.specs.Passes.{IsShut}
 use Rattle.closure_terms.proofs.Passes.{pass_start, pass_next, sizes_passed, heads_more, tails_more, shut_kept}

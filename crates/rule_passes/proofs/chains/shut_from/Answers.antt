@@ -1,4 +1,4 @@
-use Rattle.std.proofs.Common.{◌≡◌, ◌<◌, ℕ, arith, rules}
+use Rattle.std.proofs.Common.{◌<◌, ℕ, arith, rules}
 use Rattle.packing_terms.specs.Packing.{box_count}
 use Rattle.edge_state.specs.BitRows.{row_has}
 use Rattle.closure_terms.specs.Passes.{IsShut}

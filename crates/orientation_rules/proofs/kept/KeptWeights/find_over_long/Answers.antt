@@ -1,6 +1,6 @@
 use Rattle.std.proofs.Common.{◌≡◌, ◌+◌, ◌-◌, ◌<◌, ◌≤◌, ◌&&◌, ◌∙◌, ℕ, List, [], length, arith, refl, sym, ap, true, nat_lt, slice_set, subst}
 use Rattle.std.proofs.Common.{slice_index, slice_index_or}
-use Rattle.std.proofs.lemmas.Bool.{and_parts, lt-ltb}
+use Rattle.std.proofs.lemmas.Bool.{lt-ltb}
 use Rattle.std.proofs.lemmas.List.{with_items_is, length-set}
 use Rattle.std.proofs.Math.Bool.{and-true}
 use Rattle.edge_state.specs.BitRows.{row_has}

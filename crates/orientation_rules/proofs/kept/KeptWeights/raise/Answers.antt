@@ -1,4 +1,4 @@
-use Rattle.std.proofs.Common.{◌≡◌, ◌∙◌, ℕ, refl, ap, List, length, slice_index, arith, rules}
+use Rattle.std.proofs.Common.{◌≡◌, ◌∙◌, ℕ, refl, ap, List, length, slice_index, rules}
 use Rattle.std.proofs.lemmas.List.{with_items_is}
 use Rattle.packing_terms.specs.Packing.{box_count}
 use Rattle.orientation_rules.specs.KeptWeights.{StillHolds}
