@@ -9,7 +9,6 @@ use Rattle.answer_terms.specs.Reduced.{reduced_text, document_answer}
 use Rattle.answer_terms.specs.Solved.{fit_answer, none_answer}
 use Rattle.answer_terms.specs.declared.job.DocumentJob.{DocumentJob}
 use Rattle.work_share.specs.Outcomes.{plain_outcome}
-use Rattle.proof_tree.specs.Plain.{plain_tokens}
 use Rattle.strip_solver.specs.declared.strip.Strip.{Strip as FoundStrip}
 use Rattle.strip_solver.specs.declared.strip.Strip.TheVariants.{Least, Between, NoneFits}
 use Rattle.bin_knapsack.specs.declared.bins.Bins.{Bins as FoundBins}
@@ -25,23 +24,23 @@ use Rattle.answer_streams.specs.declared.solution.Solution.TheVariants.{ReducedS
 
 -- the answer of a strip
 abbrev pub strip_found : FoundStrip → Answer
-strip_found (Least height places tokens) = Claimed (LeastHeight height) places.items (plain_tokens tokens.items)
+strip_found (Least height places tokens) = Claimed (LeastHeight height) places.items tokens
 strip_found (Between refuted tokens height places) =
-    Claimed (HeightBetween refuted height) places.items (plain_tokens tokens.items)
+    Claimed (HeightBetween refuted height) places.items tokens
 strip_found (NoneFits v i) = none_answer NoHeight (v, i)
 
 -- the answer for bins
 abbrev pub bins_found : FoundBins → Answer
-bins_found (LeastCount bins numbers tokens) = Claimed (LeastBins bins) numbers.items (plain_tokens tokens.items)
+bins_found (LeastCount bins numbers tokens) = Claimed (LeastBins bins) numbers.items tokens
 bins_found (CountBetween refuted tokens bins numbers) =
-    Claimed (BinsBetween refuted bins) numbers.items (plain_tokens tokens.items)
+    Claimed (BinsBetween refuted bins) numbers.items tokens
 bins_found (NoBin v i) = none_answer NoBins (v, i)
 
 -- the answer for a value
 abbrev pub choice_found : FoundChoice → Answer
-choice_found (Greatest value numbers tokens) = Claimed (GreatestValue value) numbers.items (plain_tokens tokens.items)
+choice_found (Greatest value numbers tokens) = Claimed (GreatestValue value) numbers.items tokens
 choice_found (WorthBetween placed numbers refuted tokens) =
-    Claimed (ValueBetween placed refuted) numbers.items (plain_tokens tokens.items)
+    Claimed (ValueBetween placed refuted) numbers.items tokens
 
 abbrev pub answer_found : Solution → Answer
 answer_found (Fit outcome) = fit_answer (plain_outcome outcome)

@@ -5,7 +5,6 @@ ghost use Rattle.packing_terms.specs.Limits.{IsInstance};
 ghost use Rattle.pack_streams.specs.Writing.{Continues, Writes};
 ghost use Rattle.text_terms.specs.Spelling.{lines_text};
 ghost use Rattle.document_terms.specs.declared.claim.Claim.TheVariants.{LeastBins, BinsBetween, NoBins};
-ghost use Rattle.proof_tree.specs.Plain.{plain_tokens};
 ghost use Rattle.answer_terms.specs.Answers.{bin_lines, proved_lines, answer_text};
 ghost use Rattle.answer_terms.specs.Answers.Answer.{Claimed};
 ghost use Rattle.answer_terms.specs.Solved.{none_answer};
@@ -19,7 +18,7 @@ use crate::results::{
 use bin_knapsack::Bins;
 use box_instances::Instance;
 use pack_streams::{Sink, write_on};
-use proof_tree::Token;
+use proof_tree::TokenList;
 
 // Writes each box's bin and place, and the refutation of fewer bins.
 fn write_certificates<K: Sink>(
@@ -27,12 +26,12 @@ fn write_certificates<K: Sink>(
     so_far: Written,
     instance: &Instance,
     numbers: &[u32],
-    tokens: &[Token],
+    tokens: &TokenList,
 ) -> Written
     requires { AreAllInBins instance.now numbers.now }
     ensures { Continues (K.written sink.old) (K.written sink.new) (K.faults sink.old)
         (K.faults sink.new)
-        (lines_text (proved_lines (bin_lines instance.now numbers.now) (plain_tokens tokens.now)))
+        (lines_text (proved_lines (bin_lines instance.now numbers.now) tokens.now))
         so_far result }
 {
     let (boxes, dims) = (instance.len() as usize, instance.dims());
@@ -46,13 +45,13 @@ fn write_least<K: Sink>(
     instance: &Instance,
     bins: u32,
     numbers: &[u32],
-    tokens: &[Token],
+    tokens: &TokenList,
 ) -> Written
     requires limits { IsInstance instance.now }
     requires placed { AreAllInBins instance.now numbers.now }
     ensures { Writes (K.written sink.old) (K.written sink.new) (K.faults sink.old)
         (K.faults sink.new)
-        (answer_text instance.now (Claimed (LeastBins bins) numbers.now (plain_tokens tokens.now)))
+        (answer_text instance.now (Claimed (LeastBins bins) numbers.now tokens.now))
         result }
 {
     let begun = write_opening(sink, b"answer bins\n", instance);
@@ -66,7 +65,7 @@ fn write_between<K: Sink>(
     sink: &mut K,
     instance: &Instance,
     refuted: u32,
-    tokens: &[Token],
+    tokens: &TokenList,
     placed: u32,
     numbers: &[u32],
 ) -> Written
@@ -75,7 +74,7 @@ fn write_between<K: Sink>(
     ensures { Writes (K.written sink.old) (K.written sink.new) (K.faults sink.old)
         (K.faults sink.new)
         (answer_text instance.now
-        (Claimed (BinsBetween refuted placed) numbers.now (plain_tokens tokens.now))) result }
+        (Claimed (BinsBetween refuted placed) numbers.now tokens.now)) result }
 {
     let begun = write_opening(sink, b"answer bins\n", instance);
     let said = write_between_line(sink, begun, refuted as u64, placed as u64);

@@ -10,7 +10,6 @@ ghost use Rattle.packing_terms.specs.Sums.{below};
 ghost use Rattle.document_terms.specs.declared.claim.Claim.TheVariants.{Fitting, NotFitting};
 ghost use Rattle.instance_text.specs.Writing.{after_spaces};
 ghost use Rattle.work_share.specs.Outcomes.{plain_outcome};
-ghost use Rattle.proof_tree.specs.Plain.{plain_tokens};
 ghost use Rattle.answer_terms.specs.Answers.{place_words, place_lines};
 ghost use Rattle.answer_terms.specs.Answers.Answer.{Undecided, Claimed};
 ghost use Rattle.answer_terms.specs.Solved.{fit_answer};
@@ -20,7 +19,7 @@ ghost use Rattle.answer_streams.specs.Placed.{IsPlaced};
 use box_instances::Instance;
 use instance_text::write_instance;
 use pack_streams::{Sink, WriteFault, write_number, write_on};
-use proof_tree::{Outcome, Token, write_tokens_on};
+use proof_tree::{Outcome, TokenList, write_tokens_on};
 use verdict_terms::Heading;
 
 /// How writing went so far. Each call below writes where no fault came before, and else does
@@ -141,12 +140,12 @@ fn write_no<K: Sink>(
     sink: &mut K,
     heading: Heading,
     instance: &Instance,
-    tokens: &[Token],
+    tokens: &TokenList,
 ) -> Written
     requires { IsInstance instance.now }
     ensures { Writes (K.written sink.old) (K.written sink.new) (K.faults sink.old)
         (K.faults sink.new)
-        (headed_text heading instance.now (Claimed NotFitting [] (plain_tokens tokens.now))) result }
+        (headed_text heading instance.now (Claimed NotFitting [] tokens.now)) result }
 {
     let named = write_on(sink, Ok(()), first_line(heading));
     let shown = write_instance_on(sink, named, instance);

@@ -5,7 +5,6 @@ ghost use Rattle.packing_terms.specs.Limits.{IsInstance};
 ghost use Rattle.pack_streams.specs.Writing.{Continues, Writes};
 ghost use Rattle.text_terms.specs.Spelling.{lines_text};
 ghost use Rattle.document_terms.specs.declared.claim.Claim.TheVariants.{GreatestValue, ValueBetween};
-ghost use Rattle.proof_tree.specs.Plain.{plain_tokens};
 ghost use Rattle.answer_terms.specs.Answers.{take_lines, proved_lines, answer_text};
 ghost use Rattle.answer_terms.specs.Answers.Answer.{Claimed};
 ghost use Rattle.answer_streams.specs.Solutions.{choice_found};
@@ -16,7 +15,7 @@ use crate::results::{write_between_line, write_opening, write_proof};
 use bin_knapsack::Choice;
 use box_instances::Instance;
 use pack_streams::{Sink, write_number, write_on};
-use proof_tree::Token;
+use proof_tree::TokenList;
 
 // Writes the result line of a greatest value.
 fn write_greatest_line<K: Sink>(sink: &mut K, so_far: Written, value: u64) -> Written
@@ -35,11 +34,11 @@ fn write_certificates<K: Sink>(
     so_far: Written,
     instance: &Instance,
     numbers: &[u32],
-    tokens: &[Token],
+    tokens: &TokenList,
 ) -> Written
     ensures { Continues (K.written sink.old) (K.written sink.new) (K.faults sink.old)
         (K.faults sink.new)
-        (lines_text (proved_lines (take_lines instance.now numbers.now) (plain_tokens tokens.now)))
+        (lines_text (proved_lines (take_lines instance.now numbers.now) tokens.now))
         so_far result }
 {
     let dims = instance.dims();
@@ -54,13 +53,13 @@ fn write_greatest<K: Sink>(
     instance: &Instance,
     value: u64,
     numbers: &[u32],
-    tokens: &[Token],
+    tokens: &TokenList,
 ) -> Written
     requires { IsInstance instance.now }
     ensures { Writes (K.written sink.old) (K.written sink.new) (K.faults sink.old)
         (K.faults sink.new)
         (answer_text instance.now
-        (Claimed (GreatestValue value) numbers.now (plain_tokens tokens.now))) result }
+        (Claimed (GreatestValue value) numbers.now tokens.now)) result }
 {
     let begun = write_opening(sink, b"answer knapsack\n", instance);
     let said = write_greatest_line(sink, begun, value);
@@ -75,13 +74,13 @@ fn write_between<K: Sink>(
     placed: u64,
     numbers: &[u32],
     refuted: u64,
-    tokens: &[Token],
+    tokens: &TokenList,
 ) -> Written
     requires { IsInstance instance.now }
     ensures { Writes (K.written sink.old) (K.written sink.new) (K.faults sink.old)
         (K.faults sink.new)
         (answer_text instance.now
-        (Claimed (ValueBetween placed refuted) numbers.now (plain_tokens tokens.now))) result }
+        (Claimed (ValueBetween placed refuted) numbers.now tokens.now)) result }
 {
     let begun = write_opening(sink, b"answer knapsack\n", instance);
     let said = write_between_line(sink, begun, placed, refuted);

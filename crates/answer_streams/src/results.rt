@@ -8,12 +8,11 @@ ghost use Rattle.packing_terms.specs.Tokens.PlainToken.{TooLarge};
 ghost use Rattle.pack_streams.specs.Writing.{Continues, Writes};
 ghost use Rattle.text_terms.specs.Spelling.{instance_text, lines_text};
 ghost use Rattle.proof_tree.specs.Lines.{token_line, token_text};
-ghost use Rattle.proof_tree.specs.Plain.{plain_tokens};
 
 use crate::documents::{Written, write_instance_on};
 use box_instances::Instance;
 use pack_streams::{Sink, write_number, write_on};
-use proof_tree::{Token, write_token_on, write_tokens_on};
+use proof_tree::{Token, TokenList, write_token_on, write_tokens_on};
 
 /// Writes the first line, and the lines of the instance.
 pub(crate) fn write_opening<K: Sink>(sink: &mut K, first: &[u8], instance: &Instance) -> Written
@@ -57,10 +56,10 @@ pub(crate) fn write_between_line<K: Sink>(
 }
 
 /// Writes the line `proof`, and a refutation.
-pub(crate) fn write_proof<K: Sink>(sink: &mut K, so_far: Written, tokens: &[Token]) -> Written
+pub(crate) fn write_proof<K: Sink>(sink: &mut K, so_far: Written, tokens: &TokenList) -> Written
     ensures { Continues (K.written sink.old) (K.written sink.new) (K.faults sink.old)
         (K.faults sink.new)
-        (codes "proof\n" ++ token_text (plain_tokens tokens.now)) so_far result }
+        (codes "proof\n" ++ token_text tokens.now) so_far result }
 {
     let split = write_on(sink, so_far, b"proof\n");
     write_tokens_on(sink, split, tokens)

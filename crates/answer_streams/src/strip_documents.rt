@@ -6,7 +6,6 @@ ghost use Rattle.packing_terms.specs.Limits.{IsInstance};
 ghost use Rattle.pack_streams.specs.Writing.{Continues, Writes};
 ghost use Rattle.text_terms.specs.Spelling.{lines_text};
 ghost use Rattle.document_terms.specs.declared.claim.Claim.TheVariants.{LeastHeight, HeightBetween, NoHeight};
-ghost use Rattle.proof_tree.specs.Plain.{plain_tokens};
 ghost use Rattle.answer_terms.specs.Answers.{place_lines, proved_lines};
 ghost use Rattle.answer_terms.specs.Answers.Answer.{Claimed};
 ghost use Rattle.answer_terms.specs.Solved.{none_answer};
@@ -19,7 +18,7 @@ use crate::results::{
 };
 use box_instances::Instance;
 use pack_streams::{Sink, write_on};
-use proof_tree::Token;
+use proof_tree::TokenList;
 use strip_solver::Strip;
 use verdict_terms::Heading;
 
@@ -39,12 +38,12 @@ fn write_certificates<K: Sink>(
     so_far: Written,
     instance: &Instance,
     places: &[u32],
-    tokens: &[Token],
+    tokens: &TokenList,
 ) -> Written
     requires { AreAllPlaced instance.now places.now }
     ensures { Continues (K.written sink.old) (K.written sink.new) (K.faults sink.old)
         (K.faults sink.new)
-        (lines_text (proved_lines (place_lines instance.now places.now) (plain_tokens tokens.now)))
+        (lines_text (proved_lines (place_lines instance.now places.now) tokens.now))
         so_far result }
 {
     let placed = write_places(sink, so_far, instance, places);
@@ -58,14 +57,14 @@ fn write_least<K: Sink>(
     instance: &Instance,
     height: u32,
     places: &[u32],
-    tokens: &[Token],
+    tokens: &TokenList,
 ) -> Written
     requires limits { IsInstance instance.now }
     requires placed { AreAllPlaced instance.now places.now }
     ensures { Writes (K.written sink.old) (K.written sink.new) (K.faults sink.old)
         (K.faults sink.new)
         (headed_text heading instance.now
-        (Claimed (LeastHeight height) places.now (plain_tokens tokens.now))) result }
+        (Claimed (LeastHeight height) places.now tokens.now)) result }
 {
     let begun = write_opening(sink, strip_line(heading), instance);
     let said = write_least_line(sink, begun, height as u64);
@@ -79,7 +78,7 @@ fn write_between<K: Sink>(
     heading: Heading,
     instance: &Instance,
     refuted: u32,
-    tokens: &[Token],
+    tokens: &TokenList,
     placed: u32,
     places: &[u32],
 ) -> Written
@@ -88,7 +87,7 @@ fn write_between<K: Sink>(
     ensures { Writes (K.written sink.old) (K.written sink.new) (K.faults sink.old)
         (K.faults sink.new)
         (headed_text heading instance.now
-        (Claimed (HeightBetween refuted placed) places.now (plain_tokens tokens.now))) result }
+        (Claimed (HeightBetween refuted placed) places.now tokens.now)) result }
 {
     let begun = write_opening(sink, strip_line(heading), instance);
     let said = write_between_line(sink, begun, refuted as u64, placed as u64);

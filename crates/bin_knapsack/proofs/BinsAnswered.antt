@@ -17,7 +17,6 @@ use Rattle.tree_terms.specs.Levels.{PlainReached, HasBothCertificates, first_bin
 use Rattle.tree_terms.specs.RunEnds.{IsRisingEnd}
 use Rattle.tree_terms.proofs.Optima.{bins_keep, bins_optimum}
 use Rattle.tree_terms.proofs.SpentRuns.{bins_spent, bins_end, bins_enough}
-use Rattle.proof_tree.specs.Plain.{plain_tokens}
 use Rattle.bin_knapsack.specs.declared.bins.Bins.{Bins}
 use Rattle.bin_knapsack.specs.declared.bins.Bins.TheVariants.{Least, Between, NoneFits}
 use Rattle.bin_knapsack.specs.BinAnswers.{Tells, IsAnswer, AreTrueBins, IsSpentExactly, IsFinal}
@@ -70,7 +69,7 @@ module _ (instance : PlainInstance) (limits : IsInternalInstance instance) (smal
       record {
         order = omega (arith, a, b, order);
         none_fits = (λ j l f. none_fits_bins excess_law instance (internal_sides instance limits) refuted
-            (plain_tokens tokens.items) k.0
+            tokens k.0
             (fits_in_more instance j refuted l f));
         packed = k.1;
         refutes = k.0;

@@ -14,7 +14,6 @@ use Rattle.tree_terms.specs.Levels.{PlainReached, HasBothCertificates, first_val
 use Rattle.tree_terms.specs.RunEnds.{IsFallingEnd}
 use Rattle.tree_terms.proofs.Optima.{values_keep, value_optimum}
 use Rattle.tree_terms.proofs.SpentRuns.{value_spent, value_end, value_enough}
-use Rattle.proof_tree.specs.Plain.{plain_tokens}
 use Rattle.bin_knapsack.specs.declared.choice.Choice.{Choice}
 use Rattle.bin_knapsack.specs.declared.choice.Choice.TheVariants.{Greatest, Between}
 use Rattle.bin_knapsack.specs.Choices.{Tells, IsTrueChoice, IsSpentExactly, IsFinal}
@@ -50,7 +49,7 @@ module _ (instance : PlainInstance) (limits : IsInternalInstance instance) (budg
       record {
         order = omega (arith, a, b, order);
         none_reaches = (λ j l f. none_reaches excess_law instance (internal_sides instance limits) refuted
-            (plain_tokens tokens.items) k.0
+            tokens k.0
             (reaches_lower instance refuted j l f));
         packed = k.1;
         refutes = k.0;

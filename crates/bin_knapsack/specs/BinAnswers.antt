@@ -8,7 +8,6 @@ use Rattle.packing_terms.specs.Tokens.{PlainToken}
 use Rattle.tree_terms.specs.OuterSearch.{AreBinNumbers}
 use Rattle.tree_terms.specs.Levels.{PlainReached, bin_run}
 use Rattle.tree_terms.specs.RunEnds.{HasLargeCount}
-use Rattle.proof_tree.specs.Plain.{plain_tokens}
 use Rattle.bin_knapsack.specs.declared.bins.Bins.{Bins}
 use Rattle.bin_knapsack.specs.declared.bins.Bins.TheVariants.{Least, Between, NoneFits}
 
@@ -17,7 +16,7 @@ abbrev pub Tells : PlainReached → Bins → Type 0
 Tells r (Least bins numbers tokens) =
     r ≡ record {
       refuted = bins - 1;
-      tokens = plain_tokens tokens.items;
+      tokens = tokens;
       placed = bins;
       numbers = numbers.items;
       spent = false;
@@ -25,7 +24,7 @@ Tells r (Least bins numbers tokens) =
 Tells r (Between refuted tokens bins numbers) =
     r ≡ record {
       refuted = refuted;
-      tokens = plain_tokens tokens.items;
+      tokens = tokens;
       placed = bins;
       numbers = numbers.items;
       spent = true;
@@ -60,9 +59,9 @@ pub record IsCertifiedBetween (instance : PlainInstance) (refuted : ℕ) (tokens
 -- what the answer says is true
 abbrev pub AreTrueBins : PlainInstance → Bins → Type 0
 AreTrueBins instance (Least bins numbers tokens) =
-    IsCertifiedLeast instance bins numbers.items (plain_tokens tokens.items)
+    IsCertifiedLeast instance bins numbers.items tokens
 AreTrueBins instance (Between refuted tokens bins numbers) =
-    IsCertifiedBetween instance refuted (plain_tokens tokens.items) bins numbers.items
+    IsCertifiedBetween instance refuted tokens bins numbers.items
 AreTrueBins instance (NoneFits v i) = (k : ℕ) → ¬ FitsInBins instance k
 
 -- `Between` exactly where some number of bins on the run has more branchings than the budget

@@ -7,7 +7,6 @@ use Rattle.packing_terms.specs.Tokens.{PlainToken}
 use Rattle.tree_terms.specs.OuterSearch.{AreTakenNumbers}
 use Rattle.tree_terms.specs.Levels.{PlainReached, value_run}
 use Rattle.tree_terms.specs.RunEnds.{HasLargeWorth}
-use Rattle.proof_tree.specs.Plain.{plain_tokens}
 use Rattle.bin_knapsack.specs.declared.choice.Choice.{Choice}
 use Rattle.bin_knapsack.specs.declared.choice.Choice.TheVariants.{Greatest, Between}
 
@@ -16,7 +15,7 @@ abbrev pub Tells : PlainReached → Choice → Type 0
 Tells r (Greatest value numbers tokens) =
     r ≡ record {
       refuted = suc value;
-      tokens = plain_tokens tokens.items;
+      tokens = tokens;
       placed = value;
       numbers = numbers.items;
       spent = false;
@@ -24,7 +23,7 @@ Tells r (Greatest value numbers tokens) =
 Tells r (Between placed numbers refuted tokens) =
     r ≡ record {
       refuted = refuted;
-      tokens = plain_tokens tokens.items;
+      tokens = tokens;
       placed = placed;
       numbers = numbers.items;
       spent = true;
@@ -53,9 +52,9 @@ pub record IsCertifiedBetween (instance : PlainInstance) (placed : ℕ) (numbers
 -- what the answer says is true
 abbrev pub IsTrueChoice : PlainInstance → Choice → Type 0
 IsTrueChoice instance (Greatest value numbers tokens) =
-    IsCertifiedGreatest instance value numbers.items (plain_tokens tokens.items)
+    IsCertifiedGreatest instance value numbers.items tokens
 IsTrueChoice instance (Between placed numbers refuted tokens) =
-    IsCertifiedBetween instance placed numbers.items refuted (plain_tokens tokens.items)
+    IsCertifiedBetween instance placed numbers.items refuted tokens
 
 -- `Between` exactly where some value on the run has more branchings than the budget
 abbrev pub IsSpentExactly : PlainInstance → ℕ → Bool → Choice → Type 0

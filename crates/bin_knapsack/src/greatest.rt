@@ -4,7 +4,6 @@ ghost use Rattle.packing_terms.specs.Packing.{dims, box_count};
 ghost use Rattle.packing_terms.specs.Goals.{worth};
 ghost use Rattle.packing_terms.specs.Sums.{below};
 ghost use Rattle.tree_terms.specs.Levels.{first_values, value_run};
-ghost use Rattle.proof_tree.specs.Plain.{plain_tokens};
 ghost use Rattle.level_search.specs.Runs.{plain_reached};
 ghost use Rattle.bin_knapsack.specs.Choices.{Tells, IsAnswer, IsTrueChoice, IsSpentExactly, IsFinal};
 
@@ -12,7 +11,7 @@ use crate::Choice;
 use crate::values::decide_value;
 use box_instances::{Instance, NoMemory};
 use level_search::Reached;
-use proof_tree::Token;
+use proof_tree::{Token, TokenList};
 use set_search::SetSearch;
 use std::alloc::Global;
 use std::sync::Wait;
@@ -32,15 +31,11 @@ fn whole_worth(instance: &Instance) -> u64
 }
 
 // The refutation of a value above what all boxes are worth.
-fn value_short(alloc: Global, instance: &Instance) -> Result<Vec<Token>, NoMemory>
-    ensures { IfOk result (λ tokens. plain_tokens tokens.items
+fn value_short(alloc: Global, instance: &Instance) -> Result<TokenList, NoMemory>
+    ensures { IfOk result (λ tokens. tokens
         ≡ (first_values instance.now).tokens) }
 {
-    let mut tokens = Vec::new(alloc);
-    let Ok(()) = tokens.push(Token::ValueShort) else {
-        return Err(NoMemory);
-    };
-    Ok(tokens)
+    TokenList::of_one(alloc, Token::ValueShort)
 }
 
 /// The first levels of a run of values: one more than all boxes are worth is refuted, and 0 is

@@ -7,7 +7,6 @@ ghost use Rattle.packing_terms.specs.Scales.{SidesFit};
 ghost use Rattle.packing_terms.specs.Sums.{sum_below};
 ghost use Rattle.tree_terms.specs.ClassTree.{first_too_large_box};
 ghost use Rattle.tree_terms.specs.Levels.{first_bins, bin_run};
-ghost use Rattle.proof_tree.specs.Plain.{plain_tokens};
 ghost use Rattle.level_search.specs.Runs.{plain_reached};
 ghost use Rattle.bin_knapsack.specs.BinAnswers.{Tells, IsAnswer, AreTrueBins, IsSpentExactly, IsFinal};
 
@@ -18,7 +17,7 @@ use bin_search::BinTree;
 use box_instances::{Instance, NoMemory};
 use class_search::first_too_large;
 use level_search::Reached;
-use proof_tree::{Outcome, Token};
+use proof_tree::{Outcome, TokenList};
 use set_search::SetSearch;
 use std::alloc::Global;
 use std::sync::Wait;
@@ -26,9 +25,9 @@ use std::thread::Threads;
 use work_share::{Gate, Settings, Tree};
 
 // The refutation of no bins at all.
-fn no_bins(alloc: Global, instance: &Instance, scales: bool) -> Result<Vec<Token>, NoMemory>
+fn no_bins(alloc: Global, instance: &Instance, scales: bool) -> Result<TokenList, NoMemory>
     requires { SidesFit instance.now }
-    ensures { IfOk result (λ tokens. plain_tokens tokens.items
+    ensures { IfOk result (λ tokens. tokens
         ≡ (first_bins instance.now scales).tokens) }
 {
     // For the proof alone: tells the limits of the instance.

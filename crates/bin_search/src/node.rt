@@ -10,7 +10,8 @@ ghost use Rattle.bin_search.specs.Nodes.{child_count, plain_placed, plain_change
 
 use crate::lists::{replace_list, restore_list};
 use box_instances::NoMemory;
-use set_search::{Child, SetSearch, TokenList};
+use proof_tree::TokenList;
+use set_search::{Child, SetSearch};
 use std::alloc::Global;
 
 // A node: so many boxes by rank have bins; the used bins in the order of their first use, the boxes

@@ -18,8 +18,8 @@ use crate::node::{Placed, children, grow_bin};
 use crate::numbers::bin_numbers;
 use crate::walk::{assign, walk};
 use box_instances::{Instance, NoMemory};
-use proof_tree::Outcome;
-use set_search::{Child, MOST_BUDGET, SetSearch, TokenList, with_box};
+use proof_tree::{Outcome, TokenList};
+use set_search::{Child, MOST_BUDGET, SetSearch, with_box};
 use std::alloc::Global;
 use work_share::Node;
 
@@ -190,10 +190,7 @@ pub(crate) fn explore_step(
         &mut tokens,
     )? {
         Child::Past => Ok(Outcome::Past),
-        Child::Refuted { own } => {
-            let tokens = tokens.tokens(alloc)?;
-            Ok(Outcome::No { tokens, count: own })
-        }
+        Child::Refuted { own } => Ok(Outcome::No { tokens, count: own }),
         Child::Fits { set, numbers, own } => {
             let answers = answers_with(alloc, search, &step.bins, b, numbers)?;
             let mut bins = step.bins;

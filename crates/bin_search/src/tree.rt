@@ -18,7 +18,7 @@ use crate::path::{Step, enter, explore_step, last_step, tell, tell_step};
 use crate::root::scales_token;
 use box_instances::{Instance, NoMemory};
 use class_search::are_same_instances;
-use proof_tree::Outcome;
+use proof_tree::{Outcome, TokenList};
 use set_search::SetSearch;
 use std::alloc::Global;
 use std::marker::Model;
@@ -93,10 +93,7 @@ impl<'a> BinTree<'a> {
         // For the proof alone: tells the limits of the instance.
         let _limits = self.instance.len();
         if let Some(token) = scales_token(alloc, self.instance, self.bins, self.scales) {
-            let mut tokens = Vec::new(alloc);
-            let Ok(()) = tokens.push(token) else {
-                return Err(NoMemory);
-            };
+            let tokens = TokenList::of_one(alloc, token)?;
             return Ok(Outcome::No { tokens, count: 0 });
         }
         let root = Placed {

@@ -15,8 +15,8 @@ ghost use Rattle.bin_search.specs.Nodes.{AreInBins};
 use crate::node::{Change, Placed, children, enter_child, grow_bin, leave_child};
 use crate::numbers::bin_numbers;
 use box_instances::{Instance, NoMemory};
-use proof_tree::{Outcome, Token};
-use set_search::{Child, SetSearch, TokenList};
+use proof_tree::{Outcome, Token, TokenList};
+use set_search::{Child, SetSearch};
 use std::alloc::Global;
 
 // The token of a node at which so many boxes have bins.
@@ -66,7 +66,6 @@ pub(crate) fn walk(
         if node.visited == children(&node.bins, most) {
             match stack.pop() {
                 None => {
-                    let tokens = tokens.tokens(alloc)?;
                     return Ok(Outcome::No { tokens, count });
                 }
                 Some(change) => leave_child(&mut node, change),

@@ -1,5 +1,7 @@
 //! Outcomes, compared.
+use box_instances::NoMemory;
 use proof_tree::{Outcome, Token};
+use std::alloc::Global;
 
 // Whether two tokens of a class tree are the same.
 fn is_same_token(token: &Token, other: &Token) -> bool {
@@ -30,8 +32,8 @@ fn are_same_tokens(tokens: &[Token], others: &[Token]) -> bool {
 }
 
 /// Whether two outcomes are the same, with their numbers, tokens and counts.
-pub(crate) fn is_same(outcome: &Outcome, other: &Outcome) -> bool {
-    match (outcome, other) {
+pub(crate) fn is_same(alloc: Global, outcome: &Outcome, other: &Outcome) -> Result<bool, NoMemory> {
+    Ok(match (outcome, other) {
         (
             Outcome::Yes { numbers, count },
             Outcome::Yes {
@@ -45,8 +47,11 @@ pub(crate) fn is_same(outcome: &Outcome, other: &Outcome) -> bool {
                 tokens: others,
                 count: more,
             },
-        ) => are_same_tokens(tokens.as_slice(), others.as_slice()) && count == more,
+        ) => {
+            let (tokens, others) = (tokens.tokens(alloc)?, others.tokens(alloc)?);
+            are_same_tokens(tokens.as_slice(), others.as_slice()) && count == more
+        }
         (Outcome::Past, Outcome::Past) => true,
         _ => false,
-    }
+    })
 }

@@ -55,7 +55,7 @@ fn run_schedule(
     }
     let joined = board.joined(alloc)?;
     Ok(Some(Shown {
-        is_right: is_same(&joined, &tree.explore(alloc, &[], budget)?),
+        is_right: is_same(alloc, &joined, &tree.explore(alloc, &[], budget)?)?,
         is_overtaken: is_other_yes(&joined, &met.first_yes),
         is_past_early: matches!(joined, Outcome::Past) && met.waiting > 0,
     }))

@@ -166,7 +166,7 @@ fn is_refuted(
     let Outcome::No { count, .. } = &outcome else {
         return Ok(false);
     };
-    Ok(*count == branchings && is_same(&outcome, &tree.explore(alloc, &[], branchings)?))
+    Ok(*count == branchings && is_same(alloc, &outcome, &tree.explore(alloc, &[], branchings)?)?)
 }
 
 // Whether the run that splits down to depth 8 comes to the refutation of one thread.

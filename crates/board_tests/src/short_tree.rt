@@ -51,7 +51,7 @@ fn is_whole_alone<R: Threads + Wait + Sync>(
 ) -> Result<bool, NoMemory> {
     let shared = share_short(rt, alloc, tree, 1)?;
     let is_no = matches!(&shared, Outcome::No { count: 5039, .. });
-    Ok(is_no && is_same(&shared, &tree.explore(alloc, &[], BUDGET)?))
+    Ok(is_no && is_same(alloc, &shared, &tree.explore(alloc, &[], BUDGET)?)?)
 }
 
 #[test]

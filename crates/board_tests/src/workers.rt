@@ -56,10 +56,14 @@ fn is_shared_by<R: Threads + Wait + Sync>(
     workers: u32,
     alone: &Outcome,
 ) -> Result<bool, NoMemory> {
-    if !is_same(alone, &share(rt, alloc, tree, budget, workers, &NoGate)?) {
+    if !is_same(
+        alloc,
+        alone,
+        &share(rt, alloc, tree, budget, workers, &NoGate)?,
+    )? {
         return Ok(false);
     }
-    Ok(is_same(alone, &share_anew(rt, alloc, tree, budget, workers)?))
+    is_same(alloc, alone, &share_anew(rt, alloc, tree, budget, workers)?)
 }
 
 // Whether each number of workers gives this outcome.

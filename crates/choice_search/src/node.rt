@@ -10,8 +10,8 @@ ghost use Rattle.work_share.specs.Nodes.{plain_node};
 ghost use Rattle.choice_search.specs.Choices.{IsMet, IsOpened};
 
 use box_instances::{Instance, NoMemory};
-use proof_tree::Token;
-use set_search::{Child, SetSearch, TokenList};
+use proof_tree::{Token, TokenList};
+use set_search::{Child, SetSearch};
 use std::alloc::Global;
 use work_share::Node;
 

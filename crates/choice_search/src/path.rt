@@ -13,8 +13,8 @@ ghost use Rattle.choice_search.specs.Paths.{taken_along, class_answer, AreFittin
 use crate::node::{Chosen, meet, tell};
 use crate::walk::walk;
 use box_instances::{Instance, NoMemory};
-use proof_tree::Outcome;
-use set_search::{Child, MOST_BUDGET, SetSearch, TokenList, put_box};
+use proof_tree::{Outcome, TokenList};
+use set_search::{Child, MOST_BUDGET, SetSearch, put_box};
 use std::alloc::Global;
 use work_share::Node;
 
@@ -83,10 +83,7 @@ pub(crate) fn explore_first(
     let v = order[above.decided];
     match search.grow(alloc, &above.taken, v, cap, None, &mut tokens)? {
         Child::Past => Ok(Outcome::Past),
-        Child::Refuted { own } => {
-            let tokens = tokens.tokens(alloc)?;
-            Ok(Outcome::No { tokens, count: own })
-        }
+        Child::Refuted { own } => Ok(Outcome::No { tokens, count: own }),
         Child::Fits { set, numbers, own } => {
             let node = Chosen {
                 decided: above.decided + 1,

@@ -11,8 +11,8 @@ ghost use Rattle.choice_search.specs.Choices.{IsChosen};
 use crate::node::{Chosen, NodeKind, Opened, meet, open_first};
 use crate::numbers::choice_numbers;
 use box_instances::{Instance, NoMemory};
-use proof_tree::{Outcome, Token};
-use set_search::{SetSearch, TokenList};
+use proof_tree::{Outcome, Token, TokenList};
+use set_search::SetSearch;
 use std::alloc::Global;
 use std::mem;
 
@@ -50,7 +50,6 @@ pub(crate) fn walk(
             NodeKind::Short => {
                 tokens.push(Token::ValueShort)?;
                 let Some(waiting) = stack.pop() else {
-                    let tokens = tokens.tokens(alloc)?;
                     return Ok(Outcome::No { tokens, count });
                 };
                 if count == cap {

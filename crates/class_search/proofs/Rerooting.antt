@@ -1,6 +1,6 @@
 -- A walk seen from the child of its root in which it stands.
 use Rattle.std.proofs.Common.{◌≡◌, ℕ, zero, suc, ◌+◌, ◌<◌, ◌≤◌, refl, sym, ap, ap₂, subst, ◌∙◌, arith, List, [], ◌∷◌}
-use Rattle.std.proofs.Common.{◌++◌, length, take, drop, map, reverse, get_or, Option, Some, None, append_assoc}
+use Rattle.std.proofs.Common.{◌++◌, length, take, drop, reverse, get_or, Option, Some, None, append_assoc}
 use Rattle.std.proofs.Common.{append-nil}
 use Rattle.std.specs.List.{remove}
 use Rattle.std.proofs.lemmas.List.{reverse-append, length-append}
@@ -8,7 +8,6 @@ use Rattle.packing_terms.specs.declared.Exclusion.{Exclusion}
 use Rattle.packing_terms.specs.Packing.{PlainInstance}
 use Rattle.packing_terms.specs.Tokens.{PlainToken}
 use Rattle.edge_state.specs.Edges.{oldest}
-use Rattle.proof_tree.specs.Plain.{plain_token}
 use Rattle.tree_terms.specs.Trees.{SearchTree, No, child_at}
 use Rattle.tree_terms.specs.InnerTree.{tree_below}
 use Rattle.class_search.specs.declared.splits.Child.TheVariants.{First}
@@ -121,14 +120,14 @@ module _ (s : Standing) (f : Frame) (rest : List Frame) (e : s.walk.frames.items
   here = kind_tree s.instance.now s.state.trail s.walk.node
 
   r : IsRerooted s.instance.now (standing_tree s) f (reverse rest) s.state.trail here
-      (map plain_token s.walk.tokens.items) s.walk.count
-  r = rerooted_at s.instance.now f s.walk.frames.items rest s.state.trail here (map plain_token s.walk.tokens.items)
+      s.walk.tokens s.walk.count
+  r = rerooted_at s.instance.now f s.walk.frames.items rest s.state.trail here s.walk.tokens
       s.walk.count e h.walks.met
 
-  pub met_some : (0 < length (map plain_token s.walk.tokens.items)) × (1 ≤ s.walk.count)
+  pub met_some : (0 < length s.walk.tokens) × (1 ≤ s.walk.count)
   met_some = ((let t = ap length r.tokens_are in omega (arith, t)), (let n = r.count_is in omega (arith, n)))
 
-  pub met_size : (size : Size) → f.first ≡ Some size → (1 + size.tokens ≤ length (map plain_token s.walk.tokens.items))
+  pub met_size : (size : Size) → f.first ≡ Some size → (1 + size.tokens ≤ length s.walk.tokens)
       × (1 + size.count ≤ s.walk.count)
   met_size size is =
       let done = subst (λ (o : Option Size). IsFirst s.instance.now f r.among o r.own r.own_count) is r.first in
@@ -140,13 +139,13 @@ module _ (s : Standing) (f : Frame) (rest : List Frame) (e : s.walk.frames.items
 
   -- the walk goes on in the first child
   pub left_first : (w : Walk) → f.first ≡ None → w.frames.items ≡ rest
-      → ((t : PlainToken) (ts : List PlainToken) → map plain_token s.walk.tokens.items ≡ t ∷ ts
-      → map plain_token w.tokens.items ≡ ts)
+      → ((t : PlainToken) (ts : List PlainToken) → s.walk.tokens ≡ t ∷ ts
+      → w.tokens ≡ ts)
       → w.count + 1 ≡ s.walk.count → w.node ≡ s.walk.node
       → HasChild (standing_tree s) 0 (λ t. IsWalkOf s.instance.now t (record s { walk = w }))
   left_first w is frames tokens count node =
       let none = subst (λ (o : Option Size). IsFirst s.instance.now f r.among o r.own r.own_count) is r.first in
-      let ts : map plain_token w.tokens.items ≡ r.left =
+      let ts : w.tokens ≡ r.left =
       tokens (plain_split f.split).token r.left
       (r.tokens_are ∙ ap (λ l. ((plain_split f.split).token ∷ l) ++ r.left) none.0) in
       let c : w.count ≡ r.left_count = (let n = r.count_is in let z = none.1 in omega (arith, n, z, count)) in
@@ -171,13 +170,13 @@ module _ (s : Standing) (f : Frame) (rest : List Frame) (e : s.walk.frames.items
 
   -- the first child is finished, and the walk goes on in the second
   pub left_second : (w : Walk) (size : Size) → f.first ≡ Some size → w.frames.items ≡ rest
-      → ((t : PlainToken) (ts : List PlainToken) → map plain_token s.walk.tokens.items ≡ t ∷ ts
-      → map plain_token w.tokens.items ≡ drop size.tokens ts)
+      → ((t : PlainToken) (ts : List PlainToken) → s.walk.tokens ≡ t ∷ ts
+      → w.tokens ≡ drop size.tokens ts)
       → w.count + (1 + size.count) ≡ s.walk.count → w.node ≡ s.walk.node
       → HasChild (standing_tree s) 1 (λ t. IsWalkOf s.instance.now t (record s { walk = w }))
   left_second w size is frames tokens count node =
       let done = subst (λ (o : Option Size). IsFirst s.instance.now f r.among o r.own r.own_count) is r.first in
-      let ts : map plain_token w.tokens.items ≡ r.left =
+      let ts : w.tokens ≡ r.left =
       tokens (plain_split f.split).token (r.own ++ r.left) r.tokens_are
       ∙ drop_front r.own r.left size.tokens done.0 in
       let c : w.count ≡ r.left_count = (let n = r.count_is in let z = done.1 in omega (arith, n, z, count)) in
@@ -207,12 +206,12 @@ module _ (s : Standing) (f : Frame) (rest : List Frame) (e : s.walk.frames.items
       drop_front (x ∷ xs) ys (suc n) l = drop_front xs ys n (omega (arith, l))
 
   pub left_behind : (refuted : RefutedNode) (size : Size) → f.first ≡ Some size
-      → ((t : PlainToken) (ts : List PlainToken) → map plain_token s.walk.tokens.items ≡ t ∷ ts
-      → map plain_token refuted.tokens.items ≡ take size.tokens ts)
+      → ((t : PlainToken) (ts : List PlainToken) → s.walk.tokens ≡ t ∷ ts
+      → refuted.tokens ≡ take size.tokens ts)
       → refuted.count ≡ size.count → HasChild (standing_tree s) 0 (λ t. IsAllOf t refuted)
   left_behind refuted size is tokens count =
       let done = subst (λ (o : Option Size). IsFirst s.instance.now f r.among o r.own r.own_count) is r.first in
-      let ts : map plain_token refuted.tokens.items ≡ r.own =
+      let ts : refuted.tokens ≡ r.own =
       tokens (plain_split f.split).token (r.own ++ r.left) r.tokens_are
       ∙ take_front r.own r.left size.tokens done.0 in
       record {

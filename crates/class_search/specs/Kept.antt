@@ -1,8 +1,7 @@
 -- Walks that are kept, and what they leave to the children of their node.
-use Rattle.std.specs.Prelude.{ℕ, ◌≡◌, List, map, Some, IfSome}
+use Rattle.std.specs.Prelude.{ℕ, ◌≡◌, List, Some, IfSome}
 use Rattle.packing_terms.specs.Packing.{PlainInstance, dims, box_count}
 use Rattle.packing_terms.specs.Scales.{SidesFit}
-use Rattle.proof_tree.specs.Plain.{plain_token}
 use Rattle.work_share.specs.Outcomes.{plain_outcome}
 use Rattle.tree_terms.specs.Trees.{SearchTree, No, outcome, told, child_at, node_at}
 use Rattle.class_search.specs.declared.kept.Standing.{Standing}
@@ -35,7 +34,7 @@ pub record IsWalkOf (instance : PlainInstance) (tree : SearchTree) (s : Standing
 
 -- all that the tree gives, which is no
 abbrev pub IsAllOf : SearchTree → RefutedNode → Type 0
-IsAllOf tree r = outcome tree ≡ No (map plain_token r.tokens.items) r.count
+IsAllOf tree r = outcome tree ≡ No r.tokens r.count
 
 -- what is kept of a tree is right
 abbrev pub IsKeptOf : PlainInstance → SearchTree → Kept → Type 0

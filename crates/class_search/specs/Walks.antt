@@ -1,5 +1,5 @@
 -- A walk through a tree: the splits on the way, and what was met of them.
-use Rattle.std.specs.Prelude.{ℕ, ◌+◌, ◌<◌, ◌≤◌, ◌≡◌, List, [], ◌∷◌, ◌++◌, length, map, reverse, Option, Some, None}
+use Rattle.std.specs.Prelude.{ℕ, ◌+◌, ◌<◌, ◌≤◌, ◌≡◌, List, [], ◌∷◌, ◌++◌, length, reverse, Option, Some, None}
 use Rattle.packing_terms.specs.declared.Exclusion.{Exclusion}
 use Rattle.packing_terms.specs.Packing.{PlainInstance, dims}
 use Rattle.packing_terms.specs.Exclusions.{excludes}
@@ -10,7 +10,6 @@ use Rattle.packing_terms.specs.Rank.{ranked_pairs}
 use Rattle.packing_terms.specs.Tokens.{PlainToken}
 use Rattle.tree_terms.specs.Trees.{SearchTree, No, outcome, count_of, told}
 use Rattle.tree_terms.specs.InnerTree.{tree_below}
-use Rattle.proof_tree.specs.Plain.{plain_token}
 use Rattle.work_share.specs.Outcomes.{plain_outcome}
 use Rattle.class_search.specs.declared.visit.NodeKind.TheVariants.{Divided}
 use Rattle.class_search.specs.declared.visit.NodeKind.{NodeKind}
@@ -95,7 +94,7 @@ walk_tree instance es w = root_of instance (reverse w.frames.items) es (kind_tre
 -- What a walk keeps.
 pub record IsWalk (instance : PlainInstance) (es : List Exclusion) (w : Walk) : Type 0 where
   pub met : AreMet instance (reverse w.frames.items) es (kind_tree instance es w.node)
-      (map plain_token w.tokens.items) w.count
+      w.tokens w.count
   pub known : IsKind instance es w.node
 
 -- what becomes of the walk through a tree under a cap: what is told of it, or a walk through the

@@ -16,7 +16,7 @@ use crate::visit::next_kind;
 use crate::walk::{End, Walk, go_on};
 use box_instances::{Instance, NoMemory};
 use edge_state::EdgeState;
-use proof_tree::{Outcome, Token};
+use proof_tree::{Outcome, Token, TokenList};
 use rule_closure::Closer;
 use std::alloc::Global;
 
@@ -24,10 +24,7 @@ use std::alloc::Global;
 fn leaf(alloc: Global, token: Token) -> Result<Outcome, NoMemory>
     ensures { IfOk result (λ r. plain_outcome r ≡ Decided (No (plain_token token ∷ []) 0)) }
 {
-    let mut tokens = Vec::new(alloc);
-    let Ok(()) = tokens.push(token) else {
-        return Err(NoMemory);
-    };
+    let tokens = TokenList::of_one(alloc, token)?;
     Ok(Outcome::No { tokens, count: 0 })
 }
 

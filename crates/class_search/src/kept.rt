@@ -1,9 +1,7 @@
 //! Walks that are kept where their cap was spent, and what becomes of them as their node is split.
-ghost use Rattle.std.specs.Prelude.{◌≡◌, ◌<◌, ◌∷◌, List, IfOk, IfSome, map, vec_len};
-ghost use Rattle.packing_terms.specs.Tokens.{PlainToken};
+ghost use Rattle.std.specs.Prelude.{◌≡◌, IfOk, IfSome};
 ghost use Rattle.packing_terms.specs.Rank.{ranked_pairs};
 ghost use Rattle.tree_terms.specs.Trees.{SearchTree, No, outcome, told};
-ghost use Rattle.proof_tree.specs.Plain.{plain_token};
 ghost use Rattle.work_share.specs.Outcomes.{plain_outcome};
 ghost use Rattle.class_search.specs.Kept.{IsStanding, standing_tree, IsKeptOf, ArePartsOf, IsExplored};
 
@@ -11,7 +9,7 @@ use crate::search::Search;
 use crate::walk::{End, Walk, go_on};
 use box_instances::{Instance, NoMemory};
 use edge_state::EdgeState;
-use proof_tree::{Outcome, Token};
+use proof_tree::{Outcome, TokenList};
 use rule_closure::Closer;
 use std::alloc::{AllocError, Global};
 
@@ -27,7 +25,7 @@ pub(crate) struct Standing<'a> {
 // What a finished node gave: no, with these tokens and this count.
 #[derive(Drop)]
 pub(crate) struct Refuted {
-    pub tokens: Vec<Token>,
+    pub tokens: TokenList,
     pub count: u64,
 }
 
@@ -51,15 +49,6 @@ pub(crate) enum Parts<'a> {
 pub(crate) struct Explored<'a> {
     pub outcome: Outcome,
     pub left: Option<Standing<'a>>,
-}
-
-// Drops the first token.
-fn drop_first(tokens: &mut Vec<Token>)
-    requires { 0 < vec_len tokens.old }
-    ensures { (t : PlainToken) (ts : List PlainToken)
-        → map plain_token tokens.old.items ≡ t ∷ ts → map plain_token tokens.new.items ≡ ts }
-{
-    let _token = tokens.remove(0);
 }
 
 impl<'a> Standing<'a> {
@@ -126,7 +115,7 @@ impl<'a> Standing<'a> {
             return Ok(None);
         }
         let split = walk.frames.remove(0);
-        drop_first(&mut walk.tokens);
+        walk.tokens.drop_first();
         let Some(size) = split.first else {
             walk.count -= 1;
             return Ok(Some(Parts::First(Standing {
@@ -136,13 +125,15 @@ impl<'a> Standing<'a> {
                 walk,
             })));
         };
-        let rest = walk.tokens.split_off(size.tokens)?;
         let Walk {
             frames,
             tokens,
             count,
             node,
         } = walk;
+        let Ok((tokens, rest)) = tokens.split_at(size.tokens) else {
+            return Err(AllocError);
+        };
         let walk = Walk {
             frames,
             tokens: rest,
@@ -169,7 +160,7 @@ impl Refuted {
     // What is told of it under a cap.
     fn told(self, cap: u64) -> Outcome
         ensures { (tree : SearchTree)
-            → outcome tree ≡ No (map plain_token self.tokens.items) self.count
+            → outcome tree ≡ No self.tokens self.count
             → plain_outcome result ≡ told cap (outcome tree) }
     {
         let Refuted { tokens, count } = self;

@@ -22,7 +22,7 @@ use crate::visit::visit_root;
 use crate::walk::{Walk, descend, told};
 use box_instances::{Instance, NoMemory};
 use edge_state::{EdgeState, Exclusion};
-use proof_tree::Outcome;
+use proof_tree::{Outcome, TokenList};
 use rule_closure::Closer;
 use std::alloc::Global;
 use std::marker::Model;
@@ -161,10 +161,7 @@ impl<'a> ClassTree<'a> {
         let mut closer = Closer::new(alloc, self.instance.dims(), self.instance.len())?;
         match self.come_to(alloc, &mut state, &mut closer, path) {
             Arrival::RefutedRoot(token) => {
-                let mut tokens = Vec::new(alloc);
-                let Ok(()) = tokens.push(token) else {
-                    return Err(NoMemory);
-                };
+                let tokens = TokenList::of_one(alloc, token)?;
                 Ok(Kept::Refuted(Refuted { tokens, count: 0 }))
             }
             Arrival::Inner(node) => Ok(Kept::Standing(Standing {

@@ -19,7 +19,7 @@ use crate::splits::{Child, Split};
 use crate::visit::{NodeKind, visit_child};
 use box_instances::NoMemory;
 use edge_state::{EdgeState, Mark};
-use proof_tree::{Outcome, Token};
+use proof_tree::{Outcome, Token, TokenList};
 use rule_closure::Closer;
 use std::alloc::Global;
 use work_share::Node;
@@ -47,7 +47,7 @@ pub(crate) struct Frame {
 #[derive(Drop)]
 pub(crate) struct Walk {
     pub frames: Vec<Frame>,
-    pub tokens: Vec<Token>,
+    pub tokens: TokenList,
     pub count: u64,
     pub node: NodeKind,
 }
@@ -77,7 +77,7 @@ impl Walk {
     {
         Walk {
             frames: Vec::new(alloc),
-            tokens: Vec::new(alloc),
+            tokens: TokenList::new(alloc),
             count: 0,
             node,
         }
@@ -171,9 +171,7 @@ pub(crate) fn go_on(
         match place {
             Place::Met(node) => match node {
                 NodeKind::Conflict => {
-                    let Ok(()) = tokens.push(Token::Rules) else {
-                        return Err(NoMemory);
-                    };
+                    tokens.push(Token::Rules)?;
                     place = Place::Over(Size {
                         tokens: 1,
                         count: 0,
@@ -193,9 +191,7 @@ pub(crate) fn go_on(
                         }));
                     }
                     count += 1;
-                    let Ok(()) = tokens.push(split.token()) else {
-                        return Err(NoMemory);
-                    };
+                    tokens.push(split.token())?;
                     let frame = Frame {
                         split,
                         mark: state.mark(),
@@ -212,6 +208,8 @@ pub(crate) fn go_on(
                 };
                 state.undo(frame.mark);
                 if let Some(first) = frame.first {
+                    // For the proof alone: tells the limit of the tokens.
+                    let _len = tokens.len();
                     place = Place::Over(size.behind(first));
                 } else {
                     frame.first = Some(size);

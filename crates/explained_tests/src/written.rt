@@ -19,6 +19,7 @@ fn explained(
     let found = decide_alone(alloc, instance, 100_000, scales)?;
     match found {
         Outcome::No { tokens, .. } => {
+            let tokens = tokens.tokens(alloc)?;
             let lines = explain(alloc, instance, tokens.as_slice())?;
             Ok((tokens, lines))
         }

@@ -8,7 +8,6 @@ use Rattle.std.specs.Prelude.{ℕ, suc, pred, ◌+◌, ◌-◌, ◌/◌, ◌^◌
 use Rattle.std.specs.Prelude.{nat_lt, if◌then◌else◌}
 use Rattle.packing_terms.specs.Tokens.{PlainToken}
 use Rattle.tree_terms.specs.Levels.{PlainLevel, PlacedBy, RefutedBy, SpentAt}
-use Rattle.proof_tree.specs.Plain.{plain_tokens}
 use Rattle.level_bounds.specs.declared.bounds.Bounds.{Bounds}
 
 -- The two levels with their certificates; the least level above the refuted one that was asked and not
@@ -25,7 +24,7 @@ pub record PlainBounds : Type 0 where
 abbrev pub plain_bounds : Bounds → PlainBounds
 plain_bounds b = record {
   refuted = b.refuted;
-  tokens = plain_tokens b.tokens.items;
+  tokens = b.tokens;
   placed = b.placed;
   numbers = b.numbers.items;
   lowest = b.lowest;

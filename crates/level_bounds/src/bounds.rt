@@ -1,11 +1,10 @@
 //! A refuted level and a greater one that is placed, and what was asked between them.
 ghost use Rattle.std.specs.Prelude.{◌≡◌, ◌<◌, suc, pred, MatchOption};
-ghost use Rattle.proof_tree.specs.Plain.{plain_tokens};
 ghost use Rattle.level_search.specs.Runs.{plain_level};
 ghost use Rattle.level_bounds.specs.Bounds.{plain_bounds, first_bounds, narrowed, afresh, middle, gap_of, vain_behind, IsAsked, IsAskedNext, IsAskedBeside, IsAskedAfter, IsNarrow, IsInside, IsNear};
 
 use level_search::Level;
-use proof_tree::Token;
+use proof_tree::TokenList;
 
 // Behind so many levels in vain, one after another, those right beside the ends come.
 const MOST_IN_VAIN: u32 = 3;
@@ -19,7 +18,7 @@ const MOST_IN_VAIN: u32 = 3;
 #[derive(Drop)]
 pub struct Bounds {
     pub refuted: u64,
-    pub tokens: Vec<Token>,
+    pub tokens: TokenList,
     pub placed: u64,
     pub numbers: Vec<u32>,
     pub lowest: u64,
@@ -42,9 +41,9 @@ fn halfway(below: u64, above: u64) -> Option<u64>
 
 impl Bounds {
     /// A refuted level and a greater one that is placed, with nothing asked between them.
-    pub fn new(refuted: u64, tokens: Vec<Token>, placed: u64, numbers: Vec<u32>) -> Bounds
+    pub fn new(refuted: u64, tokens: TokenList, placed: u64, numbers: Vec<u32>) -> Bounds
         ensures { plain_bounds result
-            ≡ first_bounds refuted (plain_tokens tokens.items) placed numbers.items }
+            ≡ first_bounds refuted tokens placed numbers.items }
     {
         Bounds {
             refuted,

@@ -5,7 +5,6 @@
 use Rattle.std.specs.Prelude.{ℕ, ◌≡◌, List, false}
 use Rattle.packing_terms.specs.Tokens.{PlainToken}
 use Rattle.tree_terms.specs.Levels.{PlainLevel, PlacedBy, RefutedBy, SpentAt, PlainReached, halfway, is_run_over}
-use Rattle.proof_tree.specs.Plain.{plain_tokens}
 use Rattle.level_search.specs.declared.level.Level.{Level}
 use Rattle.level_search.specs.declared.level.Level.TheVariants.{Fits, Refuted, Spent}
 use Rattle.level_search.specs.declared.level.Reached.{Reached}
@@ -13,14 +12,14 @@ use Rattle.level_search.specs.declared.level.Reached.{Reached}
 -- an answer at a level, with plain lists
 abbrev pub plain_level : Level → PlainLevel
 plain_level (Fits numbers) = PlacedBy numbers.items
-plain_level (Refuted tokens) = RefutedBy (plain_tokens tokens.items)
+plain_level (Refuted tokens) = RefutedBy tokens
 plain_level Spent = SpentAt
 
 -- how far a run came, with plain lists
 abbrev pub plain_reached : Reached → PlainReached
 plain_reached r = record {
   refuted = r.refuted;
-  tokens = plain_tokens r.tokens.items;
+  tokens = r.tokens;
   placed = r.placed;
   numbers = r.numbers.items;
   spent = r.spent;

@@ -10,7 +10,6 @@ use Rattle.packing_terms.specs.Tokens.PlainToken.{TooLarge}
 use Rattle.packing_terms.specs.TooLarge.{IsFirstTooLarge}
 use Rattle.tree_terms.specs.OuterSearch.{bins_in, places_in}
 use Rattle.text_terms.specs.declared.settings.Settings.{Settings}
-use Rattle.proof_tree.specs.Plain.{plain_tokens}
 use Rattle.document_terms.specs.declared.claim.SolvingJob.TheVariants.{Bins as SolvesBins}
 use Rattle.answer_terms.specs.Answers.{Answer, answer_text, status_of}
 use Rattle.answer_terms.specs.Shown.{ShowsNone}
@@ -78,7 +77,7 @@ own_by instance (Least bins numbers tokens) t named limited =
         rising = omega (arith, some);
         most = limited.1;
         packing = t.packed;
-        refutation = refuted_below instance bins (plain_tokens tokens.items) t.refuted;
+        refutation = refuted_below instance bins tokens t.refuted;
       },
     )
 own_by instance (Between refuted tokens bins numbers) t named limited =
@@ -106,8 +105,8 @@ decided_by settings instance old new (Least bins numbers tokens) t named past wr
   least = t.least;
   numbers = numbers.items;
   packing = t.packed;
-  tokens = plain_tokens tokens.items;
-  refutation = refuted_below instance bins (plain_tokens tokens.items) t.refuted;
+  tokens = tokens;
+  refutation = refuted_below instance bins tokens t.refuted;
   written = written;
 })
 decided_by settings instance old new (Between refuted tokens bins numbers) t named past written = inr (inl (record {
@@ -121,7 +120,7 @@ decided_by settings instance old new (Between refuted tokens bins numbers) t nam
   };
   numbers = numbers.items;
   packing = t.packed;
-  tokens = plain_tokens tokens.items;
+  tokens = tokens;
   refutation = t.refutes;
   past_above = past.0;
   past_below = past.1;

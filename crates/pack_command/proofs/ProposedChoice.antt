@@ -10,7 +10,6 @@ use Rattle.packing_terms.specs.Sums.{below}
 use Rattle.packing_terms.proofs.Internal.{written_internal}
 use Rattle.tree_terms.specs.OuterSearch.{AreTakenNumbers}
 use Rattle.text_terms.specs.declared.settings.Settings.{Settings}
-use Rattle.proof_tree.specs.Plain.{plain_tokens}
 use Rattle.document_terms.specs.Claims.{most_worth}
 use Rattle.document_terms.specs.declared.claim.SolvingJob.TheVariants.{Knapsack as SolvesKnapsack}
 use Rattle.answer_terms.specs.Answers.{Answer, answer_text, status_of}
@@ -100,7 +99,7 @@ decided_by settings instance old new (Greatest value numbers tokens) t past writ
   greatest = t.greatest;
   numbers = numbers.items;
   packing = t.packed;
-  tokens = plain_tokens tokens.items;
+  tokens = tokens;
   refutation = t.refuted;
   written = written;
 })
@@ -115,7 +114,7 @@ decided_by settings instance old new (Between placed numbers refuted tokens) t p
   };
   numbers = numbers.items;
   packing = t.packed;
-  tokens = plain_tokens tokens.items;
+  tokens = tokens;
   refutation = t.refutes;
   past_above = past.0;
   past_below = past.1;

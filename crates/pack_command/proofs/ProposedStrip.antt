@@ -11,7 +11,6 @@ use Rattle.packing_terms.specs.Tokens.{PlainToken}
 use Rattle.packing_terms.specs.Tokens.PlainToken.{TooLarge}
 use Rattle.packing_terms.specs.TooLarge.{IsFirstTooWide}
 use Rattle.text_terms.specs.declared.settings.Settings.{Settings}
-use Rattle.proof_tree.specs.Plain.{plain_tokens}
 use Rattle.document_terms.specs.declared.claim.SolvingJob.TheVariants.{Strip as SolvesStrip}
 use Rattle.answer_terms.specs.Answers.{Answer, answer_text, status_of}
 use Rattle.answer_terms.specs.Shown.{ShowsNone}
@@ -86,7 +85,7 @@ own_by instance (Least height places tokens) t named limited =
         rising = omega (arith, some);
         most = limited;
         packing = t.packed;
-        refutation = refuted_below instance height (plain_tokens tokens.items) t.refuted;
+        refutation = refuted_below instance height tokens t.refuted;
       },
     )
 own_by instance (Between refuted tokens height places) t named limited =
@@ -114,8 +113,8 @@ decided_by settings instance old new (Least height places tokens) t named past w
   least = t.least;
   places = places.items;
   packing = t.packed;
-  tokens = plain_tokens tokens.items;
-  refutation = refuted_below instance height (plain_tokens tokens.items) t.refuted;
+  tokens = tokens;
+  refutation = refuted_below instance height tokens t.refuted;
   written = written;
 })
 decided_by settings instance old new (Between refuted tokens height places) t named past written = inr (inl (record {
@@ -129,7 +128,7 @@ decided_by settings instance old new (Between refuted tokens height places) t na
   };
   places = places.items;
   packing = t.packed;
-  tokens = plain_tokens tokens.items;
+  tokens = tokens;
   refutation = t.refutes;
   past_above = past.0;
   past_below = past.1;

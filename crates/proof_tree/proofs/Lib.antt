@@ -1,2 +1,4 @@
 pub mod Texts
 pub mod TokenWords
+pub mod Shorts
+pub mod Parts

@@ -1,3 +1,4 @@
 pub mod Plain
 pub mod Lines
 pub mod Kinds
+pub mod Shorts

@@ -2,15 +2,20 @@
 #![tactic(auto)]
 
 mod copies;
+mod function;
 mod line;
+mod list;
+mod list_lines;
 mod outcome;
 mod reading;
+mod short;
 mod token;
 mod writing;
 
 pub use conservative_scales::ScaleTuple;
 pub use copies::copy_token;
+pub use list::{TokenList, write_tokens_on};
 pub use outcome::Outcome;
 pub use reading::{one_parameter, parameter_at, read_token, three_parameters};
 pub use token::Token;
-pub use writing::{write_token, write_token_on, write_tokens_on};
+pub use writing::{write_token, write_token_on};

@@ -50,6 +50,7 @@ fn is_refuted_by<R: Threads + Wait + Sync>(
     match decide_proposed(rt, alloc, instance, &settings(workers, 0), &NoGate)? {
         Outcome::No { tokens, count } => {
             let is_tree = tokens.len() % 2 == 1 && tokens.len() as u64 / 2 == count;
+            let tokens = tokens.tokens(alloc)?;
             Ok(is_tree && is_refutation(alloc, instance, &tokens)?)
         }
         _ => Ok(false),

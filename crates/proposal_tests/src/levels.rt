@@ -39,7 +39,8 @@ fn is_least(alloc: Global, instance: &Instance, least: u32, strip: &Strip) -> Re
     if least == 0 || least > 1000 {
         return Ok(false);
     }
-    Ok(is_refutation(alloc, &instance.with_last_side(alloc, least - 1)?, tokens)?)
+    let tokens = tokens.tokens(alloc)?;
+    Ok(is_refutation(alloc, &instance.with_last_side(alloc, least - 1)?, &tokens)?)
 }
 
 // Whether proposals come to this least height at the roots alone.

@@ -14,7 +14,7 @@ use check_terms::PlaceVerdict;
 use class_search::decide;
 use conflict_search::Proposal;
 use placement_check::check_places;
-use proof_tree::Outcome;
+use proof_tree::{Outcome, TokenList};
 use std::alloc::Global;
 use std::sync::Wait;
 use std::thread::Threads;
@@ -48,6 +48,7 @@ pub fn answer_of(
         Proposal::Tokens(tokens) => {
             if is_refutation(alloc, instance, &tokens)? {
                 let count = (tokens.len() / 2) as u64;
+                let tokens = TokenList::from_slice(alloc, &tokens)?;
                 Ok(Outcome::No { tokens, count })
             } else {
                 Ok(Outcome::Past)

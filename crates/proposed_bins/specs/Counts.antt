@@ -10,7 +10,6 @@ use Rattle.tree_terms.specs.OuterTrees.{bin_tree}
 use Rattle.tree_terms.specs.OuterSearch.{AreBinNumbers}
 use Rattle.tree_terms.specs.Levels.{PlainLevel}
 use Rattle.text_terms.specs.declared.settings.Settings.{Settings}
-use Rattle.proof_tree.specs.Plain.{plain_tokens}
 use Rattle.level_bounds.specs.Bounds.{PlainBounds, IsRightAnswer, AreBounds}
 use Rattle.bin_knapsack.specs.declared.bins.Bins.{Bins}
 use Rattle.bin_knapsack.specs.declared.bins.Bins.TheVariants.{Least, Between, NoneFits}
@@ -55,9 +54,9 @@ pub record TellsBetween (b : PlainBounds) (refuted : ℕ) (tokens : List PlainTo
   pub numbers_are : numbers ≡ b.numbers
 
 abbrev pub TellsBins : PlainBounds → Bins → Type 0
-TellsBins b (Least bins numbers tokens) = TellsLeast b bins numbers.items (plain_tokens tokens.items)
+TellsBins b (Least bins numbers tokens) = TellsLeast b bins numbers.items tokens
 TellsBins b (Between refuted tokens bins numbers) =
-    TellsBetween b refuted (plain_tokens tokens.items) bins numbers.items
+    TellsBetween b refuted tokens bins numbers.items
 TellsBins b (NoneFits v i) = ⊥
 
 -- `NoneFits` exactly where a box is too large, with the first one

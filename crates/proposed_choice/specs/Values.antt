@@ -14,7 +14,6 @@ use Rattle.tree_terms.specs.OuterTrees.{choice_tree}
 use Rattle.tree_terms.specs.OuterSearch.{AreTakenNumbers}
 use Rattle.tree_terms.specs.Levels.{PlainLevel, first_values}
 use Rattle.text_terms.specs.declared.settings.Settings.{Settings}
-use Rattle.proof_tree.specs.Plain.{plain_tokens}
 use Rattle.level_bounds.specs.Bounds.{PlainBounds, IsRightAnswer, AreBounds}
 use Rattle.bin_knapsack.specs.declared.choice.Choice.{Choice}
 use Rattle.bin_knapsack.specs.declared.choice.Choice.TheVariants.{Greatest, Between}
@@ -81,9 +80,9 @@ pub record TellsBetween (instance : PlainInstance) (b : PlainBounds) (placed : �
 
 abbrev pub TellsValues : PlainInstance → PlainBounds → Choice → Type 0
 TellsValues instance b (Greatest value numbers tokens) =
-    TellsGreatest instance b value numbers.items (plain_tokens tokens.items)
+    TellsGreatest instance b value numbers.items tokens
 TellsValues instance b (Between placed numbers refuted tokens) =
-    TellsBetween instance b placed numbers.items refuted (plain_tokens tokens.items)
+    TellsBetween instance b placed numbers.items refuted tokens
 
 -- what is told as refuted is at most one more than all boxes are worth
 abbrev pub IsLimitedChoice : PlainInstance → Choice → Type 0

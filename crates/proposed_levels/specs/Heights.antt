@@ -8,7 +8,6 @@ use Rattle.packing_terms.specs.TooLarge.{IsFirstTooWide}
 use Rattle.packing_terms.specs.Tokens.{PlainToken}
 use Rattle.tree_terms.specs.Levels.{PlainLevel}
 use Rattle.text_terms.specs.declared.settings.Settings.{Settings}
-use Rattle.proof_tree.specs.Plain.{plain_tokens}
 use Rattle.level_bounds.specs.Bounds.{PlainBounds, IsRightAnswer, AreBounds}
 use Rattle.strip_solver.specs.declared.strip.Strip.{Strip}
 use Rattle.strip_solver.specs.declared.strip.Strip.TheVariants.{Least, Between, NoneFits}
@@ -64,9 +63,9 @@ pub record TellsBetween (b : PlainBounds) (refuted : ℕ) (tokens : List PlainTo
   pub places_are : places ≡ b.numbers
 
 abbrev pub TellsHeights : PlainBounds → Strip → Type 0
-TellsHeights b (Least height places tokens) = TellsLeast b height places.items (plain_tokens tokens.items)
+TellsHeights b (Least height places tokens) = TellsLeast b height places.items tokens
 TellsHeights b (Between refuted tokens height places) =
-    TellsBetween b refuted (plain_tokens tokens.items) height places.items
+    TellsBetween b refuted tokens height places.items
 TellsHeights b (NoneFits v i) = ⊥
 
 -- `NoneFits` exactly where a box is too wide, with the first one

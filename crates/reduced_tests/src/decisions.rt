@@ -1,5 +1,5 @@
 //! Symmetry facts and the decisions that begin with them, on instances worked out by hand.
-use box_instances::{BoxItem, Instance, Sides};
+use box_instances::{BoxItem, Instance, NoMemory, Sides};
 use packing_terms::{Exclusion, Rel};
 use proof_tree::{Outcome, Token};
 use std::alloc::Global;
@@ -90,13 +90,14 @@ fn settings(workers: u32, scales: bool) -> Settings {
 }
 
 // Whether the outcome is a no by the facts alone.
-fn is_no_at_once(outcome: &Outcome) -> bool {
-    match outcome {
+fn is_no_at_once(alloc: Global, outcome: &Outcome) -> Result<bool, NoMemory> {
+    Ok(match outcome {
         Outcome::No { tokens, count } => {
-            *count == 0 && tokens.len() == 1 && matches!(&tokens[0], Token::Rules)
+            let tokens = tokens.tokens(alloc)?;
+            *count == 0 && matches!(tokens.as_slice(), [Token::Rules])
         }
         _ => false,
-    }
+    })
 }
 
 // Whether the instance is refuted by its facts alone, by so many workers.
@@ -109,7 +110,7 @@ fn is_refuted<R: Threads + Wait + Sync>(
 ) -> Result<bool, Fail> {
     let instance = flat(alloc, container, sides)?;
     let outcome = decide_reduced(rt, alloc, &instance, &settings(workers, false), &NoGate)?;
-    Ok(is_no_at_once(&outcome))
+    Ok(is_no_at_once(alloc, &outcome)?)
 }
 
 // Whether the outcome is a yes with these places, without a branching.

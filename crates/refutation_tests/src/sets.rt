@@ -73,7 +73,10 @@ fn set_is_checked(
     refuter.restart(keep);
     let set = instance.subset(alloc, keep)?;
     match decide_alone(alloc, &set, 1_000, false)? {
-        Outcome::No { tokens, .. } => Ok(Some(is_refuted(refuter, tokens.as_slice()))),
+        Outcome::No { tokens, .. } => {
+            let tokens = tokens.tokens(alloc)?;
+            Ok(Some(is_refuted(refuter, tokens.as_slice())))
+        }
         _ => {
             refuter.feed(&Token::Rules);
             Ok(None)

@@ -18,7 +18,7 @@ fn is_checked(
     match decide_alone(alloc, instance, 20_000, scales)? {
         Outcome::No { tokens, .. } => {
             let mut refuter = Refuter::new(alloc, instance)?;
-            let is_whole = is_refuted(&mut refuter, tokens.as_slice());
+            let is_whole = is_refuted(&mut refuter, tokens.tokens(alloc)?.as_slice());
             Ok(Some(is_whole && tokens.len() >= least))
         }
         _ => Ok(None),

@@ -4,4 +4,3 @@ pub mod Reaching
 pub mod Memories
 pub mod Entries
 pub mod Grown
-pub mod Shorts

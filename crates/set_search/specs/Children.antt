@@ -31,10 +31,6 @@ pub record DoesFit (instance : PlainInstance) (verdict : Verdict) (left : ℕ) (
   pub within : own ≤ left
   pub packing : IsPacking (subset instance set) numbers
 
--- the tokens are those of before, with some more behind them at most
-abbrev pub AreLonger : List PlainToken → List PlainToken → Type 0
-AreLonger old new = (rest : List PlainToken) × (new ≡ old ++ rest)
-
 -- what a child comes to, beside the tokens before and now, which are the same where the set isn't
 -- refuted
 abbrev pub IsChild : PlainInstance → Bool → ℕ → List ℕ → Option ℕ → List PlainToken → List PlainToken → Child → Type 0

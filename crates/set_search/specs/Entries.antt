@@ -1,7 +1,7 @@
 -- Entries of a memory as the plain data of the definitions.
 use Rattle.set_search.specs.declared.memory.Entry.{Entry}
-use Rattle.set_search.specs.Kept.{plain_kept}
+use Rattle.work_share.specs.Outcomes.{plain_outcome}
 use Rattle.set_search.specs.Memories.{PlainEntry}
 
 abbrev pub plain_entry : Entry → PlainEntry
-plain_entry e = record { boxes = e.boxes; outcome = plain_kept e.kept }
+plain_entry e = record { boxes = e.boxes; outcome = plain_outcome e.kept }

@@ -2,5 +2,3 @@ pub mod Searches
 pub mod Children
 pub mod Memories
 pub mod Entries
-pub mod Shorts
-pub mod Kept

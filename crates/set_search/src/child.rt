@@ -3,15 +3,15 @@ ghost use Rattle.std.specs.Prelude.{◌≡◌, ◌≤◌, IfOk, OnErr, length};
 ghost use Rattle.packing_terms.specs.Goals.{IsBoxSet};
 ghost use Rattle.packing_terms.specs.OuterRefutation.{insert_box};
 ghost use Rattle.tree_terms.specs.OuterTrees.{set_verdict, yes_numbers};
-ghost use Rattle.set_search.specs.Children.{AreLonger, IsChild, IsFoundSet};
+ghost use Rattle.proof_tree.specs.Shorts.{AreLonger};
+ghost use Rattle.set_search.specs.Children.{IsChild, IsFoundSet};
 ghost use Rattle.set_search.specs.Memories.{HasBoxes};
 
 use crate::insert::fill_with;
 use crate::key::SetKey;
-use crate::list::TokenList;
 use crate::search::{MOST_BUDGET, SetSearch};
 use box_instances::NoMemory;
-use proof_tree::{Outcome, Token};
+use proof_tree::{Outcome, Token, TokenList};
 use std::alloc::Global;
 
 /// What a child of an outer tree comes to whose set grew by one box: its own count, which is 1 and
@@ -94,7 +94,7 @@ impl<'a> SetSearch<'a> {
                 count,
             } => {
                 tokens.push(Token::SetRefuted { bin })?;
-                tokens.extend(alloc, inner.as_slice())?;
+                tokens.append(inner)?;
                 self.put_spare(set);
                 let own = 1 + count;
                 Ok(Child::Refuted { own })

@@ -2,17 +2,15 @@
 ghost use Rattle.std.specs.Prelude.{◌≡◌, [], map, IfOk, IfSome, OnErr};
 ghost use Rattle.std.specs.List.{All, Contains};
 ghost use Rattle.work_share.specs.Outcomes.{plain_outcome};
-ghost use Rattle.set_search.specs.Children.{AreLonger};
+ghost use Rattle.proof_tree.specs.Shorts.{AreLonger};
 ghost use Rattle.set_search.specs.Entries.{plain_entry};
-ghost use Rattle.set_search.specs.Kept.{plain_kept};
 ghost use Rattle.set_search.specs.Memories.{IsEntryOf, IsPut, IsRecalled, IsRecalledNo, plain_size};
 
-use crate::kept::{Kept, size_of};
+use crate::kept::{copy_of, count_of, push_refuted, size_of};
 use crate::key::SetKey;
-use crate::list::TokenList;
 use box_instances::NoMemory;
 use edge_state::BitRow;
-use proof_tree::Outcome;
+use proof_tree::{Outcome, TokenList};
 use std::alloc::Global;
 use std::marker::Model;
 use std::mem;
@@ -35,7 +33,7 @@ const MOST_KEPT: usize = 4_194_304;
 #[derive(Drop)]
 pub struct Entry {
     boxes: BitRow<2>,
-    kept: Kept,
+    kept: Outcome,
 }
 
 /// Decided sets with their outcomes. It is seen as its entries, in no order.
@@ -65,9 +63,9 @@ impl Model for SetMemory {
 impl Entry {
     // How many numbers and tokens it held, which are given up.
     fn size_given_up(self) -> usize
-        ensures { result ≡ plain_size (plain_kept self.kept) }
+        ensures { result ≡ plain_size (plain_outcome self.kept) }
     {
-        self.kept.size()
+        size_of(&self.kept)
     }
 }
 
@@ -146,7 +144,7 @@ impl SetMemory {
         let Some(entry) = self.entry_of(key) else {
             return Ok(None);
         };
-        entry.kept.push_refuted(alloc, budget, bin, tokens)
+        push_refuted(&entry.kept, alloc, budget, bin, tokens)
     }
 
     /// The outcome of a set under a budget, if the set is kept.
@@ -162,10 +160,10 @@ impl SetMemory {
         let Some(entry) = self.entry_of(key) else {
             return Ok(None);
         };
-        if entry.kept.count() > budget {
+        if count_of(&entry.kept) > budget {
             return Ok(Some(Outcome::Past));
         }
-        let outcome = entry.kept.outcome(alloc)?;
+        let outcome = copy_of(alloc, &entry.kept)?;
         Ok(Some(outcome))
     }
 
@@ -218,10 +216,10 @@ impl SetMemory {
 
     // Puts an entry in the place of another one.
     fn replace(&mut self, index: usize, entry: Entry)
-        ensures { All (IsPut self.old entry.boxes (plain_kept entry.kept)) self.new }
+        ensures { All (IsPut self.old entry.boxes (plain_outcome entry.kept)) self.new }
     {
         if index < self.entries.len() {
-            let size = entry.kept.size();
+            let size = size_of(&entry.kept);
             let gone = mem::replace(&mut self.entries[index], entry);
             self.count_in(size, gone.size_given_up());
         }
@@ -229,9 +227,9 @@ impl SetMemory {
 
     // Puts an entry at a place that has none.
     fn add(&mut self, place: usize, entry: Entry)
-        ensures { All (IsPut self.old entry.boxes (plain_kept entry.kept)) self.new }
+        ensures { All (IsPut self.old entry.boxes (plain_outcome entry.kept)) self.new }
     {
-        let size = entry.kept.size();
+        let size = size_of(&entry.kept);
         let number = self.entries.len() + 1;
         if number > PLACES || place >= self.places.len() {
             return;
@@ -250,7 +248,7 @@ impl SetMemory {
         if self.kept.saturating_add(size_of(outcome)) > MOST_KEPT || !self.has_places(alloc) {
             return;
         }
-        let Ok(kept) = Kept::of(alloc, outcome) else {
+        let Ok(kept) = copy_of(alloc, outcome) else {
             return;
         };
         let entry = Entry {

@@ -3,7 +3,7 @@ ghost use Rattle.std.specs.Prelude.{◌≡◌, ◌≤◌, ℕ, List, length, IfO
 ghost use Rattle.packing_terms.specs.Goals.{subset, IsBoxSet};
 ghost use Rattle.packing_terms.specs.Limits.{IsDimCount, most_boxes};
 ghost use Rattle.set_search.specs.Searches.{AreClosers};
-ghost use Rattle.set_search.specs.Children.{AreLonger};
+ghost use Rattle.proof_tree.specs.Shorts.{AreLonger};
 ghost use Rattle.set_search.specs.Memories.{HasBoxes, IsToldNo};
 ghost use Rattle.packing_terms.specs.OuterRefutation.{insert_box};
 ghost use Rattle.tree_terms.specs.Trees.{told};
@@ -12,12 +12,11 @@ ghost use Rattle.work_share.specs.Outcomes.{plain_outcome};
 ghost use Rattle.class_search.specs.Right.{IsRight};
 
 use crate::key::SetKey;
-use crate::list::TokenList;
 use crate::memory::SetMemory;
 use box_instances::{BoxSet, Instance, NoMemory};
 use class_search::decide_in;
 use edge_state::EdgeState;
-use proof_tree::Outcome;
+use proof_tree::{Outcome, TokenList};
 use rule_closure::Closer;
 use std::alloc::Global;
 use std::marker::Model;

@@ -12,8 +12,6 @@ use Rattle.front_walks.specs.Walks.{size_answer, front_walk}
 use Rattle.front_walks.specs.Asked.{HasLargeSize}
 use Rattle.front_walks.proofs.Decided.{walks_are_fronts}
 use Rattle.front_walks.proofs.Spent.{spent_exactly, enough}
-use Rattle.proof_tree.specs.declared.token.Token.{Token}
-use Rattle.proof_tree.specs.Plain.{plain_tokens}
 use Rattle.size_front.specs.declared.front.Front.{Front}
 use Rattle.size_front.specs.declared.rounds.Stand.{Stand}
 use Rattle.size_front.specs.Plain.{plain_front, plain_corner, plain_point, IsRound, IsUnderWay}
@@ -37,11 +35,6 @@ pub joined_next : (cs0 cs x : List PlainCorner) (ps0 ps y : List PlainPoint) (re
 joined_next cs0 cs x ps0 ps y rest e f =
     rw (e, f, append_assoc cs0 cs rest.corners, append_assoc ps0 ps rest.points) refl
 
-pub tokens_if : (b : Bool) (xs ys : List Token)
-    → plain_tokens (if b then xs else ys) ≡ (if b then plain_tokens xs else plain_tokens ys)
-tokens_if true xs ys = refl
-tokens_if false xs ys = refl
-
 begun : (front : ℕ → ℕ → List PlainToken → PlainFront) (cs : List PlainCorner) (ps : List PlainPoint) (h r : ℕ)
     (ts : List PlainToken) (highest : ℕ)
     → cs ≡ [] → ps ≡ [] → h ≡ highest → r ≡ 0 → ts ≡ [] → front_after cs ps (front h r ts) ≡ front highest 0 []
@@ -49,7 +42,7 @@ begun front cs ps h r ts highest e f g k t = rw (e, f, g, k, t) refl
 
 module _ (instance : PlainInstance) (budget : ℕ) (scales : Bool) where
   pub started : (f : Front) (s : Stand) → f.corners.items ≡ [] → f.points.items ≡ []
-      → s.height ≡ written_container instance 1 → s.refuted ≡ 0 → s.tokens.items ≡ []
+      → s.height ≡ written_container instance 1 → s.refuted ≡ 0 → s.tokens ≡ []
       → IsUnderWay instance budget scales f (Some s)
   started f s e f2 h r t = (
     omega (arith, h),
@@ -60,8 +53,8 @@ module _ (instance : PlainInstance) (budget : ℕ) (scales : Bool) where
       begun (walk_on (size_answer instance budget scales) (written_container instance 0)
           (suc (written_container instance 1)))
           (map plain_corner f.corners.items) (map plain_point f.points.items) s.height s.refuted
-          (plain_tokens s.tokens.items) (written_container instance 1)
-          (ap (λ xs. map plain_corner xs) e) (ap (λ xs. map plain_point xs) f2) h r (ap plain_tokens t),
+          s.tokens (written_container instance 1)
+          (ap (λ xs. map plain_corner xs) e) (ap (λ xs. map plain_point xs) f2) h r t,
     ),
   )
 

@@ -2,7 +2,6 @@
 use Rattle.std.specs.Prelude.{ℕ, suc, ◌<◌, ◌≤◌, ◌≡◌, Bool, false, List, [], map, Option, Some, None}
 use Rattle.packing_terms.specs.Packing.{PlainInstance, written_container}
 use Rattle.tree_terms.specs.Levels.{PlacedBy, PlainReached}
-use Rattle.proof_tree.specs.Plain.{plain_tokens}
 use Rattle.front_walks.specs.Walks.{PlainCorner, PlainPoint, PlainFront, front_after, walk_on, width_run, size_answer}
 use Rattle.front_walks.specs.Walks.{front_walk}
 use Rattle.size_front.specs.declared.front.Corner.{Corner}
@@ -11,7 +10,7 @@ use Rattle.size_front.specs.declared.front.Front.{Front}
 use Rattle.size_front.specs.declared.rounds.Stand.{Stand}
 
 abbrev pub plain_corner : Corner → PlainCorner
-plain_corner c = record { width = c.width; height = c.height; tokens = plain_tokens c.tokens.items }
+plain_corner c = record { width = c.width; height = c.height; tokens = c.tokens }
 
 abbrev pub plain_point : Point → PlainPoint
 plain_point p = record { width = p.width; height = p.height; places = p.places.items }
@@ -31,7 +30,7 @@ joined f rest = front_after (map plain_corner f.corners.items) (map plain_point 
 abbrev pub rest_from : PlainInstance → ℕ → Bool → ℕ → Stand → PlainFront
 rest_from instance budget scales rounds s =
     walk_on (size_answer instance budget scales) (written_container instance 0) rounds s.height s.refuted
-    (plain_tokens s.tokens.items)
+    s.tokens
 
 -- A round: the walk ends with what is found then, or goes on from another place, which is lower.
 abbrev pub IsRound : PlainInstance → ℕ → Bool → Front → Stand → Front → Option Stand → Type 0

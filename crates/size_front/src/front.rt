@@ -1,12 +1,12 @@
 //! A front with its certificates.
-use proof_tree::Token;
+use proof_tree::TokenList;
 
 /// A container of these written sides, and tokens that refute it.
 #[derive(Drop)]
 pub struct Corner {
     pub width: u32,
     pub height: u32,
-    pub tokens: Vec<Token>,
+    pub tokens: TokenList,
 }
 
 /// A container of these written sides, and places that are a packing in it.

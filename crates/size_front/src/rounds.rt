@@ -1,7 +1,6 @@
 //! One round of the walk along the front.
 ghost use Rattle.std.specs.Prelude.{◌≡◌, ◌<◌, ◌≤◌, ◌++◌, ◌∷◌, ◌==◌, if◌then◌else◌, [], map, Bool, true, false, IfOk, IfSome, OnOk};
 ghost use Rattle.packing_terms.specs.Packing.{dims, written_container};
-ghost use Rattle.proof_tree.specs.Plain.{plain_tokens};
 ghost use Rattle.level_search.specs.Runs.{plain_reached};
 ghost use Rattle.class_search.specs.Deciders.{decider_of};
 ghost use Rattle.front_walks.specs.Walks.{corner_unless_empty, spent_front, closed_front, width_run, size_answer};
@@ -15,7 +14,7 @@ use crate::{Corner, Front, Point};
 use box_instances::{Instance, NoMemory};
 use class_search::Decider;
 use level_search::{Level, Reached};
-use proof_tree::Token;
+use proof_tree::TokenList;
 use std::alloc::Global;
 use std::sync::Wait;
 use std::thread::Threads;
@@ -26,7 +25,7 @@ use work_share::{Gate, Settings};
 pub struct Stand {
     pub height: u32,
     pub refuted: u32,
-    pub tokens: Vec<Token>,
+    pub tokens: TokenList,
 }
 
 // Adds a corner, unless its width is 0.
@@ -34,13 +33,13 @@ fn push_corner(
     front: &mut Front,
     width: u32,
     height: u32,
-    tokens: Vec<Token>,
+    tokens: TokenList,
 ) -> Result<(), NoMemory>
     ensures complete { front.new.complete ≡ front.old.complete }
     ensures points { front.new.points ≡ front.old.points }
     ensures corners { OnOk result (map plain_corner front.new.corners.items
         ≡ map plain_corner front.old.corners.items
-        ++ corner_unless_empty width height (plain_tokens tokens.items)) }
+        ++ corner_unless_empty width height tokens) }
 {
     if width == 0 {
         return Ok(());
@@ -79,31 +78,25 @@ fn push_point(front: &mut Front, width: u32, height: u32, places: Vec<u32>) -> R
 fn end_spent(front: &mut Front, stand: Stand) -> Result<(), NoMemory>
     ensures { OnOk result (plain_front front.new
         ≡ joined front.old (spent_front stand.refuted stand.height
-        (plain_tokens stand.tokens.items))) }
+        stand.tokens)) }
 {
     front.complete = false;
     push_corner(front, stand.refuted, stand.height, stand.tokens)
 }
 
 // Ends a walk where the widest container is refuted.
-fn end_closed(
-    front: &mut Front,
-    width: u32,
-    height: u32,
-    tokens: Vec<Token>,
-) -> Result<(), NoMemory>
+fn end_closed(front: &mut Front, width: u32, height: u32, tokens: TokenList) -> Result<(), NoMemory>
     requires { 1 ≤ width }
     ensures { OnOk result (plain_front front.new
-        ≡ joined front.old (closed_front width height (plain_tokens tokens.items))) }
+        ≡ joined front.old (closed_front width height tokens)) }
 {
     front.complete = true;
     push_corner(front, width, height, tokens)
 }
 
 // The tokens of a refuted width: those of where the walk stands, where it is the same width.
-fn told_tokens(stand: Stand, refuted: u32, tokens: Vec<Token>) -> Vec<Token>
-    ensures { result.items ≡ (if refuted == stand.refuted then stand.tokens.items
-        else tokens.items) }
+fn told_tokens(stand: Stand, refuted: u32, tokens: TokenList) -> TokenList
+    ensures { result ≡ (if refuted == stand.refuted then stand.tokens else tokens) }
 {
     if refuted == stand.refuted {
         stand.tokens

@@ -10,6 +10,7 @@ use crate::Front;
 use crate::deciding::decider_for;
 use crate::rounds::{Stand, one_round};
 use box_instances::{Instance, NoMemory};
+use proof_tree::TokenList;
 use std::alloc::Global;
 use std::sync::Wait;
 use std::thread::Threads;
@@ -36,7 +37,7 @@ fn walk_along<R: Threads + Wait + Sync, G: Gate + Sync>(
     let mut next = Some(Stand {
         height: instance.written_container(1),
         refuted: 0,
-        tokens: Vec::new(alloc),
+        tokens: TokenList::new(alloc),
     });
     while let Some(stand) = next {
         next = one_round(

@@ -15,7 +15,6 @@ use Rattle.tree_terms.specs.RunEnds.{IsRisingEnd}
 use Rattle.tree_terms.proofs.Optima.{stack_small}
 use Rattle.reduced_levels.specs.Heights.{height_run_from, DecideHeights}
 use Rattle.reduced_levels.proofs.Heights.{keeps_from, least_from, end_from, spent_from, enough_from}
-use Rattle.proof_tree.specs.Plain.{plain_tokens}
 use Rattle.strip_solver.specs.declared.strip.Strip.{Strip}
 use Rattle.strip_solver.specs.declared.strip.Strip.TheVariants.{Least, Between, NoneFits}
 use Rattle.strip_solver.specs.Strips.{Tells, IsAnswerFrom, IsTrueStripFrom, IsSpentExactlyFrom, IsFinal}
@@ -75,7 +74,7 @@ module _ (start : List Exclusion) (instance : PlainInstance) (limits : IsInterna
       let b : r.placed ≡ height = ap (λ (y : PlainReached). y.placed) t in
       record {
         order = omega (arith, a, b, order);
-        none_fits = (λ h l f. decide.refuted refuted (plain_tokens tokens.items) k.0
+        none_fits = (λ h l f. decide.refuted refuted tokens k.0
             (fits_higher instance h refuted l f));
         packed = k.1;
         refutes = k.0;

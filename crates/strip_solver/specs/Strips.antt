@@ -8,7 +8,6 @@ use Rattle.packing_terms.specs.Refutation.{Refutes}
 use Rattle.packing_terms.specs.Tokens.{PlainToken}
 use Rattle.tree_terms.specs.Levels.{PlainReached}
 use Rattle.reduced_levels.specs.Heights.{height_run_from, HasLargeHeightFrom}
-use Rattle.proof_tree.specs.Plain.{plain_tokens}
 use Rattle.strip_solver.specs.declared.strip.Strip.{Strip}
 use Rattle.strip_solver.specs.declared.strip.Strip.TheVariants.{Least, Between, NoneFits}
 
@@ -17,7 +16,7 @@ abbrev pub Tells : PlainReached → Strip → Type 0
 Tells r (Least height places tokens) =
     r ≡ record {
       refuted = height - 1;
-      tokens = plain_tokens tokens.items;
+      tokens = tokens;
       placed = height;
       numbers = places.items;
       spent = false;
@@ -25,7 +24,7 @@ Tells r (Least height places tokens) =
 Tells r (Between refuted tokens height places) =
     r ≡ record {
       refuted = refuted;
-      tokens = plain_tokens tokens.items;
+      tokens = tokens;
       placed = height;
       numbers = places.items;
       spent = true;
@@ -60,9 +59,9 @@ pub record IsCertifiedBetween (start : List Exclusion) (instance : PlainInstance
 -- what the answer says is true, and its refutation is one under these exclusions
 abbrev pub IsTrueStripFrom : List Exclusion → PlainInstance → Strip → Type 0
 IsTrueStripFrom start instance (Least height places tokens) =
-    IsCertifiedLeast start instance height places.items (plain_tokens tokens.items)
+    IsCertifiedLeast start instance height places.items tokens
 IsTrueStripFrom start instance (Between refuted tokens height places) =
-    IsCertifiedBetween start instance refuted (plain_tokens tokens.items) height places.items
+    IsCertifiedBetween start instance refuted tokens height places.items
 IsTrueStripFrom start instance (NoneFits v i) = (h : ℕ) → ¬ Fits (with_last_side instance h)
 
 -- `Between` exactly where some height on the run has more branchings than the budget

@@ -7,7 +7,6 @@ ghost use Rattle.packing_terms.specs.Limits.{most_height};
 ghost use Rattle.symmetry_terms.specs.Facts.{symmetry_facts};
 ghost use Rattle.tree_terms.specs.Levels.{first_heights};
 ghost use Rattle.reduced_levels.specs.Heights.{height_run_from, DecideHeights};
-ghost use Rattle.proof_tree.specs.Plain.{plain_tokens};
 ghost use Rattle.level_search.specs.Runs.{plain_reached};
 ghost use Rattle.strip_solver.specs.Strips.{Tells, IsAnswer, IsTrueStrip, IsSpentExactly, IsAnswerFrom, IsTrueStripFrom, IsSpentExactlyFrom, IsFinal};
 
@@ -18,7 +17,7 @@ use crate::wide::first_too_wide;
 use box_instances::{Instance, NoMemory};
 use class_search::Exclusion;
 use level_search::Reached;
-use proof_tree::Token;
+use proof_tree::{Token, TokenList};
 use std::alloc::Global;
 use std::sync::Wait;
 use std::thread::Threads;
@@ -26,18 +25,12 @@ use symmetry_list::facts;
 use work_share::{Gate, Settings};
 
 // The refutation of height 0: box 1 is longer than the container in the last dimension.
-fn no_height(alloc: Global, instance: &Instance) -> Result<Vec<Token>, NoMemory>
-    ensures { IfOk result (λ tokens. plain_tokens tokens.items
+fn no_height(alloc: Global, instance: &Instance) -> Result<TokenList, NoMemory>
+    ensures { IfOk result (λ tokens. tokens
         ≡ (first_heights instance.now).tokens) }
 {
-    let mut tokens = Vec::new(alloc);
-    let Ok(()) = tokens.push(Token::TooLarge {
-        box_no: 1,
-        dim: instance.dims(),
-    }) else {
-        return Err(NoMemory);
-    };
-    Ok(tokens)
+    let dim = instance.dims();
+    TokenList::of_one(alloc, Token::TooLarge { box_no: 1, dim })
 }
 
 // The run of heights of an instance none of whose boxes is too wide, with trees that begin with

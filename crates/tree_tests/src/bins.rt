@@ -72,7 +72,11 @@ fn explored(
 fn gives(alloc: Global, row: &Row) -> Result<bool, Fail> {
     let (case, bins, scales, cap, wanted) = row;
     let instance = instance_of(alloc, case)?;
-    Ok(is_wanted(&explored(alloc, &instance, *bins, *scales, *cap)?, wanted))
+    Ok(is_wanted(
+        alloc,
+        &explored(alloc, &instance, *bins, *scales, *cap)?,
+        wanted,
+    )?)
 }
 
 #[test]

@@ -1,5 +1,5 @@
 //! What the tests of both trees share.
-use box_instances::{BoxItem, Instance, Sides};
+use box_instances::{BoxItem, Instance, NoMemory, Sides};
 use proof_tree::{Outcome, Token};
 use std::alloc::Global;
 use std::test::Fail;
@@ -65,17 +65,21 @@ fn are_kinds(tokens: &[Token], kinds: &[[u32; 2]]) -> bool {
 }
 
 /// Whether the outcome is the one that is wanted.
-pub(crate) fn is_wanted(outcome: &Outcome, wanted: &Wanted) -> bool {
-    match (outcome, wanted) {
+pub(crate) fn is_wanted(
+    alloc: Global,
+    outcome: &Outcome,
+    wanted: &Wanted,
+) -> Result<bool, NoMemory> {
+    Ok(match (outcome, wanted) {
         (Outcome::Yes { numbers, count }, Wanted::Yes(answer, branchings)) => {
             *count == *branchings && numbers.as_slice() == *answer
         }
         (Outcome::No { tokens, count }, Wanted::No(kinds, branchings)) => {
-            *count == *branchings && are_kinds(tokens.as_slice(), kinds)
+            *count == *branchings && are_kinds(tokens.tokens(alloc)?.as_slice(), kinds)
         }
         (Outcome::Past, Wanted::Past) => true,
         _ => false,
-    }
+    })
 }
 
 /// Whether a node is told as a split of this kind with this own count and so many children.

@@ -59,7 +59,11 @@ fn explored(
 fn gives(alloc: Global, row: &Row) -> Result<bool, Fail> {
     let (case, value, scales, cap, wanted) = row;
     let instance = instance_of(alloc, case)?;
-    Ok(is_wanted(&explored(alloc, &instance, *value, *scales, *cap)?, wanted))
+    Ok(is_wanted(
+        alloc,
+        &explored(alloc, &instance, *value, *scales, *cap)?,
+        wanted,
+    )?)
 }
 
 #[test]

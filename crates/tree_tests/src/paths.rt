@@ -27,10 +27,10 @@ fn choices_go_down(alloc: Global, tree: &ChoiceTree<'_>) -> Result<bool, NoMemor
             let is_leaf = matches!(tree.node(alloc, &[1])?, Node::Leaf);
             Ok(
                 is_leaf
-                    && is_wanted(&inside, &INSIDE)
-                    && is_wanted(&spent, &Wanted::Past)
-                    && is_wanted(&outside, &OUTSIDE)
-                    && is_wanted(&none, &Wanted::Past),
+                    && is_wanted(alloc, &inside, &INSIDE)?
+                    && is_wanted(alloc, &spent, &Wanted::Past)?
+                    && is_wanted(alloc, &outside, &OUTSIDE)?
+                    && is_wanted(alloc, &none, &Wanted::Past)?,
             )
         }
         _ => Ok(false),
@@ -69,7 +69,11 @@ fn bins_go_down(alloc: Global, tree: &BinTree<'_>) -> Result<bool, NoMemory> {
                     children: 2
                 }
             );
-            Ok(is_split && is_wanted(&placed, &PLACED) && is_wanted(&spent, &Wanted::Past))
+            Ok(
+                is_split
+                    && is_wanted(alloc, &placed, &PLACED)?
+                    && is_wanted(alloc, &spent, &Wanted::Past)?,
+            )
         }
         _ => Ok(false),
     }

@@ -1,11 +1,10 @@
 //! The joining of a finished run.
-ghost use Rattle.std.specs.Prelude.{◌≡◌, ◌≤◌, ◌<◌, ◌++◌, ℕ, List, length, map, IfOk, OnOk, Some, true, false};
+ghost use Rattle.std.specs.Prelude.{◌≡◌, ◌≤◌, ◌<◌, ◌++◌, ℕ, List, length, IfOk, OnOk, Some, true, false};
 ghost use Rattle.packing_terms.specs.Tokens.{PlainToken};
 ghost use Rattle.tree_terms.specs.Trees.{No, join, told};
 ghost use Rattle.board_terms.specs.Kept.{AreBelow, AreDistinct};
 ghost use Rattle.board_terms.specs.Runs.{Run, run_of, with_entry};
 ghost use Rattle.work_share.specs.Outcomes.{plain_outcome};
-ghost use Rattle.proof_tree.specs.Plain.{plain_token};
 ghost use Rattle.work_share.specs.Slots.{entry_of, entries_of};
 ghost use Rattle.work_share.specs.Links.{order_of, IsChain, IsLinked};
 ghost use Rattle.work_share.specs.Fronts.{IsFront, Ends, piece_of};
@@ -15,8 +14,8 @@ use crate::front::Front;
 use crate::link::behind_at;
 use crate::slot::{Slot, SlotState};
 use box_instances::NoMemory;
-use proof_tree::{Outcome, Token};
-use std::alloc::{AllocError, Global};
+use proof_tree::{Outcome, TokenList};
+use std::alloc::Global;
 use std::mem;
 
 // What a run comes to that ends with this entry, where this count stands before it.
@@ -39,15 +38,14 @@ fn end_run(slot: &mut Slot, budget: u64, before: u64) -> Outcome
 }
 
 // Moves the tokens of an outcome behind others.
-fn push_told(tokens: &mut Vec<Token>, outcome: Outcome) -> Result<(), AllocError>
-    ensures { OnOk result (map plain_token tokens.new.items ≡ map plain_token tokens.old.items
-        ++ tokens_told (plain_outcome outcome)) }
+fn push_told(tokens: &mut TokenList, outcome: Outcome) -> Result<(), NoMemory>
+    ensures { OnOk result (tokens.new ≡ tokens.old ++ tokens_told (plain_outcome outcome)) }
 {
     match outcome {
         Outcome::No {
-            tokens: mut more,
+            tokens: more,
             count: _,
-        } => tokens.append(&mut more),
+        } => tokens.append(more),
         Outcome::Yes {
             numbers: _numbers,
             count: _,
@@ -57,9 +55,9 @@ fn push_told(tokens: &mut Vec<Token>, outcome: Outcome) -> Result<(), AllocError
 }
 
 // Moves the tokens of a finished entry behind others.
-fn push_tokens(tokens: &mut Vec<Token>, slot: &mut Slot) -> Result<(), AllocError>
-    ensures tokens { OnOk result ((number : ℕ) → map plain_token tokens.new.items
-        ≡ map plain_token tokens.old.items ++ tokens_in (entry_of number slot.old)) }
+fn push_tokens(tokens: &mut TokenList, slot: &mut Slot) -> Result<(), NoMemory>
+    ensures tokens { OnOk result ((number : ℕ) → tokens.new
+        ≡ tokens.old ++ tokens_in (entry_of number slot.old)) }
     ensures link { slot.new.behind ≡ slot.old.behind }
 {
     match mem::replace(&mut slot.state, SlotState::Out) {
@@ -68,25 +66,22 @@ fn push_tokens(tokens: &mut Vec<Token>, slot: &mut Slot) -> Result<(), AllocErro
             token,
             own: _,
             children: _,
-        } => {
-            tokens.push(token)?;
-            Ok(())
-        }
+        } => tokens.push(token),
         SlotState::Waits => Ok(()),
         SlotState::Out => Ok(()),
     }
 }
 
 // The tokens of all entries in their order.
-fn join_tokens(alloc: Global, mut slots: Vec<Slot>) -> Result<Vec<Token>, AllocError>
+fn join_tokens(alloc: Global, mut slots: Vec<Slot>) -> Result<TokenList, NoMemory>
     requires below { AreBelow (length slots.items) (order_of slots.items) }
     requires distinct { AreDistinct (order_of slots.items) }
     requires size { length slots.items ≡ length (order_of slots.items) }
     requires chain { IsChain slots.items (Some 0) (order_of slots.items) }
-    ensures { IfOk result (λ tokens. map plain_token tokens.items
+    ensures { IfOk result (λ tokens. tokens
         ≡ entry_tokens (entries_of slots.items (order_of slots.items))) }
 {
-    let mut tokens = Vec::new(alloc);
+    let mut tokens = TokenList::new(alloc);
     let mut behind = Some(0);
     let len = slots.len();
     for _position in 0..len {
@@ -120,11 +115,9 @@ pub(crate) fn join_run(
         };
         return Ok(end_run(&mut slots[number], budget, front.count));
     }
-    match join_tokens(alloc, slots) {
-        Ok(tokens) => Ok(Outcome::No {
-            tokens,
-            count: front.count,
-        }),
-        Err(_) => Err(NoMemory),
-    }
+    let tokens = join_tokens(alloc, slots)?;
+    Ok(Outcome::No {
+        tokens,
+        count: front.count,
+    })
 }

@@ -1,12 +1,11 @@
 use Rattle.pack_streams.proofs.Writers.{more, same}
-use Rattle.proof_tree.specs.Plain.{plain_tokens}
 use Rattle.answer_streams.proofs.Joined.{headed, no_text}
 use Rattle.answer_streams.proofs.documents.write_no.Goals as goal
 
 pub returns : goal.returns
 returns g c =
     (same _ _ _ _ _ _ _ _ (headed c.args.heading c.first_line.result.now _ _ c.first_line.ensures
-    (no_text c.args.heading c.args.instance.now (plain_tokens c.args.tokens.now)))
+    (no_text c.args.heading c.args.instance.now c.args.tokens.now))
     (more _ _ _ _ _ _ _ _ _ _ _ c.write_on-named.ensures.goes_on
     (more _ _ _ _ _ _ _ _ _ _ _ c.write_instance_on-shown.ensures
     (more _ _ _ _ _ _ _ _ _ _ _ c.write_on-said.ensures.goes_on

@@ -1,7 +1,6 @@
 use Rattle.std.proofs.Common.{◌+◌, arith, length}
 use Rattle.std.proofs.lemmas.Nat.{div-add-mod'}
 use Rattle.pack_streams.proofs.Writers.{more, same}
-use Rattle.proof_tree.specs.Plain.{plain_tokens}
 use Rattle.answer_terms.specs.Answers.{take_lines}
 use Rattle.answer_streams.proofs.ResultTexts.{certificates}
 use Rattle.answer_streams.proofs.knapsack_documents.write_certificates.Goals as goal
@@ -13,6 +12,6 @@ write_all_numbered-taken-requires g c =
 
 pub returns : goal.returns
 returns g c = same _ _ _ _ _ _ _ _
-    (certificates (take_lines c.args.instance.now c.args.numbers.now) (plain_tokens c.args.tokens.now))
+    (certificates (take_lines c.args.instance.now c.args.numbers.now) c.args.tokens.now)
     (more _ _ _ _ _ _ _ _ _ _ _ (rw c.dims-dims.ensures.value at c.write_all_numbered-taken.ensures)
     c.write_proof.ensures)

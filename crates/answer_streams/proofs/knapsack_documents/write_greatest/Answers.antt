@@ -1,11 +1,10 @@
 use Rattle.pack_streams.proofs.Writers.{wrote_same, later, more}
-use Rattle.proof_tree.specs.Plain.{plain_tokens}
 use Rattle.answer_streams.proofs.KnapsackTexts.{greatest_text}
 use Rattle.answer_streams.proofs.knapsack_documents.write_greatest.Goals as goal
 
 pub returns : goal.returns
 returns g c = wrote_same _ _ _ _ _ _ _
-    (greatest_text c.args.instance.now c.args.value c.args.numbers.now (plain_tokens c.args.tokens.now))
+    (greatest_text c.args.instance.now c.args.value c.args.numbers.now c.args.tokens.now)
     (later _ _ _ _ _ _ _ _ _ _ c.write_opening-begun.ensures
     (more _ _ _ _ _ _ _ _ _ _ _ c.write_greatest_line-said.ensures
     (more _ _ _ _ _ _ _ _ _ _ _ c.write_certificates-shown.ensures c.write_on.ensures.goes_on)))

@@ -1,10 +1,9 @@
 use Rattle.pack_streams.proofs.Writers.{more, same}
-use Rattle.proof_tree.specs.Plain.{plain_tokens}
 use Rattle.answer_terms.specs.Answers.{place_lines}
 use Rattle.answer_streams.proofs.ResultTexts.{certificates}
 use Rattle.answer_streams.proofs.strip_documents.write_certificates.Goals as goal
 
 pub returns : goal.returns
 returns g c = same _ _ _ _ _ _ _ _
-    (certificates (place_lines c.args.instance.now c.args.places.now) (plain_tokens c.args.tokens.now))
+    (certificates (place_lines c.args.instance.now c.args.places.now) c.args.tokens.now)
     (more _ _ _ _ _ _ _ _ _ _ _ c.write_places-placed.ensures c.write_proof.ensures)

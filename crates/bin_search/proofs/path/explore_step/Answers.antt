@@ -77,8 +77,8 @@ returns-in-Past c =
     step_past t c.requires.limits c.args.step.placed (lists_of c.args.step.bins.items) c.requires.above
     c.args.step.child c.requires.near c.args.cap h
 
-pub returns-in_ok-tokens-in-Refuted : goal.returns-in_ok-tokens-in-Refuted
-returns-in_ok-tokens-in-Refuted c =
+pub returns-in-Refuted : goal.returns-in-Refuted
+returns-in-Refuted c =
     let t : PlainBinTree = record {
       instance = c.args.instance.now;
       bins = c.args.most;
@@ -87,10 +87,10 @@ returns-in_ok-tokens-in-Refuted c =
     let h = rw (c.requires.search, c.requires.order, c.deref.ensures.value, c.in-Refuted.is)
     at c.in_ok-grow_bin.ensures.child in
     let number : c.args.step.child + 1 ≡ suc c.args.step.child = omega arith in
-    let e = c.in_ok-tokens-in-Refuted.ensures ∙ (h.appended
+    let e = h.appended
     ∙ (ap (λ (l : List PlainToken). l ++ SetRefuted (Some (c.args.step.child + 1)) ∷ h.tokens)
     c.new-tokens.ensures
-    ∙ ap (λ n. SetRefuted (Some n) ∷ h.tokens) number)) in
+    ∙ ap (λ n. SetRefuted (Some n) ∷ h.tokens) number) in
     ap (λ (l : List PlainToken). Decided (No l c.in-Refuted.own)) e
     ∙ step_refuted t c.requires.limits c.args.step.placed (lists_of c.args.step.bins.items) c.requires.above
     c.args.step.child c.requires.near c.args.cap h.tokens h.cost c.in-Refuted.own h.is h.counted h.within

@@ -58,8 +58,7 @@ returns-in-None-clause-outcome c =
     ∙ sym (placements_count c.args.most held.bins (box_of c.args.instance.now held))) in
     let all : held.visited ≡ width t held = c.if-node-children.true ∙ counted in
     let e = reverse_none c.loop-node.stack.items (omega (arith, c.loop-node.stack.ok.0, c.in-None.ensures.cases.0)) in
-    ap (λ (l : List PlainToken). Decided (No l c.loop-node.count)) c.in_ok-tokens-in-None.ensures
-    ∙ finished c.args.cap _ whole (pop_last t whole c.loop-node.tokens c.loop-node.count held all
+    finished c.args.cap _ whole (pop_last t whole c.loop-node.tokens c.loop-node.count held all
     (rw e at c.loop-node.invariant.left)) c.loop-node.invariant.within
 
 pub loop-node-preserved-in-Some : goal.loop-node-preserved-in-Some

@@ -39,8 +39,8 @@ returns-in-Refuted c =
     } in
     let h = rw (c.requires.search, c.requires.order, c.deref.ensures.value, c.in-Refuted.is)
     at c.in_ok-grow.ensures.child in
-    let e = c.in_ok-tokens-in-Refuted.ensures ∙ (h.appended
-    ∙ ap (λ (l : List PlainToken). l ++ SetRefuted None ∷ h.tokens) c.new-tokens.ensures) in
+    let e = h.appended
+    ∙ ap (λ (l : List PlainToken). l ++ SetRefuted None ∷ h.tokens) c.new-tokens.ensures in
     ap (λ (l : List PlainToken). Decided (No l c.in-Refuted.own)) e
     ∙ first_refuted t c.args.above.decided c.args.above.taken.items c.requires.above c.args.cap
     h.tokens h.cost c.in-Refuted.own h.is h.counted h.within

@@ -58,7 +58,7 @@ returns-in_default-clause-outcome c =
     let e = reverse_none c.loop-node.stack.items
     (omega (arith, c.loop-node.stack.ok.0, c.in_default.ensures.cases.0)) in
     ap (λ (l : List PlainToken). Decided (No l c.loop-node.count))
-    (c.in_ok-tokens-in-Short.ensures ∙ c.in_ok-push-in-Short.ensures.appends)
+    c.in_ok-push-in-Short.ensures.appends
     ∙ finished c.args.cap _ whole (short_last t whole c.loop-node.tokens c.loop-node.count
     c.loop-node.node met.0 met.1 (rw e at c.loop-node.invariant.left)) c.loop-node.invariant.within
 

@@ -1,7 +1,5 @@
-use Rattle.std.proofs.Common.{ap, sym, ◌∙◌, arith, refl, map, reverse, Some, None}
-use Rattle.std.proofs.lemmas.List.{map_push, length-map}
+use Rattle.std.proofs.Common.{ap, sym, ◌∙◌, arith, refl, reverse, Some, None}
 use Rattle.edge_state.specs.Edges.{PlainEdges, oldest}
-use Rattle.proof_tree.specs.Plain.{plain_token}
 use Rattle.class_search.specs.declared.walk.Frame.{Frame}
 use Rattle.tree_terms.specs.Trees.{Yes}
 use Rattle.class_search.specs.Walks.{walk_tree, size_of_both}
@@ -22,7 +20,7 @@ returns-in-Settled-clause-end c =
     let whole = walk_tree instance c.args.state.now.trail c.args.walk in
     let stands = rw (c.in-Met.is, c.in-Settled.is) at c.loop-place.invariant.stands in
     settled_told instance whole (reverse c.loop-place.frames.items) c.loop-place.state.trail
-    (map plain_token c.loop-place.tokens.items) c.loop-place.count c.args.cap
+    c.loop-place.tokens c.loop-place.count c.args.cap
     c.in_ok-numbers-in-Settled.numbers.items stands.met stands.root
     (ap (λ ns. Yes ns 0) (sym c.in_ok-numbers-in-Settled.ensures)) c.loop-place.invariant.within
 
@@ -32,7 +30,7 @@ returns-then-count-cap-clause-end c =
     let whole = walk_tree instance c.args.state.now.trail c.args.walk in
     let stands = rw (c.in-Met.is, c.in-Divided.is) at c.loop-place.invariant.stands in
     let past = split_count instance whole (reverse c.loop-place.frames.items) c.loop-place.state.trail
-    (map plain_token c.loop-place.tokens.items) c.loop-place.count c.in-Divided.split c.in-Divided.rank stands in
+    c.loop-place.tokens c.loop-place.count c.in-Divided.split c.in-Divided.rank stands in
     (record { met = stands.met; known = stands.known }, stands.root, omega (arith, past, c.if-count-cap.true))
 
 pub loop-place-preserved-in-Divided : goal.loop-place-preserved-in-Divided
@@ -40,15 +38,14 @@ loop-place-preserved-in-Divided c =
     let instance = c.args.search.now.instance.now in
     let whole = walk_tree instance c.args.state.now.trail c.args.walk in
     let fs = reverse c.loop-place.frames.items in
-    let ts = map plain_token c.loop-place.tokens.items in
+    let ts = c.loop-place.tokens in
     let met = c.in_ok-met-in-Divided in
     let stands = rw (c.in-Met.is, c.in-Divided.is) at c.loop-place.invariant.stands in
     let f : Frame =
     record { split = c.in-Divided.split; mark = c.mark.result; rank = c.in-Divided.rank; first = None } in
     rw (
-      c.in-Ok-push.ensures.items,
+      c.in_ok-push-in-Divided.ensures.appends,
       c.in_ok-met-in-Divided.ensures.frames,
-      map_push plain_token c.loop-place.tokens.items c.token.result,
       c.token.ensures,
       reverse_last c.loop-place.frames.items f,
       c.mark.ensures,
@@ -70,7 +67,7 @@ behind-requires-clause-tokens c =
     let instance = c.args.search.now.instance.now in
     let whole = walk_tree instance c.args.state.now.trail c.args.walk in
     let fs = reverse c.pop.new.self.items in
-    let ts = map plain_token c.loop-place.tokens.items in
+    let ts = c.loop-place.tokens in
     let es = c.loop-place.state.trail in
     let first = c.in-Some-first.first in
     let both = met_both instance whole c.in-Some.frame fs es ts c.loop-place.count c.in-Over.size
@@ -78,9 +75,7 @@ behind-requires-clause-tokens c =
     let w = size_within instance whole fs (oldest c.in-Some.frame.mark es) ts c.loop-place.count
     (size_of_both first c.in-Over.size) both in
     let l = w.0 in
-    let n = length-map c.loop-place.tokens.items plain_token in
-    let small = c.loop-place.tokens.small in
-    omega (arith, l, n, small)
+    omega (arith, l, c.len-len.ensures)
 
 pub loop-place-preserved-in-Some-first : goal.loop-place-preserved-in-Some-first
 loop-place-preserved-in-Some-first c =
@@ -89,7 +84,7 @@ loop-place-preserved-in-Some-first c =
     let instance = c.args.search.now.instance.now in
     let whole = walk_tree instance c.args.state.now.trail c.args.walk in
     let fs = reverse c.pop.new.self.items in
-    let ts = map plain_token c.loop-place.tokens.items in
+    let ts = c.loop-place.tokens in
     let es = c.loop-place.state.trail in
     let undone : PlainEdges = record c.loop-place.state { trail = oldest c.in-Some.frame.mark es } in
     rw (c.behind.ensures, c.undo.ensures) (record {
@@ -109,7 +104,7 @@ loop-place-preserved c =
     let instance = c.args.search.now.instance.now in
     let whole = walk_tree instance c.args.state.now.trail c.args.walk in
     let fs = reverse c.pop.new.self.items in
-    let ts = map plain_token c.loop-place.tokens.items in
+    let ts = c.loop-place.tokens in
     let es = c.loop-place.state.trail in
     let frame = c.in-Some.frame in
     let undone = c.undo.new.self in

@@ -1,12 +1,11 @@
-use Rattle.std.proofs.Common.{◌≡◌, ◌≤◌, ◌+◌, ◌-◌, ◌*◌, map, reverse}
-use Rattle.proof_tree.specs.Plain.{plain_token}
+use Rattle.std.proofs.Common.{◌≡◌, ◌≤◌, ◌+◌, ◌-◌, ◌*◌, reverse}
 use Rattle.class_search.specs.Walks.{walk_tree, IsAtPlace, turns_of, place_turns}
 use Rattle.class_search.proofs.walk.go_on.Given as goal
 
 abbrev pub invariant-loop-place : goal.invariant-loop-place
 invariant-loop-place l = record {
   stands : IsAtPlace l.search.instance.now (walk_tree l.search.instance.now l.fn.state.trail l.fn.walk)
-      (reverse l.frames.items) l.state.trail (map plain_token l.tokens.items) l.count l.place;
+      (reverse l.frames.items) l.state.trail l.tokens l.count l.place;
   within : l.count ≤ l.cap;
   same_dims : l.state.dims ≡ l.fn.state.dims;
   same_boxes : l.state.boxes ≡ l.fn.state.boxes;

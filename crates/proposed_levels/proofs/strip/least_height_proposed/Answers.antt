@@ -1,6 +1,5 @@
 use Rattle.std.proofs.Common.{ℕ, sym, subst, ap₂, ◌∙◌}
 use Rattle.level_bounds.specs.Bounds.{PlainBounds, first_bounds}
-use Rattle.proof_tree.specs.Plain.{plain_tokens}
 use Rattle.strip_solver.specs.declared.strip.Strip.{Strip}
 use Rattle.strip_solver.specs.Strips.{IsTrueStrip}
 use Rattle.proposed_levels.specs.declared.effort.Effort.TheVariants.{Rough}
@@ -11,11 +10,11 @@ use Rattle.proposed_levels.proofs.strip.least_height_proposed.Goals as goal
 pub narrowed-requires-clause-bounds : goal.narrowed-requires-clause-bounds
 narrowed-requires-clause-bounds g c κs within =
     subst (λ (b : PlainBounds). AreHeightBounds c.args.instance.now c.args.settings.now Rough b)
-    (ap₂ (λ (m : ℕ) (n : ℕ). first_bounds m (plain_tokens c.in-Between.tokens.items) n c.in-Between.places.items)
+    (ap₂ (λ (m : ℕ) (n : ℕ). first_bounds m c.in-Between.tokens n c.in-Between.places.items)
     (sym c.from.ensures) (sym c.from-in-Between.ensures)
     ∙ sym c.new-first.ensures)
     (between_bounds c.args.instance.now c.args.settings.now c.in-Between.refuted c.in-Between.height
-    (plain_tokens c.in-Between.tokens.items) c.in-Between.places.items
+    c.in-Between.tokens c.in-Between.places.items
     (subst (λ (s : Strip). IsTrueStrip c.args.instance.now s) c.in-Between.is c.in_ok-found.ensures.right)
     (subst IsLimitedStrip c.in-Between.is
     (run_limited c.args.instance.now c.len-limits.ensures.limits _ _ c.in_ok-found.found

@@ -1,6 +1,5 @@
 use Rattle.std.proofs.Common.{◌∙◌, sym, ap}
 use Rattle.packing_terms.specs.Packing.{written_container}
-use Rattle.proof_tree.specs.Plain.{plain_tokens}
 use Rattle.level_search.specs.Runs.{plain_reached}
 use Rattle.front_walks.specs.Walks.{PlainFront, size_answer, walk_on}
 use Rattle.size_front.specs.Plain.{joined}
@@ -14,7 +13,7 @@ returns-then-widths-clause-round g c = λ more.
     (written_container c.args.instance.now 0)
     (walk_on (size_answer c.args.instance.now c.args.settings.now.budget c.args.settings.now.scales)
     (written_container c.args.instance.now 0) more)
-    c.args.stand.height c.args.stand.refuted (plain_tokens c.args.stand.tokens.items) c.args.places.items
+    c.args.stand.height c.args.stand.refuted c.args.stand.tokens c.args.places.items
     c.requires.placed c.requires.refuted
     (plain_reached c.in_ok-widths.widths) c.in_ok-widths.ensures.run c.if-widths.true)
     ∙ sym c.in_ok-end_spent.ensures

@@ -1,6 +1,5 @@
 use Rattle.std.proofs.Common.{ℕ, ◌∙◌, sym, ap}
 use Rattle.packing_terms.specs.Packing.{written_container}
-use Rattle.proof_tree.specs.Plain.{plain_tokens}
 use Rattle.tree_terms.specs.Levels.{PlainLevel}
 use Rattle.level_search.specs.Runs.{plain_level}
 use Rattle.front_walks.specs.Walks.{closed_front, size_answer, round_by, walk_on}
@@ -15,12 +14,12 @@ returns-in_ok-end_closed-in-Refuted-clause-round g c = λ more.
     (written_container c.args.instance.now 0)
     (walk_on (size_answer c.args.instance.now c.args.settings.now.budget c.args.settings.now.scales)
     (written_container c.args.instance.now 0) more)
-    c.args.stand.height c.args.stand.refuted (plain_tokens c.args.stand.tokens.items) l))
+    c.args.stand.height c.args.stand.refuted c.args.stand.tokens l))
     (ap (λ (w : ℕ). size_answer c.args.instance.now c.args.settings.now.budget c.args.settings.now.scales w
     c.args.stand.height) (sym c.written_container-most.ensures)
     ∙ (sym c.in_ok-widest.ensures.answer ∙ ap plain_level c.in-Refuted.is))
     ∙ (ap (λ (w : ℕ). joined c.args.front.now
-    (closed_front w c.args.stand.height (plain_tokens c.in-Refuted.tokens.items)))
+    (closed_front w c.args.stand.height c.in-Refuted.tokens))
     (sym c.written_container-most.ensures)
     ∙ sym c.in_ok-end_closed-in-Refuted.ensures)
 
@@ -32,7 +31,7 @@ returns-in_ok-end_spent-in-Spent-clause-round g c = λ more.
     (written_container c.args.instance.now 0)
     (walk_on (size_answer c.args.instance.now c.args.settings.now.budget c.args.settings.now.scales)
     (written_container c.args.instance.now 0) more)
-    c.args.stand.height c.args.stand.refuted (plain_tokens c.args.stand.tokens.items) l))
+    c.args.stand.height c.args.stand.refuted c.args.stand.tokens l))
     (ap (λ (w : ℕ). size_answer c.args.instance.now c.args.settings.now.budget c.args.settings.now.scales w
     c.args.stand.height) (sym c.written_container-most.ensures)
     ∙ (sym c.in_ok-widest.ensures.answer ∙ ap plain_level c.in-Spent.is))

@@ -67,8 +67,8 @@ returns-then-front c =
     (with_entry c.args.budget e rest).verdict)) (sym is)
     ∙ joined_end c.args.budget c.args.front.len c.args.front.count es no_entry f)
 
-pub returns-in-Ok : goal.returns-in-Ok
-returns-in-Ok c =
+pub returns : goal.returns
+returns c =
     let slots = c.args.slots.items in
     let es = entries_of slots (order_of slots) in
     let f = subst (λ b. IsFront c.args.budget es c.args.front.len c.args.front.count b) c.if-front.false
@@ -76,5 +76,5 @@ returns-in-Ok c =
     let len = c.requires.over c.if-front.false in
     let size = c.requires.size in
     let all = length-map (order_of slots) (entry_at slots) in
-    ap (λ ts. Decided (No ts c.args.front.count)) c.in-Ok.ensures
+    ap (λ ts. Decided (No ts c.args.front.count)) c.in_ok-tokens.ensures
     ∙ joined_all c.args.budget c.args.front.len c.args.front.count es f (omega (arith, len, size, all))

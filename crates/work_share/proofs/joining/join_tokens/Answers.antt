@@ -1,10 +1,9 @@
-use Rattle.std.proofs.Common.{rules, ◌≡◌, ◌<◌, ◌++◌, ◌+◌, ◌∙◌, sym, ap, subst, add-one, length, map, drop, set, get_or}
+use Rattle.std.proofs.Common.{rules, ◌≡◌, ◌<◌, ◌++◌, ◌+◌, ◌∙◌, sym, ap, subst, add-one, length, drop, set, get_or}
 use Rattle.std.proofs.Common.{vec_len, Some}
 use Rattle.std.specs.Prelude.{slice_get}
 use Rattle.std.proofs.lemmas.List.{length-set}
 use Rattle.std.proofs.lemmas.Option.{slice_get_within, get_or_from_slice_get}
 use Rattle.board_terms.specs.Kept.{AreBelow}
-use Rattle.proof_tree.specs.Plain.{plain_token}
 use Rattle.work_share.specs.Slots.{entries_of}
 use Rattle.work_share.specs.Links.{behind_at, order_of}
 use Rattle.work_share.specs.Joining.{entry_tokens}
@@ -48,13 +47,13 @@ loop-position-preserved c =
     let below = subst (λ m. AreBelow m order) (sym size) c.requires.below in
     let inside = below_there (length slots) order k n below there in
     let value : old ≡ get_or slots n old = c.index_mut.ensures.value in
-    let more = tokens_more slots order k old new (map plain_token c.loop-position.tokens.items)
-    (map plain_token c.push_tokens.new.tokens.items) (entry_tokens (entries_of c.args.slots.items order)) below
+    let more = tokens_more slots order k old new c.loop-position.tokens
+    c.push_tokens.new.tokens (entry_tokens (entries_of c.args.slots.items order)) below
     c.requires.distinct
     (slice_get_within order k n there) (subst (λ m. old ≡ get_or slots m old) (sym number) value)
     c.in_ok-push_tokens.ensures.tokens c.loop-position.invariant.left in
     record {
-      left = subst (λ m. map plain_token c.push_tokens.new.tokens.items ++ entry_tokens
+      left = subst (λ m. c.push_tokens.new.tokens ++ entry_tokens
           (entries_of (set slots m new) (drop (k + 1) order))
           ≡ entry_tokens (entries_of c.args.slots.items order)) number more;
       size = length-set slots n new ∙ size;

@@ -1,6 +1,5 @@
-use Rattle.std.proofs.Common.{◌≡◌, ◌++◌, ℕ, length, map, drop}
+use Rattle.std.proofs.Common.{◌≡◌, ◌++◌, ℕ, length, drop}
 use Rattle.std.specs.Prelude.{slice_get}
-use Rattle.proof_tree.specs.Plain.{plain_token}
 use Rattle.work_share.specs.Slots.{entries_of}
 use Rattle.work_share.specs.Links.{behind_at, order_of}
 use Rattle.work_share.specs.Joining.{entry_tokens}
@@ -8,7 +7,7 @@ use Rattle.work_share.proofs.joining.join_tokens.Given as goal
 
 abbrev pub invariant-loop-position : goal.invariant-loop-position
 invariant-loop-position l = record {
-  left : map plain_token l.tokens.items ++ entry_tokens
+  left : l.tokens ++ entry_tokens
       (entries_of l.slots.items (drop l._position (order_of l.initial.slots.items)))
       ≡ entry_tokens (entries_of l.initial.slots.items (order_of l.initial.slots.items));
   size : length l.slots.items ≡ length l.initial.slots.items;

@@ -1,5 +1,4 @@
-use Rattle.std.proofs.Common.{map, reverse, sym, arith}
-use Rattle.proof_tree.specs.Plain.{plain_token}
+use Rattle.std.proofs.Common.{reverse, sym, arith}
 use Rattle.tree_terms.specs.Trees.{outcome}
 use Rattle.tree_terms.proofs.Told.{told_past}
 use Rattle.class_search.specs.Visits.{kind_tree}
@@ -11,7 +10,7 @@ pub returns-then-walk-cap : goal.returns-then-walk-cap
 returns-then-walk-cap c =
     let s = c.args.self in
     let m = met_count s.instance.now (reverse s.walk.frames.items) s.state.trail
-    (kind_tree s.instance.now s.state.trail s.walk.node) (map plain_token s.walk.tokens.items) s.walk.count
+    (kind_tree s.instance.now s.state.trail s.walk.node) s.walk.tokens s.walk.count
     c.requires.known.walks.met in
     record {
       told_so = sym (told_past c.args.cap (outcome (standing_tree s))

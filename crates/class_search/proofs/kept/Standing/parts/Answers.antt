@@ -1,7 +1,5 @@
-use Rattle.std.proofs.Common.{◌≡◌, ◌+◌, ◌-◌, ◌≤◌, length, map, List, [], ◌∷◌, take, drop, ap, sym, refl, ◌∙◌, arith}
-use Rattle.std.proofs.lemmas.List.{length-map, drop-map, take-map}
-use Rattle.packing_terms.specs.Tokens.{PlainToken}
-use Rattle.proof_tree.specs.Plain.{plain_token}
+use Rattle.std.proofs.Common.{◌-◌, length, take, drop, ap, refl, ◌∙◌, arith}
+use Rattle.std.proofs.lemmas.List.{length-drop}
 use Rattle.class_search.specs.declared.walk.Walk.{Walk}
 use Rattle.class_search.specs.declared.kept.Refuted.{Refuted as RefutedNode}
 use Rattle.class_search.proofs.Rerooting.{head_apart, met_some, met_size, left_first, left_second, left_behind}
@@ -13,8 +11,7 @@ drop_first-requires c =
     let f = head_apart c.args.self.walk.frames.items c.remove-split.result (omega (arith, l))
     c.remove-split.ensures.value in
     let m = (met_some c.args.self c.remove-split.result _ f c.requires).0 in
-    let n = length-map c.args.self.walk.tokens.items plain_token in
-    omega (arith, m, n)
+    m
 
 pub overflow_sub-walk : goal.overflow_sub-walk
 overflow_sub-walk c =
@@ -31,28 +28,21 @@ returns-in_default c =
     let m = (met_some c.args.self c.remove-split.result _ f c.requires).1 in
     let w : Walk = record {
       frames = c.remove-split.new.self;
-      tokens = c.drop_first.new.tokens;
+      tokens = c.drop_first.new.self;
       count = c.args.self.walk.count - 1;
       node = c.args.self.walk.node;
     } in
     left_first c.args.self c.remove-split.result _ f c.requires w c.in_default.is c.remove-split.ensures.items
-    c.drop_first.ensures (omega (arith, m)) refl
+    (λ t ts e. c.drop_first.ensures ∙ ap (drop 1) e) (omega (arith, m)) refl
 
-pub split_off-requires : goal.split_off-requires
-split_off-requires c =
+pub split_at-requires : goal.split_at-requires
+split_at-requires c =
     let l = c.remove-split.ensures.len in
     let f = head_apart c.args.self.walk.frames.items c.remove-split.result (omega (arith, l))
     c.remove-split.ensures.value in
     let m = (met_size c.args.self c.remove-split.result _ f c.requires c.in-Some.size c.in-Some.is).0 in
-    let d = dropped (map plain_token c.args.self.walk.tokens.items) (map plain_token c.drop_first.new.tokens.items)
-    c.drop_first.ensures in
-    let n = length-map c.drop_first.new.tokens.items plain_token in
-    omega (arith, m, n, d)
-  where
-    dropped : (xs ys : List PlainToken) → ((t : PlainToken) (ts : List PlainToken) → xs ≡ t ∷ ts → ys ≡ ts)
-        → length xs ≤ length ys + 1
-    dropped [] ys h = omega arith
-    dropped (x ∷ xs) ys h = let e = ap length (h x xs refl) in omega (arith, e)
+    let d = ap length c.drop_first.ensures ∙ length-drop 1 c.args.self.walk.tokens in
+    omega (arith, m, d)
 
 pub overflow_sub-walk-2 : goal.overflow_sub-walk-2
 overflow_sub-walk-2 c =
@@ -79,18 +69,16 @@ returns c =
     let m = (met_size c.args.self c.remove-split.result _ f c.requires size c.in-Some.is).1 in
     let w : Walk = record {
       frames = c.remove-split.new.self;
-      tokens = c.in_ok-rest.rest;
+      tokens = c.in-Ok.rest;
       count = c.args.self.walk.count - 1 - size.count;
       node = c.args.self.walk.node;
     } in
-    let refuted : RefutedNode = record { tokens = c.split_off.new.self; count = size.count } in (
+    let refuted : RefutedNode = record { tokens = c.in-Ok.tokens; count = size.count } in (
       left_behind c.args.self c.remove-split.result _ f c.requires refuted size c.in-Some.is
-          (λ t ts e. ap (map plain_token) c.in_ok-rest.ensures.items
-          ∙ (sym (take-map plain_token size.tokens c.drop_first.new.tokens.items)
-          ∙ ap (take size.tokens) (c.drop_first.ensures t ts e))) refl,
+          (λ t ts e. c.in-Ok.ensures.first
+          ∙ ap (take size.tokens) (c.drop_first.ensures ∙ ap (drop 1) e)) refl,
       left_second c.args.self c.remove-split.result _ f c.requires w size c.in-Some.is c.remove-split.ensures.items
-          (λ t ts e. ap (map plain_token) c.in_ok-rest.ensures.tail
-          ∙ (sym (drop-map plain_token size.tokens c.drop_first.new.tokens.items)
-          ∙ ap (drop size.tokens) (c.drop_first.ensures t ts e)))
+          (λ t ts e. c.in-Ok.ensures.rest
+          ∙ ap (drop size.tokens) (c.drop_first.ensures ∙ ap (drop 1) e))
           (omega (arith, m)) refl,
     )

@@ -1,35 +1,32 @@
-use Rattle.std.proofs.Common.{◌-◌, ◌++◌, ◌∷◌, refl, sym, ap, ap₂, subst, ◌∙◌, arith, List, [], ℕ, map, append_assoc}
+use Rattle.std.proofs.Common.{◌-◌, ◌++◌, ◌∷◌, refl, sym, ap, subst, ◌∙◌, arith, List, [], ℕ, append_assoc}
 use Rattle.packing_terms.specs.Goals.{subset}
 use Rattle.packing_terms.specs.Packing.{IsPacking}
 use Rattle.packing_terms.specs.Tokens.{PlainToken}
 use Rattle.packing_terms.specs.Tokens.PlainToken.{SetRefuted}
-use Rattle.proof_tree.specs.declared.token.Token.{Token}
 use Rattle.tree_terms.specs.Trees.{Yes, No, told}
 use Rattle.tree_terms.specs.OuterTrees.{set_verdict}
 use Rattle.work_share.specs.Outcomes.{plain_outcome}
-use Rattle.proof_tree.specs.Plain.{plain_token}
 use Rattle.class_search.specs.Right.{IsRight}
 use Rattle.set_search.proofs.Verdicts.{told_same}
 use Rattle.set_search.proofs.search.SetSearch.grown.Goals as goal
 
-pub returns-in_ok-extend-in-No-clause-child : goal.returns-in_ok-extend-in-No-clause-child
-returns-in_ok-extend-in-No-clause-child c =
+pub returns-in_ok-append-in-No-clause-child : goal.returns-in_ok-append-in-No-clause-child
+returns-in_ok-append-in-No-clause-child c =
     let e = c.as_slice.ensures.value in
     let y = told_same (c.args.left - 1)
     (set_verdict c.args.self.now.instance c.args.self.now.scales c.args.set.items)
-    (No (map plain_token c.in-No.inner.items) c.in-No.count)
+    (No c.in-No.inner c.in-No.count)
     (ap plain_outcome (sym c.in-No.is)
     ∙ (c.in_ok-decide_by.ensures.outcome
     ∙ ap (λ us. told (c.args.left - 1) (set_verdict c.args.self.now.instance c.args.self.now.scales us)) e)) in
     record {
-      tokens = map plain_token c.in-No.inner.items;
+      tokens = c.in-No.inner;
       cost = c.in-No.count;
       is = y.same;
       counted = refl;
       within = (let l = y.within in omega (arith, l, c.requires.left));
-      appended = c.in_ok-extend-in-No.ensures.appends
-          ∙ (ap₂ (λ (ts : List PlainToken) (us : List Token). ts ++ map plain_token us)
-          c.in_ok-push-in-No.ensures.appends c.as_slice-in-No.ensures.value
+      appended = c.in_ok-append-in-No.ensures.appends
+          ∙ (ap (λ (ts : List PlainToken). ts ++ c.in-No.inner) c.in_ok-push-in-No.ensures.appends
           ∙ append_assoc c.args.tokens.now (SetRefuted c.args.bin ∷ []) _);
     }
 

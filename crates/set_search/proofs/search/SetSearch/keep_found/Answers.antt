@@ -1,8 +1,7 @@
-use Rattle.std.proofs.Common.{ap, map}
+use Rattle.std.proofs.Common.{ap}
 use Rattle.tree_terms.specs.Trees.{Yes, No}
 use Rattle.tree_terms.specs.OuterTrees.{set_verdict}
 use Rattle.work_share.specs.Outcomes.{plain_outcome}
-use Rattle.proof_tree.specs.Plain.{plain_token}
 use Rattle.set_search.proofs.Memories.{verdict_made, verdicts_put, decided_told}
 use Rattle.set_search.proofs.search.SetSearch.keep_found.Goals as goal
 
@@ -28,7 +27,7 @@ invariant_of-self-in-No c =
     let instance = c.self.inside.whole.now in
     let verdict = set_verdict instance c.self.inside.scales c.args.keep.now in
     let found = rw (← v) at c.requires.found in
-    let is = decided_told c.args.budget verdict (No (map plain_token c.in-No.tokens.items) c.in-No.count)
+    let is = decided_told c.args.budget verdict (No c.in-No.tokens c.in-No.count)
     (plain_outcome c.args.found.now) (ap plain_outcome c.in-No.is) found in (
       c.self.invariant.0,
       verdicts_put instance c.self.inside.scales c.self.inside.memory c.keep-in-No.new.self c.args.key.now.boxes
