@@ -7,6 +7,7 @@
 mod batches;
 mod beam;
 mod beam_guides;
+mod beam_levels;
 mod beams;
 mod bins;
 mod choice;

@@ -244,50 +244,46 @@ impl Skyline {
         }
     }
 
+    // Splits a segment: the part at its left or its right end is raised to a height. It answers the
+    // index of that part.
+    fn split(&mut self, index: usize, part: u32, height: u32, is_right: bool) -> usize {
+        let whole = self.at(index);
+        let rest = whole.width.saturating_sub(part);
+        let (start, moved) = if is_right {
+            (whole.start, whole.start.saturating_add(rest))
+        } else {
+            (whole.start.saturating_add(part), whole.start)
+        };
+        let raised = Segment {
+            start: moved,
+            width: part,
+            height,
+        };
+        self.set(
+            index,
+            Segment {
+                start,
+                width: rest,
+                height: whole.height,
+            },
+        );
+        let to = if is_right {
+            index.saturating_add(1)
+        } else {
+            index
+        };
+        self.insert(to, raised);
+        to
+    }
+
     /// Raises a part of a segment, at its left or its right end, to a height.
     pub fn raise(&mut self, index: usize, width: u32, height: u32, is_right: bool) {
         let whole = self.at(index);
-        let part = width.min(whole.width);
-        let rest = whole.width - part;
         let mut raised = index;
-        if rest == 0 {
+        if width >= whole.width {
             self.set(index, Segment { height, ..whole });
-        } else if is_right {
-            let start = whole.start.saturating_add(rest);
-            raised = index.saturating_add(1);
-            self.set(
-                index,
-                Segment {
-                    width: rest,
-                    ..whole
-                },
-            );
-            self.insert(
-                raised,
-                Segment {
-                    start,
-                    width: part,
-                    height,
-                },
-            );
         } else {
-            let start = whole.start.saturating_add(part);
-            self.set(
-                index,
-                Segment {
-                    start,
-                    width: rest,
-                    ..whole
-                },
-            );
-            self.insert(
-                index,
-                Segment {
-                    start: whole.start,
-                    width: part,
-                    height,
-                },
-            );
+            raised = self.split(index, width, height, is_right);
         }
         self.join(raised.saturating_add(1));
         self.join(raised);
