@@ -17,7 +17,7 @@ fn is_too_full(instance: &Instance) -> bool {
     instance.volume() > room
 }
 
-/// Coordinates of all boxes, box after box, or none, by up to so many batches of rounds of swaps.
+/// Coordinates of all boxes, box after box, or none, by up to `batches` batches of rounds of swaps.
 ///
 /// Nothing is promised of them but that there is one coordinate for each box and dimension: the
 /// caller tests them.

@@ -4,8 +4,7 @@
 //! the boxes that lie in them and those without one, in an order by sizes with some noise. What is no
 //! worse stays, until every box has a bin.
 //!
-//! Source: iterated destruction and reconstruction of single bins, as in the set-based heuristics of
-//! Monaci and Toth (2006), with a pool as in ejection chains (Fleszar and Hindi 2002).
+//! Source: ruin and recreate (Schrimpf, Schneider, Stamm-Wilbrandt and Dueck 2000), here bin by bin.
 
 use crate::fills::Fills;
 use crate::orders::{Draws, start_orders};
@@ -37,8 +36,9 @@ pub struct Pool {
     draws: Draws,
     // Of each box in order its bin and its coordinates.
     numbers: Vec<u32>,
-    // The boxes that are filled again, the same before, and their numbers so far.
+    // The boxes that are filled again.
     order: Vec<u32>,
+    // The numbers before the last refill.
     before: Vec<u32>,
 }
 

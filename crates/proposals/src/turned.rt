@@ -180,7 +180,8 @@ pub(crate) fn turns_of(alloc: Global, instance: &Instance) -> Result<Vec<Turned>
     Ok(turns)
 }
 
-/// The same, and in three dimensions and more each also with the other dimensions the last one first.
+/// Like `turns_of`, but in three dimensions and more each turn comes twice: with the other dimensions
+/// in their order, and with the last one first.
 pub(crate) fn all_turns_of(alloc: Global, instance: &Instance) -> Result<Vec<Turned>, NoMemory> {
     let mut turns = Vec::new(alloc);
     let dims = instance.dims();
