@@ -6,9 +6,9 @@ use crate::pool::few_bins;
 use box_instances::{Instance, NoMemory};
 use std::alloc::Global;
 
-// How often bins are filled again: a tenth of a second at most. With ten times as many no other of
-// 63 texts takes a bin less.
-const REFILLS: u64 = 5_000;
+// How often bins are filled again: some hundredths of a second, half a second for 100 large boxes.
+// With three times as many no other of 63 texts takes a bin less.
+const REFILLS: u64 = 16_000;
 
 /// A number of bins, and of each box in order its bin, counted from 0, and its coordinates.
 #[derive(Drop)]
