@@ -9,10 +9,13 @@ use crate::swaps::Incumbent;
 use box_instances::{Instance, NoMemory};
 use std::alloc::Global;
 
-// The fills of a round, in two dimensions and in more.
+// The most fills of a round, in two dimensions and in more, and the most for each box: a few boxes
+// have few orders.
 const FLAT_FILLS: u64 = 500;
 
 const DEEP_FILLS: u64 = 150;
+
+const FILLS_PER_BOX: u64 = 25;
 
 // For each batch the widest beam has this many nodes more, up to a number of batches.
 const WIDTH: u64 = 8;
@@ -28,11 +31,14 @@ pub struct ProposedHeight {
 
 /// The fills of a round of swaps.
 pub(crate) fn round_fills(instance: &Instance) -> u64 {
-    if instance.dims() == 2 {
+    let most = if instance.dims() == 2 {
         FLAT_FILLS
     } else {
         DEEP_FILLS
-    }
+    };
+    u64::from(instance.len())
+        .saturating_mul(FILLS_PER_BOX)
+        .min(most)
 }
 
 // Makes a packing lower by beams of up to this width.
