@@ -16,4 +16,6 @@ mod instances;
 #[cfg(test)]
 mod levels;
 #[cfg(test)]
+mod low_packings;
+#[cfg(test)]
 mod searches;

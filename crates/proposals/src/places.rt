@@ -6,10 +6,9 @@ use crate::corners::CornerSearch;
 use crate::gaps::{Ended, GapSearch};
 use crate::luby::Luby;
 use crate::orders::{Draws, find_twins, order_round};
-use crate::slots::first_numbers;
-use crate::turned::Turned;
+use crate::turned::{Turned, turns_of};
 use box_instances::{Instance, NoMemory};
-use loose_lists::{at, put, zeros};
+use loose_lists::zeros;
 use std::alloc::Global;
 
 // The steps of a round whose number of Luby's row is 1. With 20,000 steps in each direction 27 of
@@ -44,39 +43,14 @@ impl Searches {
         }
     }
 
-    // A coordinate that was found, at a place of the order of dimensions.
-    fn found(&self, index: usize) -> u32 {
+    // The coordinates that were found, box after box.
+    fn places(&self) -> &[u32] {
         if self.flat {
-            at(&self.gaps.places, index)
+            &self.gaps.places
         } else {
-            at(&self.corners.places, index)
+            &self.corners.places
         }
     }
-}
-
-// Writes the places that were found in the order of the instance's dimensions.
-fn turn_back(turned: &Turned, searches: &Searches, into: &mut [u32]) {
-    let dims = turned.dims as usize;
-    for v in 0..turned.count as usize {
-        for k in 0..dims {
-            let first = v.saturating_mul(dims);
-            let to = first.saturating_add(at(&turned.original, k) as usize);
-            put(into, to, searches.found(first.saturating_add(k)));
-        }
-    }
-}
-
-// The instance with each dimension upwards in turn, the last one first.
-fn turns_of(alloc: Global, instance: &Instance) -> Result<Vec<Turned>, NoMemory> {
-    let mut turns = Vec::new(alloc);
-    let dims = instance.dims();
-    for k in 0..dims {
-        let turned = Turned::new(alloc, instance, dims - 1 - k)?;
-        let Ok(()) = turns.push(turned) else {
-            return Err(NoMemory);
-        };
-    }
-    Ok(turns)
 }
 
 // What a round of one direction is given: the number of the round, its steps, and the drawn
@@ -128,18 +102,17 @@ impl Orders {
     }
 }
 
-/// The room in which places are searched, for sets of boxes of one instance.
+// The memory of a search for places.
 #[derive(Drop)]
-pub struct PlaceRoom {
+struct PlaceSearch {
     turns: Vec<Turned>,
     orders: Orders,
     searches: Searches,
 }
 
-impl PlaceRoom {
-    /// Room for as many boxes as the instance has.
-    pub fn new(alloc: Global, instance: &Instance) -> Result<PlaceRoom, NoMemory> {
-        Ok(PlaceRoom {
+impl PlaceSearch {
+    fn new(alloc: Global, instance: &Instance) -> Result<PlaceSearch, NoMemory> {
+        Ok(PlaceSearch {
             turns: turns_of(alloc, instance)?,
             orders: Orders::new(alloc, instance.len())?,
             searches: Searches::new(alloc, instance.dims(), instance.len())?,
@@ -177,25 +150,14 @@ impl PlaceRoom {
         None
     }
 
-    /// Searches places for some boxes by so many steps in each direction. `rank` is the order of
-    /// their positions that is tried first. It writes the places box after box, and answers whether
-    /// it found any; else nothing is written.
-    pub fn place(
-        &mut self,
-        instance: &Instance,
-        boxes: &[u32],
-        rank: &[u32],
-        nodes: u64,
-        into: &mut [u32],
-    ) -> bool {
-        for k in 0..self.turns.len() {
-            self.turns[k].show(instance, boxes);
-        }
+    // Searches places by this many steps in each direction. `rank` is the order that is tried first.
+    // It answers whether it found and wrote any.
+    fn place(&mut self, rank: &[u32], nodes: u64, into: &mut [u32]) -> bool {
         let Some(direction) = self.search(rank, nodes) else {
             return false;
         };
         if direction < self.turns.len() {
-            turn_back(&self.turns[direction], &self.searches, into);
+            self.turns[direction].turn_back(self.searches.places(), into);
         }
         true
     }
@@ -213,13 +175,12 @@ pub fn propose_places(
     ensures { IfOk result (λ found. IfSome found
         (λ places. length places.items ≡ box_count instance.now * dims instance.now)) }
 {
-    let boxes = first_numbers(alloc, instance.len())?;
     let rank = instance.rank_order(alloc)?;
-    let mut room = PlaceRoom::new(alloc, instance)?;
+    let mut search = PlaceSearch::new(alloc, instance)?;
     let Ok(mut places) = vec![in alloc; 0u32; (instance.len() * instance.dims()) as usize] else {
         return Err(NoMemory);
     };
-    if room.place(instance, &boxes, &rank, nodes, &mut places) {
+    if search.place(&rank, nodes, &mut places) {
         Ok(Some(places))
     } else {
         Ok(None)

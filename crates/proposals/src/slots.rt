@@ -52,3 +52,18 @@ pub(crate) fn container_side(instance: &Instance, dim: u32) -> u32 {
         0
     }
 }
+
+/// The volume of each box.
+pub(crate) fn volumes(alloc: Global, instance: &Instance) -> Result<Vec<u64>, NoMemory> {
+    let mut volumes = Vec::new(alloc);
+    for v in 0..instance.len() {
+        let mut volume = 1u64;
+        for dim in 0..instance.dims() {
+            volume = volume.saturating_mul(u64::from(side(instance, v, dim)));
+        }
+        let Ok(()) = volumes.push(volume) else {
+            return Err(NoMemory);
+        };
+    }
+    Ok(volumes)
+}

@@ -1,6 +1,6 @@
 //! An instance as it is seen with one of its dimensions upwards.
 
-use crate::slots::{container_side, first_numbers, side};
+use crate::slots::{container_side, side};
 use box_instances::{Instance, NoMemory};
 use loose_lists::{at, put, zeros};
 use std::alloc::Global;
@@ -18,11 +18,12 @@ pub struct Turned {
     pub sides: Vec<u32>,
 }
 
-// The dimensions in their order, but that one goes up and is last.
-fn order_of(alloc: Global, dims: u32, up: u32) -> Result<Vec<u32>, NoMemory> {
+// The dimensions in their order, or the last one first, but that one goes up and is last.
+fn order_of(alloc: Global, dims: u32, up: u32, is_reversed: bool) -> Result<Vec<u32>, NoMemory> {
     let mut order = zeros(alloc, dims as usize)?;
     let mut filled = 0usize;
-    for dim in 0..dims {
+    for k in 0..dims {
+        let dim = if is_reversed { dims - 1 - k } else { k };
         if dim != up {
             put(&mut order, filled, dim);
             filled = filled.saturating_add(1);
@@ -32,16 +33,33 @@ fn order_of(alloc: Global, dims: u32, up: u32) -> Result<Vec<u32>, NoMemory> {
     Ok(order)
 }
 
-/// How many boxes a list has; no list has more than an instance may have.
-pub(crate) fn count_of(boxes: &[u32]) -> u32 {
-    boxes.len().min(128) as u32
+// The sides of the boxes in an order of the dimensions, box after box.
+fn sides_of(alloc: Global, instance: &Instance, original: &[u32]) -> Result<Vec<u32>, NoMemory> {
+    let (dims, count) = (instance.dims(), instance.len());
+    let mut sides = zeros(alloc, (dims * count) as usize)?;
+    for v in 0..count {
+        for k in 0..dims {
+            let index = (v as usize * dims as usize).saturating_add(k as usize);
+            put(
+                &mut sides,
+                index,
+                side(instance, v, at(original, k as usize)),
+            );
+        }
+    }
+    Ok(sides)
 }
 
 impl Turned {
-    /// The instance with this dimension upwards.
-    pub fn new(alloc: Global, instance: &Instance, up: u32) -> Result<Turned, NoMemory> {
+    /// The instance with this dimension upwards, and the others in their order or the last one first.
+    pub fn new(
+        alloc: Global,
+        instance: &Instance,
+        up: u32,
+        is_reversed: bool,
+    ) -> Result<Turned, NoMemory> {
         let dims = instance.dims();
-        let original = order_of(alloc, dims, up)?;
+        let original = order_of(alloc, dims, up, is_reversed)?;
         let mut container = zeros(alloc, dims as usize)?;
         for k in 0..dims as usize {
             put(
@@ -50,29 +68,13 @@ impl Turned {
                 container_side(instance, at(&original, k)),
             );
         }
-        let mut turned = Turned {
+        Ok(Turned {
             dims,
-            count: 0,
+            count: instance.len(),
+            sides: sides_of(alloc, instance, &original)?,
             original,
             container,
-            sides: zeros(alloc, (dims * instance.len()) as usize)?,
-        };
-        turned.show(instance, &first_numbers(alloc, instance.len())?);
-        Ok(turned)
-    }
-
-    /// Sees some boxes of the instance, in their order, in place of those that it saw.
-    pub fn show(&mut self, instance: &Instance, boxes: &[u32]) {
-        let dims = self.dims as usize;
-        let count = count_of(boxes);
-        self.count = count;
-        for k in 0..dims {
-            let dim = at(&self.original, k);
-            for v in 0..count as usize {
-                let index = v.saturating_mul(dims).saturating_add(k);
-                put(&mut self.sides, index, side(instance, at(boxes, v), dim));
-            }
-        }
+        })
     }
 
     /// The side of a box at a place of the order of dimensions.
@@ -117,4 +119,80 @@ impl Turned {
         }
         room
     }
+
+    /// How high boxes may reach.
+    pub fn top(&self) -> u32 {
+        self.container(self.dims.saturating_sub(1))
+    }
+
+    /// The volume of all boxes that are seen.
+    pub fn volume_of_all(&self) -> u128 {
+        let mut volume = 0u128;
+        for v in 0..self.count {
+            volume = volume.saturating_add(self.volume(v));
+        }
+        volume
+    }
+
+    /// Gives the container another side in a dimension of the instance.
+    pub fn limit(&mut self, dim: u32, side: u32) {
+        for k in 0..self.dims as usize {
+            if at(&self.original, k) == dim {
+                put(&mut self.container, k, side);
+            }
+        }
+    }
+
+    /// The coordinate of a box in a dimension of the instance.
+    pub fn coordinate(&self, places: &[u32], v: u32, dim: u32) -> u32 {
+        let dims = self.dims as usize;
+        for k in 0..dims {
+            if at(&self.original, k) == dim {
+                return at(places, (v as usize).saturating_mul(dims).saturating_add(k));
+            }
+        }
+        0
+    }
+
+    /// Writes coordinates in the order of the instance's dimensions, box after box.
+    pub fn turn_back(&self, places: &[u32], into: &mut [u32]) {
+        let dims = self.dims as usize;
+        for v in 0..self.count as usize {
+            let first = v.saturating_mul(dims);
+            for k in 0..dims {
+                let to = first.saturating_add(at(&self.original, k) as usize);
+                put(into, to, at(places, first.saturating_add(k)));
+            }
+        }
+    }
+}
+
+/// The instance with each dimension upwards in turn, the last one first.
+pub(crate) fn turns_of(alloc: Global, instance: &Instance) -> Result<Vec<Turned>, NoMemory> {
+    let mut turns = Vec::new(alloc);
+    let dims = instance.dims();
+    for k in 0..dims {
+        let turned = Turned::new(alloc, instance, dims - 1 - k, false)?;
+        let Ok(()) = turns.push(turned) else {
+            return Err(NoMemory);
+        };
+    }
+    Ok(turns)
+}
+
+/// Like `turns_of`, but in three dimensions and more each turn comes twice: with the other dimensions
+/// in their order, and with the last one first.
+pub(crate) fn all_turns_of(alloc: Global, instance: &Instance) -> Result<Vec<Turned>, NoMemory> {
+    let mut turns = Vec::new(alloc);
+    let dims = instance.dims();
+    let ways = if dims > 2 { 2 } else { 1 };
+    for k in 0..dims {
+        for way in 0..ways {
+            let turned = Turned::new(alloc, instance, dims - 1 - k, way == 1)?;
+            let Ok(()) = turns.push(turned) else {
+                return Err(NoMemory);
+            };
+        }
+    }
+    Ok(turns)
 }

@@ -59,7 +59,8 @@ fn improved(alloc: Global, instance: &Instance, bounds: Bounds) -> Result<Bounds
     requires { AreFirstBounds instance.now (plain_bounds bounds) }
     ensures { IfOk result (λ b. AreFirstBounds instance.now (plain_bounds b)) }
 {
-    let Some(proposed) = propose_bins(alloc, instance)? else {
+    let enough = bounds.refuted.saturating_add(1).min(u64::from(u32::MAX)) as u32;
+    let Some(proposed) = propose_bins(alloc, instance, enough)? else {
         return Ok(bounds);
     };
     let count = u64::from(proposed.count);

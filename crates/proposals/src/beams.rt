@@ -1,0 +1,241 @@
+//! Packings by beams of growing width, in two dimensions.
+
+use crate::beam::Beam;
+use crate::beam_guides::{Guides, Kind};
+use crate::orders::{order_by_value, size};
+use crate::slots::{clear, copy_into, side, volumes};
+use crate::swaps::Incumbent;
+use crate::turned::{Turned, turns_of};
+use box_instances::{Instance, NoMemory};
+use loose_lists::{at, zeros};
+use std::alloc::Global;
+
+// The width of the first beams. Now and then a narrow beam finds what wider ones miss.
+const FIRST_WIDTH: usize = 4;
+
+// The most doublings of a width, and the most beams that each make a packing lower.
+const MOST_DOUBLINGS: u32 = 8;
+
+const MOST_STEPS: u32 = 128;
+
+/// The memory of beams in both directions.
+#[derive(Drop)]
+pub struct Beams {
+    turns: Vec<Turned>,
+    beam: Beam,
+    widest: usize,
+    volumes: Vec<u64>,
+    places: Vec<u32>,
+    lies: Vec<u32>,
+}
+
+impl Beams {
+    /// Beams of up to this width over boxes that are worth this.
+    pub fn new(
+        alloc: Global,
+        instance: &Instance,
+        values: Vec<u64>,
+        widest: usize,
+    ) -> Result<Beams, NoMemory> {
+        let count = instance.len() as usize;
+        Ok(Beams {
+            turns: turns_of(alloc, instance)?,
+            beam: Beam::new(alloc, widest, values)?,
+            widest,
+            volumes: volumes(alloc, instance)?,
+            places: zeros(alloc, 2 * count)?,
+            lies: zeros(alloc, count)?,
+        })
+    }
+
+    // The boxes by falling value, then by a kind of sizes: those with the same sides stand by value.
+    fn order(
+        &mut self,
+        alloc: Global,
+        instance: &Instance,
+        direction: usize,
+        kind: u32,
+    ) -> Result<(), NoMemory> {
+        if direction >= self.turns.len() {
+            return Ok(());
+        }
+        let turned = &self.turns[direction];
+        let mut order = order_by_value(alloc, instance)?;
+        if order
+            .sort_by_key(|v| u128::MAX - size(turned, kind, *v))
+            .is_err()
+        {
+            return Err(NoMemory);
+        }
+        copy_into(&order, &mut self.beam.order);
+        Ok(())
+    }
+
+    // Runs a beam. It answers what its boxes are worth, if that is more than `most`.
+    fn run(
+        &mut self,
+        direction: usize,
+        guides: &Guides,
+        most: u64,
+    ) -> Result<Option<u64>, NoMemory> {
+        if direction >= self.turns.len() {
+            return Ok(None);
+        }
+        clear(&mut self.lies);
+        let turned = &self.turns[direction];
+        let worth = self
+            .beam
+            .run(turned, guides, most, &mut self.places, &mut self.lies)?;
+        Ok(if worth > most { Some(worth) } else { None })
+    }
+
+    // Takes the places of the last beam for the best ones.
+    fn keep(&self, direction: usize, cost: u64, best: &mut Incumbent) {
+        if direction < self.turns.len() {
+            self.turns[direction].turn_back(&self.places, &mut best.places);
+            copy_into(&self.lies, &mut best.lies);
+            best.cost = cost;
+        }
+    }
+
+    // How high the boxes at some places reach in the last dimension.
+    fn reach(&self, instance: &Instance, places: &[u32]) -> u64 {
+        let mut reach = 0u64;
+        for v in 0..instance.len() {
+            let start = u64::from(at(places, 2 * v as usize + 1));
+            reach = reach.max(start.saturating_add(u64::from(side(instance, v, 1))));
+        }
+        reach
+    }
+
+    // Whether a beam packs all boxes, which are worth `total`, below a height.
+    fn lower_to(
+        &mut self,
+        instance: &Instance,
+        direction: usize,
+        kind: Kind,
+        height: u64,
+        best: &mut Incumbent,
+    ) -> Result<bool, NoMemory> {
+        if direction >= self.turns.len() {
+            return Ok(false);
+        }
+        let top = height.min(u64::from(u32::MAX)) as u32;
+        self.turns[direction].limit(1, top);
+        let mut total = 0u64;
+        for volume in self.volumes.iter() {
+            total = total.saturating_add(*volume);
+        }
+        let guides = Guides::for_all(&self.turns[direction], kind);
+        if self
+            .run(direction, &guides, total.saturating_sub(1))?
+            .is_none()
+        {
+            return Ok(false);
+        }
+        self.keep(direction, height, best);
+        best.cost = self.reach(instance, &best.places);
+        Ok(true)
+    }
+
+    // Beams of one width and one guide: halfway down to `enough` where that is far, then right below
+    // the best height, as long as they find a packing.
+    fn lower_by(
+        &mut self,
+        instance: &Instance,
+        direction: usize,
+        kind: Kind,
+        enough: u64,
+        best: &mut Incumbent,
+    ) -> Result<(), NoMemory> {
+        for _ in 0..MOST_STEPS {
+            let gap = best.cost.saturating_sub(enough);
+            if gap == 0 {
+                return Ok(());
+            }
+            let halfway = best.cost.saturating_sub(gap / 2);
+            if gap > 4 && self.lower_to(instance, direction, kind, halfway, best)? {
+                continue;
+            }
+            let below = best.cost.saturating_sub(1);
+            if !self.lower_to(instance, direction, kind, below, best)? {
+                return Ok(());
+            }
+        }
+        Ok(())
+    }
+
+    /// Makes a packing of all boxes lower by beams, whose boxes are worth their volumes, until the
+    /// height is no more than `enough`.
+    pub fn lower(
+        &mut self,
+        alloc: Global,
+        instance: &Instance,
+        enough: u64,
+        best: &mut Incumbent,
+    ) -> Result<(), NoMemory> {
+        let mut width = FIRST_WIDTH;
+        for _ in 0..MOST_DOUBLINGS {
+            if width > self.widest {
+                return Ok(());
+            }
+            self.beam.width = width;
+            for direction in 0..2 {
+                self.order(alloc, instance, direction, 0)?;
+                self.lower_by(instance, direction, Kind::LostByMean, enough, best)?;
+                self.lower_by(instance, direction, Kind::LostByArea, enough, best)?;
+            }
+            width = width.saturating_mul(2);
+        }
+        Ok(())
+    }
+
+    // A beam for a great value, where a unit of the area is worth this fraction.
+    fn add_by(
+        &mut self,
+        direction: usize,
+        worth: u64,
+        unit: u64,
+        total: u64,
+        best: &mut Incumbent,
+    ) -> Result<(), NoMemory> {
+        if direction >= self.turns.len() {
+            return Ok(());
+        }
+        let guides = Guides::for_values(&self.turns[direction], worth, unit);
+        let most = total.saturating_sub(best.cost);
+        if let Some(worth) = self.run(direction, &guides, most)? {
+            self.keep(direction, total.saturating_sub(worth), best);
+        }
+        Ok(())
+    }
+
+    /// Looks for boxes that are worth more by beams. `worth` for `unit` of the area is about what
+    /// area is worth in a good choice, and `total` what all boxes are worth.
+    pub fn add_value(
+        &mut self,
+        alloc: Global,
+        instance: &Instance,
+        worth: u64,
+        unit: u64,
+        total: u64,
+        best: &mut Incumbent,
+    ) -> Result<(), NoMemory> {
+        let mut width = FIRST_WIDTH;
+        for _ in 0..MOST_DOUBLINGS {
+            if width > self.widest || best.cost == 0 {
+                return Ok(());
+            }
+            self.beam.width = width;
+            for direction in 0..2 {
+                self.order(alloc, instance, direction, 2)?;
+                for part in [10u64, 9, 11] {
+                    let worth = worth.saturating_mul(part);
+                    self.add_by(direction, worth, unit.saturating_mul(10), total, best)?;
+                }
+            }
+            width = width.saturating_mul(2);
+        }
+        Ok(())
+    }
+}
