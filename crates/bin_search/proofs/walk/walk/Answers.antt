@@ -7,7 +7,7 @@ use Rattle.packing_terms.specs.Packing.{box_count}
 use Rattle.packing_terms.specs.Rank.{ranked}
 use Rattle.packing_terms.proofs.RankLemmas.{ranked_are_boxes}
 use Rattle.packing_terms.proofs.Boxes.{boxes_few}
-use Rattle.tree_terms.specs.Trees.{Verdict, Yes, No, Decided, outcome}
+use Rattle.tree_terms.specs.Trees.{Verdict, Yes, Decided, outcome}
 use Rattle.tree_terms.specs.OuterTrees.{bin_node}
 use Rattle.tree_terms.proofs.Told.{told_past}
 use Rattle.proof_tree.specs.Plain.{plain_token}
