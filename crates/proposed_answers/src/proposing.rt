@@ -4,8 +4,12 @@ ghost use Rattle.conflict_search.specs.Sizes.{IsSized};
 
 use box_instances::{Instance, NoMemory};
 use conflict_search::{Proposal, propose_refutation};
-use proposals::propose_places;
+use proposals::{propose_packing, propose_places};
 use std::alloc::Global;
+
+// The batches of rounds of swaps: 32,000 fills in two dimensions, half a second at 60 boxes. They
+// find 9 of 14 packings by construction with 20 to 80 boxes, where the search for places finds 6.
+const SWAP_BATCHES: u64 = 8;
 
 // The steps of the search for places in each direction: some milliseconds, and nearly all that ten
 // times as many find.
@@ -42,9 +46,12 @@ pub fn propose_within(
     propose_refutation(alloc, instance, scales, splits)
 }
 
-/// A proposal for an instance, of a search with the most splits.
+/// A proposal for an instance: of rounds of swaps, or else of a search with the most splits.
 pub fn propose(alloc: Global, instance: &Instance, scales: bool) -> Result<Proposal, NoMemory>
     ensures { IfOk result (IsSized instance.now) }
 {
+    if let Some(places) = propose_packing(alloc, instance, SWAP_BATCHES)? {
+        return Ok(Proposal::Places(places));
+    }
     propose_within(alloc, instance, scales, most_splits(instance))
 }
