@@ -20,7 +20,7 @@ use Rattle.strip_solver.specs.declared.strip.Strip.{Strip}
 use Rattle.strip_solver.specs.declared.strip.Strip.TheVariants.{Least, Between, NoneFits}
 use Rattle.strip_solver.specs.Strips.{IsAnswer, IsTrueStrip, IsCertifiedBetween}
 use Rattle.proposed_levels.specs.declared.effort.Effort.{Effort}
-use Rattle.proposed_levels.specs.declared.effort.Effort.TheVariants.{Rough, Whole}
+use Rattle.proposed_levels.specs.declared.effort.Effort.TheVariants.{Root, Whole}
 use Rattle.proposed_levels.specs.Heights.{IsPackedAt, IsRefutedAt, IsPastHeight, IsHeightAnswer, AreHeightBounds}
 use Rattle.proposed_levels.specs.Heights.{TellsHeights, IsNamedStrip, IsLimitedStrip, IsPastBeside, height_count}
 
@@ -53,9 +53,9 @@ module _ (instance : PlainInstance) (limits : IsInternalInstance instance) (budg
 pub between_bounds : (instance : PlainInstance) (settings : Settings) (refuted height : ℕ) (tokens : List PlainToken)
     (places : List ℕ)
     → IsCertifiedBetween [] instance refuted tokens height places → height ≤ most_height
-    → AreHeightBounds instance settings Rough (first_bounds refuted tokens height places)
+    → AreHeightBounds instance settings Root (first_bounds refuted tokens height places)
 between_bounds instance settings refuted height tokens places t most =
-    are_first (IsPackedAt instance) (IsRefutedAt instance) (IsPastHeight instance settings Rough) most_height refuted
+    are_first (IsPackedAt instance) (IsRefutedAt instance) (IsPastHeight instance settings Root) most_height refuted
     height tokens places t.order most t.refutes t.packed
 
 -- the same two heights, of which no other is known to be past the budget

@@ -14,7 +14,7 @@ use Rattle.strip_solver.specs.declared.strip.Strip.{Strip}
 use Rattle.strip_solver.specs.declared.strip.Strip.TheVariants.{Least, Between, NoneFits}
 use Rattle.proposed_answers.specs.Behind.{tree_count}
 use Rattle.proposed_levels.specs.declared.effort.Effort.{Effort}
-use Rattle.proposed_levels.specs.declared.effort.Effort.TheVariants.{Rough, Light, Whole}
+use Rattle.proposed_levels.specs.declared.effort.Effort.TheVariants.{Root, Rough, Light, Whole}
 
 -- places that are a packing at a height, and tokens that refute it
 abbrev pub IsPackedAt : PlainInstance → ℕ → List ℕ → Type 0
@@ -30,6 +30,7 @@ height_count instance scales h = tree_count (with_last_side instance h) scales
 -- what is known of an instance that was decided in vain: with the whole effort, that its class tree has
 -- more branchings than the budget
 abbrev pub IsPastTree : PlainInstance → Settings → Effort → Type 0
+IsPastTree instance settings Root = Unit {0}
 IsPastTree instance settings Rough = Unit {0}
 IsPastTree instance settings Light = Unit {0}
 IsPastTree instance settings Whole = settings.budget < tree_count instance settings.scales

@@ -1,5 +1,6 @@
 //! Heights of a strip, each decided by proposals first.
-ghost use Rattle.std.specs.Prelude.{◌≡◌, ◌≤◌, IfOk, []};
+ghost use Rattle.std.specs.Prelude.{◌≡◌, ◌≤◌, ◌*◌, length, IfOk, []};
+ghost use Rattle.packing_terms.specs.Packing.{dims, box_count};
 ghost use Rattle.packing_terms.specs.Limits.{most_height};
 ghost use Rattle.tree_terms.specs.Trees.{Past as PlainPast};
 ghost use Rattle.work_share.specs.Outcomes.{plain_outcome};
@@ -14,7 +15,8 @@ use class_search::{decide, decide_alone};
 use level_bounds::{Bounds, vain_behind};
 use level_search::{Level, level_of};
 use proof_tree::Outcome;
-use proposed_answers::{answer_of, propose_within};
+use proposals::propose_height;
+use proposed_answers::{Proposal, answer_of, propose_within};
 use std::alloc::Global;
 use std::sync::Wait;
 use std::thread::Threads;
@@ -68,6 +70,7 @@ fn decide_tall<R: Threads + Wait + Sync, G: Gate + Sync>(
         (λ o. plain_outcome o ≡ PlainPast → IsPastTree tall.now settings.now effort) }
 {
     match effort {
+        Effort::Root => decide_alone(alloc, tall, 0, settings.scales),
         Effort::Rough => decide_alone(alloc, tall, rough(settings).budget, settings.scales),
         Effort::Light => propose_tall(alloc, tall, settings.scales, splits),
         Effort::Whole => search_tall(rt, alloc, tall, splits, settings, gate),
@@ -92,6 +95,50 @@ fn decide_height<R: Threads + Wait + Sync, G: Gate + Sync>(
     let tall = instance.with_last_side(alloc, height)?;
     let outcome = decide_tall(rt, alloc, &tall, effort, splits, settings, gate)?;
     Ok(level_of(outcome))
+}
+
+// What a proposed packing shows of a height.
+fn test_height(
+    alloc: Global,
+    instance: &Instance,
+    height: u32,
+    places: Vec<u32>,
+    settings: &Settings,
+) -> Result<Level, NoMemory>
+    requires limit { height ≤ most_height }
+    requires sized { length places.items ≡ box_count instance.now * dims instance.now }
+    ensures { IfOk result (λ level. IsHeightAnswer instance.now settings.now Effort.Root height
+        (plain_level level)) }
+{
+    // For the proof alone: names the scales of the settings.
+    let _scales = settings.scales;
+    let tall = instance.with_last_side(alloc, height)?;
+    let outcome = answer_of(alloc, &tall, Proposal::Places(places))?;
+    Ok(level_of(outcome))
+}
+
+/// The bounds with a proposed packing, where it is lower than the placed height and passes its test.
+pub(crate) fn lowered(
+    alloc: Global,
+    instance: &Instance,
+    bounds: Bounds,
+    batches: u64,
+    settings: &Settings,
+) -> Result<Bounds, NoMemory>
+    requires { AreHeightBounds instance.now settings.now Effort.Root (plain_bounds bounds) }
+    ensures { IfOk result
+        (λ b. AreHeightBounds instance.now settings.now Effort.Root (plain_bounds b)) }
+{
+    let enough = bounds.refuted.saturating_add(1).min(u64::from(u32::MAX)) as u32;
+    let Some(proposed) = propose_height(alloc, instance, batches, enough)? else {
+        return Ok(bounds);
+    };
+    let level = u64::from(proposed.height);
+    if level <= bounds.refuted || bounds.lowest <= level || bounds.placed <= level {
+        return Ok(bounds);
+    }
+    let answer = test_height(alloc, instance, proposed.height, proposed.places, settings)?;
+    Ok(bounds.after(level, answer))
 }
 
 /// Bounds of the least height, narrowed until both heights beside them were decided in vain or the

@@ -6,8 +6,8 @@ ghost use Rattle.level_bounds.specs.Bounds.{plain_bounds};
 ghost use Rattle.strip_solver.specs.Strips.{IsTrueStrip};
 ghost use Rattle.proposed_levels.specs.Heights.{AreHeightBounds, TellsHeights, IsNamedStrip, IsLimitedStrip, IsPastBeside};
 
-use crate::effort::{Effort, rough};
-use crate::heights::narrow_heights;
+use crate::effort::{Effort, at_root, swap_batches};
+use crate::heights::{lowered, narrow_heights};
 use box_instances::{Instance, NoMemory};
 use level_bounds::Bounds;
 use std::alloc::Global;
@@ -37,6 +37,28 @@ fn told(bounds: Bounds) -> Strip
     }
 }
 
+// The bounds whose refuted end is refuted at the root of its tree and whose placed end is a proposed
+// packing: first by plain fills, so that both stand after some hundredths of a second, and then by
+// rounds of swaps down to the refuted end.
+fn both_ends<R: Threads + Wait + Sync, G: Gate + Sync>(
+    rt: &R,
+    alloc: Global,
+    instance: &Instance,
+    first: Bounds,
+    settings: &Settings,
+    gate: &G,
+) -> Result<Bounds, NoMemory>
+    requires { AreHeightBounds instance.now settings.now Effort.Root (plain_bounds first) }
+    ensures { IfOk result
+        (λ b. AreHeightBounds instance.now settings.now Effort.Root (plain_bounds b)) }
+{
+    let placed = lowered(alloc, instance, first, 0, settings)?;
+    let start = placed.afresh();
+    let refuted = narrow_heights(rt, alloc, instance, start, Effort::Root, settings, gate)?;
+    let ends = refuted.afresh();
+    lowered(alloc, instance, ends, swap_batches(settings), settings)
+}
+
 // The answer from first bounds on: they are narrowed by a part of the tree of each height, then by
 // light proposals, and then by the whole tree with proposals behind it.
 fn narrowed<R: Threads + Wait + Sync, G: Gate + Sync>(
@@ -47,7 +69,7 @@ fn narrowed<R: Threads + Wait + Sync, G: Gate + Sync>(
     settings: &Settings,
     gate: &G,
 ) -> Result<Strip, NoMemory>
-    requires bounds { AreHeightBounds instance.now settings.now Effort.Rough (plain_bounds first) }
+    requires bounds { AreHeightBounds instance.now settings.now Effort.Root (plain_bounds first) }
     requires narrow { ¬ HasTooWideBox instance.now }
     ensures right { IfOk result (λ s. IsTrueStrip instance.now s) }
     ensures named { IfOk result (λ s. IsNamedStrip instance.now s) }
@@ -57,7 +79,9 @@ fn narrowed<R: Threads + Wait + Sync, G: Gate + Sync>(
 {
     // For the proof alone: tells the limits of the instance.
     let _limits = instance.len();
-    let near = narrow_heights(rt, alloc, instance, first, Effort::Rough, settings, gate)?;
+    let ends = both_ends(rt, alloc, instance, first, settings, gate)?;
+    let start = ends.afresh();
+    let near = narrow_heights(rt, alloc, instance, start, Effort::Rough, settings, gate)?;
     let from = near.afresh();
     let nearer = narrow_heights(rt, alloc, instance, from, Effort::Light, settings, gate)?;
     let last = nearer.afresh();
@@ -68,9 +92,10 @@ fn narrowed<R: Threads + Wait + Sync, G: Gate + Sync>(
 /// The least height at which the boxes fit, with both certificates, by proposals first. The
 /// container's last side isn't looked at.
 ///
-/// It begins at bounds that the first branchings of the heights' trees give, whose roots the scale
-/// functions refute, and narrows them by light proposals. Each height that is left between is
-/// decided by its class tree under the budget, and then by a proposal. `Between` comes only where
+/// It begins at bounds that the roots of the heights' trees give, which the scale functions refute,
+/// and a low packing that fills and swaps propose. These are narrowed by the first branchings of the
+/// trees, and then by light proposals. Each height that is left between is decided by its class tree
+/// under the budget, and then by a proposal. `Between` comes only where
 /// the trees of both heights beside the two have more branchings than the budget: the one above the
 /// refuted height and the one below the placed height. `NoneFits` comes exactly where a box is
 /// longer than the container in a dimension other than the last, and names the first. Which
@@ -90,7 +115,7 @@ pub fn least_height_proposed<R: Threads + Wait + Sync, G: Gate + Sync>(
 {
     // For the proof alone: tells the limits of the instance.
     let _limits = instance.len();
-    let found = least_height(rt, alloc, instance, &rough(settings), gate)?;
+    let found = least_height(rt, alloc, instance, &at_root(settings), gate)?;
     match found {
         Strip::Between {
             refuted,

@@ -3,14 +3,14 @@ use Rattle.level_bounds.specs.Bounds.{PlainBounds, first_bounds}
 use Rattle.proof_tree.specs.Plain.{plain_tokens}
 use Rattle.strip_solver.specs.declared.strip.Strip.{Strip}
 use Rattle.strip_solver.specs.Strips.{IsTrueStrip}
-use Rattle.proposed_levels.specs.declared.effort.Effort.TheVariants.{Rough}
+use Rattle.proposed_levels.specs.declared.effort.Effort.TheVariants.{Root}
 use Rattle.proposed_levels.specs.Heights.{AreHeightBounds, IsLimitedStrip}
 use Rattle.proposed_levels.proofs.Strips.{run_limited, between_bounds}
 use Rattle.proposed_levels.proofs.strip.least_height_proposed.Goals as goal
 
 pub narrowed-requires-clause-bounds : goal.narrowed-requires-clause-bounds
 narrowed-requires-clause-bounds g c κs within =
-    subst (λ (b : PlainBounds). AreHeightBounds c.args.instance.now c.args.settings.now Rough b)
+    subst (λ (b : PlainBounds). AreHeightBounds c.args.instance.now c.args.settings.now Root b)
     (ap₂ (λ (m : ℕ) (n : ℕ). first_bounds m (plain_tokens c.in-Between.tokens.items) n c.in-Between.places.items)
     (sym c.from.ensures) (sym c.from-in-Between.ensures)
     ∙ sym c.new-first.ensures)
