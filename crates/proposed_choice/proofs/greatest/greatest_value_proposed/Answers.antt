@@ -2,7 +2,7 @@ use Rattle.std.proofs.Common.{sym, subst}
 use Rattle.level_search.specs.Runs.{plain_reached}
 use Rattle.level_bounds.specs.Bounds.{PlainBounds, plain_bounds}
 use Rattle.proposed_choice.specs.Values.{AreValueBounds}
-use Rattle.proposed_choice.proofs.Answered.{start_bounds, bounds_true, bounds_past}
+use Rattle.proposed_choice.proofs.Answered.{start_bounds, bounds_true, bounds_limited, bounds_past}
 use Rattle.proposed_choice.proofs.greatest.greatest_value_proposed.Goals as goal
 
 pub narrow_values-requires-clause-bounds : goal.narrow_values-requires-clause-bounds
@@ -15,6 +15,12 @@ pub returns-clause-right : goal.returns-clause-right
 returns-clause-right g c =
     bounds_true c.args.instance.now c.len-limits.ensures.limits c.args.settings.now (plain_bounds c.in_ok-bounds.bounds)
     c.in_ok-bounds.ensures.kept
+    c.in_ok-bounds.ensures.narrow c.told.result c.told.ensures
+
+pub returns-clause-limited : goal.returns-clause-limited
+returns-clause-limited g c =
+    bounds_limited c.args.instance.now c.len-limits.ensures.limits c.args.settings.now
+    (plain_bounds c.in_ok-bounds.bounds) c.in_ok-bounds.ensures.kept
     c.in_ok-bounds.ensures.narrow c.told.result c.told.ensures
 
 pub returns-clause-past : goal.returns-clause-past
