@@ -1,5 +1,5 @@
 //! Least heights from the symmetry facts on, on strips worked out by hand.
-use box_instances::{BoxItem, Instance, Sides};
+use box_instances::{BoxItem, Instance, NoMemory, Sides};
 use proof_tree::Token;
 use std::alloc::Global;
 use std::sync::Wait;
@@ -51,13 +51,14 @@ const ROWS: [Row; 3] = [
 const HALVES: &[[u32; 2]] = &[[2, 1], [2, 1], [2, 1]];
 
 // Whether the least height is this one, and the rules alone refute the height below.
-fn is_least(strip: &Strip, least: u32) -> bool {
-    match strip {
+fn is_least(alloc: Global, strip: &Strip, least: u32) -> Result<bool, NoMemory> {
+    Ok(match strip {
         Strip::Least { height, tokens, .. } => {
-            *height == least && tokens.len() == 1 && matches!(&tokens[0], Token::Rules)
+            let tokens = tokens.tokens(alloc)?;
+            *height == least && matches!(tokens.as_slice(), [Token::Rules])
         }
         _ => false,
-    }
+    })
 }
 
 #[test]
@@ -65,7 +66,7 @@ fn rows_of_equal_boxes_have_their_least_height(rt: HostRuntime) -> Result<(), Fa
     for row in &ROWS {
         for workers in [1, 2] {
             let strip = found(&rt, rt.alloc(), row, 1_000, workers)?;
-            assert!(rt; is_least(&strip, row.2));
+            assert!(rt; is_least(rt.alloc(), &strip, row.2)?);
         }
     }
     Ok(())
