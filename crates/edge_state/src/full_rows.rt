@@ -49,7 +49,8 @@ fn write_box(rows: &mut RowTable, place: usize, row: BitRow<2>)
     rows.write(at + 2, row);
 }
 
-// Writes so many rows of boxes, three each, so that nothing is excluded: a row has all other boxes.
+// Writes the rows of `places` boxes, three each, so that nothing is excluded: a row has all other
+// boxes.
 // The boxes come one after another, in each dimension from the first on.
 pub(crate) fn fill_others(places: usize, boxes: u32, rows: &mut RowTable)
     requires count { IsBoxCount boxes }

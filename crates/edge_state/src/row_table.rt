@@ -32,7 +32,7 @@ impl Model for RowTable {
     } };
 }
 
-// How many rows are kept with a second word, of so many.
+// How many of `count` rows are kept with a second word.
 fn seconds_of(count: usize, wide: bool) -> usize
     ensures { result ≡ (if wide then count else 0) }
 {
@@ -114,7 +114,7 @@ impl RowTable {
         }
     }
 
-    /// The row in so many words, which hold all of it or its first numbers.
+    /// The row in `K` words, which hold all of it or its first numbers.
     #[inline]
     pub fn row<const K: usize>(&self, at: usize) -> BitRow<K>
         requires width { IsRowWidth K }
