@@ -18,9 +18,9 @@ use rule_terms::Direction;
 use std::alloc::Global;
 use std::marker::Model;
 
-/// The weights of the heaviest chains in one dimension, kept with what a chain of each box may go
-/// on to, and with the boxes beside which each is known to fit. There is memory for so many boxes,
-/// and room for at most as many.
+/// The weights of the heaviest chains in one dimension, kept with the boxes that may follow each
+/// box in a chain, and with the boxes beside which each is known to fit. There is memory for `most`
+/// boxes, and weights of at most as many.
 #[derive(Drop)]
 pub struct KeptWeights<const K: usize> {
     most: u32,
@@ -106,8 +106,8 @@ fn add_changed<const K: usize>(
     has_none(kept.minus(row))
 }
 
-// Whether the sides are those of the boxes, and each box still goes on to those of its row. The
-// boxes that go on to another one come to a row.
+// Whether the sides are those of the boxes, and the boxes of each row still follow its box in a
+// chain. Fills `ahead` with the boxes that some other box follows.
 fn still_holds<const K: usize>(
     instance: &Instance,
     state: &EdgeState,
@@ -223,7 +223,7 @@ fn heavier<const K: usize>(row: BitRow<K>, weights: &[u64], most: u64) -> BitRow
 }
 
 impl<const K: usize> KeptWeights<K> {
-    /// Room for so many boxes. Nothing is known of any chain.
+    /// Room for `boxes` boxes. Nothing is known of any chain.
     pub fn new(alloc: Global, boxes: u32) -> Result<KeptWeights<K>, NoMemory>
         requires { IsRowWidth K }
         ensures { IfOk result (λ kept. (length kept.head ≡ boxes) × (kept.most ≡ boxes)) }
@@ -254,7 +254,7 @@ impl<const K: usize> KeptWeights<K> {
         })
     }
 
-    /// Makes room for so many boxes, at most as many as there is memory for. Where there was room
+    /// Makes room for `boxes` boxes, at most as many as there is memory for. Where there was room
     /// for another number, nothing is known of any chain then. It takes no memory.
     pub fn set_boxes(&mut self, boxes: u32)
         requires width { IsRowWidth K }
@@ -299,8 +299,8 @@ impl<const K: usize> KeptWeights<K> {
     }
 
     /// Whether weights of a state can be made from them: they are of as many boxes with the same
-    /// sides, the limit is the container's side, and each box still goes on to those of its row. If
-    /// so, `ahead` becomes a row of boxes with all that go on to another one too.
+    /// sides, the limit is the container's side, and the boxes of each row still follow its box in a
+    /// chain. If so, `ahead` becomes a row of boxes with all that some other box follows too.
     pub fn holds(
         &self,
         instance: &Instance,

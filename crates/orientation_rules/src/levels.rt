@@ -43,7 +43,7 @@ impl<const K: usize> Model for KeptLevels<K> {
 }
 
 impl<const K: usize> KeptLevels<K> {
-    /// Room for so many levels, each for so many boxes. None is in use.
+    /// Room for `count` levels, each for `boxes` boxes. None is in use.
     pub fn new(alloc: Global, boxes: u32, count: u32) -> Result<KeptLevels<K>, NoMemory>
         requires { IsRowWidth K }
         ensures { IfOk result (λ kept. (kept.boxes ≡ boxes) × (kept.most ≡ boxes)) }

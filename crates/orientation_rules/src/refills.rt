@@ -7,7 +7,7 @@ ghost use Rattle.orientation_rules.specs.KeptWeights.{GoesOn};
 use box_instances::Instance;
 use edge_state::BitRow;
 
-/// Makes the list one of so many zeros, without taking memory.
+/// Makes the list one of `count` zeros, without taking memory.
 pub(crate) fn refill(list: &mut Vec<u64>, count: u32)
     requires { count ≤ vec_capacity list.old }
     ensures items { list.new.items ≡ replicate count 0 }
@@ -19,7 +19,7 @@ pub(crate) fn refill(list: &mut Vec<u64>, count: u32)
     }
 }
 
-/// Makes the list one of so many rows without a member, without taking memory.
+/// Makes the list one of `count` rows without a member, without taking memory.
 pub(crate) fn refill_rows<const K: usize>(list: &mut Vec<BitRow<K>>, count: u32)
     requires width { IsRowWidth K }
     requires room { count ≤ vec_capacity list.old }

@@ -44,8 +44,8 @@ fn led_row<const K: usize>(state: &EdgeState, dim: u32, direction: Direction, v:
     }
 }
 
-// A box of the row from which no chain goes on to another one of it, as far as so many steps find
-// one: those that come first have all that they hand on.
+// A box of the row that no other box of it may follow in a chain: its own weight is final. The walk
+// from `first` ends after as many steps as there are boxes, with such a box or without.
 fn last_in<const K: usize>(
     state: &EdgeState,
     dim: u32,

@@ -112,7 +112,7 @@ all_told ss ws done k n left l =
     sym (append-nil done)
     ∙ (ap (λ (xs : List Short). done ++ listed xs (drop n ws)) (sym (drop_all k ss l)) ∙ left)
 
--- a list, as it is held, has so many tokens as it is seen to have
+-- the number of wide tokens of a list is the same in memory and in its view
 pub held_wides : (ss : List Short) (us : List Token) → wide_count ss ≡ length us
     → wide_count ss ≡ length (map plain_token us)
 held_wides ss us e = e ∙ sym (length-map us plain_token)

@@ -48,7 +48,7 @@ put_next : (done ts new whole : List PlainToken) (t : PlainToken) → done ++ t 
     → new ++ ts ≡ whole
 put_next done ts new whole t h e = ap (λ (us : List PlainToken). us ++ ts) e ∙ (append_assoc done (t ∷ []) ts ∙ h)
 
--- the tokens are told one after another: so many are told, and so many of the wider ones
+-- the loop over the tokens: `i` are done, `n` of them wide ones
 module _ (ss : List Short) (ws whole done : List PlainToken) (i n : ℕ) (d : Short) (there : i < length ss)
     (left : done ++ listed (drop i ss) (drop n ws) ≡ whole) where
   told_on : done ++ put_shown (shown (get_or ss i d)) (listed (drop (i + 1) ss)) (drop n ws) ≡ whole
@@ -75,7 +75,7 @@ module _ (ss : List Short) (ws whole done : List PlainToken) (i n : ℕ) (d : Sh
       ∙ (ap (λ us. done ++ put_shown None (listed (drop (i + 1) ss)) us) (sym none)
       ∙ (ap (λ o. done ++ put_shown o (listed (drop (i + 1) ss)) (drop n ws)) (sym e) ∙ told_on))
 
--- so many are told, with these tokens, of which something holds
+-- the first `i` short tokens, `n` of them wide, are a list of tokens that has the property `P`
 pub record AreTold (ss : List Short) (ws : List PlainToken) (i n : ℕ) (P : List PlainToken → Type 0) : Type 0 where
   pub done : List PlainToken
   pub left : done ++ listed (drop i ss) (drop n ws) ≡ listed ss ws

@@ -16,9 +16,10 @@ ghost use Rattle.closure_terms.specs.States.{IsSized};
 ghost use Rattle.closure_terms.specs.Work.{IsWorked};
 ghost use Rattle.rule_passes.specs.Reached.{HasNoLonger, IsReachedOrdered, IsReachedBoth};
 
+use crate::candidates::beyond_compositions;
 use crate::cycles::{may_chord, may_cycle};
 use crate::orders::{may_order_crossed, may_order_first, may_order_second};
-use crate::rows::{beyond_compositions, is_empty};
+use crate::rows::is_empty;
 use crate::triples::may_triple;
 use box_instances::Instance;
 use edge_state::{BitRow, EdgeState, Mask, Rel};

@@ -13,8 +13,9 @@ ghost use Rattle.closure_terms.specs.States.{IsSized};
 ghost use Rattle.closure_terms.specs.Work.{IsWorked};
 ghost use Rattle.rule_passes.specs.Reached.{NoRule};
 
+use crate::candidates::uncomposed;
 use crate::excluding::exclude_each;
-use crate::rows::{has_empty_mask, uncomposed};
+use crate::rows::has_empty_mask;
 use box_instances::Instance;
 use edge_state::{BitRow, EdgeState, Mask, Rel};
 use relation_table::flip;

@@ -9,8 +9,9 @@ ghost use Rattle.closure_terms.specs.Instances.{Chords, Cycles};
 ghost use Rattle.closure_terms.specs.States.{IsSized};
 ghost use Rattle.closure_terms.specs.Work.{IsWorked};
 
+use crate::candidates::{cycle_fourths, cycle_seconds, cycle_thirds};
 use crate::excluding::{exclude_between, exclude_both};
-use crate::rows::{cycle_fourths, cycle_seconds, cycle_thirds, gone_of_any, has_no_two, is_empty};
+use crate::rows::{gone_of_any, has_no_two, is_empty};
 use box_instances::Instance;
 use edge_state::{BitRow, EdgeState, Rel};
 

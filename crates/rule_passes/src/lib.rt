@@ -2,6 +2,7 @@
 //! close a state with, each from where it stands.
 #![tactic(auto)]
 
+mod candidates;
 mod chains;
 mod chances;
 mod closing;

@@ -8,8 +8,9 @@ ghost use Rattle.closure_terms.specs.Instances.{OrdersFirst, OrdersSecond, Order
 ghost use Rattle.closure_terms.specs.States.{IsSized};
 ghost use Rattle.closure_terms.specs.Work.{IsCovered, IsWorked};
 
+use crate::candidates::{beyond_orders_from, beyond_orders_to};
 use crate::excluding::{exclude_between, exclude_both};
-use crate::rows::{beyond_orders_from, beyond_orders_to, either, gone, gone_of_any, is_empty};
+use crate::rows::{either, gone, gone_of_any, is_empty};
 use box_instances::Instance;
 use edge_state::{BitRow, EdgeState, Rel};
 

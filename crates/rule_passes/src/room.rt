@@ -23,8 +23,8 @@ use orientation_rules::KeptLevels;
 use std::alloc::Global;
 use std::marker::Model;
 
-/// The working room of closings, for states of so many dimensions and boxes. It is seen as these
-/// two sizes, and the number of boxes that it was made for.
+/// The working room of closings, for states of `dims` dimensions and `boxes` boxes. It is seen as
+/// these two sizes, and the number of boxes that it was made for.
 ///
 /// Rows have one word where that holds as many boxes as it was made for, and else two. The weights
 /// of chains are kept from one closing to the next.
@@ -62,7 +62,7 @@ fn count_if(count: u32, wanted: bool) -> u32
     if wanted { count } else { 0 }
 }
 
-// Room for the weights that are kept in each of so many dimensions.
+// Room for the weights that are kept in each of `dims` dimensions.
 fn levels_of<const K: usize>(
     alloc: Global,
     dims: u32,
@@ -82,7 +82,7 @@ fn levels_of<const K: usize>(
     Ok(kept)
 }
 
-// Uses the room in each dimension for so many boxes.
+// Uses the room in each dimension for `boxes` boxes.
 fn set_each<const K: usize>(kept: &mut [KeptLevels<K>], boxes: u32)
     requires width { IsRowWidth K }
     requires few { (k : ℕ) (other : PlainLevels) → k < length kept.old
@@ -118,8 +118,8 @@ impl ClosingRoom {
         })
     }
 
-    /// The working room for states of so many dimensions and boxes. `dims` is from 2 to 4, `boxes`
-    /// from 1 to 128. A closing ends as soon as it comes upon a chain that is too long.
+    /// The working room for states of `dims` dimensions and `boxes` boxes. `dims` is from 2 to 4,
+    /// `boxes` from 1 to 128. A closing ends as soon as it finds a chain that is too long.
     pub fn new(alloc: Global, dims: u32, boxes: u32) -> Result<ClosingRoom, NoMemory>
         requires dimensions { IsDimCount dims }
         requires boxes { IsBoxCount boxes }
@@ -139,7 +139,7 @@ impl ClosingRoom {
         ClosingRoom::made(alloc, dims, boxes, false)
     }
 
-    /// Uses it for states of so many boxes, at most as many as it was made for. It takes no memory.
+    /// Uses it for states of `boxes` boxes, at most as many as it was made for. It takes no memory.
     pub fn set_boxes(&mut self, boxes: u32)
         requires count { IsBoxCount boxes }
         requires most { boxes ≤ self.old.most }

@@ -12,8 +12,9 @@ ghost use Rattle.closure_terms.specs.States.{IsSized};
 ghost use Rattle.closure_terms.specs.Work.{IsWorked};
 ghost use Rattle.rule_passes.specs.Reached.{HasNoLonger};
 
+use crate::candidates::beyond_triples;
 use crate::excluding::exclude_both;
-use crate::rows::{beyond_triples, is_empty};
+use crate::rows::is_empty;
 use box_instances::Instance;
 use edge_state::{BitRow, EdgeState, Rel};
 

@@ -10,7 +10,7 @@ use Rattle.edge_state.proofs.Kept.{by_rel}
 use Rattle.closure_terms.specs.Rows.{in_each_relation}
 use Rattle.closure_terms.proofs.Beyond.{covered_beyond}
 use Rattle.rule_passes.proofs.Compositions.{none_left_out, within_found}
-use Rattle.rule_passes.proofs.rows.beyond_compositions.Goals as goal
+use Rattle.rule_passes.proofs.candidates.beyond_compositions.Goals as goal
 
 pub returns-clause-within : goal.returns-clause-within
 returns-clause-within g c x on =

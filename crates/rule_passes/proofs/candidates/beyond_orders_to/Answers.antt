@@ -6,7 +6,7 @@ use Rattle.edge_state.specs.BitRows.{row_has}
 use Rattle.closure_terms.specs.Work.{IsCovered}
 use Rattle.closure_terms.proofs.Worked.{covered_no_instance}
 use Rattle.closure_terms.proofs.Filters.{covered_order_to, without_off}
-use Rattle.rule_passes.proofs.rows.beyond_orders_to.Goals as goal
+use Rattle.rule_passes.proofs.candidates.beyond_orders_to.Goals as goal
 
 pub returns-clause-within : goal.returns-clause-within
 returns-clause-within g c x on =

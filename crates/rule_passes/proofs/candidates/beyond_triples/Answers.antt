@@ -11,7 +11,7 @@ use Rattle.closure_terms.specs.Work.{IsCovered}
 use Rattle.closure_terms.proofs.Worked.{covered_no_instance}
 use Rattle.closure_terms.proofs.Filters.{covered_triple, without_off}
 use Rattle.rule_passes.proofs.RowStates.{not_true}
-use Rattle.rule_passes.proofs.rows.beyond_triples.Goals as goal
+use Rattle.rule_passes.proofs.candidates.beyond_triples.Goals as goal
 
 pub returns-clause-within : goal.returns-clause-within
 returns-clause-within g c v on =

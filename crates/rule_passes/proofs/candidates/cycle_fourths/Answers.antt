@@ -9,7 +9,7 @@ use Rattle.closure_terms.proofs.Filters.{without_off}
 use Rattle.closure_terms.proofs.Worked.{covered_no_instance}
 use Rattle.rule_passes.proofs.CycleRows.{covered_fourth}
 use Rattle.rule_passes.proofs.RowStates.{not_true}
-use Rattle.rule_passes.proofs.rows.cycle_fourths.Goals as goal
+use Rattle.rule_passes.proofs.candidates.cycle_fourths.Goals as goal
 
 pub returns-clause-other : goal.returns-clause-other
 returns-clause-other g c d on =

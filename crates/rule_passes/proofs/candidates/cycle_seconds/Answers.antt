@@ -3,7 +3,7 @@ use Rattle.std.proofs.lemmas.Bool.{and_parts, and_cases}
 use Rattle.packing_terms.specs.declared.Rel.TheVariants.{Before, After}
 use Rattle.packing_terms.proofs.Sets.{excludes_symmetric}
 use Rattle.edge_state.specs.BitRows.{row_has}
-use Rattle.rule_passes.proofs.rows.cycle_seconds.Goals as goal
+use Rattle.rule_passes.proofs.candidates.cycle_seconds.Goals as goal
 
 pub returns-clause-within : goal.returns-clause-within
 returns-clause-within g c x on = c.gone-first.ensures.within x (and_parts _ _ (sym (c.and.ensures x) ∙ on)).0

@@ -7,7 +7,7 @@ use Rattle.edge_state.specs.BitRows.{row_has}
 use Rattle.edge_state.proofs.Kept.{row_open, row_shut}
 use Rattle.closure_terms.proofs.Filters.{minus_off, without_off}
 use Rattle.rule_passes.proofs.RowStates.{not_true}
-use Rattle.rule_passes.proofs.rows.cycle_thirds.Goals as goal
+use Rattle.rule_passes.proofs.candidates.cycle_thirds.Goals as goal
 
 pub returns-clause-within : goal.returns-clause-within
 returns-clause-within g c x on =

@@ -11,7 +11,7 @@ use Rattle.closure_terms.specs.Rows.{in_each_relation}
 use Rattle.rule_passes.specs.Reached.{composed}
 use Rattle.rule_passes.proofs.RowRules.{compose_follows, compose_shut, compose_kept}
 use Rattle.rule_passes.proofs.RowStates.{not_true}
-use Rattle.rule_passes.proofs.rows.uncomposed.Goals as goal
+use Rattle.rule_passes.proofs.candidates.uncomposed.Goals as goal
 
 pub returns-then-has-clause-other : goal.returns-then-has-clause-other
 returns-then-has-clause-other g c = λ x on. absurd (true≢false (sym on ∙ c.empty.ensures x))
