@@ -1,6 +1,6 @@
 use Rattle.std.proofs.Common.{◌∙◌}
 use Rattle.edge_state.proofs.Kept.{by_rel}
-use Rattle.edge_state.proofs.masks.EdgeState.mask_in.Goals as goal
+use Rattle.edge_state.proofs.state.EdgeState.mask_in.Goals as goal
 
 pub returns : goal.returns
 returns g c =
