@@ -19,6 +19,7 @@ use Rattle.bin_knapsack.specs.declared.choice.Choice.{Choice as FoundChoice}
 use Rattle.bin_knapsack.specs.declared.choice.Choice.TheVariants.{Greatest, Between}
 use Rattle.bin_knapsack.specs.Choices.{IsTrueChoice}
 use Rattle.bin_knapsack.proofs.Summing.{IsSum, sum_next}
+use Rattle.proposed_answers.specs.Shares.{level_share}
 use Rattle.proposed_choice.specs.Values.{top_value, value_count, IsLimitedChoice, IsPastBeside}
 use Rattle.pack_streams.specs.Moves.{Gains}
 use Rattle.pack_command.specs.Proposed.{IsProposedChoice, IsProposedSolution, IsProposedValueDecided}
@@ -138,7 +139,7 @@ module _ (settings : Settings) (instance : PlainInstance) (answer : Answer)
 -- it isn't two values where the tree of no value is past the budget
 pub choice_within : (settings : Settings) (instance : PlainInstance) (old new : Option (List ℕ)) (status : ℕ)
     → IsProposedValueDecided instance settings old new status
-    → ((t : ℕ) → value_count instance settings.scales t ≤ settings.budget) → ¬ (status ≡ 3)
+    → ((t : ℕ) → value_count instance settings.scales t ≤ level_share settings.budget) → ¬ (status ≡ 3)
 choice_within settings instance old new status (inl g) few three = let e = g.status_is in omega (arith, e, three)
 choice_within settings instance old new status (inr b) few three = let p = b.past_above in let f = few (suc b.placed) in
     omega (arith, p, f)

@@ -19,6 +19,7 @@ use Rattle.answer_streams.specs.Solutions.{strip_found, IsPlacedStrip}
 use Rattle.strip_solver.specs.declared.strip.Strip.{Strip as FoundStrip}
 use Rattle.strip_solver.specs.declared.strip.Strip.TheVariants.{Least, Between, NoneFits}
 use Rattle.strip_solver.specs.Strips.{IsTrueStrip}
+use Rattle.proposed_answers.specs.Shares.{level_share}
 use Rattle.proposed_levels.specs.Heights.{height_count, IsNamedStrip, IsLimitedStrip, IsPastBeside}
 use Rattle.pack_streams.specs.Moves.{Gains}
 use Rattle.pack_command.specs.Proposed.{IsProposedStrip, IsProposedSolution, IsProposedStripDecided}
@@ -159,7 +160,7 @@ module _ (settings : Settings) (instance : PlainInstance) (answer : Answer)
 -- it isn't two heights where the tree of no height is past the budget
 pub strip_within : (settings : Settings) (instance : PlainInstance) (old new : Option (List ℕ)) (status : ℕ)
     → IsProposedStripDecided instance settings old new status
-    → ((h : ℕ) → height_count instance settings.scales h ≤ settings.budget) → ¬ (status ≡ 3)
+    → ((h : ℕ) → height_count instance settings.scales h ≤ level_share settings.budget) → ¬ (status ≡ 3)
 strip_within settings instance old new status (inl l) few three = let e = l.status_is in omega (arith, e, three)
 strip_within settings instance old new status (inr (inl b)) few three = let p = b.past_above in let f =
     few (suc b.refuted) in omega (arith, p, f)

@@ -32,6 +32,7 @@ use Rattle.bin_knapsack.specs.declared.choice.Choice.{Choice as FoundChoice}
 use Rattle.bin_knapsack.specs.Choices.{IsTrueChoice}
 use Rattle.class_search.specs.Right.{IsRight}
 use Rattle.proposed_answers.specs.Behind.{has_scale_line, IsWithoutScales}
+use Rattle.proposed_answers.specs.Shares.{level_share}
 use Rattle.proposed_levels.specs.Heights.{height_count, IsNamedStrip, IsLimitedStrip, IsPastBeside}
 use Rattle.proposed_bins.specs.Counts.{bins_count, AreNamedBins, AreLimitedBins, IsPastBeside as IsPastBins}
 use Rattle.proposed_choice.specs.Values.{value_count, IsLimitedChoice, IsPastBeside as IsPastChoice}
@@ -56,7 +57,7 @@ pub record IsProposedFit (settings : Settings) (instance : PlainInstance) (answe
   pub answer_is : answer ≡ fit_answer outcome
 
 -- The answer for a strip, which is true; it is two heights only where the class trees of the height above
--- the refuted one and of the height below the placed one have more branchings than the budget.
+-- the refuted one and of the height below the placed one have more branchings than the share of the budget.
 pub record IsProposedStrip (settings : Settings) (instance : PlainInstance) (answer : Answer) : Type 0 where
   pub strip : FoundStrip
   pub right : IsTrueStrip instance strip
@@ -76,7 +77,7 @@ pub record AreProposedBins (settings : Settings) (instance : PlainInstance) (ans
   pub answer_is : answer ≡ bins_found bins
 
 -- The answer for a value, which is true; it is two values only where the choice trees of the value above
--- the placed one and of the value below the refuted one have more branchings than the budget.
+-- the placed one and of the value below the refuted one have more branchings than the share of the budget.
 pub record IsProposedChoice (settings : Settings) (instance : PlainInstance) (answer : Answer) : Type 0 where
   pub choice : FoundChoice
   pub right : IsTrueChoice instance choice
@@ -195,7 +196,7 @@ pub record IsProposedLeast (instance : PlainInstance) (sunk_old sunk_new : Optio
 
 -- Two heights between which the least one lies: a refuted one and a placed one, with both certificates.
 -- The class trees of the height above the refuted one and of the height below the placed one have more
--- branchings than the budget.
+-- branchings than the share of the budget.
 pub record IsProposedBetween (instance : PlainInstance) (settings : Settings) (sunk_old sunk_new : Option (List ℕ))
     (status : ℕ) : Type 0 where
   pub status_is : status ≡ 3
@@ -207,8 +208,8 @@ pub record IsProposedBetween (instance : PlainInstance) (settings : Settings) (s
   pub packing : IsPacking (with_last_side instance placed) places
   pub tokens : List PlainToken
   pub refutation : Refutes (with_last_side instance refuted) [] tokens
-  pub past_above : settings.budget < height_count instance settings.scales (suc refuted)
-  pub past_below : settings.budget < height_count instance settings.scales (pred placed)
+  pub past_above : level_share settings.budget < height_count instance settings.scales (suc refuted)
+  pub past_below : level_share settings.budget < height_count instance settings.scales (pred placed)
   pub written : Gains sunk_old sunk_new (answer_text instance (Claimed (HeightBetween refuted placed) places tokens))
 
 -- one of the two, or none
@@ -284,8 +285,8 @@ pub record AreProposedValues (instance : PlainInstance) (settings : Settings) (s
   pub packing : AreTakenNumbers instance placed numbers
   pub tokens : List PlainToken
   pub refutation : IsValueRefutation instance refuted tokens
-  pub past_above : settings.budget < value_count instance settings.scales (suc placed)
-  pub past_below : settings.budget < value_count instance settings.scales (pred refuted)
+  pub past_above : level_share settings.budget < value_count instance settings.scales (suc placed)
+  pub past_below : level_share settings.budget < value_count instance settings.scales (pred refuted)
   pub written : Gains sunk_old sunk_new (answer_text instance (Claimed (ValueBetween placed refuted) numbers tokens))
 
 -- one of the two
@@ -307,10 +308,12 @@ IsProposedDecided SolvesKnapsack instance settings sunk_old sunk_new status =
     IsProposedValueDecided instance settings sunk_old sunk_new status
 
 -- The budget is enough for the trees that the job decides for the instance, by their counts: for `fit` its
--- class tree, for `strip` that of each height, for `bins` the bin tree of each number of bins, for
--- `knapsack` the choice tree of each value.
+-- class tree; for `bins` the bin tree of each number of bins; for `strip` the share of the budget for the
+-- class tree of each height, and for `knapsack` for the choice tree of each value.
 abbrev pub IsAmple : SolvingJob → Settings → PlainInstance → Type 0
 IsAmple SolvesFit settings instance = branchings settings instance ≤ settings.budget
-IsAmple SolvesStrip settings instance = (h : ℕ) → height_count instance settings.scales h ≤ settings.budget
+IsAmple SolvesStrip settings instance =
+    (h : ℕ) → height_count instance settings.scales h ≤ level_share settings.budget
 IsAmple SolvesBins settings instance = (k : ℕ) → bins_count instance settings.scales k ≤ settings.budget
-IsAmple SolvesKnapsack settings instance = (t : ℕ) → value_count instance settings.scales t ≤ settings.budget
+IsAmple SolvesKnapsack settings instance =
+    (t : ℕ) → value_count instance settings.scales t ≤ level_share settings.budget

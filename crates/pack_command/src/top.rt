@@ -152,19 +152,20 @@ pub fn run<R: Threads + Wait + Sync, S: Source, K: Sink, E: Sink, G: Gate + Sync
     // The answer of a job with proposals is true of the instance that the input is the text of.
     // `fit` is yes only with a packing, no only with a refutation, which has no `v` line under
     // `--scales no`, and undecided only where the class tree has more branchings than the budget.
-    // `strip` is the least height over all packings with
-    // both certificates, none exactly where there is none, or between two heights with both
-    // certificates, only where the class trees of both heights beside the two have more branchings
-    // than the budget. `bins` is the same of numbers of bins and their bin trees, and `knapsack` of
-    // values and their choice trees, with the greatest for the least, and never none.
+    // `strip` is the least height over all packings with both certificates, none exactly where there
+    // is none, or between two heights with both certificates, only where the class trees of both
+    // heights beside the two have more branchings than the share of the budget (`level_share`: all
+    // of a budget up to 2,000, else 2,000, or a 500th where that is more). `knapsack` is the same of
+    // values and their choice trees, with the greatest for the least, and never none; `bins` of
+    // numbers of bins and their bin trees, with the whole budget for the share.
     ensures proposes { (job : PlainSolvingJob) (settings : PlainSettings)
         (instance : PlainInstance)
         → IsProposing words.now (S.left input.old) job settings instance → IsAnswerStatus result
         → IsProposedDecided job instance settings (K.written out.old) (K.written out.new) result }
 
-    // Where the trees of the job have at most as many branchings as the budget allows, it is
-    // decided; where the budget is enough for every tree, the status of `fit` says exactly whether
-    // the instance fits.
+    // Where the trees of the job have no more branchings than the budget (`fit`, `bins`) or its share
+    // (`strip`, `knapsack`), it is decided; where the budget is enough for every tree, the status of
+    // `fit` says exactly whether the instance fits.
     ensures settles { (job : PlainSolvingJob) (settings : PlainSettings)
         (instance : PlainInstance)
         → IsProposing words.now (S.left input.old) job settings instance

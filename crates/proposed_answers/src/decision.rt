@@ -91,8 +91,8 @@ pub fn decide_behind<R: Threads + Wait + Sync, G: Gate + Sync>(
 /// `v` line if the settings want no scales. `Past` comes only where the class tree has more
 /// branchings than the budget: within the budget the answer is yes or no. Which packing, which
 /// refutation and how few branchings isn't promised. That the outcome is the same for every number
-/// of workers is seen in the code and said by no clause: `propose` takes neither the number of
-/// workers nor the budget, and `decide_behind` gives one outcome for its proposal.
+/// of workers follows from the code and stands in no clause: `propose` doesn't take the number of
+/// workers, and `decide_behind` gives one outcome for its proposal.
 pub fn decide_proposed<R: Threads + Wait + Sync, G: Gate + Sync>(
     rt: &R,
     alloc: Global,
@@ -114,7 +114,7 @@ pub fn decide_proposed<R: Threads + Wait + Sync, G: Gate + Sync>(
 {
     // For the proof alone: tells the limits of the instance.
     let _limits = instance.len();
-    let proposal = propose(alloc, instance, settings.scales)?;
+    let proposal = propose(alloc, instance, settings.scales, settings.budget)?;
     let proposal = wanted(instance, proposal, settings.scales);
     decide_behind(rt, alloc, instance, proposal, settings, gate)
 }

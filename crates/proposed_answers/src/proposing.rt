@@ -2,14 +2,11 @@
 ghost use Rattle.std.specs.Prelude.{IfOk};
 ghost use Rattle.conflict_search.specs.Sizes.{IsSized};
 
+use crate::steps::{splits_within, swap_batches, tree_steps};
 use box_instances::{Instance, NoMemory};
 use conflict_search::{Proposal, propose_refutation};
 use proposals::{propose_packing, propose_places};
 use std::alloc::Global;
-
-// The batches of rounds of swaps: 32,000 fills in two dimensions, half a second at 60 boxes. They
-// find 9 of 14 packings by construction with 20 to 80 boxes, where the search for places finds 6.
-const SWAP_BATCHES: u64 = 8;
 
 // The steps of the search for places in each direction: some milliseconds, and nearly all that ten
 // times as many find.
@@ -30,8 +27,8 @@ pub fn most_splits(instance: &Instance) -> u64 {
     splits.min(MOST_SPLITS)
 }
 
-/// A proposal for an instance, of a search for a refutation with at most so many splits: places, a
-/// refutation, or nothing. It is made by one worker, and how many there are is no matter of it.
+/// A proposal for an instance: places, a refutation by a search with at most `splits` splits, or
+/// nothing. One worker makes it, whatever the number of workers of the run.
 pub fn propose_within(
     alloc: Global,
     instance: &Instance,
@@ -46,12 +43,20 @@ pub fn propose_within(
     propose_refutation(alloc, instance, scales, splits)
 }
 
-/// A proposal for an instance: of rounds of swaps, or else of a search with the most splits.
-pub fn propose(alloc: Global, instance: &Instance, scales: bool) -> Result<Proposal, NoMemory>
+/// A proposal for an instance under a budget: places by rounds of swaps or by filling gaps, or a
+/// refutation, of a search with as many splits as the budget pays for, at most `most_splits`.
+pub fn propose(
+    alloc: Global,
+    instance: &Instance,
+    scales: bool,
+    budget: u64,
+) -> Result<Proposal, NoMemory>
     ensures { IfOk result (IsSized instance.now) }
 {
-    if let Some(places) = propose_packing(alloc, instance, SWAP_BATCHES)? {
+    let batches = swap_batches(instance, budget);
+    if let Some(places) = propose_packing(alloc, instance, batches)? {
         return Ok(Proposal::Places(places));
     }
-    propose_within(alloc, instance, scales, most_splits(instance))
+    let paid = splits_within(instance, tree_steps(budget));
+    propose_within(alloc, instance, scales, paid.min(most_splits(instance)))
 }

@@ -1,6 +1,7 @@
 -- What the answer for a value says, from the bounds that were reached.
-use Rattle.std.proofs.Common.{◌≡◌, ℕ, suc, pred, ◌<◌, inl, inr, refl, sym, subst, arith, Bool, true, false, ltb}
+use Rattle.std.proofs.Common.{◌≡◌, ℕ, suc, pred, ◌<◌, ◌≤◌, inl, inr, refl, sym, subst, arith, Bool, true, false, ltb}
 use Rattle.std.proofs.Common.{if◌then◌else◌}
+use Rattle.std.proofs.Common.{Result, Ok, Err, IfOk}
 use Rattle.std.proofs.lemmas.Bool.{ltb-true}
 use Rattle.packing_terms.specs.Packing.{PlainInstance}
 use Rattle.packing_terms.specs.Goals.{ReachesValue}
@@ -18,46 +19,58 @@ use Rattle.tree_terms.specs.RunEnds.{value_answer}
 use Rattle.tree_terms.proofs.FirstLevels.{value_above, value_zero}
 use Rattle.tree_terms.proofs.OuterDecisions.{choice_tree_right}
 use Rattle.text_terms.specs.declared.settings.Settings.{Settings}
+use Rattle.level_search.specs.declared.level.Level.{Level}
+use Rattle.level_search.specs.Runs.{plain_level}
 use Rattle.level_bounds.specs.Bounds.{PlainBounds, first_bounds, afresh, narrowed, asked_left, IsAsked, IsNarrow}
 use Rattle.level_bounds.specs.Bounds.{IsClosed, AreBounds}
 use Rattle.level_bounds.proofs.Narrowing.{are_first, step, closed}
 use Rattle.bin_knapsack.specs.declared.choice.Choice.{Choice}
 use Rattle.bin_knapsack.specs.declared.choice.Choice.TheVariants.{Greatest, Between}
 use Rattle.bin_knapsack.specs.Choices.{IsTrueChoice}
+use Rattle.proposed_answers.specs.Shares.{level_share}
 use Rattle.proposed_choice.specs.Values.{top_value, value_at, value_count, ShowsLevel, RefutesLevel, IsPastLevel}
 use Rattle.proposed_choice.specs.Values.{IsLevelAnswer, AreValueBounds, AreFirstBounds, TellsValues, IsLimitedChoice}
 use Rattle.proposed_choice.specs.Values.{IsPastBeside}
 
--- what is told of the tree for a value is the answer there
-pub value_answered : (instance : PlainInstance) (settings : Settings) (level : ℕ)
-    → IsChoiceRight instance (value_at instance level) no_choice
+-- the outcome of the tree for a value, with at least the share of the budget, is the answer there
+pub value_answered : (instance : PlainInstance) → IsInternalInstance instance → (settings : Settings) (level budget : ℕ)
+    → level_share settings.budget ≤ budget
+    → IsLevelAnswer instance settings level (value_answer instance budget settings.scales (value_at instance level))
+value_answered instance limits settings level budget enough =
+    go (ltb budget (value_count instance settings.scales (value_at instance level))) refl
     (outcome (choice_tree instance (value_at instance level) settings.scales))
-    → IsLevelAnswer instance settings level
-    (value_answer instance settings.budget settings.scales (value_at instance level))
-value_answered instance settings level =
-    go (ltb settings.budget (value_count instance settings.scales (value_at instance level))) refl
-    (outcome (choice_tree instance (value_at instance level) settings.scales))
+    (choice_tree_right instance limits (value_at instance level) settings.scales)
   where
-    go : (b : Bool) → ltb settings.budget (value_count instance settings.scales (value_at instance level)) ≡ b
+    go : (b : Bool) → ltb budget (value_count instance settings.scales (value_at instance level)) ≡ b
         → (v : Verdict) → IsChoiceRight instance (value_at instance level) no_choice v
         → IsLevelAnswer instance settings level (level_by (if b then Past else Decided v))
-    go true e v h = ltb-true settings.budget (value_count instance settings.scales (value_at instance level)) e
+    go true e v h =
+        let l = ltb-true budget (value_count instance settings.scales (value_at instance level)) e in
+        omega (arith, enough, l)
     go false e (Yes ns c) h = h
     go false e (No ts c) h = h
 
+-- the same of what is found there, in whatever form the value is given
+pub level_answered : {E : Type 0} (instance : PlainInstance) → IsInternalInstance instance → (settings : Settings) (level budget : ℕ)
+    → level_share settings.budget ≤ budget → (value : ℕ) → value ≡ value_at instance level
+    → (r : Result Level E)
+    → IfOk r (λ l. plain_level l ≡ value_answer instance budget settings.scales value)
+    → IfOk r (λ l. IsLevelAnswer instance settings level (plain_level l))
+level_answered instance limits settings level budget enough value e (Ok l) h =
+    subst (λ (a : PlainLevel). IsLevelAnswer instance settings level a) (sym h)
+    (subst (λ (v : ℕ). IsLevelAnswer instance settings level (value_answer instance budget settings.scales v)) (sym e)
+    (value_answered instance limits settings level budget enough))
+level_answered instance limits settings level budget enough value e (Err no) h = tt
+
 -- an answer at a level that may be asked leaves bounds, and less to be asked
-pub asked_step : (instance : PlainInstance) → IsInternalInstance instance → (settings : Settings) (b : PlainBounds)
+pub asked_step : (instance : PlainInstance) (settings : Settings) (b : PlainBounds)
     → AreValueBounds instance settings b
-    → (level : ℕ) → IsAsked b level → (answer : PlainLevel)
-    → answer ≡ value_answer instance settings.budget settings.scales (value_at instance level)
+    → (level : ℕ) → IsAsked b level → (answer : PlainLevel) → IsLevelAnswer instance settings level answer
     → (after : PlainBounds) → after ≡ narrowed b level answer → AreValueBounds instance settings after
     × (asked_left after < asked_left b)
-asked_step instance limits settings b are level asked answer told after e =
+asked_step instance settings b are level asked answer is after e =
     let s = step (ShowsLevel instance) (RefutesLevel instance) (IsPastLevel instance settings) (top_value instance) b
-    are level answer asked
-    (subst (λ (a : PlainLevel). IsLevelAnswer instance settings level a) (sym told)
-    (value_answered instance settings level
-    (choice_tree_right instance limits (value_at instance level) settings.scales))) in (
+    are level answer asked is in (
       subst (λ (x : PlainBounds). AreValueBounds instance settings x) (sym e) s.are,
       subst (λ (x : PlainBounds). asked_left x < asked_left b) (sym e) s.less,
     )
@@ -156,10 +169,10 @@ module _ (instance : PlainInstance) (limits : IsInternalInstance instance) (sett
       below_refuted = let f = t.refuted_is in omega (arith, f)
 
       go : IsClosed (IsPastLevel instance settings) b
-          → (settings.budget < value_count instance settings.scales (suc placed))
-          × (settings.budget < value_count instance settings.scales (pred refuted))
+          → (level_share settings.budget < value_count instance settings.scales (suc placed))
+          × (level_share settings.budget < value_count instance settings.scales (pred refuted))
       go (inl n) = let a = t.apart in absurd (omega (arith, n, a))
       go (inr p) = (
-        subst (λ (k : ℕ). settings.budget < value_count instance settings.scales k) above p.1,
-        subst (λ (k : ℕ). settings.budget < value_count instance settings.scales k) below_refuted p.0,
+        subst (λ (k : ℕ). level_share settings.budget < value_count instance settings.scales k) above p.1,
+        subst (λ (k : ℕ). level_share settings.budget < value_count instance settings.scales k) below_refuted p.0,
       )

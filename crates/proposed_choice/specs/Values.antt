@@ -14,6 +14,7 @@ use Rattle.tree_terms.specs.OuterTrees.{choice_tree}
 use Rattle.tree_terms.specs.OuterSearch.{AreTakenNumbers}
 use Rattle.tree_terms.specs.Levels.{PlainLevel, first_values}
 use Rattle.text_terms.specs.declared.settings.Settings.{Settings}
+use Rattle.proposed_answers.specs.Shares.{level_share}
 use Rattle.level_bounds.specs.Bounds.{PlainBounds, IsRightAnswer, AreBounds}
 use Rattle.bin_knapsack.specs.declared.choice.Choice.{Choice}
 use Rattle.bin_knapsack.specs.declared.choice.Choice.TheVariants.{Greatest, Between}
@@ -42,10 +43,11 @@ ShowsLevel instance level numbers = AreTakenNumbers instance (value_at instance 
 abbrev pub RefutesLevel : PlainInstance → ℕ → List PlainToken → Type 0
 RefutesLevel instance level tokens = IsValueRefutation instance (value_at instance level) tokens
 
--- what is known of a level that was decided in vain: that the tree of its value has more branchings than
--- the budget
+-- what is known of a level that was left open: that the tree of its value has more branchings than the
+-- share of the budget
 abbrev pub IsPastLevel : PlainInstance → Settings → ℕ → Type 0
-IsPastLevel instance settings level = settings.budget < value_count instance settings.scales (value_at instance level)
+IsPastLevel instance settings level =
+    level_share settings.budget < value_count instance settings.scales (value_at instance level)
 
 -- the answer at a level
 abbrev pub IsLevelAnswer : PlainInstance → Settings → ℕ → PlainLevel → Type 0
@@ -90,8 +92,9 @@ IsLimitedChoice instance (Greatest value numbers tokens) = value < top_value ins
 IsLimitedChoice instance (Between placed numbers refuted tokens) = refuted ≤ top_value instance
 
 -- `Between` only where the choice trees of the value above the placed one and of the value below the
--- refuted one have more branchings than the budget
+-- refuted one have more branchings than the share of the budget
 abbrev pub IsPastBeside : PlainInstance → ℕ → Bool → Choice → Type 0
 IsPastBeside instance budget scales (Greatest value numbers tokens) = Unit {0}
 IsPastBeside instance budget scales (Between placed numbers refuted tokens) =
-    (budget < value_count instance scales (suc placed)) × (budget < value_count instance scales (pred refuted))
+    (level_share budget < value_count instance scales (suc placed))
+    × (level_share budget < value_count instance scales (pred refuted))

@@ -1,36 +1,27 @@
 //! The greatest value, by proposals first.
-ghost use Rattle.std.specs.Prelude.{◌≡◌, ◌<◌, IfOk};
+ghost use Rattle.std.specs.Prelude.{◌≡◌, ◌<◌, ◌≤◌, IfOk};
 ghost use Rattle.level_bounds.specs.Bounds.{plain_bounds, IsNarrow};
 ghost use Rattle.bin_knapsack.specs.Choices.{IsTrueChoice};
+ghost use Rattle.proposed_answers.specs.Shares.{level_share};
 ghost use Rattle.proposed_choice.specs.Values.{top_value, AreValueBounds, AreFirstBounds, TellsValues, IsLimitedChoice, IsPastBeside};
 
 use crate::testing::{is_choice, worth_of};
-use crate::values::{ask_level, narrow_values};
+use crate::values::{ask_beside, narrow_values};
 use bin_knapsack::{Choice, first_values};
 use box_instances::{Instance, NoMemory};
 use choice_search::choice_numbers;
 use level_bounds::{Bounds, Level};
 use proposals::propose_choice;
+use proposed_answers::level_share;
 use set_search::SetSearch;
 use std::alloc::Global;
 use std::sync::Wait;
 use std::thread::Threads;
 use work_share::{Gate, Settings};
 
-// With so few branchings a tree takes some milliseconds, and most values are decided by them: those
-// that nearly all boxes are needed for, and those that a few boxes reach.
-const FEW_BRANCHINGS: u64 = 2_000;
-
-// The settings of a rough decision, by one worker with few branchings.
-fn rough(settings: &Settings) -> Settings
-    ensures { result.scales ≡ settings.now.scales }
-{
-    Settings {
-        workers: 1,
-        budget: settings.budget.min(FEW_BRANCHINGS),
-        scales: settings.scales,
-    }
-}
+// The refuted end is narrowed by trees of such a part of the budget: some ten values are decided in
+// vain, so these cost about as much as the value above the placed one.
+const PART: u64 = 8;
 
 // The answer by the bounds that were reached.
 fn told(instance: &Instance, top: u64, bounds: Bounds) -> Choice
@@ -84,6 +75,13 @@ fn improved(
     Ok(bounds.after(level, Level::Fits(numbers)))
 }
 
+// The branchings of the trees that narrow the refuted end.
+fn part_of(settings: &Settings) -> u64
+    ensures { level_share settings.now.budget ≤ result }
+{
+    level_share(settings.budget).max(settings.budget / PART)
+}
+
 // The bounds from first ones on: the value above the placed one comes first, since the proposed
 // boxes are most often the best, and then those from both ends on.
 fn closed<R: Threads + Wait + Sync, G: Gate + Sync>(
@@ -107,21 +105,23 @@ fn closed<R: Threads + Wait + Sync, G: Gate + Sync>(
     if from.placed - from.refuted < 2 {
         return Ok(from);
     }
-    let level = from.placed - 1;
-    let beside = ask_level(
-        rt, alloc, search, instance, top, from, level, settings, gate,
-    )?;
-    narrow_values(rt, alloc, search, instance, top, beside, settings, gate)
+    let beside = ask_beside(rt, alloc, search, instance, top, from, settings, gate)?;
+    let branchings = part_of(settings);
+    narrow_values(
+        rt, alloc, search, instance, top, beside, branchings, settings, gate,
+    )
 }
 
 /// The greatest value of a set of boxes that fits, with both certificates, by proposals first.
 ///
-/// It begins at 0 and one more than all boxes are worth, and narrows these by the first branchings
-/// of the choice trees. Then come proposed boxes that pass their test, the value above what they
-/// are worth, and the values between, from both ends on, each decided by its choice tree under the
-/// budget. `Between` comes only where the trees of both values beside the two have more branchings
-/// than the budget: the one above the placed value and the one below the refuted value. Which
-/// boxes, which refutation and how many values are decided isn't promised.
+/// It begins at 0 and one more than all boxes are worth, and narrows these by choice trees with the
+/// share of the budget (`level_share`). Then come proposed boxes that pass their test. The value
+/// above what they are worth is decided by choice trees of rising branchings, up to the budget, and
+/// the values between, from both ends on, by trees of an eighth of it. So the budget bounds the
+/// run: trees have about three times as many branchings in all. `Between` comes only where the trees
+/// of both values beside the two have more branchings than the share: the one above the placed value
+/// and the one below the refuted value. Which boxes, which refutation and how many values are
+/// decided isn't promised.
 pub fn greatest_value_proposed<R: Threads + Wait + Sync, G: Gate + Sync>(
     rt: &R,
     alloc: Global,
@@ -138,10 +138,20 @@ pub fn greatest_value_proposed<R: Threads + Wait + Sync, G: Gate + Sync>(
     let _limits = instance.len();
     let first = first_values(alloc, instance)?;
     let top = first.refuted;
-    let few = rough(settings);
+    let share = level_share(settings.budget);
     let mut search = SetSearch::new(alloc, instance, settings.scales)?;
     let start = Bounds::new(0, first.tokens, top, first.numbers);
-    let near = narrow_values(rt, alloc, &mut search, instance, top, start, &few, gate)?;
+    let near = narrow_values(
+        rt,
+        alloc,
+        &mut search,
+        instance,
+        top,
+        start,
+        share,
+        settings,
+        gate,
+    )?;
     let better = improved(alloc, instance, top, near.afresh())?;
     let bounds = closed(
         rt,

@@ -19,9 +19,12 @@ use Rattle.level_bounds.proofs.Narrowing.{are_first, closed}
 use Rattle.strip_solver.specs.declared.strip.Strip.{Strip}
 use Rattle.strip_solver.specs.declared.strip.Strip.TheVariants.{Least, Between, NoneFits}
 use Rattle.strip_solver.specs.Strips.{IsAnswer, IsTrueStrip, IsCertifiedBetween}
+use Rattle.proposed_answers.specs.Behind.{tree_count}
+use Rattle.proposed_answers.specs.Shares.{level_share}
 use Rattle.proposed_levels.specs.declared.effort.Effort.{Effort}
-use Rattle.proposed_levels.specs.declared.effort.Effort.TheVariants.{Root, Whole}
-use Rattle.proposed_levels.specs.Heights.{IsPackedAt, IsRefutedAt, IsPastHeight, IsHeightAnswer, AreHeightBounds}
+use Rattle.proposed_levels.specs.declared.effort.Effort.TheVariants.{Root, Share}
+use Rattle.proposed_levels.specs.Heights.{IsPackedAt, IsRefutedAt, IsPastTree, IsPastHeight, IsHeightAnswer}
+use Rattle.proposed_levels.specs.Heights.{AreHeightBounds}
 use Rattle.proposed_levels.specs.Heights.{TellsHeights, IsNamedStrip, IsLimitedStrip, IsPastBeside, height_count}
 
 -- a right outcome is the answer at a height
@@ -31,6 +34,13 @@ pub height_answered : (instance : PlainInstance) (settings : Settings) (effort :
 height_answered instance settings effort h (Decided (Yes numbers count)) right past = right
 height_answered instance settings effort h (Decided (No tokens count)) right past = right
 height_answered instance settings effort h Past right past = past refl
+
+-- a tree with more branchings than it was given is past the share, where it was given at least that
+pub past_share : (instance : PlainInstance) (settings : Settings) (effort : Effort) (branchings : ℕ)
+    → (effort ≡ Share → level_share settings.budget ≤ branchings)
+    → branchings < tree_count instance settings.scales → IsPastTree instance settings effort
+past_share instance settings Root branchings enough past = tt
+past_share instance settings Share branchings enough past = let e = enough refl in omega (arith, e, past)
 
 -- ---- what a run of heights gives
 
@@ -69,7 +79,7 @@ bounds_afresh instance settings e f b h =
 -- ---- what the bounds that were reached tell
 
 module _ (instance : PlainInstance) (limits : IsInternalInstance instance) (settings : Settings) (b : PlainBounds)
-    (are : AreHeightBounds instance settings Whole b) (narrow : IsNarrow b) where
+    (are : AreHeightBounds instance settings Share b) (narrow : IsNarrow b) where
   refuted_fits : ¬ Fits (with_last_side instance b.refuted)
   refuted_fits =
       let o = are.order in
@@ -114,15 +124,15 @@ module _ (instance : PlainInstance) (limits : IsInternalInstance instance) (sett
   pub bounds_past : (s : Strip) → TellsHeights b s → IsPastBeside instance settings.budget settings.scales s
   bounds_past (Least height places tokens) t = tt
   bounds_past (Between refuted tokens height places) t =
-      go (closed (IsPackedAt instance) (IsRefutedAt instance) (IsPastHeight instance settings Whole) most_height
+      go (closed (IsPackedAt instance) (IsRefutedAt instance) (IsPastHeight instance settings Share) most_height
       b are narrow)
     where
-      go : IsClosed (IsPastHeight instance settings Whole) b
-          → (settings.budget < height_count instance settings.scales (suc refuted))
-          × (settings.budget < height_count instance settings.scales (pred height))
+      go : IsClosed (IsPastHeight instance settings Share) b
+          → (level_share settings.budget < height_count instance settings.scales (suc refuted))
+          × (level_share settings.budget < height_count instance settings.scales (pred height))
       go (inl n) = let a = t.apart in absurd (omega (arith, n, a))
       go (inr p) = (
-        subst (λ (h : ℕ). settings.budget < height_count instance settings.scales (suc h)) (sym t.refuted_is) p.0,
-        subst (λ (h : ℕ). settings.budget < height_count instance settings.scales (pred h)) (sym t.height_is) p.1,
+        subst (λ (h : ℕ). level_share settings.budget < height_count instance settings.scales (suc h)) (sym t.refuted_is) p.0,
+        subst (λ (h : ℕ). level_share settings.budget < height_count instance settings.scales (pred h)) (sym t.height_is) p.1,
       )
   bounds_past (NoneFits v i) t = absurd t

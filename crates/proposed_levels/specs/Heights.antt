@@ -12,8 +12,9 @@ use Rattle.level_bounds.specs.Bounds.{PlainBounds, IsRightAnswer, AreBounds}
 use Rattle.strip_solver.specs.declared.strip.Strip.{Strip}
 use Rattle.strip_solver.specs.declared.strip.Strip.TheVariants.{Least, Between, NoneFits}
 use Rattle.proposed_answers.specs.Behind.{tree_count}
+use Rattle.proposed_answers.specs.Shares.{level_share}
 use Rattle.proposed_levels.specs.declared.effort.Effort.{Effort}
-use Rattle.proposed_levels.specs.declared.effort.Effort.TheVariants.{Root, Rough, Light, Whole}
+use Rattle.proposed_levels.specs.declared.effort.Effort.TheVariants.{Root, Share}
 
 -- places that are a packing at a height, and tokens that refute it
 abbrev pub IsPackedAt : PlainInstance → ℕ → List ℕ → Type 0
@@ -26,13 +27,11 @@ IsRefutedAt instance h tokens = Refutes (with_last_side instance h) [] tokens
 abbrev pub height_count : PlainInstance → Bool → ℕ → ℕ
 height_count instance scales h = tree_count (with_last_side instance h) scales
 
--- what is known of an instance that was decided in vain: with the whole effort, that its class tree has
--- more branchings than the budget
+-- what is known of an instance that was left open: behind its tree, that this has more branchings than
+-- the share of the budget
 abbrev pub IsPastTree : PlainInstance → Settings → Effort → Type 0
 IsPastTree instance settings Root = Unit {0}
-IsPastTree instance settings Rough = Unit {0}
-IsPastTree instance settings Light = Unit {0}
-IsPastTree instance settings Whole = settings.budget < tree_count instance settings.scales
+IsPastTree instance settings Share = level_share settings.budget < tree_count instance settings.scales
 
 -- and of a height
 abbrev pub IsPastHeight : PlainInstance → Settings → Effort → ℕ → Type 0
@@ -82,9 +81,10 @@ IsLimitedStrip (Between refuted tokens height places) = height ≤ most_height
 IsLimitedStrip (NoneFits v i) = Unit {0}
 
 -- `Between` only where the class trees of the height above the refuted one and of the height below the
--- placed one have more branchings than the budget
+-- placed one have more branchings than the share of the budget
 abbrev pub IsPastBeside : PlainInstance → ℕ → Bool → Strip → Type 0
 IsPastBeside instance budget scales (Least height places tokens) = Unit {0}
 IsPastBeside instance budget scales (Between refuted tokens height places) =
-    (budget < height_count instance scales (suc refuted)) × (budget < height_count instance scales (pred height))
+    (level_share budget < height_count instance scales (suc refuted))
+    × (level_share budget < height_count instance scales (pred height))
 IsPastBeside instance budget scales (NoneFits v i) = Unit {0}

@@ -7,11 +7,13 @@ ghost use Rattle.work_share.specs.Outcomes.{plain_outcome};
 ghost use Rattle.class_search.specs.Right.{IsRight};
 ghost use Rattle.level_search.specs.Runs.{plain_level};
 ghost use Rattle.level_bounds.specs.Bounds.{plain_bounds, IsNarrow};
+ghost use Rattle.proposed_answers.specs.Shares.{level_share};
 ghost use Rattle.proposed_levels.specs.Heights.{IsPastTree, IsHeightAnswer, AreHeightBounds};
 
-use crate::effort::{Effort, first_splits, rough, splits_behind};
+use crate::effort::Effort;
+use crate::purse::Purse;
 use box_instances::{Instance, NoMemory};
-use class_search::{decide, decide_alone};
+use class_search::decide;
 use level_bounds::{Bounds, vain_behind};
 use level_search::{Level, level_of};
 use proof_tree::Outcome;
@@ -22,46 +24,52 @@ use std::sync::Wait;
 use std::thread::Threads;
 use work_share::{Gate, Settings};
 
-// What a proposal shows of the instance of one height.
-fn propose_tall(
-    alloc: Global,
-    tall: &Instance,
-    scales: bool,
-    splits: u64,
-) -> Result<Outcome, NoMemory>
-    ensures { IfOk result (λ o. IsRight tall.now [] (plain_outcome o)) }
-{
-    let proposal = propose_within(alloc, tall, scales, splits)?;
-    answer_of(alloc, tall, proposal)
-}
+// More rounds than any budget allows: each has at least twice the branchings of the one before.
+const MOST_ROUNDS: u32 = 32;
 
-// What the tree of one height shows, and where it is past the budget what a proposal shows.
-fn search_tall<R: Threads + Wait + Sync, G: Gate + Sync>(
-    rt: &R,
-    alloc: Global,
-    tall: &Instance,
-    splits: u64,
-    settings: &Settings,
-    gate: &G,
-) -> Result<Outcome, NoMemory>
-    ensures right { IfOk result (λ o. IsRight tall.now [] (plain_outcome o)) }
-    ensures past { IfOk result
-        (λ o. plain_outcome o ≡ PlainPast → IsPastTree tall.now settings.now Effort.Whole) }
+// The branchings of the tree of a level.
+fn branchings_of(effort: Effort, purse: &Purse, settings: &Settings) -> u64
+    ensures { effort ≡ Effort.Share → level_share settings.now.budget ≤ result }
 {
-    match decide(rt, alloc, tall, settings, gate)? {
-        Outcome::Yes { numbers, count } => Ok(Outcome::Yes { numbers, count }),
-        Outcome::No { tokens, count } => Ok(Outcome::No { tokens, count }),
-        Outcome::Past => propose_tall(alloc, tall, settings.scales, splits),
+    match effort {
+        Effort::Root => 0,
+        Effort::Share => purse.branchings(settings),
     }
 }
 
-// What is found of the instance of one height.
+// Whether an outcome is yes or no.
+fn is_decided(outcome: &Outcome) -> bool {
+    !matches!(outcome, Outcome::Past)
+}
+
+// What a proposal shows of the instance of one height, whose tree has more branchings than it was
+// given.
+fn propose_tall(
+    alloc: Global,
+    tall: &Instance,
+    effort: Effort,
+    purse: &mut Purse,
+    settings: &Settings,
+) -> Result<Outcome, NoMemory>
+    ensures { IfOk result (λ o. IsRight tall.now [] (plain_outcome o)) }
+{
+    let splits = purse.splits(tall);
+    if effort == Effort::Root || splits == 0 {
+        return Ok(Outcome::Past);
+    }
+    let proposal = propose_within(alloc, tall, settings.scales, splits)?;
+    let outcome = answer_of(alloc, tall, proposal)?;
+    purse.pay_splits(tall, splits, is_decided(&outcome));
+    Ok(outcome)
+}
+
+// What is found of the instance of one height: by its tree, and behind that by a proposal.
 fn decide_tall<R: Threads + Wait + Sync, G: Gate + Sync>(
     rt: &R,
     alloc: Global,
     tall: &Instance,
     effort: Effort,
-    splits: u64,
+    purse: &mut Purse,
     settings: &Settings,
     gate: &G,
 ) -> Result<Outcome, NoMemory>
@@ -69,11 +77,25 @@ fn decide_tall<R: Threads + Wait + Sync, G: Gate + Sync>(
     ensures past { IfOk result
         (λ o. plain_outcome o ≡ PlainPast → IsPastTree tall.now settings.now effort) }
 {
-    match effort {
-        Effort::Root => decide_alone(alloc, tall, 0, settings.scales),
-        Effort::Rough => decide_alone(alloc, tall, rough(settings).budget, settings.scales),
-        Effort::Light => propose_tall(alloc, tall, settings.scales, splits),
-        Effort::Whole => search_tall(rt, alloc, tall, splits, settings, gate),
+    let branchings = branchings_of(effort, purse, settings);
+    let within = Settings {
+        workers: settings.workers,
+        budget: branchings,
+        scales: settings.scales,
+    };
+    match decide(rt, alloc, tall, &within, gate)? {
+        Outcome::Yes { numbers, count } => {
+            purse.pay_branchings(count);
+            Ok(Outcome::Yes { numbers, count })
+        }
+        Outcome::No { tokens, count } => {
+            purse.pay_branchings(count);
+            Ok(Outcome::No { tokens, count })
+        }
+        Outcome::Past => {
+            purse.pay_branchings(branchings);
+            propose_tall(alloc, tall, effort, purse, settings)
+        }
     }
 }
 
@@ -84,7 +106,7 @@ fn decide_height<R: Threads + Wait + Sync, G: Gate + Sync>(
     instance: &Instance,
     height: u32,
     effort: Effort,
-    splits: u64,
+    purse: &mut Purse,
     settings: &Settings,
     gate: &G,
 ) -> Result<Level, NoMemory>
@@ -93,7 +115,7 @@ fn decide_height<R: Threads + Wait + Sync, G: Gate + Sync>(
         (plain_level level)) }
 {
     let tall = instance.with_last_side(alloc, height)?;
-    let outcome = decide_tall(rt, alloc, &tall, effort, splits, settings, gate)?;
+    let outcome = decide_tall(rt, alloc, &tall, effort, purse, settings, gate)?;
     Ok(level_of(outcome))
 }
 
@@ -149,6 +171,7 @@ pub(crate) fn narrow_heights<R: Threads + Wait + Sync, G: Gate + Sync>(
     instance: &Instance,
     bounds: Bounds,
     effort: Effort,
+    purse: &mut Purse,
     settings: &Settings,
     gate: &G,
 ) -> Result<Bounds, NoMemory>
@@ -158,16 +181,46 @@ pub(crate) fn narrow_heights<R: Threads + Wait + Sync, G: Gate + Sync>(
     ensures narrow { IfOk result (λ b. IsNarrow (plain_bounds b)) }
 {
     let mut bounds = bounds;
-    let mut in_vain = 0;
-    let mut splits = first_splits(instance, effort);
+    let mut in_vain = purse.first_in_vain();
     while let Some(level) = bounds.level_behind(in_vain) {
         let gap = bounds.gap();
         let height = level as u32;
-        let answer = decide_height(rt, alloc, instance, height, effort, splits, settings, gate)?;
+        let answer = decide_height(rt, alloc, instance, height, effort, purse, settings, gate)?;
         bounds = bounds.after(level, answer);
-        let is_narrower = bounds.gap() < gap;
-        in_vain = vain_behind(in_vain, is_narrower);
-        splits = splits_behind(splits, is_narrower);
+        in_vain = vain_behind(in_vain, bounds.gap() < gap);
+    }
+    Ok(bounds)
+}
+
+/// Bounds of the least height, narrowed in rounds: in each the trees have more branchings than in
+/// the one before, as long as the purse of the run holds them.
+pub(crate) fn narrow_in_rounds<R: Threads + Wait + Sync, G: Gate + Sync>(
+    rt: &R,
+    alloc: Global,
+    instance: &Instance,
+    first: Bounds,
+    settings: &Settings,
+    gate: &G,
+) -> Result<Bounds, NoMemory>
+    requires { AreHeightBounds instance.now settings.now Effort.Root (plain_bounds first) }
+    ensures kept { IfOk result
+        (λ b. AreHeightBounds instance.now settings.now Effort.Share (plain_bounds b)) }
+    ensures narrow { IfOk result (λ b. IsNarrow (plain_bounds b)) }
+{
+    let mut purse = Purse::new(instance, settings);
+    let start = first.afresh();
+    let effort = Effort::Share;
+    let mut bounds = narrow_heights(
+        rt, alloc, instance, start, effort, &mut purse, settings, gate,
+    )?;
+    for _ in 0..MOST_ROUNDS {
+        if bounds.gap() < 2 || !purse.next_round(settings) {
+            return Ok(bounds);
+        }
+        let next = bounds.afresh();
+        bounds = narrow_heights(
+            rt, alloc, instance, next, effort, &mut purse, settings, gate,
+        )?;
     }
     Ok(bounds)
 }

@@ -4,6 +4,7 @@
 
 mod effort;
 mod heights;
+mod purse;
 mod strip;
 
 pub use strip::least_height_proposed;

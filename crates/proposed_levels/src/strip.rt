@@ -6,10 +6,12 @@ ghost use Rattle.level_bounds.specs.Bounds.{plain_bounds};
 ghost use Rattle.strip_solver.specs.Strips.{IsTrueStrip};
 ghost use Rattle.proposed_levels.specs.Heights.{AreHeightBounds, TellsHeights, IsNamedStrip, IsLimitedStrip, IsPastBeside};
 
-use crate::effort::{Effort, at_root, swap_batches};
-use crate::heights::{lowered, narrow_heights};
+use crate::effort::{Effort, at_root};
+use crate::heights::{lowered, narrow_heights, narrow_in_rounds};
+use crate::purse::Purse;
 use box_instances::{Instance, NoMemory};
 use level_bounds::Bounds;
+use proposed_answers::swap_batches;
 use std::alloc::Global;
 use std::sync::Wait;
 use std::thread::Threads;
@@ -54,13 +56,17 @@ fn both_ends<R: Threads + Wait + Sync, G: Gate + Sync>(
 {
     let placed = lowered(alloc, instance, first, 0, settings)?;
     let start = placed.afresh();
-    let refuted = narrow_heights(rt, alloc, instance, start, Effort::Root, settings, gate)?;
+    let effort = Effort::Root;
+    let mut purse = Purse::new(instance, settings);
+    let refuted = narrow_heights(
+        rt, alloc, instance, start, effort, &mut purse, settings, gate,
+    )?;
     let ends = refuted.afresh();
-    lowered(alloc, instance, ends, swap_batches(settings), settings)
+    let batches = swap_batches(instance, settings.budget);
+    lowered(alloc, instance, ends, batches, settings)
 }
 
-// The answer from first bounds on: they are narrowed by a part of the tree of each height, then by
-// light proposals, and then by the whole tree with proposals behind it.
+// The answer from first bounds on: both ends stand, and then they are narrowed in rounds.
 fn narrowed<R: Threads + Wait + Sync, G: Gate + Sync>(
     rt: &R,
     alloc: Global,
@@ -80,12 +86,7 @@ fn narrowed<R: Threads + Wait + Sync, G: Gate + Sync>(
     // For the proof alone: tells the limits of the instance.
     let _limits = instance.len();
     let ends = both_ends(rt, alloc, instance, first, settings, gate)?;
-    let start = ends.afresh();
-    let near = narrow_heights(rt, alloc, instance, start, Effort::Rough, settings, gate)?;
-    let from = near.afresh();
-    let nearer = narrow_heights(rt, alloc, instance, from, Effort::Light, settings, gate)?;
-    let last = nearer.afresh();
-    let bounds = narrow_heights(rt, alloc, instance, last, Effort::Whole, settings, gate)?;
+    let bounds = narrow_in_rounds(rt, alloc, instance, ends, settings, gate)?;
     Ok(told(bounds))
 }
 
@@ -93,13 +94,14 @@ fn narrowed<R: Threads + Wait + Sync, G: Gate + Sync>(
 /// container's last side isn't looked at.
 ///
 /// It begins at bounds that the roots of the heights' trees give, which the scale functions refute,
-/// and a low packing that fills and swaps propose. These are narrowed by the first branchings of the
-/// trees, and then by light proposals. Each height that is left between is decided by its class tree
-/// under the budget, and then by a proposal. `Between` comes only where
-/// the trees of both heights beside the two have more branchings than the budget: the one above the
-/// refuted height and the one below the placed height. `NoneFits` comes exactly where a box is
-/// longer than the container in a dimension other than the last, and names the first. Which
-/// packing, which refutation and how many heights are decided isn't promised.
+/// and a low packing that fills, swaps and beams propose. The heights between are narrowed in rounds:
+/// each is decided by its class tree, and behind that by a proposal, with more branchings from round
+/// to round as long as the budget pays for them. The budget bounds the whole run: a branching of n
+/// boxes is counted by n^2. `Between` comes only where the trees of both heights beside the two have
+/// more branchings than the share of the budget (`level_share`): the one above the refuted height
+/// and the one below the placed height. `NoneFits` comes exactly where a box is longer than the
+/// container in a dimension other than the last, and names the first. Which packing, which
+/// refutation and how many heights are decided isn't promised.
 pub fn least_height_proposed<R: Threads + Wait + Sync, G: Gate + Sync>(
     rt: &R,
     alloc: Global,

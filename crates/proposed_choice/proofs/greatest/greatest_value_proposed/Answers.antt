@@ -7,9 +7,9 @@ use Rattle.proposed_choice.proofs.greatest.greatest_value_proposed.Goals as goal
 
 pub narrow_values-requires-clause-bounds : goal.narrow_values-requires-clause-bounds
 narrow_values-requires-clause-bounds g c κs within =
-    subst (λ (b : PlainBounds). AreValueBounds c.args.instance.now c.rough-few.result b) (sym c.new-start.ensures)
-    (start_bounds c.args.instance.now c.len-limits.ensures.limits c.rough-few.result (plain_reached c.in_ok-first.first)
-    c.in_ok-first.ensures)
+    subst (λ (b : PlainBounds). AreValueBounds c.args.instance.now c.args.settings.now b) (sym c.new-start.ensures)
+    (start_bounds c.args.instance.now c.len-limits.ensures.limits c.args.settings.now
+    (plain_reached c.in_ok-first.first) c.in_ok-first.ensures)
 
 pub returns-clause-right : goal.returns-clause-right
 returns-clause-right g c =
