@@ -115,7 +115,7 @@ fn is_worth_nothing<R: Threads + Wait + Sync>(
     alloc: Global,
     instance: &Instance,
 ) -> Result<bool, Fail> {
-    let is_none = propose_choice(alloc, instance)?.is_none();
+    let is_none = propose_choice(alloc, instance, 1)?.is_none();
     let ample = settings(1, 100_000);
     Ok(is_none && proposes(rt, alloc, instance, &ample, Told::Greatest(0))?)
 }
@@ -129,7 +129,7 @@ fn where_no_box_fits_nothing_is_worth_more(rt: HostRuntime) -> Result<(), Fail> 
 
 // Whether what is proposed for the four boxes, three of them and six coordinates, is a choice.
 fn passes(alloc: Global, instance: &Instance) -> Result<bool, Fail> {
-    let Some(choice) = propose_choice(alloc, instance)? else {
+    let Some(choice) = propose_choice(alloc, instance, 1)? else {
         return Ok(false);
     };
     if choice.taken.len() != 3 || choice.places.len() != 6 {

@@ -34,6 +34,12 @@ const SWAP_STEPS_OF_MORE: u64 = 200;
 
 const MOST_BATCHES: u64 = 64;
 
+// A batch for values takes 800 n^2 steps in any dimension, since not all boxes are placed. Over 19 texts
+// of 20 to 100 boxes 40 batches place at most 2 % more than 12, and 12 at most 3 % more than 4.
+const VALUE_BATCH_COST: u64 = 800;
+
+const MOST_VALUE_BATCHES: u64 = 40;
+
 // The steps of so many branchings, each of the first ones at one price and each further one at
 // another.
 fn steps_of(budget: u64, small: u64, more: u64) -> u64 {
@@ -62,15 +68,28 @@ pub fn splits_within(instance: &Instance, steps: u64) -> u64 {
     steps / SPLIT_COST / branching_steps(instance).max(1)
 }
 
-/// The batches of rounds of swaps under a budget, at most 64. There is none where the boxes are so
-/// many that a batch is dear for a budget of 0.
+// The steps that swaps may take under a budget.
+fn swap_steps(budget: u64) -> u64 {
+    steps_of(budget, SWAP_STEPS_OF_SMALL, SWAP_STEPS_OF_MORE).saturating_add(SWAP_STEPS)
+}
+
+// As many batches as the steps hold, each of which takes `cost` steps for the square of the boxes.
+fn batches_within(instance: &Instance, steps: u64, cost: u64) -> u64 {
+    steps / cost.saturating_mul(branching_steps(instance)).max(1)
+}
+
+/// The batches of rounds of swaps for a packing of all boxes under a budget, at most 64. There is
+/// none where the boxes are so many that a batch is dear for a budget of 0.
 pub fn swap_batches(instance: &Instance, budget: u64) -> u64 {
-    let all = steps_of(budget, SWAP_STEPS_OF_SMALL, SWAP_STEPS_OF_MORE).saturating_add(SWAP_STEPS);
     let cost = if instance.dims() == 2 {
         FLAT_BATCH_COST
     } else {
         DEEP_BATCH_COST
     };
-    let batch = cost.saturating_mul(branching_steps(instance)).max(1);
-    (all / batch).min(MOST_BATCHES)
+    batches_within(instance, swap_steps(budget), cost).min(MOST_BATCHES)
+}
+
+/// The batches of rounds of swaps for a set of boxes that is worth much under a budget, at most 40.
+pub fn value_batches(instance: &Instance, budget: u64) -> u64 {
+    batches_within(instance, swap_steps(budget), VALUE_BATCH_COST).min(MOST_VALUE_BATCHES)
 }

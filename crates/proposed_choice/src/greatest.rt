@@ -12,7 +12,7 @@ use box_instances::{Instance, NoMemory};
 use choice_search::choice_numbers;
 use level_bounds::{Bounds, Level};
 use proposals::propose_choice;
-use proposed_answers::level_share;
+use proposed_answers::{level_share, value_batches};
 use set_search::SetSearch;
 use std::alloc::Global;
 use std::sync::Wait;
@@ -52,6 +52,7 @@ fn improved(
     instance: &Instance,
     top: u64,
     bounds: Bounds,
+    batches: u64,
 ) -> Result<Bounds, NoMemory>
     requires top { top ≡ top_value instance.now }
     requires bounds { AreFirstBounds instance.now (plain_bounds bounds) }
@@ -60,7 +61,7 @@ fn improved(
     if bounds.next_level().is_none() {
         return Ok(bounds);
     }
-    let Some(proposed) = propose_choice(alloc, instance)? else {
+    let Some(proposed) = propose_choice(alloc, instance, batches)? else {
         return Ok(bounds);
     };
     if !is_choice(alloc, instance, &proposed.taken, &proposed.places)? {
@@ -152,7 +153,8 @@ pub fn greatest_value_proposed<R: Threads + Wait + Sync, G: Gate + Sync>(
         settings,
         gate,
     )?;
-    let better = improved(alloc, instance, top, near.afresh())?;
+    let batches = value_batches(instance, settings.budget);
+    let better = improved(alloc, instance, top, near.afresh(), batches)?;
     let bounds = closed(
         rt,
         alloc,

@@ -181,7 +181,7 @@ pub(crate) fn narrow_heights<R: Threads + Wait + Sync, G: Gate + Sync>(
     ensures narrow { IfOk result (λ b. IsNarrow (plain_bounds b)) }
 {
     let mut bounds = bounds;
-    let mut in_vain = purse.first_in_vain();
+    let mut in_vain = purse.first_in_vain(effort);
     while let Some(level) = bounds.level_behind(in_vain) {
         let gap = bounds.gap();
         let height = level as u32;

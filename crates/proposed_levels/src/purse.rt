@@ -2,6 +2,7 @@
 ghost use Rattle.std.specs.Prelude.{◌≡◌, ◌≤◌};
 ghost use Rattle.proposed_answers.specs.Shares.{level_share};
 
+use crate::effort::Effort;
 use box_instances::Instance;
 use proposed_answers::{branching_steps, level_share, most_splits, splits_within, steps_of_splits, tree_steps};
 use work_share::Settings;
@@ -64,10 +65,14 @@ impl Purse {
         }
     }
 
-    /// The levels that count as in vain when a round begins: with many boxes the levels beside the
-    /// ends come first.
-    pub(crate) fn first_in_vain(&self) -> u32 {
-        if self.has_few_boxes { 0 } else { BESIDE }
+    /// The levels that count as left open when a round begins. With many boxes trees leave nearly
+    /// all open, so the levels beside the ends come first.
+    pub(crate) fn first_in_vain(&self, effort: Effort) -> u32 {
+        if self.has_few_boxes || effort == Effort::Root {
+            0
+        } else {
+            BESIDE
+        }
     }
 
     /// The branchings of a tree: those of the round where the purse holds them, and else the share
