@@ -2,11 +2,9 @@
 ghost use Rattle.std.specs.Prelude.{◌≡◌, ◌*◌, length, IfOk, IfSome};
 ghost use Rattle.packing_terms.specs.Packing.{dims, box_count};
 
-use crate::batches::Batches;
-use crate::beams::Beams;
-use crate::slots::{copy_into, volumes};
-use crate::swaps::Incumbent;
+use beam_search::Beams;
 use box_instances::{Instance, NoMemory};
+use fill_search::{Batches, Incumbent, copy_into, volumes};
 use std::alloc::Global;
 
 // The most fills of a round, in two dimensions and in more, and the most for each box: a few boxes

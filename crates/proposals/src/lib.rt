@@ -1,31 +1,15 @@
-//! Proposals: places, bins and choices of an instance, of which nothing is promised but sizes.
+//! Proposals: places, bins and choices of an instance. Their contracts promise sizes only.
 //!
-//! Whoever takes one tests it. So a search here is free to be clever: it is proved to be safe and
+//! The caller tests a proposal. So a search here is free to be clever: it is proved to be safe and
 //! to end, and nothing else.
 #![tactic(auto)]
 
-mod batches;
-mod beam;
-mod beam_guides;
-mod beam_levels;
-mod beams;
 mod bins;
 mod choice;
-mod corner_fill;
-mod corners;
-mod fills;
-mod gaps;
 mod heights;
-mod luby;
-mod orders;
 mod packings;
 mod places;
 mod pool;
-mod skyline;
-mod skyline_fill;
-mod slots;
-mod swaps;
-mod turned;
 
 pub use bins::{ProposedBins, propose_bins};
 pub use choice::{ProposedChoice, propose_choice};

@@ -2,10 +2,9 @@
 ghost use Rattle.std.specs.Prelude.{◌≡◌, ◌*◌, length, IfOk, IfSome};
 ghost use Rattle.packing_terms.specs.Packing.{dims, box_count};
 
-use crate::batches::Batches;
 use crate::heights::round_fills;
-use crate::slots::{container_side, copy_into, volumes};
 use box_instances::{Instance, NoMemory};
+use fill_search::{Batches, container_side, copy_into, volumes};
 use std::alloc::Global;
 
 // Whether the boxes have more volume than the container.

@@ -6,12 +6,10 @@
 //!
 //! Source: ruin and recreate (Schrimpf, Schneider, Stamm-Wilbrandt and Dueck 2000), here bin by bin.
 
-use crate::fills::Fills;
-use crate::orders::{Draws, start_orders};
-use crate::skyline_fill::Limits;
-use crate::slots::{copy_into, side, volumes};
-use crate::turned::{Turned, all_turns_of};
 use box_instances::{Instance, NoMemory};
+use fill_search::{
+    Draws, Fills, Limits, Turned, all_turns_of, copy_into, side, start_orders, volumes,
+};
 use loose_lists::{at, put, zeros};
 use std::alloc::Global;
 

@@ -60,7 +60,9 @@ pub fn tree_steps(budget: u64) -> u64 {
 
 /// The pair steps of a search for a refutation with at most `splits` splits.
 pub fn steps_of_splits(instance: &Instance, splits: u64) -> u64 {
-    splits.saturating_mul(SPLIT_COST).saturating_mul(branching_steps(instance))
+    splits
+        .saturating_mul(SPLIT_COST)
+        .saturating_mul(branching_steps(instance))
 }
 
 /// The splits of a search for a refutation that takes at most `steps` pair steps.

@@ -12,8 +12,8 @@ use box_instances::{Instance, NoMemory};
 use loose_lists::at;
 use std::alloc::Global;
 
-/// The number of rounds of a batch.
-pub const ROUNDS: u64 = 8;
+// The number of rounds of a batch.
+const ROUNDS: u64 = 8;
 
 // A window that all boxes stand in, and a narrow one.
 const WIDE: u32 = 1_000;
@@ -23,18 +23,19 @@ const NARROW: u32 = 3;
 /// The memory of a search by batches.
 #[derive(Drop)]
 pub struct Batches {
-    pub turns: Vec<Turned>,
-    pub swaps: Swaps,
+    turns: Vec<Turned>,
+    swaps: Swaps,
     starts: Vec<Vec<u32>>,
     // Where the rounds of a batch begin, and the best of them so far.
     from: Incumbent,
+    /// The best packing of all batches.
     pub best: Incumbent,
     // What a round writes.
-    pub found: Incumbent,
+    found: Incumbent,
 }
 
 impl Batches {
-    /// The search for packings of an instance that leave out little of these weights.
+    /// Memory for a search with one weight for each box, or `NoMemory`.
     pub fn new(alloc: Global, instance: &Instance, weights: Vec<u64>) -> Result<Batches, NoMemory> {
         let (dims, count) = (instance.dims(), instance.len());
         let turns = all_turns_of(alloc, instance)?;
@@ -49,7 +50,7 @@ impl Batches {
         })
     }
 
-    /// Adds a start before all others.
+    /// Adds `order`, all boxes, as a start before all others, or answers `NoMemory`.
     pub fn prefer(&mut self, order: Vec<u32>) -> Result<(), NoMemory> {
         let Ok(()) = self.starts.insert(0, order) else {
             return Err(NoMemory);
@@ -108,8 +109,9 @@ impl Batches {
         }
     }
 
-    /// A batch of rounds of this many fills that leave out little, until the best packing costs no
-    /// more than `enough`.
+    /// Runs batch number `batch`: rounds of `fills` fills each that make the weight small that is left
+    /// out. It ends once the best packing costs no more than `enough`. `are_volumes` says that the
+    /// weights are volumes.
     pub fn leave_out(&mut self, batch: u64, are_volumes: bool, fills: u64, enough: u64) {
         self.from.copy(&self.best);
         let turns = (self.turns.len() as u64).max(1);
@@ -185,7 +187,8 @@ impl Batches {
         self.compare();
     }
 
-    /// The packings of plain fills in the orders by sizes, without regard to the last side.
+    /// Makes a plain fill from each start, in several ways, without regard to the last side. `is_flat`
+    /// says that the instance has two dimensions.
     pub fn stack(&mut self, is_flat: bool) {
         for index in 0..self.starts.len() {
             self.fill_once(index, 0, WIDE);
@@ -198,8 +201,8 @@ impl Batches {
         }
     }
 
-    /// A batch of rounds of this many fills that make the height small, until it is no more than
-    /// `enough`.
+    /// Runs batch number `batch`: rounds of `fills` fills each that make the height small. It ends once
+    /// that is no more than `enough`.
     pub fn make_low(&mut self, instance: &Instance, batch: u64, fills: u64, enough: u64) {
         self.from.copy(&self.best);
         let is_flat = instance.dims() == 2;

@@ -5,17 +5,18 @@ use box_instances::{Instance, NoMemory};
 use loose_lists::{at, put, zeros};
 use std::alloc::Global;
 
-/// The working sides of the boxes and of the container in an order of the dimensions whose last one
-/// goes up.
+/// An instance with its dimensions in another order, of which the last one goes up.
 #[derive(Drop)]
 pub struct Turned {
+    /// The number of dimensions.
     pub dims: u32,
+    /// The number of boxes.
     pub count: u32,
-    /// The dimension of the instance at each place of the order.
-    pub original: Vec<u32>,
-    pub container: Vec<u32>,
-    /// The sides, box after box.
-    pub sides: Vec<u32>,
+    // The dimension of the instance at each place of the order.
+    original: Vec<u32>,
+    // The working sides of the container and of the boxes, box after box, in this order.
+    container: Vec<u32>,
+    sides: Vec<u32>,
 }
 
 // The dimensions in their order, or the last one first, but that one goes up and is last.
@@ -51,7 +52,8 @@ fn sides_of(alloc: Global, instance: &Instance, original: &[u32]) -> Result<Vec<
 }
 
 impl Turned {
-    /// The instance with this dimension upwards, and the others in their order or the last one first.
+    /// The instance with dimension `up` last, or `NoMemory`. The other dimensions stand in their order,
+    /// or in the opposite one if `is_reversed`.
     pub fn new(
         alloc: Global,
         instance: &Instance,
@@ -86,7 +88,7 @@ impl Turned {
         )
     }
 
-    /// The container's side at a place of the order of dimensions.
+    /// The container's side at a place of the order of dimensions, or 0 past the last.
     #[inline]
     pub fn container(&self, place: u32) -> u32 {
         at(&self.container, place as usize)
@@ -102,7 +104,7 @@ impl Turned {
         true
     }
 
-    /// The volume of a box.
+    /// The volume of box `v`, at most `u128::MAX`.
     pub fn volume(&self, v: u32) -> u128 {
         let mut volume = 1u128;
         for place in 0..self.dims {
@@ -111,7 +113,7 @@ impl Turned {
         volume
     }
 
-    /// The volume of the container.
+    /// The volume of the container, at most `u128::MAX`.
     pub fn room(&self) -> u128 {
         let mut room = 1u128;
         for place in 0..self.dims {
@@ -120,12 +122,12 @@ impl Turned {
         room
     }
 
-    /// How high boxes may reach.
+    /// The container's side in the upward dimension.
     pub fn top(&self) -> u32 {
         self.container(self.dims.saturating_sub(1))
     }
 
-    /// The volume of all boxes that are seen.
+    /// The volume of all boxes together, at most `u128::MAX`.
     pub fn volume_of_all(&self) -> u128 {
         let mut volume = 0u128;
         for v in 0..self.count {
@@ -134,7 +136,7 @@ impl Turned {
         volume
     }
 
-    /// Gives the container another side in a dimension of the instance.
+    /// Sets the container's side in a dimension of the instance to `side`.
     pub fn limit(&mut self, dim: u32, side: u32) {
         for k in 0..self.dims as usize {
             if at(&self.original, k) == dim {
@@ -143,7 +145,8 @@ impl Turned {
         }
     }
 
-    /// The coordinate of a box in a dimension of the instance.
+    /// The coordinate of box `v` in a dimension of the instance. `places` are coordinates in the order
+    /// of dimensions here, box after box.
     pub fn coordinate(&self, places: &[u32], v: u32, dim: u32) -> u32 {
         let dims = self.dims as usize;
         for k in 0..dims {
@@ -154,7 +157,8 @@ impl Turned {
         0
     }
 
-    /// Writes coordinates in the order of the instance's dimensions, box after box.
+    /// Writes `places`, coordinates in the order of dimensions here, into `into` in the order of the
+    /// instance's dimensions, both box after box.
     pub fn turn_back(&self, places: &[u32], into: &mut [u32]) {
         let dims = self.dims as usize;
         for v in 0..self.count as usize {
@@ -167,8 +171,8 @@ impl Turned {
     }
 }
 
-/// The instance with each dimension upwards in turn, the last one first.
-pub(crate) fn turns_of(alloc: Global, instance: &Instance) -> Result<Vec<Turned>, NoMemory> {
+/// The instance with each dimension upwards in turn, the last one first, or `NoMemory`.
+pub fn turns_of(alloc: Global, instance: &Instance) -> Result<Vec<Turned>, NoMemory> {
     let mut turns = Vec::new(alloc);
     let dims = instance.dims();
     for k in 0..dims {
@@ -181,8 +185,8 @@ pub(crate) fn turns_of(alloc: Global, instance: &Instance) -> Result<Vec<Turned>
 }
 
 /// Like `turns_of`, but in three dimensions and more each turn comes twice: with the other dimensions
-/// in their order, and with the last one first.
-pub(crate) fn all_turns_of(alloc: Global, instance: &Instance) -> Result<Vec<Turned>, NoMemory> {
+/// in their order, and in the opposite one.
+pub fn all_turns_of(alloc: Global, instance: &Instance) -> Result<Vec<Turned>, NoMemory> {
     let mut turns = Vec::new(alloc);
     let dims = instance.dims();
     let ways = if dims > 2 { 2 } else { 1 };

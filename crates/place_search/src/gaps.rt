@@ -6,10 +6,9 @@
 //!
 //! Source: the best-fit rule of Burke, Kendall and Whitwell (2004), with going back.
 
-use crate::skyline::{NOTHING, Segment, lowest, raise, segment_at};
-use crate::slots::clear;
-use crate::turned::Turned;
+use crate::lines::raise;
 use box_instances::NoMemory;
+use fill_search::{NOTHING, Segment, Turned, clear, lowest, segment_at};
 use loose_lists::{at, put, zeros};
 use std::alloc::Global;
 

@@ -1,7 +1,7 @@
 //! The levels of a beam: nodes with as many boxes laid, and their skylines.
 
-use crate::skyline::Skyline;
 use box_instances::NoMemory;
+use fill_search::Skyline;
 use std::alloc::Global;
 
 /// A node: which boxes are laid and how many, their area, what they are worth, and what is lost.

@@ -34,18 +34,21 @@ pub struct Style {
     pub are_volumes: bool,
 }
 
-/// A packing that was found, the order that it comes from, and its cost.
+/// The best packing found so far, the order that it comes from, and its cost.
 #[derive(Drop)]
 pub struct Incumbent {
+    /// Its height, or the weight that it leaves out; `u64::MAX` for no packing yet.
     pub cost: u64,
-    pub order: Vec<u32>,
+    pub(crate) order: Vec<u32>,
+    /// The coordinates of the boxes in the order of the instance's dimensions, box after box.
     pub places: Vec<u32>,
+    /// Of each box 1 if it is laid, else 0.
     pub lies: Vec<u32>,
 }
 
 impl Incumbent {
-    /// None yet: the cost is `u64::MAX`.
-    pub fn new(alloc: Global, dims: u32, count: u32) -> Result<Incumbent, NoMemory> {
+    /// No packing yet: the cost is `u64::MAX`.
+    pub(crate) fn new(alloc: Global, dims: u32, count: u32) -> Result<Incumbent, NoMemory> {
         Ok(Incumbent {
             cost: u64::MAX,
             order: zeros(alloc, count as usize)?,
@@ -54,8 +57,8 @@ impl Incumbent {
         })
     }
 
-    /// Makes this the same as another.
-    pub fn copy(&mut self, other: &Incumbent) {
+    /// Copies another packing of the same instance.
+    pub(crate) fn copy(&mut self, other: &Incumbent) {
         self.cost = other.cost;
         copy_into(&other.order, &mut self.order);
         copy_into(&other.places, &mut self.places);

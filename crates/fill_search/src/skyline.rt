@@ -12,15 +12,15 @@ pub struct Segment {
 }
 
 /// A segment of no width.
-pub(crate) const NOTHING: Segment = Segment {
+pub const NOTHING: Segment = Segment {
     start: 0,
     width: 0,
     height: 0,
 };
 
-/// The segment at an index, and one of no width past the end.
+/// The segment at an index, or `NOTHING` past the end.
 #[inline]
-pub(crate) fn segment_at(line: &[Segment], index: usize) -> Segment {
+pub fn segment_at(line: &[Segment], index: usize) -> Segment {
     if index < line.len() {
         line[index]
     } else {
@@ -28,8 +28,8 @@ pub(crate) fn segment_at(line: &[Segment], index: usize) -> Segment {
     }
 }
 
-/// The index of the lowest segment, of several the leftmost.
-pub(crate) fn lowest(line: &[Segment]) -> usize {
+/// The index of the lowest segment, of several the leftmost; 0 if there is none.
+pub fn lowest(line: &[Segment]) -> usize {
     let mut best = 0;
     for k in 1..line.len() {
         if line[k].height < segment_at(line, best).height {
@@ -37,55 +37,6 @@ pub(crate) fn lowest(line: &[Segment]) -> usize {
         }
     }
     best
-}
-
-// Puts a segment behind so many, or makes the last of them wider where it is as high.
-fn append(next: &mut [Segment], count: usize, segment: Segment) -> usize {
-    if count > 0 && count <= next.len() && next[count - 1].height == segment.height {
-        let width = next[count - 1].width;
-        next[count - 1].width = width.saturating_add(segment.width);
-        return count;
-    }
-    if count < next.len() {
-        next[count] = segment;
-        return count + 1;
-    }
-    count
-}
-
-/// Writes the skyline in which the left part of a gap is as high as `top`, up to a width. It
-/// answers how many segments there are.
-pub(crate) fn raise(
-    line: &[Segment],
-    gap: usize,
-    width: u32,
-    top: u32,
-    next: &mut [Segment],
-) -> usize {
-    let mut count = 0;
-    for k in 0..line.len() {
-        let segment = line[k];
-        if k != gap {
-            count = append(next, count, segment);
-            continue;
-        }
-        let part = width.min(segment.width);
-        let raised = Segment {
-            start: segment.start,
-            width: part,
-            height: top,
-        };
-        count = append(next, count, raised);
-        if part < segment.width {
-            let rest = Segment {
-                start: segment.start.saturating_add(part),
-                width: segment.width - part,
-                height: segment.height,
-            };
-            count = append(next, count, rest);
-        }
-    }
-    count
 }
 
 /// The lowest segment of a skyline, and how far the ones beside it rise above it. The walls of the
@@ -110,7 +61,7 @@ impl Gap {
             && (height == self.right || self.left < self.right)
     }
 
-    /// Where a box of this width begins at that end.
+    /// Where a box of this width begins at the right end of the gap, or at the left one.
     pub fn start_at(&self, width: u32, is_right: bool) -> u32 {
         if is_right {
             self.start.saturating_add(self.width.saturating_sub(width))
@@ -128,7 +79,8 @@ pub struct Skyline {
 }
 
 impl Skyline {
-    /// A skyline for up to this many boxes: each adds one segment at most.
+    /// A skyline without segments, for up to `boxes` boxes, or `NoMemory`. Each box adds at most one
+    /// segment.
     pub fn new(alloc: Global, boxes: u32) -> Result<Skyline, NoMemory> {
         let Ok(segments) = vec![in alloc; NOTHING; boxes as usize + 2] else {
             return Err(NoMemory);
@@ -136,7 +88,7 @@ impl Skyline {
         Ok(Skyline { segments, count: 0 })
     }
 
-    /// Makes this the same as another.
+    /// Copies the segments of `other`, a skyline for the same number of boxes.
     pub fn copy(&mut self, other: &Skyline) {
         self.count = other.count;
         if self.segments.len() == other.segments.len() {
@@ -144,12 +96,12 @@ impl Skyline {
         }
     }
 
-    /// How many segments there are.
+    /// The number of segments.
     pub fn len(&self) -> usize {
         self.count
     }
 
-    /// A number that tells most skylines from one another.
+    /// A hash of the segments: two skylines with the same hash are most likely the same.
     pub fn hash(&self) -> u64 {
         let mut hash = 0u64;
         for k in 0..self.count {
@@ -160,7 +112,7 @@ impl Skyline {
         hash
     }
 
-    /// Makes it a floor of this width.
+    /// Makes it a floor of this width at height 0.
     pub fn flatten(&mut self, width: u32) {
         self.count = 1;
         self.set(
@@ -276,7 +228,7 @@ impl Skyline {
         to
     }
 
-    /// Raises a part of a segment, at its left or its right end, to a height.
+    /// Raises a part of a segment to a height: the first `width` units, or the last if `is_right`.
     pub fn raise(&mut self, index: usize, width: u32, height: u32, is_right: bool) {
         let whole = self.at(index);
         let mut raised = index;

@@ -1,6 +1,6 @@
 //! What orders the nodes of a beam: the less the better.
 
-use crate::turned::Turned;
+use fill_search::Turned;
 
 /// What a node is judged by: its boxes, their area and value, the lost area, on how many sides the
 /// last box is flush, and the segments before it.

@@ -8,9 +8,8 @@
 //! Source: the extreme points of Crainic, Perboli and Tadei (2008), with going back.
 
 use crate::gaps::Ended;
-use crate::slots::clear;
-use crate::turned::Turned;
 use box_instances::NoMemory;
+use fill_search::{Turned, clear};
 use loose_lists::{at, put, zeros};
 use std::alloc::Global;
 

@@ -7,7 +7,7 @@ use box_instances::NoMemory;
 use loose_lists::at;
 use std::alloc::Global;
 
-/// The memory of fills. The one that isn't for these dimensions is small.
+/// The memory of fills, and what the last one laid. The one that isn't for these dimensions is small.
 #[derive(Drop)]
 pub struct Fills {
     is_flat: bool,
@@ -16,7 +16,7 @@ pub struct Fills {
 }
 
 impl Fills {
-    /// Memory for up to this many boxes.
+    /// Memory for up to `count` boxes in `dims` dimensions, or `NoMemory`.
     pub fn new(alloc: Global, dims: u32, count: u32) -> Result<Fills, NoMemory> {
         let is_flat = dims == 2;
         Ok(Fills {
@@ -26,8 +26,8 @@ impl Fills {
         })
     }
 
-    /// Lays boxes in an order. It answers the total weight of those that are left out, and
-    /// `u64::MAX` where it was cut.
+    /// Lays boxes in an order. It answers the total weight of those that are left out, or `u64::MAX`
+    /// if the fill was cut by `limits`.
     pub fn run(&mut self, turned: &Turned, order: &[u32], weights: &[u64], limits: &Limits) -> u64 {
         if self.is_flat {
             if self.skyline.run(turned, order, limits) {
@@ -47,7 +47,7 @@ impl Fills {
     }
 
     /// How high the laid boxes reach.
-    pub fn height(&self) -> u32 {
+    pub(crate) fn height(&self) -> u32 {
         if self.is_flat {
             self.skyline.height
         } else {
@@ -55,7 +55,7 @@ impl Fills {
         }
     }
 
-    /// The coordinates of the boxes, box after box.
+    /// The coordinates of the boxes, box after box, in the order of dimensions of the last fill.
     pub fn places(&self) -> &[u32] {
         if self.is_flat {
             &self.skyline.places
@@ -65,7 +65,7 @@ impl Fills {
     }
 
     /// Of each box whether it is laid.
-    pub fn lies(&self) -> &[u32] {
+    pub(crate) fn lies(&self) -> &[u32] {
         if self.is_flat {
             &self.skyline.lies
         } else {
@@ -73,7 +73,7 @@ impl Fills {
         }
     }
 
-    /// Whether a box is laid.
+    /// Whether the last fill laid a box.
     #[inline]
     pub fn is_laid(&self, v: u32) -> bool {
         at(self.lies(), v as usize) == 1

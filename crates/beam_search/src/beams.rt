@@ -2,11 +2,10 @@
 
 use crate::beam::Beam;
 use crate::beam_guides::{Guides, Kind};
-use crate::orders::{order_by_value, size};
-use crate::slots::{clear, copy_into, side, volumes};
-use crate::swaps::Incumbent;
-use crate::turned::{Turned, turns_of};
 use box_instances::{Instance, NoMemory};
+use fill_search::{
+    Incumbent, Turned, clear, copy_into, order_by_value, side, size, turns_of, volumes,
+};
 use loose_lists::{at, zeros};
 use std::alloc::Global;
 
@@ -30,7 +29,7 @@ pub struct Beams {
 }
 
 impl Beams {
-    /// Beams of up to this width over boxes that are worth this.
+    /// Memory for beams of up to `widest` nodes in a level, over boxes of these values, or `NoMemory`.
     pub fn new(
         alloc: Global,
         instance: &Instance,
@@ -165,8 +164,9 @@ impl Beams {
         Ok(())
     }
 
-    /// Makes a packing of all boxes lower by beams, whose boxes are worth their volumes, until the
-    /// height is no more than `enough`.
+    /// Makes the packing `best` of all boxes lower, until its height is no more than `enough`, or
+    /// answers `NoMemory`. The boxes are worth their volumes: a beam has packed all boxes once it is
+    /// worth the sum of these.
     pub fn lower(
         &mut self,
         alloc: Global,
@@ -210,8 +210,9 @@ impl Beams {
         Ok(())
     }
 
-    /// Looks for boxes that are worth more by beams. `worth` for `unit` of the area is about what
-    /// area is worth in a good choice, and `total` what all boxes are worth.
+    /// Replaces `best` by a choice of boxes of greater value if a beam finds one, or answers
+    /// `NoMemory`. The cost of `best` is the value that it leaves out. `worth / unit` is about the value
+    /// of a unit of area in a good choice, and `total` the value of all boxes.
     pub fn add_value(
         &mut self,
         alloc: Global,

@@ -1,0 +1,23 @@
+//! Fills of one container, and rounds of swaps in the order of a fill.
+//!
+//! Nothing is promised of what a fill lays, so the code guards each access and has no invariant.
+#![tactic(auto)]
+
+mod batches;
+mod corner_fill;
+mod fills;
+mod orders;
+mod skyline;
+mod skyline_fill;
+mod slots;
+mod swaps;
+mod turned;
+
+pub use batches::Batches;
+pub use fills::Fills;
+pub use orders::{Draws, order_by_value, size, start_orders};
+pub use skyline::{Gap, NOTHING, Segment, Skyline, lowest, segment_at};
+pub use skyline_fill::Limits;
+pub use slots::{clear, container_side, copy_into, first_numbers, side, value, volumes};
+pub use swaps::Incumbent;
+pub use turned::{Turned, all_turns_of, turns_of};
