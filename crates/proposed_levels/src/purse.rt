@@ -4,7 +4,9 @@ ghost use Rattle.proposed_answers.specs.Shares.{level_share};
 
 use crate::effort::Effort;
 use box_instances::Instance;
-use proposed_answers::{branching_steps, level_share, most_splits, splits_within, steps_of_splits, tree_steps};
+use proposed_answers::{
+    branching_steps, level_share, most_splits, splits_within, steps_of_splits, tree_steps,
+};
 use work_share::Settings;
 
 // The first proposal has such a part of the splits of `fit`, or of what the run may cost.
@@ -29,6 +31,7 @@ const BESIDE: u32 = 3;
 
 /// What the trees and the proposals of a run may still cost, in pair steps, with the branchings of a
 /// tree and the splits of a proposal in the present round.
+#[derive(Drop)]
 pub(crate) struct Purse {
     left: u64,
     branching: u64,
@@ -121,7 +124,11 @@ impl Purse {
     pub(crate) fn next_round(&mut self, settings: &Settings) -> bool {
         let both = self.branching.saturating_mul(2).max(1);
         let held = self.left / both;
-        let trees = self.trees.saturating_mul(RISE).min(settings.budget).min(held);
+        let trees = self
+            .trees
+            .saturating_mul(RISE)
+            .min(settings.budget)
+            .min(held);
         if trees < self.trees.saturating_mul(2) {
             return false;
         }
