@@ -26,6 +26,16 @@ const SACK_PROPOSED: &[&str] = &["knapsack", "--proposals", "yes", "--budget", "
 
 const SACK_SHARED: &[&str] = &["knapsack", "--proposals=yes", "--budget=0", "--workers=2"];
 
+const SACK_WITHOUT_SCALES: &[&str] = &["knapsack", "--proposals=yes", "--budget=0", "--scales=no"];
+
+const SACK_SHARED_WITHOUT_SCALES: &[&str] = &[
+    "knapsack",
+    "--proposals=yes",
+    "--budget=0",
+    "--scales=no",
+    "--workers=2",
+];
+
 const FOUR: &[u8] = b"format 1\ncontainer 10 6\nbox 3 6\nbox 3 6\nbox 3 6\nbox 3 6\n";
 
 const AROUND_A_HOLE: &[u8] =
@@ -79,8 +89,9 @@ type Verified = (
 // All trees but those of `fit` have branchings, so a budget of 0 is spent without proposals. Three
 // of four boxes go into one bin. Neither volume nor scales refute that the boxes around a hole go
 // into one bin, and its tree has branchings. Three boxes of worth fit, of four one is left out, and
-// that 13 is too much is refuted by a tree with branchings, as that 14 is.
-const VERIFIED: [Verified; 9] = [
+// that 13 is too much is refuted by volume in a proposed tree, and without scales by a described
+// tree with branchings. Four boxes fit around the hole, and no proposed tree refutes all five.
+const VERIFIED: [Verified; 11] = [
     (PROPOSED, SHARED, TWO_HALVES, 0, "verified fit yes\n"),
     (PROPOSED, SHARED, TWO_BOXES, 0, "verified fit yes\n"),
     (PROPOSED, SHARED, EIGHT_IN_A_ROW, 1, "verified fit no\n"),
@@ -116,8 +127,22 @@ const VERIFIED: [Verified; 9] = [
         SACK_PROPOSED,
         SACK_SHARED,
         FOUR_WORTH,
+        0,
+        "verified knapsack greatest 12\n",
+    ),
+    (
+        SACK_WITHOUT_SCALES,
+        SACK_SHARED_WITHOUT_SCALES,
+        FOUR_WORTH,
         3,
         "verified knapsack between 12 15\n",
+    ),
+    (
+        SACK_PROPOSED,
+        SACK_SHARED,
+        AROUND_A_HOLE,
+        3,
+        "verified knapsack between 4 6\n",
     ),
     (
         &["knapsack", "--proposals=yes"],

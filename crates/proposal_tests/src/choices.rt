@@ -20,6 +20,15 @@ fn four_in_ten(alloc: Global) -> Result<Instance, Fail> {
     instance_of(alloc, &[10, 6], &[&[3, 6], &[3, 6], &[3, 6], &[3, 6]])
 }
 
+// Four boxes around a hole of 2 by 2, and one of 1 by 3, which has no room beside them.
+fn around_a_hole(alloc: Global) -> Result<Instance, Fail> {
+    instance_of(
+        alloc,
+        &[10, 10],
+        &[&[6, 4], &[4, 6], &[6, 4], &[4, 6], &[1, 3]],
+    )
+}
+
 // What a run comes to: the greatest value, or a placed and a refuted one.
 #[derive(Clone, Copy)]
 enum Told {
@@ -84,27 +93,48 @@ fn values_are_closed_by_proposals(rt: HostRuntime) -> Result<(), Fail> {
     Ok(())
 }
 
-// Whether two values are told at the roots, and the greatest under an ample budget. That four are too
-// many is refuted by a tree with branchings: without them 4 is between the two and beside both.
+// Whether one worker and two come to 3 at the roots: that four are too many is refuted by their
+// areas in a proposed tree. Without scales no tree is proposed, and 4 is between the two.
+fn is_closed_by_areas<R: Threads + Wait + Sync>(
+    rt: &R,
+    alloc: Global,
+    instance: &Instance,
+) -> Result<bool, Fail> {
+    let alone = proposes(rt, alloc, instance, &at_roots(1), Told::Greatest(3))?;
+    let shared = proposes(rt, alloc, instance, &at_roots(2), Told::Greatest(3))?;
+    let plain = proposes(rt, alloc, instance, &settings(1, 0), Told::Between(3, 5))?;
+    Ok(alone && shared && plain)
+}
+
+#[test]
+fn values_are_refuted_by_a_proposed_tree(rt: HostRuntime) -> Result<(), Fail> {
+    let instance = four_in_ten(rt.alloc())?;
+    assert!(rt; is_closed_by_areas(&rt, rt.alloc(), &instance)?);
+    Ok(())
+}
+
+// Whether two values are told at the roots, and the greatest under an ample budget. That five are too
+// many is refuted by a tree with branchings, and by no token for the set of all: without it 5 is
+// between the two and beside both.
 fn is_open_at_the_roots<R: Threads + Wait + Sync>(
     rt: &R,
     alloc: Global,
     instance: &Instance,
 ) -> Result<bool, Fail> {
-    let few = proposes(rt, alloc, instance, &at_roots(1), Told::Between(3, 5))?;
+    let few = proposes(rt, alloc, instance, &at_roots(1), Told::Between(4, 6))?;
     let ample = proposes(
         rt,
         alloc,
         instance,
         &settings(1, 100_000),
-        Told::Greatest(3),
+        Told::Greatest(4),
     )?;
     Ok(few && ample)
 }
 
 #[test]
 fn values_beside_a_tree_past_the_budget_are_two(rt: HostRuntime) -> Result<(), Fail> {
-    let instance = four_in_ten(rt.alloc())?;
+    let instance = around_a_hole(rt.alloc())?;
     assert!(rt; is_open_at_the_roots(&rt, rt.alloc(), &instance)?);
     Ok(())
 }

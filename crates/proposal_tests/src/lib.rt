@@ -18,4 +18,6 @@ mod levels;
 #[cfg(test)]
 mod low_packings;
 #[cfg(test)]
+mod outer_trees;
+#[cfg(test)]
 mod searches;

@@ -1,2 +1,4 @@
 pub mod Answered
 pub mod Choices
+pub mod Fed
+pub mod Trees
