@@ -12,11 +12,13 @@ const FLAT_BATCH_COST: u64 = 1_200;
 
 const DEEP_BATCH_COST: u64 = 4_500;
 
-// The steps for each branching of a small budget, and for each of a larger one: trees and proposals
-// of a run take up to 0.3 s for a budget of 10,000, and up to 12 s for 1,000,000. The refutation
+// The steps in any case, for each branching of a small budget, and for each of a larger one: trees and
+// proposals of a run take 0.01 s for a budget of 0, 0.4 s for 10,000, and 12 s for 1,000,000. The refutation
 // search of `fit` then has as many splits as the hardest of 69 public instances takes (617,000 for 14
 // boxes).
 const SMALL_BUDGET: u64 = 20_000;
+
+const TREE_STEPS: u64 = 1_000_000;
 
 const TREE_STEPS_OF_SMALL: u64 = 2_000;
 
@@ -55,7 +57,7 @@ pub fn branching_steps(instance: &Instance) -> u64 {
 
 /// The pair steps that the trees and the refutation searches of a run may take under a budget.
 pub fn tree_steps(budget: u64) -> u64 {
-    steps_of(budget, TREE_STEPS_OF_SMALL, TREE_STEPS_OF_MORE)
+    steps_of(budget, TREE_STEPS_OF_SMALL, TREE_STEPS_OF_MORE).saturating_add(TREE_STEPS)
 }
 
 /// The pair steps of a search for a refutation with at most `splits` splits.

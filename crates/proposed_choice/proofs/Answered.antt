@@ -60,7 +60,7 @@ level_answered instance limits settings level budget enough value e (Ok l) h =
     subst (λ (a : PlainLevel). IsLevelAnswer instance settings level a) (sym h)
     (subst (λ (v : ℕ). IsLevelAnswer instance settings level (value_answer instance budget settings.scales v)) (sym e)
     (value_answered instance limits settings level budget enough))
-level_answered instance limits settings level budget enough value e (Err no) h = tt
+level_answered instance limits settings level budget enough value e (Err other) h = tt
 
 -- an answer at a level that may be asked leaves bounds, and less to be asked
 pub asked_step : (instance : PlainInstance) (settings : Settings) (b : PlainBounds)

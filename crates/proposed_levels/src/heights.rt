@@ -209,9 +209,15 @@ pub(crate) fn narrow_in_rounds<R: Threads + Wait + Sync, G: Gate + Sync>(
 {
     let mut purse = Purse::new(instance, settings);
     let start = first.afresh();
-    let effort = Effort::Share;
     let mut bounds = narrow_heights(
-        rt, alloc, instance, start, effort, &mut purse, settings, gate,
+        rt,
+        alloc,
+        instance,
+        start,
+        Effort::Share,
+        &mut purse,
+        settings,
+        gate,
     )?;
     for _ in 0..MOST_ROUNDS {
         if bounds.gap() < 2 || !purse.next_round(settings) {
@@ -219,7 +225,14 @@ pub(crate) fn narrow_in_rounds<R: Threads + Wait + Sync, G: Gate + Sync>(
         }
         let next = bounds.afresh();
         bounds = narrow_heights(
-            rt, alloc, instance, next, effort, &mut purse, settings, gate,
+            rt,
+            alloc,
+            instance,
+            next,
+            Effort::Share,
+            &mut purse,
+            settings,
+            gate,
         )?;
     }
     Ok(bounds)
