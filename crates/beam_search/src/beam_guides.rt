@@ -28,7 +28,8 @@ pub struct Guides {
     pub kind: Kind,
     /// No node loses more than this.
     pub most_lost: u64,
-    // The area of all boxes and of the container, and what a unit of it may be worth, as a fraction.
+    // The area of all boxes and of the container, and what a unit of it may be worth, as a
+    // fraction.
     total: u64,
     room: u64,
     worth: u64,
@@ -60,8 +61,8 @@ impl Guides {
         }
     }
 
-    // What is lost and a fiftieth of the area, for each area that is laid, over the mean area of the
-    // boxes; a tenth less for each side that is flush.
+    // What is lost and a fiftieth of the area, for each area that is laid, over the mean area of
+    // the boxes; a tenth less for each side that is flush.
     fn lost_by_mean(&self, grown: &Grown) -> u128 {
         let area = u128::from(grown.area.max(1));
         let lost = u128::from(grown.lost)
@@ -74,7 +75,8 @@ impl Guides {
         scaled.saturating_mul(1 << 10) / area.saturating_mul(area).max(1)
     }
 
-    // What is lost and a twentieth of all boxes, for each area that is laid; more for many segments.
+    // What is lost and a twentieth of all boxes, for each area that is laid; more for many
+    // segments.
     fn lost_by_area(&self, grown: &Grown) -> u128 {
         let area = u128::from(grown.area.max(1));
         let lost = u128::from(grown.lost)

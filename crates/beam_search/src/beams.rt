@@ -29,7 +29,8 @@ pub struct Beams {
 }
 
 impl Beams {
-    /// Memory for beams of up to `widest` nodes in a level, over boxes of these values, or `NoMemory`.
+    /// Memory for beams of up to `widest` nodes in a level, over boxes of these values, or
+    /// `NoMemory`.
     pub fn new(
         alloc: Global,
         instance: &Instance,
@@ -47,7 +48,8 @@ impl Beams {
         })
     }
 
-    // The boxes by falling value, then by a kind of sizes: those with the same sides stand by value.
+    // The boxes by falling value, then by a kind of sizes: those with the same sides stand by
+    // value.
     fn order(
         &mut self,
         alloc: Global,
@@ -137,8 +139,8 @@ impl Beams {
         Ok(true)
     }
 
-    // Beams of one width and one guide: halfway down to `enough` where that is far, then right below
-    // the best height, as long as they find a packing.
+    // Beams of one width and one guide: halfway down to `enough` where that is far, then right
+    // below the best height, as long as they find a packing.
     fn lower_by(
         &mut self,
         instance: &Instance,
@@ -165,8 +167,8 @@ impl Beams {
     }
 
     /// Makes the packing `best` of all boxes lower, until its height is no more than `enough`, or
-    /// answers `NoMemory`. The boxes are worth their volumes: a beam has packed all boxes once it is
-    /// worth the sum of these.
+    /// answers `NoMemory`. The boxes are worth their volumes: a beam has packed all boxes once it
+    /// is worth the sum of these.
     pub fn lower(
         &mut self,
         alloc: Global,
@@ -211,8 +213,8 @@ impl Beams {
     }
 
     /// Replaces `best` by a choice of boxes of greater value if a beam finds one, or answers
-    /// `NoMemory`. The cost of `best` is the value that it leaves out. `worth / unit` is about the value
-    /// of a unit of area in a good choice, and `total` the value of all boxes.
+    /// `NoMemory`. The cost of `best` is the value that it leaves out. `worth / unit` is about the
+    /// value of a unit of area in a good choice, and `total` the value of all boxes.
     pub fn add_value(
         &mut self,
         alloc: Global,

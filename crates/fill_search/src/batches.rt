@@ -109,9 +109,9 @@ impl Batches {
         }
     }
 
-    /// Runs batch number `batch`: rounds of `fills` fills each that make the weight small that is left
-    /// out. It ends once the best packing costs no more than `enough`. `are_volumes` says that the
-    /// weights are volumes.
+    /// Runs batch number `batch`: rounds of `fills` fills each that make the weight small that is
+    /// left out. It ends once the best packing costs no more than `enough`. `are_volumes` says that
+    /// the weights are volumes.
     pub fn leave_out(&mut self, batch: u64, are_volumes: bool, fills: u64, enough: u64) {
         self.from.copy(&self.best);
         let turns = (self.turns.len() as u64).max(1);
@@ -187,8 +187,8 @@ impl Batches {
         self.compare();
     }
 
-    /// Makes a plain fill from each start, in several ways, without regard to the last side. `is_flat`
-    /// says that the instance has two dimensions.
+    /// Makes a plain fill from each start, in several ways, without regard to the last side.
+    /// `is_flat` says that the instance has two dimensions.
     pub fn stack(&mut self, is_flat: bool) {
         for index in 0..self.starts.len() {
             self.fill_once(index, 0, WIDE);
@@ -201,8 +201,8 @@ impl Batches {
         }
     }
 
-    /// Runs batch number `batch`: rounds of `fills` fills each that make the height small. It ends once
-    /// that is no more than `enough`.
+    /// Runs batch number `batch`: rounds of `fills` fills each that make the height small. It ends
+    /// once that is no more than `enough`.
     pub fn make_low(&mut self, instance: &Instance, batch: u64, fills: u64, enough: u64) {
         self.from.copy(&self.best);
         let is_flat = instance.dims() == 2;

@@ -17,8 +17,8 @@ type Point = [u32; 4];
 
 const ORIGIN: Point = [0, 0, 0, 0];
 
-// A laid box: where it begins and where it ends. In dimensions that the instance hasn't it is from 0
-// to 1.
+// A laid box: where it begins and where it ends. In dimensions that the instance hasn't it is from
+// 0 to 1.
 #[derive(Clone, Copy)]
 struct Block {
     start: Point,

@@ -7,7 +7,8 @@ use box_instances::NoMemory;
 use loose_lists::at;
 use std::alloc::Global;
 
-/// The memory of fills, and what the last one laid. The one that isn't for these dimensions is small.
+/// The memory of fills, and what the last one laid. The one that isn't for these dimensions is
+/// small.
 #[derive(Drop)]
 pub struct Fills {
     is_flat: bool,
@@ -26,8 +27,8 @@ impl Fills {
         })
     }
 
-    /// Lays boxes in an order. It answers the total weight of those that are left out, or `u64::MAX`
-    /// if the fill was cut by `limits`.
+    /// Lays boxes in an order. It answers the total weight of those that are left out, or
+    /// `u64::MAX` if the fill was cut by `limits`.
     pub fn run(&mut self, turned: &Turned, order: &[u32], weights: &[u64], limits: &Limits) -> u64 {
         if self.is_flat {
             if self.skyline.run(turned, order, limits) {

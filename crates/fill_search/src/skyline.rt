@@ -52,9 +52,9 @@ pub struct Gap {
 }
 
 impl Gap {
-    /// Whether a box is laid at the right end of the gap: where the wall there is as high as the box,
-    /// and else where it is the higher one. A box that fills the gap, or is as high as the left wall,
-    /// lies at the left end.
+    /// Whether a box is laid at the right end of the gap: where the wall there is as high as the
+    /// box, and else where it is the higher one. A box that fills the gap, or is as high as the
+    /// left wall, lies at the left end.
     pub fn is_right(&self, width: u32, height: u32) -> bool {
         width < self.width
             && height != self.left
@@ -79,8 +79,8 @@ pub struct Skyline {
 }
 
 impl Skyline {
-    /// A skyline without segments, for up to `boxes` boxes, or `NoMemory`. Each box adds at most one
-    /// segment.
+    /// A skyline without segments, for up to `boxes` boxes, or `NoMemory`. Each box adds at most
+    /// one segment.
     pub fn new(alloc: Global, boxes: u32) -> Result<Skyline, NoMemory> {
         let Ok(segments) = vec![in alloc; NOTHING; boxes as usize + 2] else {
             return Err(NoMemory);

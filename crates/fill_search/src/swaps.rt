@@ -1,5 +1,5 @@
-//! Rounds of local search: an order of boxes is changed, filled again, and kept where the fill is no
-//! worse.
+//! Rounds of local search: an order of boxes is changed, filled again, and kept where the fill is
+//! no worse.
 //!
 //! Source: random local search over orders (Burke, Kendall and Whitwell 2009; Wei, Oon, Zhu and Lim
 //! 2011).
@@ -179,8 +179,8 @@ impl Swaps {
         position
     }
 
-    // Changes the order: two times of three where boxes are left out one of them moves forward, else
-    // two boxes swap their positions.
+    // Changes the order: two times of three where boxes are left out one of them moves forward,
+    // else two boxes swap their positions.
     fn change(&mut self, is_out: bool) -> Change {
         let count = self.order.len().min(128) as u32;
         let second = self.draw(count);

@@ -52,8 +52,8 @@ fn sides_of(alloc: Global, instance: &Instance, original: &[u32]) -> Result<Vec<
 }
 
 impl Turned {
-    /// The instance with dimension `up` last, or `NoMemory`. The other dimensions stand in their order,
-    /// or in the opposite one if `is_reversed`.
+    /// The instance with dimension `up` last, or `NoMemory`. The other dimensions stand in their
+    /// order, or in the opposite one if `is_reversed`.
     pub fn new(
         alloc: Global,
         instance: &Instance,
@@ -145,8 +145,8 @@ impl Turned {
         }
     }
 
-    /// The coordinate of box `v` in a dimension of the instance. `places` are coordinates in the order
-    /// of dimensions here, box after box.
+    /// The coordinate of box `v` in a dimension of the instance. `places` are coordinates in the
+    /// order of dimensions here, box after box.
     pub fn coordinate(&self, places: &[u32], v: u32, dim: u32) -> u32 {
         let dims = self.dims as usize;
         for k in 0..dims {
@@ -157,8 +157,8 @@ impl Turned {
         0
     }
 
-    /// Writes `places`, coordinates in the order of dimensions here, into `into` in the order of the
-    /// instance's dimensions, both box after box.
+    /// Writes `places`, coordinates in the order of dimensions here, into `into` in the order of
+    /// the instance's dimensions, both box after box.
     pub fn turn_back(&self, places: &[u32], into: &mut [u32]) {
         let dims = self.dims as usize;
         for v in 0..self.count as usize {
@@ -184,8 +184,8 @@ pub fn turns_of(alloc: Global, instance: &Instance) -> Result<Vec<Turned>, NoMem
     Ok(turns)
 }
 
-/// Like `turns_of`, but in three dimensions and more each turn comes twice: with the other dimensions
-/// in their order, and in the opposite one.
+/// Like `turns_of`, but in three dimensions and more each turn comes twice: with the other
+/// dimensions in their order, and in the opposite one.
 pub fn all_turns_of(alloc: Global, instance: &Instance) -> Result<Vec<Turned>, NoMemory> {
     let mut turns = Vec::new(alloc);
     let dims = instance.dims();

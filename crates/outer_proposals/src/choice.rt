@@ -174,8 +174,8 @@ impl ChoiceTree {
     }
 }
 
-/// A choice tree that refutes that boxes of value `goal` fit in the container, as tokens of an outer
-/// refutation, at most `most` of them; or `None`.
+/// A choice tree that refutes that boxes of value `goal` fit in the container, as tokens of an
+/// outer refutation, at most `most` of them; or `None`.
 ///
 /// The caller tests each proposal. A set of boxes is closed by one token alone: a box longer than
 /// the container, two boxes that exclude each other in every dimension, or a tuple of scale

@@ -5,9 +5,9 @@ use conservative_scales::{ScaleFn, ScaleTuple, image, legal, whole};
 use std::alloc::Global;
 
 // The most steps of a function that stands alone among `id`, and of each of two. Over 19 instances
-// of 20 to 100 boxes a third step lowers the refuted value by up to 2.5 %, and two functions at once
-// by up to 1.5 % in three dimensions. Up to 4 steps in both lower it by up to 2 % more, in two to
-// three times the time.
+// of 20 to 100 boxes a third step lowers the refuted value by up to 2.5 %, and two functions at
+// once by up to 1.5 % in three dimensions. Up to 4 steps in both lower it by up to 2 % more, in two
+// to three times the time.
 const MAX_STEPS_ALONE: u32 = 3;
 
 const MAX_STEPS_OF_TWO: u32 = 2;

@@ -58,9 +58,9 @@ fn lower_by_beams(
 /// A low packing of all boxes, or none. The container's last side isn't looked at.
 ///
 /// It is the best of plain fills, then of up to `batches` batches of rounds of swaps, and then, in
-/// two dimensions and if `batches` isn't 0, of beams. The search ends once the height is no more than
-/// `enough`. Nothing is promised of it but that there is one coordinate for each box and dimension:
-/// the caller tests it.
+/// two dimensions and if `batches` isn't 0, of beams. The search ends once the height is no more
+/// than `enough`. Nothing is promised of it but that there is one coordinate for each box and
+/// dimension: the caller tests it.
 pub fn propose_height(
     alloc: Global,
     instance: &Instance,

@@ -1,10 +1,11 @@
 //! Bins with a pool: one bin is emptied, and others are filled again with its boxes.
 //!
 //! The boxes of the emptiest bin have no bin then. One or two bins are drawn, and filled again with
-//! the boxes that lie in them and those without one, in an order by sizes with some noise. What is no
-//! worse stays, until every box has a bin.
+//! the boxes that lie in them and those without one, in an order by sizes with some noise. What is
+//! no worse stays, until every box has a bin.
 //!
-//! Source: ruin and recreate (Schrimpf, Schneider, Stamm-Wilbrandt and Dueck 2000), here bin by bin.
+//! Source: ruin and recreate (Schrimpf, Schneider, Stamm-Wilbrandt and Dueck 2000), here bin by
+//! bin.
 
 use box_instances::{Instance, NoMemory};
 use fill_search::{
@@ -319,8 +320,8 @@ impl Pool {
         Ok(fewest)
     }
 
-    // Fills bins again, up to this many times, until each box has one. It answers how many times are
-    // left then.
+    // Fills bins again, up to this many times, until each box has one. It answers how many times
+    // are left then.
     fn close(
         &mut self,
         instance: &Instance,
@@ -339,8 +340,8 @@ impl Pool {
     }
 }
 
-/// Packs the boxes into few bins, down to `enough`: by plain fills, and then by refilling bins up to
-/// this many times. It writes of each box its bin and its coordinates, and answers how many bins
+/// Packs the boxes into few bins, down to `enough`: by plain fills, and then by refilling bins up
+/// to this many times. It writes of each box its bin and its coordinates, and answers how many bins
 /// there are, or 0.
 pub(crate) fn few_bins(
     alloc: Global,

@@ -11,7 +11,8 @@ const LEAST_SHARE: u64 = 2_000;
 const SHARES: u64 = 500;
 
 /// The branchings that the tree of a level has at least, where a run decides several levels under
-/// one budget: all of a budget up to 2,000, else 2,000, or a 500th of the budget where that is more.
+/// one budget: all of a budget up to 2,000, else 2,000, or a 500th of the budget where that is
+/// more.
 #[inline]
 pub fn level_share(budget: u64) -> u64
     ensures { result ≡ level_share budget }

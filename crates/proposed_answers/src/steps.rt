@@ -1,21 +1,21 @@
-//! What a budget pays for in a run with proposals, in pair steps: a pair step is what a closing does
-//! for one pair of boxes, some 12 nanoseconds.
+//! What a budget pays for in a run with proposals, in pair steps: a pair step is what a closing
+//! does for one pair of boxes, some 12 nanoseconds.
 
 use box_instances::Instance;
 
-// A branching of n boxes takes n^2 pair steps, a split of the search for a refutation seven times as
-// many, and a batch of rounds of swaps (4,000 fills in two dimensions) 1,200 times as many, in three
-// and four dimensions 4,500 times.
+// A branching of n boxes takes n^2 pair steps, a split of the search for a refutation seven times
+// as many, and a batch of rounds of swaps (4,000 fills in two dimensions) 1,200 times as many, in
+// three and four dimensions 4,500 times.
 const SPLIT_COST: u64 = 7;
 
 const FLAT_BATCH_COST: u64 = 1_200;
 
 const DEEP_BATCH_COST: u64 = 4_500;
 
-// The steps in any case, for each branching of a small budget, and for each of a larger one: trees and
-// proposals of a run take 0.01 s for a budget of 0, 0.4 s for 10,000, and 12 s for 1,000,000. The refutation
-// search of `fit` then has as many splits as the hardest of 69 public instances takes (617,000 for 14
-// boxes).
+// The steps in any case, for each branching of a small budget, and for each of a larger one: trees
+// and proposals of a run take 0.01 s for a budget of 0, 0.4 s for 10,000, and 12 s for 1,000,000.
+// The refutation search of `fit` then has as many splits as the hardest of 69 public instances
+// takes (617,000 for 14 boxes).
 const SMALL_BUDGET: u64 = 20_000;
 
 const TREE_STEPS: u64 = 1_000_000;
@@ -25,9 +25,10 @@ const TREE_STEPS_OF_SMALL: u64 = 2_000;
 const TREE_STEPS_OF_MORE: u64 = 960;
 
 // The steps of swaps: as many in any case, and for each branching. With 60 boxes in two dimensions
-// these are 1 batch for a budget of 0, 9 for 10,000 (0.5 s) and 63 for 1,000,000 (3 s). Over 32 strips
-// of 17 to 100 boxes the mean gap to what scales refute is 2.1 % behind one batch, 1.7 % behind 8, and
-// 1.6 % behind 32. Of 14 texts that fit by construction 9 are packed behind 8, and 11 behind 32.
+// these are 1 batch for a budget of 0, 9 for 10,000 (0.5 s) and 63 for 1,000,000 (3 s). Over 32
+// strips of 17 to 100 boxes the mean gap to what scales refute is 2.1 % behind one batch, 1.7 %
+// behind 8, and 1.6 % behind 32. Of 14 texts that fit by construction 9 are packed behind 8, and 11
+// behind 32.
 const SWAP_STEPS: u64 = 4_500_000;
 
 const SWAP_STEPS_OF_SMALL: u64 = 3_500;
@@ -36,8 +37,9 @@ const SWAP_STEPS_OF_MORE: u64 = 200;
 
 const MOST_BATCHES: u64 = 64;
 
-// A batch for values takes 800 n^2 steps in any dimension, since not all boxes are placed. Over 19 texts
-// of 20 to 100 boxes 40 batches place at most 2 % more than 12, and 12 at most 3 % more than 4.
+// A batch for values takes 800 n^2 steps in any dimension, since not all boxes are placed. Over 19
+// texts of 20 to 100 boxes 40 batches place at most 2 % more than 12, and 12 at most 3 % more than
+// 4.
 const VALUE_BATCH_COST: u64 = 800;
 
 const MOST_VALUE_BATCHES: u64 = 40;

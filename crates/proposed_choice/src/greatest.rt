@@ -117,13 +117,13 @@ fn closed<R: Threads + Wait + Sync, G: Gate + Sync>(
 /// The greatest value of a set of boxes that fits, with both certificates, by proposals first.
 ///
 /// It begins at 0 and one more than all boxes are worth, and narrows these by choice trees with the
-/// share of the budget (`level_share`). Then come proposed boxes and a proposed tree that pass their
-/// tests. The value above what the boxes are worth is decided by choice trees of rising branchings,
-/// up to the budget, and the values between, from both ends on, by trees of an eighth of it. So the
-/// budget bounds the run: trees have about three times as many branchings in all. `Between` comes
-/// only where the trees of both values beside the two have more branchings than the share: the one
-/// above the placed value and the one below the refuted value. Which boxes, which refutation and how
-/// many values are decided isn't promised.
+/// share of the budget (`level_share`). Then come proposed boxes and a proposed tree that pass
+/// their tests. The value above what the boxes are worth is decided by choice trees of rising
+/// branchings, up to the budget, and the values between, from both ends on, by trees of an eighth
+/// of it. So the budget bounds the run: trees have about three times as many branchings in all.
+/// `Between` comes only where the trees of both values beside the two have more branchings than the
+/// share: the one above the placed value and the one below the refuted value. Which boxes, which
+/// refutation and how many values are decided isn't promised.
 pub fn greatest_value_proposed<R: Threads + Wait + Sync, G: Gate + Sync>(
     rt: &R,
     alloc: Global,

@@ -38,8 +38,8 @@ fn token_limit(budget: u64) -> u64 {
         .clamp(MIN_TOKENS, MAX_TOKENS)
 }
 
-// The least value between these two for which a tree of at most `most` tokens is proposed, as far as
-// halving finds it.
+// The least value between these two for which a tree of at most `most` tokens is proposed, as far
+// as halving finds it.
 fn proposed_limit(
     alloc: Global,
     instance: &Instance,

@@ -138,8 +138,8 @@ fn risen(settings: &Settings, rises: u32) -> u64
     branchings.min(settings.budget).max(share)
 }
 
-// What is found at a level by choice trees of rising branchings, from the share of a level up to the
-// budget.
+// What is found at a level by choice trees of rising branchings, from the share of a level up to
+// the budget.
 fn decide_rising<R: Threads + Wait + Sync, G: Gate + Sync>(
     rt: &R,
     alloc: Global,

@@ -139,7 +139,8 @@ fn test_height(
     Ok(level_of(outcome))
 }
 
-/// The bounds with a proposed packing, where it is lower than the placed height and passes its test.
+/// The bounds with a proposed packing, where it is lower than the placed height and passes its
+/// test.
 pub(crate) fn lowered(
     alloc: Global,
     instance: &Instance,

@@ -14,9 +14,9 @@ const FIRST_PART: u64 = 16;
 
 const FIRST_COST: u64 = 4;
 
-// In two dimensions above 24 boxes, and in three above 30, trees and refutations hardly narrow a gap
-// between what scales refute and what swaps pack (32 strips of 17 to 100 boxes): they have an eighth
-// of what a run may cost, and no splits.
+// In two dimensions above 24 boxes, and in three above 30, trees and refutations hardly narrow a
+// gap between what scales refute and what swaps pack (32 strips of 17 to 100 boxes): they have an
+// eighth of what a run may cost, and no splits.
 const FEW_FLAT_BOXES: u32 = 24;
 
 const FEW_DEEP_BOXES: u32 = 30;
@@ -29,8 +29,8 @@ const RISE: u64 = 4;
 // Behind three levels in vain the two beside the ends are asked.
 const BESIDE: u32 = 3;
 
-/// What the trees and the proposals of a run may still cost, in pair steps, with the branchings of a
-/// tree and the splits of a proposal in the present round.
+/// What the trees and the proposals of a run may still cost, in pair steps, with the branchings of
+/// a tree and the splits of a proposal in the present round.
 #[derive(Drop)]
 pub(crate) struct Purse {
     left: u64,

@@ -39,9 +39,9 @@ fn told(bounds: Bounds) -> Strip
     }
 }
 
-// The bounds whose refuted end is refuted at the root of its tree and whose placed end is a proposed
-// packing: first by plain fills, so that both stand after some hundredths of a second, and then by
-// rounds of swaps down to the refuted end.
+// The bounds whose refuted end is refuted at the root of its tree and whose placed end is a
+// proposed packing: first by plain fills, so that both stand after some hundredths of a second, and
+// then by rounds of swaps down to the refuted end.
 fn both_ends<R: Threads + Wait + Sync, G: Gate + Sync>(
     rt: &R,
     alloc: Global,
@@ -94,14 +94,14 @@ fn narrowed<R: Threads + Wait + Sync, G: Gate + Sync>(
 /// container's last side isn't looked at.
 ///
 /// It begins at bounds that the roots of the heights' trees give, which the scale functions refute,
-/// and a low packing that fills, swaps and beams propose. The heights between are narrowed in rounds:
-/// each is decided by its class tree, and behind that by a proposal, with more branchings from round
-/// to round as long as the budget pays for them. The budget bounds the whole run: a branching of n
-/// boxes is counted by n^2. `Between` comes only where the trees of both heights beside the two have
-/// more branchings than the share of the budget (`level_share`): the one above the refuted height
-/// and the one below the placed height. `NoneFits` comes exactly where a box is longer than the
-/// container in a dimension other than the last, and names the first. Which packing, which
-/// refutation and how many heights are decided isn't promised.
+/// and a low packing that fills, swaps and beams propose. The heights between are narrowed in
+/// rounds: each is decided by its class tree, and behind that by a proposal, with more branchings
+/// from round to round as long as the budget pays for them. The budget bounds the whole run: a
+/// branching of n boxes is counted by n^2. `Between` comes only where the trees of both heights
+/// beside the two have more branchings than the share of the budget (`level_share`): the one above
+/// the refuted height and the one below the placed height. `NoneFits` comes exactly where a box is
+/// longer than the container in a dimension other than the last, and names the first. Which
+/// packing, which refutation and how many heights are decided isn't promised.
 pub fn least_height_proposed<R: Threads + Wait + Sync, G: Gate + Sync>(
     rt: &R,
     alloc: Global,
