@@ -15,6 +15,7 @@ pub mod Boxes
 pub mod WithBoxes
 pub mod InBins
 pub mod BinsRefuted
+pub mod Agreeing
 pub mod ValueRefuted
 pub mod OuterFed
 pub mod OuterViews

@@ -10,7 +10,7 @@ use Rattle.std.proofs.lemmas.List.{length-append}
 use Rattle.packing_terms.specs.Packing.{PlainInstance, dims, box_count, IsPacking}
 use Rattle.packing_terms.specs.Goals.{subset, in_bin, places_of, worth, IsBinPacking}
 use Rattle.packing_terms.proofs.Members.{IsIn, map_in, range_in}
-use Rattle.packing_terms.proofs.ValueRefuted.{rising_later}
+use Rattle.packing_terms.proofs.Agreeing.{rising_later}
 use Rattle.packing_terms.specs.Results.{◌>>=◌}
 use Rattle.check_terms.specs.declared.answers.PlaceVerdict.{PlaceVerdict}
 use Rattle.check_terms.specs.declared.answers.PlaceVerdict.TheVariants.{Good, Outside, Overlap}
