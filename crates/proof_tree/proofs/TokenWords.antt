@@ -74,36 +74,37 @@ abbrev pub before : List ScaleFn → Option (List ScaleFn) → Option (List Scal
 before fs None = None
 before fs (Some gs) = Some (fs ++ gs)
 
--- the functions so far, from the words before word k
-pub record AreRead (words : List (List ℕ)) (k : ℕ) (fs : List ScaleFn) : Type 0 where
-  pub all : functions (drop 1 words) ≡ before fs (functions (drop k words))
+-- the functions so far, from the words before word k, the first of which is word `from`
+pub record AreRead (words : List (List ℕ)) (from k : ℕ) (fs : List ScaleFn) : Type 0 where
+  pub all : functions (drop from words) ≡ before fs (functions (drop k words))
   pub within : k ≤ length words
-  pub few : k ≤ 1 + 2 * length fs
+  pub few : k ≤ from + 2 * length fs
 
 one_more : (fs : List ScaleFn) (f : ScaleFn) (o : Option (List ScaleFn))
     → before fs (in_front (Some f) o) ≡ before (fs ++ f ∷ []) o
 one_more fs f None = refl
 one_more fs f (Some gs) = ap Some (sym (append_assoc fs (f ∷ []) gs))
 
-pub read_more : (words : List (List ℕ)) (k next : ℕ) (fs : List ScaleFn) (f : ScaleFn)
+pub read_more : (words : List (List ℕ)) (from k next : ℕ) (fs : List ScaleFn) (f : ScaleFn)
     → functions (drop k words) ≡ in_front (Some f) (functions (drop next words))
-    → next ≤ length words → next ≤ k + 2 → AreRead words k fs → AreRead words next (fs ++ f ∷ [])
-read_more words k next fs f e l m h = record {
+    → next ≤ length words → next ≤ k + 2 → AreRead words from k fs
+    → AreRead words from next (fs ++ f ∷ [])
+read_more words from k next fs f e l m h = record {
   all = h.all ∙ (ap (before fs) e ∙ one_more fs f (functions (drop next words)));
   within = l;
   few = let n = h.few in let a = length-append fs (f ∷ []) in omega (arith, n, a, m);
 }
 
-module _ (d k : ℕ) (words : List (List ℕ)) (fs : List ScaleFn) (h : AreRead words k fs) where
+module _ (d from k : ℕ) (words : List (List ℕ)) (fs : List ScaleFn) (h : AreRead words from k fs) where
   -- word k begins no function
-  pub read_other : functions (drop k words) ≡ None → None ≡ tuple_only d (functions (drop 1 words))
+  pub read_other : functions (drop k words) ≡ None → None ≡ tuple_only d (functions (drop from words))
   read_other e = sym (ap (tuple_only d) (h.all ∙ ap (before fs) e))
 
   -- more words are left than functions are wanted
-  pub read_long : k < length words → length fs ≡ d → None ≡ tuple_only d (functions (drop 1 words))
+  pub read_long : k < length words → length fs ≡ d → None ≡ tuple_only d (functions (drop from words))
   read_long l e = go (functions (drop k words)) refl
     where
-      go : (o : Option (List ScaleFn)) → functions (drop k words) ≡ o → None ≡ tuple_only d (functions (drop 1 words))
+      go : (o : Option (List ScaleFn)) → functions (drop k words) ≡ o → None ≡ tuple_only d (functions (drop from words))
       go None f = read_other f
       go (Some gs) f =
           let n = functions_many (drop k words) gs f in

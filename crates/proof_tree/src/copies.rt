@@ -7,8 +7,8 @@ use box_instances::NoMemory;
 use conservative_scales::ScaleTuple;
 use std::alloc::Global;
 
-// The same tuple.
-fn copy_tuple(alloc: Global, tuple: &ScaleTuple) -> Result<ScaleTuple, NoMemory>
+/// The same tuple. `NoMemory` comes where it needs more than there is.
+pub fn copy_tuple(alloc: Global, tuple: &ScaleTuple) -> Result<ScaleTuple, NoMemory>
     ensures { IfOk result (λ t. t.items ≡ tuple.now.items) }
 {
     let Ok(copy) = ScaleTuple::from_slice(alloc, tuple.as_slice()) else {

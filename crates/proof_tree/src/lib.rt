@@ -13,9 +13,9 @@ mod token;
 mod writing;
 
 pub use conservative_scales::ScaleTuple;
-pub use copies::copy_token;
+pub use copies::{copy_token, copy_tuple};
 pub use list::{TokenList, write_tokens_on};
 pub use outcome::Outcome;
-pub use reading::{one_parameter, parameter_at, read_token, three_parameters};
+pub use reading::{one_parameter, parameter_at, read_token, three_parameters, tuple_from};
 pub use token::Token;
-pub use writing::{write_token, write_token_on};
+pub use writing::{write_functions, write_token, write_token_on};

@@ -165,16 +165,19 @@ fn function_at(line: &LineLexer, k: u32) -> Option<Named>
     })
 }
 
-// The functions behind the first word, where there is one for each dimension.
-fn tuple_behind(alloc: Global, line: &LineLexer, dims: u32) -> Option<ScaleTuple>
+/// The functions that the words from `first` on are, where there is one for each dimension and
+/// nothing behind them; `None` otherwise. `first` is at most 3, and the line has as many words. It
+/// takes no memory.
+pub fn tuple_from(alloc: Global, line: &LineLexer, dims: u32, first: u32) -> Option<ScaleTuple>
     requires dims { dims ≤ 4 }
-    requires word { 1 ≤ length line.now.held.words }
+    requires few { first ≤ 3 }
+    requires words { first ≤ length line.now.held.words }
     ensures { option_map (λ tuple. tuple.items) result
-        ≡ tuple_only dims (functions (drop 1 line.now.held.words)) }
+        ≡ tuple_only dims (functions (drop first line.now.held.words)) }
 {
     let count = line.word_count();
     let mut tuple = ScaleTuple::new(alloc);
-    let mut k = 1;
+    let mut k = first;
     for _ in 0..dims {
         if k >= count {
             return None;
@@ -234,7 +237,7 @@ fn token_of(alloc: Global, line: &LineLexer, dims: u32, kind: Kind) -> Option<To
             Some(Token::TooLarge { box_no, dim })
         }
         Kind::Scales => {
-            let tuple = tuple_behind(alloc, line, dims)?;
+            let tuple = tuple_from(alloc, line, dims, 1)?;
             Some(Token::Scales(tuple))
         }
         Kind::Assign => {
@@ -248,7 +251,7 @@ fn token_of(alloc: Global, line: &LineLexer, dims: u32, kind: Kind) -> Option<To
         Kind::SetRefuted => set_refuted(line),
         Kind::ValueShort => token_alone(line, Token::ValueShort),
         Kind::GlobalScales => {
-            let tuple = tuple_behind(alloc, line, dims)?;
+            let tuple = tuple_from(alloc, line, dims, 1)?;
             Some(Token::GlobalScales(tuple))
         }
     }

@@ -1,6 +1,6 @@
 use Rattle.std.proofs.Common.{◌∷◌, [], arith, length-append, ◌∙◌}
 use Rattle.proof_tree.proofs.TokenWords.{read_more, read_long}
-use Rattle.proof_tree.proofs.reading.tuple_behind.Goals as goal
+use Rattle.proof_tree.proofs.reading.tuple_from.Goals as goal
 
 pub loop-preserved : goal.loop-preserved
 loop-preserved c =
@@ -9,7 +9,7 @@ loop-preserved c =
     let more = length-append before (c.in_ok-named.named.function ∷ []) in
     let count = c.loop.invariant.1 in
     rw c.push_reserved.ensures.items (
-      read_more c.args.line.now.held.words c.loop.k c.in_ok-named.named.next before c.in_ok-named.named.function n.front
+      read_more c.args.line.now.held.words c.args.first c.loop.k c.in_ok-named.named.next before c.in_ok-named.named.function n.front
           n.within n.few c.loop.invariant.0,
       omega (arith, more, count),
       c.push_reserved.ensures.capacity ∙ c.loop.invariant.2,
@@ -25,6 +25,7 @@ returns-else-k-count-2 c =
     let same = c.word_count-count.ensures.count in
     let end = c.loop.auto.counter-end in
     let most = c.requires.dims in
-    read_long c.args.dims c.loop.k c.args.line.now.held.words c.loop.tuple.items read
-    (omega (arith, within, few, read_all, held, same, end, most, c.if-k-count-2.false, c.loop-test.false))
+    let start = c.requires.few in
+    read_long c.args.dims c.args.first c.loop.k c.args.line.now.held.words c.loop.tuple.items read
+    (omega (arith, within, few, read_all, held, same, end, most, start, c.if-k-count-2.false, c.loop-test.false))
     (omega (arith, read_all, end, c.loop-test.false))

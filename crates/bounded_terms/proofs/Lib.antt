@@ -1,0 +1,9 @@
+pub mod Sums
+pub mod ShareBounds
+pub mod ShareSteps
+pub mod Agreeing
+pub mod PricedSets
+pub mod BoundedSound
+pub mod BoundedFed
+pub mod Rows
+pub mod Examples

@@ -1,0 +1,6 @@
+pub mod Shares
+pub mod BoundedRefutation
+pub mod BoundedFeeding
+pub mod BoundedPaths
+pub mod BoundedJudging
+pub mod BoundedLines
