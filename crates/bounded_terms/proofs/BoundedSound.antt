@@ -63,9 +63,9 @@ module _ (law : ExcessLaw) (instance : PlainInstance) (sides : HasPositiveSides 
   bounded_sound (by_box free rest) c (inr i) g = bounded_sound rest c (inr (inr i)) g
 
 -- a refutation with priced leaves shows that the instance doesn't reach the value
-pub none_reaches_priced : ExcessLaw → (instance : PlainInstance) → HasPositiveSides instance → (goal : ℕ)
+pub none_reaches_bounded : ExcessLaw → (instance : PlainInstance) → HasPositiveSides instance → (goal : ℕ)
     (z : List BoundedToken) → RefutesBounded instance goal (no_choice ∷ []) z → ¬ ReachesValue instance goal
-none_reaches_priced law instance sides goal z h (keep, set, reached, fits) =
+none_reaches_bounded law instance sides goal z h (keep, set, reached, fits) =
     bounded_sound law instance sides goal keep set reached fits h no_choice (inl refl)
     (record { boxes = tt; taken = tt; left = tt })
 

@@ -5,5 +5,8 @@ pub mod Agreeing
 pub mod PricedSets
 pub mod BoundedSound
 pub mod BoundedFed
+pub mod BoundedViews
+pub mod BoundedJudged
+pub mod BoundedBack
 pub mod Rows
 pub mod Examples

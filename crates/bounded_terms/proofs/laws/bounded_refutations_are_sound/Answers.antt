@@ -2,12 +2,12 @@ use Rattle.std.proofs.Common.{get_or}
 use Rattle.packing_terms.specs.OuterRefutation.{Choice, no_choice}
 use Rattle.packing_terms.proofs.Members.{index_in}
 use Rattle.scale_terms.proofs.Excess.{excess_law}
-use Rattle.bounded_terms.proofs.BoundedSound.{bounded_sound, none_reaches_priced, plain_is_bounded}
+use Rattle.bounded_terms.proofs.BoundedSound.{bounded_sound, none_reaches_bounded, plain_is_bounded}
 use Rattle.bounded_terms.proofs.laws.bounded_refutations_are_sound.Goals as goal
 
 pub returns-clause-value : goal.returns-clause-value
 returns-clause-value c instance goal_value tokens sides h =
-    none_reaches_priced excess_law instance sides goal_value tokens h
+    none_reaches_bounded excess_law instance sides goal_value tokens h
 
 pub returns-clause-value_nodes : goal.returns-clause-value_nodes
 returns-clause-value_nodes c instance goal_value nodes tokens keep b sides h l set reached fits =

@@ -1,0 +1,110 @@
+-- A token of a tree with priced leaves isn't refused exactly where the node accepts it, and tokens
+-- are taken one by one and leave no node open exactly where they are a refutation.
+use Rattle.std.proofs.Common.{◌≡◌, ◌∙◌, ℕ, refl, ap, arith, true, List, [], ◌∷◌, ◌++◌, length, Option, Some, None, Ok}
+use Rattle.std.specs.Prelude.{◌↔◌, IsTrue}
+use Rattle.std.proofs.lemmas.Bool.{and_parts, and_from, ltb-true, lt-ltb, eqb-true, eq-eqb}
+use Rattle.packing_terms.specs.declared.ScaleFn.{ScaleFn}
+use Rattle.packing_terms.specs.Packing.{PlainInstance, dims, container_side}
+use Rattle.packing_terms.specs.Scales.{IsTuple, function_at}
+use Rattle.packing_terms.specs.Sums.{below}
+use Rattle.packing_terms.specs.Tokens.{PlainToken}
+use Rattle.packing_terms.specs.Results.{◌>>=◌}
+use Rattle.packing_terms.specs.OuterRefutation.{Choice, no_choice}
+use Rattle.packing_terms.specs.OuterFeeding.{OpenNode, Outer, Inner}
+use Rattle.packing_terms.proofs.Members.{all_at, all_from, in_range, range_in}
+use Rattle.packing_terms.proofs.Boxes.{each_in, each_from}
+use Rattle.check_terms.specs.declared.answers.RefuseCode.{RefuseCode}
+use Rattle.check_terms.specs.Judging.{is_legal, are_legal}
+use Rattle.check_terms.specs.Checking.{left_by, value_after}
+use Rattle.check_terms.proofs.Judged.{passed, passes, legal, legal_is, value_exact}
+use Rattle.bounded_terms.specs.Shares.{fits_alone, IsPricedOut}
+use Rattle.bounded_terms.specs.BoundedRefutation.{BoundedToken, Plain, PricedOut, IsBoundedRefutation}
+use Rattle.bounded_terms.specs.BoundedFeeding.{AcceptsBounded, bounded_children, FeedsBounded}
+use Rattle.bounded_terms.specs.BoundedJudging.{price_refusal, bounded_refusal, bounded_after, bounded_after_all}
+use Rattle.bounded_terms.proofs.BoundedFed.{bounded_fed, fed_refutes_bounded}
+
+module _ (instance : PlainInstance) where
+  -- the functions are legal where the test says so
+  tuple_is : (fs : List ScaleFn) → length fs ≡ dims instance → are_legal instance fs ≡ true → IsTuple instance fs
+  tuple_is fs count tested = record {
+    count = count;
+    legal = λ i h. legal instance (container_side instance i) (function_at fs i)
+        (all_at (λ i. is_legal (container_side instance i) (function_at fs i)) i (below (dims instance)) tested
+        (in_range 0 (dims instance) i (omega arith) (omega arith)));
+  }
+
+  is_tuple : (fs : List ScaleFn) → IsTuple instance fs → are_legal instance fs ≡ true
+  is_tuple fs tuple =
+      all_from (λ i. is_legal (container_side instance i) (function_at fs i)) (below (dims instance)) (λ i h.
+      let p = range_in 0 (dims instance) i h in
+      legal_is instance (container_side instance i) (function_at fs i) (tuple.legal i (omega (arith, p.1))))
+
+  price_exact : (goal : ℕ) (c : Choice) (q p : ℕ) (fs : List ScaleFn)
+      → (price_refusal instance goal c q p fs ≡ None) ↔ IsPricedOut instance goal fs q p c
+  price_exact goal c q p fs = (there, back)
+    where
+      there : price_refusal instance goal c q p fs ≡ None → IsPricedOut instance goal fs q p c
+      there e =
+          let count = passed _ _ _ e in
+          let range = passed _ _ _ count.1 in
+          let excess = passed _ _ _ range.1 in
+          let both = and_parts _ _ excess.0 in
+          record {
+            tuple = tuple_is fs (eqb-true (length fs) (dims instance) count.0) range.0;
+            fit = each_from (λ v. IsTrue (fits_alone instance v)) c.taken
+                (λ v i. all_at (fits_alone instance) v c.taken both.0 i);
+            more = ltb-true _ _ both.1;
+          }
+
+      back : IsPricedOut instance goal fs q p c → price_refusal instance goal c q p fs ≡ None
+      back out =
+          passes _ _ _ (eq-eqb (length fs) (dims instance) out.tuple.count)
+          (passes _ _ _ (is_tuple fs out.tuple)
+          (passes _ _ _ (and_from _ _ (all_from (fits_alone instance) c.taken
+          (each_in (λ v. IsTrue (fits_alone instance v)) c.taken out.fit)) (lt-ltb _ _ out.more)) refl))
+
+  module _ (goal : ℕ) where
+    pub bounded_exact : (node : OpenNode Choice) (t : BoundedToken)
+        → (bounded_refusal instance goal node t ≡ None) ↔ AcceptsBounded instance goal node t
+    bounded_exact node (Plain t) = value_exact instance goal node t
+    bounded_exact (Outer c) (PricedOut q p fs) = price_exact goal c q p fs
+    bounded_exact (Inner keep es) (PricedOut q p fs) = (λ e. absurd (cc), λ h. absurd h)
+
+    -- tokens that are taken one by one are those that are fed
+    taken_fed : (nodes : List (OpenNode Choice)) (ts : List BoundedToken) (left : List (OpenNode Choice))
+        → bounded_after_all instance goal nodes ts ≡ Ok left → FeedsBounded instance goal nodes ts left
+    taken_fed nodes [] left e = cc (e)
+    taken_fed [] (t ∷ ts) left e = absurd (cc (e))
+    taken_fed (n ∷ nodes) (t ∷ ts) left e =
+        go (bounded_refusal instance goal n t) refl e (taken_fed (bounded_children n t ++ nodes) ts left)
+      where
+        go : (o : Option RefuseCode) → bounded_refusal instance goal n t ≡ o
+            → (left_by o (bounded_children n t) nodes >>= λ more. bounded_after_all instance goal more ts) ≡ Ok left
+            → (bounded_after_all instance goal (bounded_children n t ++ nodes) ts ≡ Ok left
+            → FeedsBounded instance goal (bounded_children n t ++ nodes) ts left)
+            → AcceptsBounded instance goal n t × FeedsBounded instance goal (bounded_children n t ++ nodes) ts left
+        go None f k later = ((bounded_exact n t).0 f, later k)
+        go (Some code) f k later = absurd (cc (k))
+
+    fed_taken : (nodes : List (OpenNode Choice)) (ts : List BoundedToken) (left : List (OpenNode Choice))
+        → FeedsBounded instance goal nodes ts left → bounded_after_all instance goal nodes ts ≡ Ok left
+    fed_taken nodes [] left e = ap Ok e
+    fed_taken [] (t ∷ ts) left e = absurd e
+    fed_taken (n ∷ nodes) (t ∷ ts) left e =
+        ap (λ o. (left_by o (bounded_children n t) nodes >>= λ more. bounded_after_all instance goal more ts))
+        ((bounded_exact n t).1 e.0)
+        ∙ fed_taken (bounded_children n t ++ nodes) ts left e.1
+
+    pub bounded_refutes : (tokens : List BoundedToken)
+        → (bounded_after_all instance goal (Outer no_choice ∷ []) tokens ≡ Ok [])
+        ↔ IsBoundedRefutation instance goal tokens
+    bounded_refutes tokens = (
+      λ e. fed_refutes_bounded instance goal tokens (no_choice ∷ [])
+          (taken_fed (Outer no_choice ∷ []) tokens [] e),
+      λ h. fed_taken (Outer no_choice ∷ []) tokens [] (bounded_fed instance goal h),
+    )
+
+    pub plain_after : (nodes : List (OpenNode Choice)) (t : PlainToken)
+        → bounded_after instance goal nodes (Plain t) ≡ value_after instance goal nodes t
+    plain_after [] t = refl
+    plain_after (n ∷ nodes) t = refl
