@@ -25,14 +25,15 @@ use Rattle.verdict_terms.specs.declared.reason.Reason.TheVariants.{TooLittle}
 use Rattle.document_terms.specs.TokenLines.{token_of}
 use Rattle.verdict_terms.specs.Trees.{Refuted, ToFit, ToFitIn, ToReach, begun}
 use Rattle.verdict_terms.specs.Stages.{Stage, groups_reason, start_exclusions, claimed, placed, to_refute, is_word}
-use Rattle.verdict_terms.specs.Stages.{tree_token, exceeding_token, exceeding_line, words_line}
+use Rattle.verdict_terms.specs.Stages.{tree_token, exceeding_token, exceeding_line, words_line, value_stage}
 use Rattle.verdict_terms.specs.Stages.Stage.{Placing, Sharing, Taking, Proving, Refuting, Exceeding, Ending}
 use Rattle.verdict_terms.specs.Form.{AreNumberedLines, ArePlaced, AreShared, AreTaken, AreRefuting, IsExceedingLine}
-use Rattle.verdict_terms.specs.Form.{AreProved, BacksUnder}
+use Rattle.verdict_terms.specs.Form.{AreProved, RefuteValue, BacksUnder}
 use Rattle.verdict_terms.proofs.Passed.{require_ok, is_word_ok, ok_is}
 use Rattle.verdict_terms.proofs.Walk.{read_words}
 use Rattle.verdict_terms.proofs.BinsGood.{bins_good}
 use Rattle.verdict_terms.proofs.TreesTold.{end_told, token_ok, refuting_told}
+use Rattle.verdict_terms.proofs.BoundsTold.{PassingTold, passing_told}
 use Rattle.verdict_terms.proofs.PlacesTold.{group_good, places_good, places_told, shares_told, takes_told}
 use Rattle.verdict_terms.proofs.PlacesTold.{numbered_count, no_first}
 use Rattle.text_terms.proofs.Good.{bind_ok}
@@ -135,13 +136,13 @@ worth_enough : (b : Bool) → cond b None (Some TooLittle) ≡ None → b ≡ tr
 worth_enough true e = refl
 worth_enough false e = absurd (cc (e))
 
-takes_backed : (instance : PlainInstance) (claim told : Claim) (value : ℕ) (lines : List (List (List ℕ)))
-    → read_words (Taking instance claim value [] []) lines ≡ Ok told
+takes_backed : (heading : Heading) (instance : PlainInstance) (claim told : Claim) (value : ℕ) (lines : List (List (List ℕ)))
+    → read_words (Taking heading instance claim value [] []) lines ≡ Ok told
     → (front : List (List (List ℕ))) × (back : List (List (List ℕ))) × (lines ≡ front ++ (codes "proof" ∷ []) ∷ back)
     × AreTaken instance value front
-    × (read_words (Refuting claim (begun (to_refute Answer instance claim))) back ≡ Ok told)
-takes_backed instance claim told value lines e =
-    let t = takes_told instance claim told value [] [] lines
+    × (read_words (value_stage heading instance claim) back ≡ Ok told)
+takes_backed heading instance claim told value lines e =
+    let t = takes_told heading instance claim told value [] [] lines
     (record { there = λ k d h. absurd (omega arith); rising = λ k h. absurd (omega arith) }) e in
     let r = no_first (groups_reason ((t.more_taken, place_verdict (subset instance t.more_taken) t.more) ∷ []))
     (cond (nat_le value (worth instance t.more_taken)) None (Some TooLittle)) t.good in
@@ -223,6 +224,23 @@ exceeding_told instance claim told m (words ∷ lines) few e =
 
 -- ---- each claim
 
+-- taken boxes, `proof`, and lines that refute a value
+value_backed : (heading : Heading) (instance : PlainInstance) (claim told : Claim) (reached refuted : ℕ)
+    → ((back : List (List (List ℕ))) → read_words (value_stage heading instance claim) back ≡ Ok told
+    → PassingTold heading instance claim told refuted back)
+    → (lines : List (List (List ℕ))) → read_words (Taking heading instance claim reached [] []) lines ≡ Ok told
+    → (backing : List (List (List ℕ))) × (lines ≡ backing ++ (codes "end" ∷ []) ∷ [])
+    × AreProved (AreTaken instance reached) (RefuteValue heading instance refuted) backing × (claim ≡ told)
+value_backed heading instance claim told reached refuted passing lines e =
+    let p = takes_backed heading instance claim told reached lines e in
+    let t = passing p.1 p.4 in (
+      p.0 ++ (codes "proof" ∷ []) ∷ t.body,
+      p.2 ∙ ap (λ ls. p.0 ++ (codes "proof" ∷ []) ∷ ls) t.are
+          ∙ sym (append_assoc p.0 ((codes "proof" ∷ []) ∷ t.body) ((codes "end" ∷ []) ∷ [])),
+      record { front = p.0; back = t.body; are = refl; is_front = p.3; is_back = t.passing },
+      t.same,
+    )
+
 pub backed_told : (heading : Heading) (instance : PlainInstance) (claim told : Claim) (lines : List (List (List ℕ)))
     → read_words (claimed heading instance claim) lines ≡ Ok told → BackedTold heading instance claim told lines
 backed_told heading instance Fitting told lines e =
@@ -265,26 +283,10 @@ backed_told heading instance NoBins told lines e =
     let t = exceeding_told instance NoBins told (dims instance) lines (omega arith) e in
     record { backing = t.0 ∷ []; are = t.1; backs = t.2; same = t.3 }
 backed_told heading instance (GreatestValue v) told lines e =
-    let p = takes_backed instance (GreatestValue v) told v lines e in
-    let t = refuting_told (GreatestValue v) told (ToReach instance (suc v)) p.1 p.4 in
-    let q = proved (AreTaken instance v) (GreatestValue v) told (ToReach instance (suc v)) lines p.0
-    ((codes "proof" ∷ []) ∷ p.1) p.2 p.3
-    (record {
-      body = t.body;
-      are = ap (λ ls. (codes "proof" ∷ []) ∷ ls) t.are;
-      refuting = t.refuting;
-      same = t.same;
-    }) in
+    let q = value_backed heading instance (GreatestValue v) told v (suc v)
+    (passing_told heading instance (GreatestValue v) told (suc v) refl refl refl) lines e in
     record { backing = q.0; are = q.1; backs = q.2; same = q.3 }
 backed_told heading instance (ValueBetween a b) told lines e =
-    let p = takes_backed instance (ValueBetween a b) told a lines e in
-    let t = refuting_told (ValueBetween a b) told (ToReach instance b) p.1 p.4 in
-    let q = proved (AreTaken instance a) (ValueBetween a b) told (ToReach instance b) lines p.0
-    ((codes "proof" ∷ []) ∷ p.1) p.2 p.3
-    (record {
-      body = t.body;
-      are = ap (λ ls. (codes "proof" ∷ []) ∷ ls) t.are;
-      refuting = t.refuting;
-      same = t.same;
-    }) in
+    let q = value_backed heading instance (ValueBetween a b) told a b
+    (passing_told heading instance (ValueBetween a b) told b refl refl refl) lines e in
     record { backing = q.0; are = q.1; backs = q.2; same = q.3 }

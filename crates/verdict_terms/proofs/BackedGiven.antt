@@ -26,12 +26,13 @@ use Rattle.document_terms.specs.TokenLines.{token_of}
 use Rattle.verdict_terms.specs.Trees.{Refuted, ToFit, ToFitIn, ToReach, begun}
 use Rattle.verdict_terms.specs.Results.{one_claim, two_claim, claim_of}
 use Rattle.verdict_terms.specs.Stages.{start_exclusions, claimed, placed, to_refute, is_word, tree_token}
-use Rattle.verdict_terms.specs.Stages.{exceeding_token, exceeding_line, words_line}
+use Rattle.verdict_terms.specs.Stages.{exceeding_token, exceeding_line, words_line, value_stage}
 use Rattle.verdict_terms.specs.Stages.Stage.{Placing, Sharing, Taking, Proving, Refuting, Exceeding, Ending}
 use Rattle.verdict_terms.specs.Form.{IsResult, ArePlaced, AreShared, AreTaken, AreRefuting, IsExceedingLine, BacksUnder}
 use Rattle.verdict_terms.proofs.Walk.{read_words}
 use Rattle.verdict_terms.proofs.Taken.{is_same, required, bound, wanted_is}
 use Rattle.verdict_terms.proofs.TreesGiven.{end_given, not_end, refuting_given}
+use Rattle.verdict_terms.proofs.BoundsGiven.{passing_given}
 use Rattle.verdict_terms.proofs.PlacesGiven.{no_places_reason, no_bins_reason, no_taken_reason, places_given}
 use Rattle.verdict_terms.proofs.PlacesGiven.{shares_given, takes_given}
 
@@ -125,11 +126,11 @@ module _ (instance : PlainInstance) (some_dims : 1 ≤ dims instance) (some_boxe
       shares_given instance claim k [] [] p.bins p.places front back p.are_lines p.packing.count
       (omega (arith, some_boxes)) (no_bins_reason instance k p.bins p.places p.packing)
 
-  taken_given : (claim : Claim) (value : ℕ) (front back : List (List (List ℕ))) → AreTaken instance value front
-      → read_words (Taking instance claim value [] []) (front ++ (codes "proof" ∷ []) ∷ back)
-      ≡ read_words (Refuting claim (begun (to_refute Answer instance claim))) back
-  taken_given claim value front back p =
-      takes_given instance claim value [] [] p.taken p.places front back p.are_lines p.set.rising
+  taken_given : (heading : Heading) (claim : Claim) (value : ℕ) (front back : List (List (List ℕ))) → AreTaken instance value front
+      → read_words (Taking heading instance claim value [] []) (front ++ (codes "proof" ∷ []) ∷ back)
+      ≡ read_words (value_stage heading instance claim) back
+  taken_given heading claim value front back p =
+      takes_given heading instance claim value [] [] p.taken p.places front back p.are_lines p.set.rising
       (no_taken_reason instance value p.taken p.places p.packing p.enough)
 
   exceeding_given : (claim : Claim) (m : ℕ) (lines : List (List (List ℕ))) → IsExceedingLine instance m lines
@@ -187,9 +188,9 @@ module _ (instance : PlainInstance) (some_dims : 1 ≤ dims instance) (some_boxe
   backed_given heading NoBins lines b = exceeding_given NoBins (dims instance) lines b
   backed_given heading (GreatestValue v) lines b =
       ap (read_words (claimed heading instance (GreatestValue v))) (joined b.front b.back lines b.are)
-      ∙ taken_given (GreatestValue v) v b.front (b.back ++ (codes "end" ∷ []) ∷ []) b.is_front
-      ∙ refuting_given (GreatestValue v) (ToReach instance (suc v)) b.back b.is_back
+      ∙ taken_given heading (GreatestValue v) v b.front (b.back ++ (codes "end" ∷ []) ∷ []) b.is_front
+      ∙ passing_given heading instance (GreatestValue v) (suc v) refl refl refl b.back b.is_back
   backed_given heading (ValueBetween x y) lines b =
       ap (read_words (claimed heading instance (ValueBetween x y))) (joined b.front b.back lines b.are)
-      ∙ taken_given (ValueBetween x y) x b.front (b.back ++ (codes "end" ∷ []) ∷ []) b.is_front
-      ∙ refuting_given (ValueBetween x y) (ToReach instance y) b.back b.is_back
+      ∙ taken_given heading (ValueBetween x y) x b.front (b.back ++ (codes "end" ∷ []) ∷ []) b.is_front
+      ∙ passing_given heading instance (ValueBetween x y) y refl refl refl b.back b.is_back

@@ -13,7 +13,7 @@ use Rattle.document_terms.specs.declared.claim.SolvingJob.TheVariants.{Fit, Stri
 use Rattle.document_terms.specs.declared.claim.Claim.TheVariants.{NoHeight, NoBins, LeastHeight, HeightBetween}
 use Rattle.document_terms.specs.declared.claim.Claim.TheVariants.{LeastBins, BinsBetween, GreatestValue, ValueBetween}
 use Rattle.verdict_terms.specs.declared.heading.Heading.{Heading}
-use Rattle.verdict_terms.specs.declared.heading.Heading.TheVariants.{Answer, Reduced}
+use Rattle.verdict_terms.specs.declared.heading.Heading.TheVariants.{Answer, Reduced, Bounded}
 use Rattle.verdict_terms.specs.Reasons.{form}
 use Rattle.packing_terms.specs.Limits.{most_height}
 use Rattle.document_terms.specs.Claims.{most_worth}
@@ -68,6 +68,11 @@ heading_cut Reduced word (job ∷ []) =
       same_front 21 word (codes "reduced") (omega arith),
       same_front 21 job (codes "fit") (omega arith),
       same_front 21 job (codes "strip") (omega arith),
+    ) refl
+heading_cut Bounded word (job ∷ []) =
+    rw (
+      same_front 21 word (codes "bounded") (omega arith),
+      same_front 21 job (codes "knapsack") (omega arith),
     ) refl
 heading_cut heading word (job ∷ other ∷ words) = refl
 

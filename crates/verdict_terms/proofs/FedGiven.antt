@@ -11,6 +11,12 @@ use Rattle.packing_terms.specs.Goals.{with_last_side}
 use Rattle.packing_terms.specs.Tokens.{PlainToken}
 use Rattle.packing_terms.specs.Tokens.PlainToken.{Apart, Order, Rules, TooLarge, Scales, Assign, Choose, SetRefuted}
 use Rattle.packing_terms.specs.Tokens.PlainToken.{ValueShort, GlobalScales}
+use Rattle.packing_terms.specs.OuterRefutation.{Choice as BoxChoice}
+use Rattle.packing_terms.specs.OuterFeeding.{OpenNode}
+use Rattle.bounded_terms.specs.BoundedRefutation.{BoundedToken}
+use Rattle.bounded_terms.specs.BoundedJudging.{bounded_after}
+use Rattle.bounded_terms.specs.BoundedLines.{bounded_token_of}
+use Rattle.verdict_terms.proofs.BoundsTold.{bounded_token_cut}
 use Rattle.text_terms.specs.Lines.{Line, line_of, text_lines, cut_line, cut_words, is_line_feed, same_bytes}
 use Rattle.packing_terms.specs.Results.{◌>>=◌}
 use Rattle.text_terms.specs.Texts.{Parts, no_parts, add_line, at_end as end_of, refuse, IsWithinLimits}
@@ -26,7 +32,7 @@ use Rattle.document_terms.specs.declared.claim.Claim.TheVariants.{Fitting, NotFi
 use Rattle.document_terms.specs.declared.claim.Claim.TheVariants.{NoHeight, LeastBins, BinsBetween, NoBins}
 use Rattle.document_terms.specs.declared.claim.Claim.TheVariants.{GreatestValue, ValueBetween}
 use Rattle.verdict_terms.specs.declared.heading.Heading.{Heading}
-use Rattle.verdict_terms.specs.declared.heading.Heading.TheVariants.{Answer}
+use Rattle.verdict_terms.specs.declared.heading.Heading.TheVariants.{Answer, Reduced, Bounded}
 use Rattle.verdict_terms.specs.declared.reason.Reason.{Reason}
 use Rattle.verdict_terms.specs.Reasons.{form, range}
 use Rattle.verdict_terms.specs.Numbers.{require, numbers_line, coordinates}
@@ -38,7 +44,9 @@ use Rattle.verdict_terms.specs.Stages.{Stage, text_fault, end_of_parts, is_resul
 use Rattle.verdict_terms.specs.Stages.{share_line, take_box_line, exceeding_token, refused_by, places_reason}
 use Rattle.verdict_terms.specs.Stages.{bins_reason, taken_reason, to_refute, is_word, tree_token, coded, late_line}
 use Rattle.verdict_terms.specs.Stages.{late_by, grown_tree, placed, claimed, filled_line, stage_after, is_blank}
+use Rattle.verdict_terms.specs.Stages.{value_stage, bounding_end, bounding_token}
 use Rattle.verdict_terms.specs.Stages.Stage.{Beginning, Reading, Placing, Sharing, Taking, Proving, Refuting, Exceeding}
+use Rattle.verdict_terms.specs.Stages.Stage.{Bounding}
 use Rattle.verdict_terms.specs.Stages.Stage.{Ending, Ended}
 use Rattle.verdict_terms.specs.Documents.{Refusal, document_at_line, document_at_end, read_document_lines}
 use Rattle.verdict_terms.specs.Documents.{headed_verdict}
@@ -55,7 +63,8 @@ IsWell (Beginning heading) = Unit {0}
 IsWell (Reading heading job parts) = IsWithinLimits parts
 IsWell (Placing instance claim refuted places) = (dims instance ≤ 4) × (refuted_dims refuted ≤ 4)
 IsWell (Sharing instance claim k bins places) = dims instance ≤ 4
-IsWell (Taking instance claim value taken places) = dims instance ≤ 4
+IsWell (Taking heading instance claim value taken places) = dims instance ≤ 4
+IsWell (Bounding instance claim value nodes) = dims instance ≤ 4
 IsWell (Proving claim refuted) = refuted_dims refuted ≤ 4
 IsWell (Refuting claim tree) = tree_dims tree ≤ 4
 IsWell (Exceeding instance claim m) = dims instance ≤ 4
@@ -135,31 +144,55 @@ share_well instance claim k bins places (b ∷ ns) few next e =
     (Sharing instance claim k (bins ++ pred b ∷ []) (places ++ c.0))
     (placed_well claim (to_refute Answer instance claim) (refute_well instance few Answer claim)) few next c.2
 
-take_well : (instance : PlainInstance) (claim : Claim) (value : ℕ) (taken places ns : List ℕ) → dims instance ≤ 4
-    → GivesWell (take_box_line instance claim value taken places ns)
-take_well instance claim value taken places [] few next e = absurd (cc (e))
-take_well instance claim value taken places (v ∷ ns) few next e =
+value_well : (heading : Heading) (instance : PlainInstance) (claim : Claim) → dims instance ≤ 4
+    → IsWell (value_stage heading instance claim)
+value_well Answer instance claim few =
+    begun_well (to_refute Answer instance claim) (refute_well instance few Answer claim)
+value_well Reduced instance claim few =
+    begun_well (to_refute Reduced instance claim) (refute_well instance few Reduced claim)
+value_well Bounded instance claim few = few
+
+take_well : (heading : Heading) (instance : PlainInstance) (claim : Claim) (value : ℕ) (taken places ns : List ℕ) → dims instance ≤ 4
+    → GivesWell (take_box_line heading instance claim value taken places ns)
+take_well heading instance claim value taken places [] few next e = absurd (cc (e))
+take_well heading instance claim value taken places (v ∷ ns) few next e =
     let q = require_ok (names_box instance v && list_all (λ u. nat_lt u (pred v)) taken) range _ next e in
     let c = bind_ok (coordinates ns) _ next q.1 in
-    gives_well (Taking instance claim value (taken ++ pred v ∷ []) (places ++ c.0)) few next c.2
+    gives_well (Taking heading instance claim value (taken ++ pred v ∷ []) (places ++ c.0)) few next c.2
 
-taking_well : (instance : PlainInstance) (claim : Claim) (value : ℕ) (taken places : List ℕ) (words : List (List ℕ))
+taking_well : (heading : Heading) (instance : PlainInstance) (claim : Claim) (value : ℕ) (taken places : List ℕ) (words : List (List ℕ))
     (b : Bool) → dims instance ≤ 4
     → GivesWell (elim b as (λ x. Result Stage Reason) [
       | true ↦ refused_by (taken_reason instance value taken places)
-          (Ok (Refuting claim (begun (to_refute Answer instance claim))))
+          (Ok (value_stage heading instance claim))
       | false ↦ numbers_line (codes "take") (suc (dims instance)) words
-          >>= λ ns. take_box_line instance claim value taken places ns
+          >>= λ ns. take_box_line heading instance claim value taken places ns
     ])
-taking_well instance claim value taken places words true few next e =
-    gives_well (Refuting claim (begun (to_refute Answer instance claim)))
-    (begun_well (to_refute Answer instance claim) (refute_well instance few Answer claim)) next
-    (refused_ok (taken_reason instance value taken places)
-    (Ok (Refuting claim (begun (to_refute Answer instance claim)))) next e).1
-taking_well instance claim value taken places words false few next e =
+taking_well heading instance claim value taken places words true few next e =
+    gives_well (value_stage heading instance claim) (value_well heading instance claim few) next
+    (refused_ok (taken_reason instance value taken places) (Ok (value_stage heading instance claim)) next e).1
+taking_well heading instance claim value taken places words false few next e =
     let n = bind_ok (numbers_line (codes "take") (suc (dims instance)) words)
-    (λ ns. take_box_line instance claim value taken places ns) next e in
-    take_well instance claim value taken places n.0 few next n.2
+    (λ ns. take_box_line heading instance claim value taken places ns) next e in
+    take_well heading instance claim value taken places n.0 few next n.2
+
+bounding_token_well : (instance : PlainInstance) (claim : Claim) (value : ℕ) (nodes : List (OpenNode BoxChoice))
+    (t : Option BoundedToken) → dims instance ≤ 4 → GivesWell (bounding_token instance claim value nodes t)
+bounding_token_well instance claim value nodes None few next e = absurd (cc (e))
+bounding_token_well instance claim value nodes (Some t) few next e =
+    let b = bind_ok (coded (bounded_after instance value nodes t)) (λ left. Ok (Bounding instance claim value left))
+    next e in gives_well (Bounding instance claim value b.0) few next b.2
+
+bounding_well : (instance : PlainInstance) (claim : Claim) (value : ℕ) (nodes : List (OpenNode BoxChoice))
+    (words : List (List ℕ)) (b : Bool) → dims instance ≤ 4
+    → GivesWell (elim b as (λ x. Result Stage Reason) [
+      | true ↦ bounding_end claim nodes
+      | false ↦ bounding_token instance claim value nodes (bounded_token_of (dims instance) words)
+    ])
+bounding_well instance claim value [] words true few next e = gives_well (Ended claim) tt next e
+bounding_well instance claim value (n ∷ nodes) words true few next e = absurd (cc (e))
+bounding_well instance claim value nodes words false few next e =
+    bounding_token_well instance claim value nodes (bounded_token_of (dims instance) words) few next e
 
 exceeding_well : (instance : PlainInstance) (claim : Claim) (m : ℕ) (t : PlainToken) → dims instance ≤ 4
     → GivesWell (exceeding_token instance claim m t)
@@ -190,8 +223,8 @@ words_well (Placing i c r p) words well next e =
 words_well (Sharing i c k b p) words well next e =
     let n = bind_ok (numbers_line (codes "place") (suc (dims i)) words) (λ ns. share_line i c k b p ns) next e in
     share_well i c k b p n.0 well next n.2
-words_well (Taking i c v t p) words well next e =
-    taking_well i c v t p words (is_word (codes "proof") words) well next e
+words_well (Taking h i c v t p) words well next e =
+    taking_well h i c v t p words (is_word (codes "proof") words) well next e
 words_well (Proving c r) words well next e =
     gives_well (Refuting c (begun r)) (begun_well r well) next
     (require_ok (is_word (codes "proof") words) form (Ok (Refuting c (begun r))) next e).1
@@ -201,6 +234,7 @@ words_well (Refuting c t) words well next e =
     let m = bind_ok (coded (tree_after t b.0)) (λ more. Ok (grown_tree c more)) next b.2 in
     gives_well (grown_tree c m.0) (grown_well c m.0
     (subst (λ n. n ≤ 4) (sym (dims_same t m.0 b.0 (coded_ok (tree_after t b.0) m.0 m.1))) well)) next m.2
+words_well (Bounding i c y ns) words well next e = bounding_well i c y ns words (is_word (codes "end") words) well next e
 words_well (Exceeding i c m) words well next e =
     let b = bind_ok (tree_token (is_word (codes "end") words) (token_of (dims i) words)) (λ x. exceeding_token i c m x)
     next e in exceeding_well i c m b.0 well next b.2
@@ -233,15 +267,18 @@ filled_well (Placing i c r p) line well next e =
 filled_well (Sharing i c k b p) line well next e =
     words_well (Sharing i c k b p) line.words well next
     (require_ok (not line.bad) form (words_line (Sharing i c k b p) line.words) next e).1
-filled_well (Taking i c v t p) line well next e =
-    words_well (Taking i c v t p) line.words well next
-    (require_ok (not line.bad) form (words_line (Taking i c v t p) line.words) next e).1
+filled_well (Taking h i c v t p) line well next e =
+    words_well (Taking h i c v t p) line.words well next
+    (require_ok (not line.bad) form (words_line (Taking h i c v t p) line.words) next e).1
 filled_well (Proving c r) line well next e =
     words_well (Proving c r) line.words well next
     (require_ok (not line.bad) form (words_line (Proving c r) line.words) next e).1
 filled_well (Refuting c t) line well next e =
     words_well (Refuting c t) line.words well next
     (require_ok (not line.bad) form (words_line (Refuting c t) line.words) next e).1
+filled_well (Bounding i c y ns) line well next e =
+    words_well (Bounding i c y ns) line.words well next
+    (require_ok (not line.bad) form (words_line (Bounding i c y ns) line.words) next e).1
 filled_well (Exceeding i c m) line well next e =
     words_well (Exceeding i c m) line.words well next
     (require_ok (not line.bad) form (words_line (Exceeding i c m) line.words) next e).1
@@ -270,13 +307,19 @@ behind_numbers instance claim refuted places ns =
     ]
 
 -- the stage behind a line of a taken box, or `proof`
-abbrev behind_taking : PlainInstance → Claim → ℕ → List ℕ → List ℕ → Bool → Result (List ℕ) Reason → Result Stage Reason
-behind_taking instance claim value taken places b r =
+abbrev behind_taking : Heading → PlainInstance → Claim → ℕ → List ℕ → List ℕ → Bool → Result (List ℕ) Reason → Result Stage Reason
+behind_taking heading instance claim value taken places b r =
     elim b [
       | true ↦ refused_by (taken_reason instance value taken places)
-          (Ok (Refuting claim (begun (to_refute Answer instance claim))))
-      | false ↦ r >>= λ ns. take_box_line instance claim value taken places ns
+          (Ok (value_stage heading instance claim))
+      | false ↦ r >>= λ ns. take_box_line heading instance claim value taken places ns
     ]
+
+-- the stage behind a line of a tree with priced leaves, or `end`
+abbrev behind_bounding : PlainInstance → Claim → ℕ → List (OpenNode BoxChoice) → Bool → Option BoundedToken
+    → Result Stage Reason
+behind_bounding instance claim value nodes b o =
+    elim b as (λ x. Result Stage Reason) [ true ↦ bounding_end claim nodes | false ↦ bounding_token instance claim value nodes o ]
 
 words_told : (stage : Stage) (w : List ℕ) (ws : List (List ℕ)) → IsWell stage
     → words_line stage (take 21 w ∷ cut_rest ws) ≡ words_line stage (w ∷ ws)
@@ -288,14 +331,17 @@ words_told (Placing i c r p) w ws well =
 words_told (Sharing i c k b p) w ws well =
     ap (λ x. x >>= λ ns. share_line i c k b p ns)
     (numbers_cut (codes "place") (suc (dims i)) w ws (omega arith) (omega (arith, well)))
-words_told (Taking i c v t p) w ws well =
-    ap₂ (λ b x. behind_taking i c v t p b x) (is_word_cut (codes "proof") w ws (omega arith))
+words_told (Taking h i c v t p) w ws well =
+    ap₂ (λ b x. behind_taking h i c v t p b x) (is_word_cut (codes "proof") w ws (omega arith))
     (numbers_cut (codes "take") (suc (dims i)) w ws (omega arith) (omega (arith, well)))
 words_told (Proving c r) w ws well =
     ap (λ b. require b form (Ok (Refuting c (begun r)))) (is_word_cut (codes "proof") w ws (omega arith))
 words_told (Refuting c t) w ws well =
     ap₂ (λ b o. tree_token b o >>= λ x. coded (tree_after t x) >>= λ more. Ok (grown_tree c more))
     (is_word_cut (codes "end") w ws (omega arith)) (token_cut (tree_dims t) w ws well)
+words_told (Bounding i c y ns) w ws well =
+    ap₂ (λ b o. behind_bounding i c y ns b o) (is_word_cut (codes "end") w ws (omega arith))
+    (bounded_token_cut (dims i) w ws well)
 words_told (Exceeding i c m) w ws well =
     ap₂ (λ b o. tree_token b o >>= λ x. exceeding_token i c m x) (is_word_cut (codes "end") w ws (omega arith))
     (token_cut (dims i) w ws well)
@@ -332,9 +378,11 @@ filled_told (Reading h j p) false w ws n m well = reading_told_by h j p w ws n m
 filled_told (Placing i c r p) bad w ws n m well = ap (require (not bad) form) (words_told (Placing i c r p) w ws well)
 filled_told (Sharing i c k b p) bad w ws n m well =
     ap (require (not bad) form) (words_told (Sharing i c k b p) w ws well)
-filled_told (Taking i c v t p) bad w ws n m well = ap (require (not bad) form) (words_told (Taking i c v t p) w ws well)
+filled_told (Taking h i c v t p) bad w ws n m well = ap (require (not bad) form) (words_told (Taking h i c v t p) w ws well)
 filled_told (Proving c r) bad w ws n m well = ap (require (not bad) form) (words_told (Proving c r) w ws well)
 filled_told (Refuting c t) bad w ws n m well = ap (require (not bad) form) (words_told (Refuting c t) w ws well)
+filled_told (Bounding i c y ns) bad w ws n m well =
+    ap (require (not bad) form) (words_told (Bounding i c y ns) w ws well)
 filled_told (Exceeding i c x) bad w ws n m well = ap (require (not bad) form) (words_told (Exceeding i c x) w ws well)
 filled_told (Ending c b) bad w ws n m well = ap (require (not bad) form) (words_told (Ending c b) w ws well)
 filled_told (Ended c) bad w ws n m well = refl
@@ -350,9 +398,10 @@ line_told stage true [] n m well = bad_same stage
     bad_same (Reading h j p) = refl
     bad_same (Placing i c r p) = refl
     bad_same (Sharing i c k b p) = refl
-    bad_same (Taking i c v t p) = refl
+    bad_same (Taking h i c v t p) = refl
     bad_same (Proving c r) = refl
     bad_same (Refuting c t) = refl
+    bad_same (Bounding i c y ns) = refl
     bad_same (Exceeding i c x) = refl
     bad_same (Ending c b) = refl
     bad_same (Ended c) = refl

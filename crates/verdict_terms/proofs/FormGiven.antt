@@ -22,7 +22,7 @@ use Rattle.document_terms.specs.declared.claim.Claim.{Claim}
 use Rattle.document_terms.specs.Claims.{job_of, job_word}
 use Rattle.document_terms.specs.declared.claim.SolvingJob.TheVariants.{Fit, Strip, Bins, Knapsack}
 use Rattle.verdict_terms.specs.declared.heading.Heading.{Heading}
-use Rattle.verdict_terms.specs.declared.heading.Heading.TheVariants.{Answer, Reduced}
+use Rattle.verdict_terms.specs.declared.heading.Heading.TheVariants.{Answer, Reduced, Bounded}
 use Rattle.verdict_terms.specs.Results.{claim_of}
 use Rattle.verdict_terms.specs.Stages.{Stage, claimed, heading_word, heading_line, text_fault, end_of_parts}
 use Rattle.verdict_terms.specs.Stages.{reading_line, stage_after}
@@ -129,6 +129,10 @@ heading_is Reduced Fit h = refl
 heading_is Reduced Strip h = refl
 heading_is Reduced Bins h = absurd h
 heading_is Reduced Knapsack h = absurd h
+heading_is Bounded Fit h = absurd h
+heading_is Bounded Strip h = absurd h
+heading_is Bounded Bins h = absurd h
+heading_is Bounded Knapsack h = refl
 
 -- ---- the lines of the instance
 

@@ -28,7 +28,7 @@ use Rattle.document_terms.specs.declared.claim.Claim.TheVariants.{Fitting, NotFi
 use Rattle.document_terms.specs.declared.claim.Claim.TheVariants.{NoHeight, LeastBins, BinsBetween, NoBins}
 use Rattle.document_terms.specs.declared.claim.Claim.TheVariants.{GreatestValue, ValueBetween}
 use Rattle.verdict_terms.specs.declared.heading.Heading.{Heading}
-use Rattle.verdict_terms.specs.declared.heading.Heading.TheVariants.{Answer, Reduced}
+use Rattle.verdict_terms.specs.declared.heading.Heading.TheVariants.{Answer, Reduced, Bounded}
 use Rattle.verdict_terms.specs.declared.reason.Reason.{Reason}
 use Rattle.verdict_terms.specs.Reasons.{form}
 use Rattle.verdict_terms.specs.Results.{claim_of}
@@ -74,6 +74,14 @@ headed_ok Reduced word job e = go (same_bytes word (codes "fit")) (same_bytes wo
     go false true p q f = let same : Strip ≡ job = cc (f) in
         (word_is word (codes "strip") q ∙ ap job_word same, subst (MayName Reduced) same tt)
     go false false p q f = absurd (cc (f))
+headed_ok Bounded word job e = go (same_bytes word (codes "knapsack")) refl e
+  where
+    go : (a : Bool) → same_bytes word (codes "knapsack") ≡ a
+        → ◌≡◌ {A = Result SolvingJob Reason} (cond a (Ok Knapsack) (Err form)) (Ok job)
+        → (word ≡ job_word job) × MayName Bounded job
+    go true p f = let same : Knapsack ≡ job = cc (f) in
+        (word_is word (codes "knapsack") p ∙ ap job_word same, subst (MayName Bounded) same tt)
+    go false p f = absurd (cc (f))
 
 pub record HeadingRead (heading : Heading) (words : List (List ℕ)) (next : Stage) : Type 0 where
   pub job : SolvingJob
@@ -84,6 +92,7 @@ pub record HeadingRead (heading : Heading) (words : List (List ℕ)) (next : Sta
 key_ok : (heading : Heading) (key : List ℕ) → same_bytes key (heading_word heading) ≡ true → key ≡ heading_word heading
 key_ok Answer key e = word_is key (codes "answer") e
 key_ok Reduced key e = word_is key (codes "reduced") e
+key_ok Bounded key e = word_is key (codes "bounded") e
 
 pub heading_ok : (heading : Heading) (words : List (List ℕ)) (next : Stage) → heading_line heading words ≡ Ok next
     → HeadingRead heading words next

@@ -3,6 +3,7 @@ pub mod RowsMore
 pub mod Passed
 pub mod Walk
 pub mod TreesTold
+pub mod BoundsTold
 pub mod True
 pub mod PlacesTold
 pub mod Backed
@@ -11,6 +12,7 @@ pub mod ResultsTold
 pub mod FormTold
 pub mod Taken
 pub mod TreesGiven
+pub mod BoundsGiven
 pub mod PlacesGiven
 pub mod BackedGiven
 pub mod FormGiven
@@ -18,3 +20,4 @@ pub mod Stays
 pub mod Cuts
 pub mod FedGiven
 pub mod RowsReduced
+pub mod RowsBounded

@@ -18,16 +18,17 @@ use Rattle.check_terms.specs.Placing.{place_verdict}
 use Rattle.check_terms.specs.Judging.{names_box}
 use Rattle.check_terms.proofs.Places.{places_tested}
 use Rattle.document_terms.specs.declared.claim.Claim.{Claim}
+use Rattle.verdict_terms.specs.declared.heading.Heading.{Heading}
 use Rattle.verdict_terms.specs.declared.heading.Heading.TheVariants.{Answer}
 use Rattle.verdict_terms.specs.declared.reason.Reason.{Reason}
 use Rattle.verdict_terms.specs.Reasons.{range}
 use Rattle.verdict_terms.specs.declared.reason.Reason.TheVariants.{TooLittle}
 use Rattle.verdict_terms.specs.Numbers.{wanted, all_wanted, numbers_line, coordinates}
-use Rattle.verdict_terms.specs.Trees.{Refuted, begun}
+use Rattle.verdict_terms.specs.Trees.{Refuted}
 use Rattle.verdict_terms.specs.Stages.{Stage, first_outside, first_overlap, first_reason, groups_reason, places_reason}
 use Rattle.verdict_terms.specs.Stages.{bins_reason, taken_reason, refused_by, to_refute, placed, place_line, share_line}
-use Rattle.verdict_terms.specs.Stages.{take_box_line, words_line, is_word}
-use Rattle.verdict_terms.specs.Stages.Stage.{Placing, Sharing, Taking, Refuting}
+use Rattle.verdict_terms.specs.Stages.{take_box_line, words_line, is_word, value_stage}
+use Rattle.verdict_terms.specs.Stages.Stage.{Placing, Sharing, Taking}
 use Rattle.verdict_terms.specs.Form.{IsPlaceLine, IsNumberedLine, ArePlaceLines, AreNumberedLines}
 use Rattle.verdict_terms.proofs.Walk.{read_words}
 use Rattle.verdict_terms.proofs.PlacesTold.{place_line_count}
@@ -295,58 +296,58 @@ below_all (u ∷ us) v vs h =
     and_from _ _ (lt-ltb u v (first_below u (us ++ (v ∷ vs)) h v (in_later v us vs)))
     (below_all us v vs (rising_later u (us ++ (v ∷ vs)) h))
 
-abbrev behind_take : PlainInstance → Claim → ℕ → List ℕ → List ℕ → List (List ℕ) → Bool → Result Stage Reason
-behind_take instance claim value taken places words t =
+abbrev behind_take : Heading → PlainInstance → Claim → ℕ → List ℕ → List ℕ → List (List ℕ) → Bool → Result Stage Reason
+behind_take heading instance claim value taken places words t =
     elim t as (λ x. Result Stage Reason) [
       | true ↦ refused_by (taken_reason instance value taken places)
-          (Ok (Refuting claim (begun (to_refute Answer instance claim))))
+          (Ok (value_stage heading instance claim))
       | false ↦ numbers_line (codes "take") (suc (dims instance)) words
-          >>= λ ns. take_box_line instance claim value taken places ns
+          >>= λ ns. take_box_line heading instance claim value taken places ns
     ]
 
-take_taken : (instance : PlainInstance) (claim : Claim) (value v : ℕ) (taken places xs : List ℕ) (words : List (List ℕ))
+take_taken : (heading : Heading) (instance : PlainInstance) (claim : Claim) (value v : ℕ) (taken places xs : List ℕ) (words : List (List ℕ))
     → IsNumberedLine (codes "take") (box_count instance) (dims instance) words v xs
     → list_all (λ u. nat_lt u v) taken ≡ true
-    → words_line (Taking instance claim value taken places) words
-    ≡ Ok (Taking instance claim value (taken ++ v ∷ []) (places ++ xs))
-take_taken instance claim value v taken places xs words line below =
-    ap (behind_take instance claim value taken places words) (ap (is_word (codes "proof")) line.are)
+    → words_line (Taking heading instance claim value taken places) words
+    ≡ Ok (Taking heading instance claim value (taken ++ v ∷ []) (places ++ xs))
+take_taken heading instance claim value v taken places xs words line below =
+    ap (behind_take heading instance claim value taken places words) (ap (is_word (codes "proof")) line.are)
     ∙ bound (numbers_line (codes "take") (suc (dims instance)) words) (suc v ∷ xs)
-    (λ ns. take_box_line instance claim value taken places ns)
+    (λ ns. take_box_line heading instance claim value taken places ns)
     (numbered_taken (codes "take") (box_count instance) (dims instance) v words xs line)
     ∙ required (names_box instance (suc v) && list_all (λ u. nat_lt u v) taken) range
-    (coordinates xs >>= λ ys. Ok (Taking instance claim value (taken ++ v ∷ []) (places ++ ys)))
+    (coordinates xs >>= λ ys. Ok (Taking heading instance claim value (taken ++ v ∷ []) (places ++ ys)))
     (and_from _ _ (and_from _ _ (le-leb 1 (suc v) (omega arith))
     (le-leb (suc v) (box_count instance) line.is_number.most)) below)
-    ∙ bound (coordinates xs) xs (λ ys. Ok (Taking instance claim value (taken ++ v ∷ []) (places ++ ys)))
+    ∙ bound (coordinates xs) xs (λ ys. Ok (Taking heading instance claim value (taken ++ v ∷ []) (places ++ ys)))
     (coordinates_are line.numbers xs line.are_coordinates)
 
-pub takes_given : (instance : PlainInstance) (claim : Claim) (value : ℕ) (taken places more_taken more : List ℕ)
+pub takes_given : (heading : Heading) (instance : PlainInstance) (claim : Claim) (value : ℕ) (taken places more_taken more : List ℕ)
     (front back : List (List (List ℕ)))
     → AreNumberedLines (codes "take") (box_count instance) (dims instance) front more_taken more
     → IsStrictlyIncreasing (taken ++ more_taken)
     → taken_reason instance value (taken ++ more_taken) (places ++ more) ≡ None
-    → read_words (Taking instance claim value taken places) (front ++ (codes "proof" ∷ []) ∷ back)
-    ≡ read_words (Refuting claim (begun (to_refute Answer instance claim))) back
-takes_given instance claim value taken places [] more [] back are rising good =
+    → read_words (Taking heading instance claim value taken places) (front ++ (codes "proof" ∷ []) ∷ back)
+    ≡ read_words (value_stage heading instance claim) back
+takes_given heading instance claim value taken places [] more [] back are rising good =
     let quiet : taken_reason instance value taken places ≡ None =
     ap₂ (λ t p. taken_reason instance value t p) (sym (append-nil taken))
     (sym (append-nil places) ∙ ap (λ r. places ++ r) (sym are)) ∙ good in
-    bound (words_line (Taking instance claim value taken places) (codes "proof" ∷ []))
-    (Refuting claim (begun (to_refute Answer instance claim))) (λ next. read_words next back)
-    (ap (behind_take instance claim value taken places (codes "proof" ∷ [])) (is_same (codes "proof"))
-    ∙ ap (λ o. refused_by o (Ok (Refuting claim (begun (to_refute Answer instance claim))))) quiet)
-takes_given instance claim value taken places (v ∷ vs) more [] back are rising good = absurd are
-takes_given instance claim value taken places [] more (words ∷ front) back are rising good = absurd are
-takes_given instance claim value taken places (v ∷ vs) more (words ∷ front) back (xs, rest, e, line, later)
+    bound (words_line (Taking heading instance claim value taken places) (codes "proof" ∷ []))
+    (value_stage heading instance claim) (λ next. read_words next back)
+    (ap (behind_take heading instance claim value taken places (codes "proof" ∷ [])) (is_same (codes "proof"))
+    ∙ ap (λ o. refused_by o (Ok (value_stage heading instance claim))) quiet)
+takes_given heading instance claim value taken places (v ∷ vs) more [] back are rising good = absurd are
+takes_given heading instance claim value taken places [] more (words ∷ front) back are rising good = absurd are
+takes_given heading instance claim value taken places (v ∷ vs) more (words ∷ front) back (xs, rest, e, line, later)
     rising good =
     let joined : places ++ more ≡ (places ++ xs) ++ rest =
     ap (λ m. places ++ m) e ∙ sym (append_assoc places xs rest) in
     let grown : taken ++ (v ∷ vs) ≡ (taken ++ v ∷ []) ++ vs = sym (append_assoc taken (v ∷ []) vs) in
-    bound (words_line (Taking instance claim value taken places) words)
-    (Taking instance claim value (taken ++ v ∷ []) (places ++ xs))
+    bound (words_line (Taking heading instance claim value taken places) words)
+    (Taking heading instance claim value (taken ++ v ∷ []) (places ++ xs))
     (λ next. read_words next (front ++ (codes "proof" ∷ []) ∷ back))
-    (take_taken instance claim value v taken places xs words line (below_all taken v vs rising))
-    ∙ takes_given instance claim value (taken ++ v ∷ []) (places ++ xs) vs rest front back later
+    (take_taken heading instance claim value v taken places xs words line (below_all taken v vs rising))
+    ∙ takes_given heading instance claim value (taken ++ v ∷ []) (places ++ xs) vs rest front back later
     (subst IsStrictlyIncreasing grown rising)
     (ap₂ (λ t p. taken_reason instance value t p) (sym grown) (sym joined) ∙ good)

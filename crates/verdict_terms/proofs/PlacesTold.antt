@@ -19,15 +19,16 @@ use Rattle.check_terms.specs.Placing.{place_verdict}
 use Rattle.check_terms.specs.Judging.{names_box}
 use Rattle.check_terms.proofs.Places.{places_tested}
 use Rattle.document_terms.specs.declared.claim.Claim.{Claim}
+use Rattle.verdict_terms.specs.declared.heading.Heading.{Heading}
 use Rattle.verdict_terms.specs.declared.heading.Heading.TheVariants.{Answer}
 use Rattle.verdict_terms.specs.declared.reason.Reason.{Reason}
 use Rattle.verdict_terms.specs.Reasons.{range}
 use Rattle.verdict_terms.specs.Numbers.{wanted, all_wanted, numbers_line, coordinates}
-use Rattle.verdict_terms.specs.Trees.{Refuted, begun}
+use Rattle.verdict_terms.specs.Trees.{Refuted}
 use Rattle.verdict_terms.specs.Stages.{Stage, first_outside, first_overlap, first_reason, groups_reason, places_reason}
 use Rattle.verdict_terms.specs.Stages.{bins_reason, taken_reason, refused_by, to_refute, placed, place_line, share_line}
-use Rattle.verdict_terms.specs.Stages.{take_box_line, words_line, is_word}
-use Rattle.verdict_terms.specs.Stages.Stage.{Placing, Sharing, Taking, Refuting}
+use Rattle.verdict_terms.specs.Stages.{take_box_line, words_line, is_word, value_stage}
+use Rattle.verdict_terms.specs.Stages.Stage.{Placing, Sharing, Taking}
 use Rattle.verdict_terms.specs.Form.{AreCoordinates, IsPlaceLine, IsNumberedLine, ArePlaceLines, AreNumberedLines}
 use Rattle.verdict_terms.proofs.Passed.{require_ok, refused_ok, wanted_ok, numbers_are, NumbersLine, numbers_line_ok}
 use Rattle.verdict_terms.proofs.Passed.{coordinates_ok, is_word_ok, ok_is}
@@ -298,7 +299,7 @@ shares_told instance claim told k bins places (words ∷ lines) e =
 -- ---- taken boxes
 
 -- the boxes rise from those before on, and are there
-pub record TakesTold (instance : PlainInstance) (claim told : Claim) (value : ℕ) (taken places : List ℕ)
+pub record TakesTold (heading : Heading) (instance : PlainInstance) (claim told : Claim) (value : ℕ) (taken places : List ℕ)
     (lines : List (List (List ℕ))) : Type 0 where
   pub front : List (List (List ℕ))
   pub back : List (List (List ℕ))
@@ -308,7 +309,7 @@ pub record TakesTold (instance : PlainInstance) (claim told : Claim) (value : �
   pub are_lines : AreNumberedLines (codes "take") (box_count instance) (dims instance) front more_taken more
   pub set : IsBoxSet instance (taken ++ more_taken)
   pub good : taken_reason instance value (taken ++ more_taken) (places ++ more) ≡ None
-  pub rest : read_words (Refuting claim (begun (to_refute Answer instance claim))) back ≡ Ok told
+  pub rest : read_words (value_stage heading instance claim) back ≡ Ok told
 
 rising_push : (us : List ℕ) (v : ℕ) → IsStrictlyIncreasing us → list_all (λ u. nat_lt u v) us ≡ true
     → IsStrictlyIncreasing (us ++ v ∷ [])
@@ -341,17 +342,17 @@ set_push instance taken v set there below = record {
 }
 
 -- a line of a taken box and coordinates
-take_told : (instance : PlainInstance) (claim told : Claim) (value : ℕ) (taken places : List ℕ) (words : List (List ℕ))
+take_told : (heading : Heading) (instance : PlainInstance) (claim told : Claim) (value : ℕ) (taken places : List ℕ) (words : List (List ℕ))
     (lines : List (List (List ℕ))) (ns : List ℕ) → IsBoxSet instance taken
     → numbers_line (codes "take") (suc (dims instance)) words ≡ Ok ns → (next : Stage)
-    → take_box_line instance claim value taken places ns ≡ Ok next
+    → take_box_line heading instance claim value taken places ns ≡ Ok next
     → read_words next lines ≡ Ok told
-    → ((c ps : List ℕ) → IsBoxSet instance c → read_words (Taking instance claim value c ps) lines ≡ Ok told
-    → TakesTold instance claim told value c ps lines)
-    → TakesTold instance claim told value taken places (words ∷ lines)
-take_told instance claim told value taken places words lines [] set line next f r later = absurd (cc (f))
-take_told instance claim told value taken places words lines (zero ∷ ns) set line next f r later = absurd (cc (f))
-take_told instance claim told value taken places words lines (suc v ∷ ns) set line next f r later =
+    → ((c ps : List ℕ) → IsBoxSet instance c → read_words (Taking heading instance claim value c ps) lines ≡ Ok told
+    → TakesTold heading instance claim told value c ps lines)
+    → TakesTold heading instance claim told value taken places (words ∷ lines)
+take_told heading instance claim told value taken places words lines [] set line next f r later = absurd (cc (f))
+take_told heading instance claim told value taken places words lines (zero ∷ ns) set line next f r later = absurd (cc (f))
+take_told heading instance claim told value taken places words lines (suc v ∷ ns) set line next f r later =
     let q = require_ok (names_box instance (suc v) && list_all (λ u. nat_lt u v) taken) range _ next f in
     let p = and_parts (names_box instance (suc v)) (list_all (λ u. nat_lt u v) taken) q.0 in
     let o = and_parts (nat_le 1 (suc v)) (nat_le (suc v) (box_count instance)) p.0 in
@@ -361,7 +362,7 @@ take_told instance claim told value taken places words lines (suc v ∷ ns) set 
     (numbered_read (codes "take") (dims instance) words (suc v) ns line) there c.1 in
     let d = later (taken ++ v ∷ []) (places ++ c.0) (set_push instance taken v set (omega (arith, there)) p.1)
     (subst (λ s. read_words s lines ≡ Ok told)
-    (sym (ok_is (Taking instance claim value (taken ++ v ∷ []) (places ++ c.0)) next c.2)) r) in
+    (sym (ok_is (Taking heading instance claim value (taken ++ v ∷ []) (places ++ c.0)) next c.2)) r) in
     let joined : (places ++ c.0) ++ d.more ≡ places ++ (c.0 ++ d.more) = append_assoc places c.0 d.more in
     let grown : (taken ++ v ∷ []) ++ d.more_taken ≡ taken ++ (v ∷ d.more_taken) =
     append_assoc taken (v ∷ []) d.more_taken in record {
@@ -377,31 +378,31 @@ take_told instance claim told value taken places words lines (suc v ∷ ns) set 
       rest = d.rest;
     }
 
-pub takes_told : (instance : PlainInstance) (claim told : Claim) (value : ℕ) (taken places : List ℕ)
+pub takes_told : (heading : Heading) (instance : PlainInstance) (claim told : Claim) (value : ℕ) (taken places : List ℕ)
     (lines : List (List (List ℕ))) → IsBoxSet instance taken
-    → read_words (Taking instance claim value taken places) lines ≡ Ok told
-    → TakesTold instance claim told value taken places lines
-takes_told instance claim told value taken places [] set e = absurd (cc (e))
-takes_told instance claim told value taken places (words ∷ lines) set e =
-    let b = bind_ok (words_line (Taking instance claim value taken places) words)
+    → read_words (Taking heading instance claim value taken places) lines ≡ Ok told
+    → TakesTold heading instance claim told value taken places lines
+takes_told heading instance claim told value taken places [] set e = absurd (cc (e))
+takes_told heading instance claim told value taken places (words ∷ lines) set e =
+    let b = bind_ok (words_line (Taking heading instance claim value taken places) words)
     (λ next. read_words next lines) told e in
     go (is_word (codes "proof") words) refl b.0 b.1 b.2
-    (λ c ps s r. takes_told instance claim told value c ps lines s r)
+    (λ c ps s r. takes_told heading instance claim told value c ps lines s r)
   where
     go : (t : Bool) → is_word (codes "proof") words ≡ t → (next : Stage)
         → ◌≡◌ {A = Result Stage Reason} (elim t [
           | true ↦ refused_by (taken_reason instance value taken places)
-              (Ok (Refuting claim (begun (to_refute Answer instance claim))))
+              (Ok (value_stage heading instance claim))
           | false ↦ numbers_line (codes "take") (suc (dims instance)) words
-              >>= λ ns. take_box_line instance claim value taken places ns
+              >>= λ ns. take_box_line heading instance claim value taken places ns
         ]) (Ok next)
         → read_words next lines ≡ Ok told
-        → ((c ps : List ℕ) → IsBoxSet instance c → read_words (Taking instance claim value c ps) lines ≡ Ok told
-        → TakesTold instance claim told value c ps lines)
-        → TakesTold instance claim told value taken places (words ∷ lines)
+        → ((c ps : List ℕ) → IsBoxSet instance c → read_words (Taking heading instance claim value c ps) lines ≡ Ok told
+        → TakesTold heading instance claim told value c ps lines)
+        → TakesTold heading instance claim told value taken places (words ∷ lines)
     go true t next f r later =
         let g = refused_ok (taken_reason instance value taken places)
-        (Ok (Refuting claim (begun (to_refute Answer instance claim)))) next f in record {
+        (Ok (value_stage heading instance claim)) next f in record {
           front = [];
           back = lines;
           more_taken = [];
@@ -412,9 +413,9 @@ takes_told instance claim told value taken places (words ∷ lines) set e =
           good = subst (λ us. taken_reason instance value us (places ++ []) ≡ None) (sym (append-nil taken))
               (subst (λ ps. taken_reason instance value taken ps ≡ None) (sym (append-nil places)) g.0);
           rest = subst (λ s. read_words s lines ≡ Ok told)
-              (sym (ok_is (Refuting claim (begun (to_refute Answer instance claim))) next g.1)) r;
+              (sym (ok_is (value_stage heading instance claim) next g.1)) r;
         }
     go false t next f r later =
         let n = bind_ok (numbers_line (codes "take") (suc (dims instance)) words)
-        (λ ns. take_box_line instance claim value taken places ns) next f in
-        take_told instance claim told value taken places words lines n.0 set n.1 next n.2 r later
+        (λ ns. take_box_line heading instance claim value taken places ns) next f in
+        take_told heading instance claim told value taken places words lines n.0 set n.1 next n.2 r later

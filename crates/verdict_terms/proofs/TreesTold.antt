@@ -27,7 +27,7 @@ pub record IsEnd (claim told : Claim) (lines : List (List (List ℕ))) : Type 0 
   pub are : lines ≡ (codes "end" ∷ []) ∷ []
   pub same : claim ≡ told
 
-ended : (claim told : Claim) (lines : List (List (List ℕ))) → read_words (Ended claim) lines ≡ Ok told
+pub ended : (claim told : Claim) (lines : List (List (List ℕ))) → read_words (Ended claim) lines ≡ Ok told
     → (lines ≡ []) × (claim ≡ told)
 ended claim told [] e = (refl, ok_is claim told e)
 ended claim told (words ∷ lines) e = absurd (cc (e))

@@ -14,6 +14,7 @@ use Rattle.packing_terms.proofs.TooLarge.{too_wide, too_large}
 use Rattle.packing_terms.proofs.Refuted.{none_fits}
 use Rattle.packing_terms.proofs.BinsRefuted.{none_fits_bins}
 use Rattle.packing_terms.proofs.ValueRefuted.{none_reaches}
+use Rattle.bounded_terms.proofs.BoundedSound.{none_reaches_bounded}
 use Rattle.scale_terms.proofs.Excess.{excess_law}
 use Rattle.document_terms.specs.declared.claim.Claim.{Claim}
 use Rattle.document_terms.specs.Claims.{IsTrueOf}
@@ -21,11 +22,11 @@ use Rattle.document_terms.specs.declared.claim.Claim.TheVariants.{Fitting, NotFi
 use Rattle.document_terms.specs.declared.claim.Claim.TheVariants.{NoHeight, LeastBins, BinsBetween, NoBins}
 use Rattle.document_terms.specs.declared.claim.Claim.TheVariants.{GreatestValue, ValueBetween}
 use Rattle.verdict_terms.specs.declared.heading.Heading.{Heading}
-use Rattle.verdict_terms.specs.declared.heading.Heading.TheVariants.{Answer, Reduced}
+use Rattle.verdict_terms.specs.declared.heading.Heading.TheVariants.{Answer, Reduced, Bounded}
 use Rattle.symmetry_terms.proofs.Levels.{none_fits_under, none_fits_at}
 use Rattle.verdict_terms.proofs.FormGiven.{document_limits}
 use Rattle.verdict_terms.specs.Stages.{start_exclusions}
-use Rattle.verdict_terms.specs.Form.{IsResult, AreTaken, BacksUnder, DocumentsAreTrue}
+use Rattle.verdict_terms.specs.Form.{IsResult, AreTaken, RefuteValue, BacksUnder, DocumentsAreTrue}
 
 module _ (instance : PlainInstance) (sides : HasPositiveSides instance) (some : 1 ≤ dims instance) where
   higher_sides : (h : ℕ) → HasPositiveSides (with_last_side instance h)
@@ -62,6 +63,7 @@ module _ (instance : PlainInstance) (sides : HasPositiveSides instance) (some : 
   never_fits : (heading : Heading) (tokens : List PlainToken)
       → Refutes instance (start_exclusions heading instance) tokens → ¬ Fits instance
   never_fits Answer tokens refutes = none_fits excess_law instance sides tokens refutes
+  never_fits Bounded tokens refutes = none_fits excess_law instance sides tokens refutes
   never_fits Reduced tokens refutes = none_fits_under instance sides some tokens refutes
 
   never_fits_at : (heading : Heading) (h : ℕ) (tokens : List PlainToken)
@@ -69,7 +71,16 @@ module _ (instance : PlainInstance) (sides : HasPositiveSides instance) (some : 
       → ¬ Fits (with_last_side instance h)
   never_fits_at Answer h tokens refutes =
       none_fits excess_law (with_last_side instance h) (higher_sides h) tokens refutes
+  never_fits_at Bounded h tokens refutes =
+      none_fits excess_law (with_last_side instance h) (higher_sides h) tokens refutes
   never_fits_at Reduced h tokens refutes = none_fits_at instance h (higher_sides h) some tokens refutes
+
+  -- nor is what is refuted for a value reached
+  never_reaches : (heading : Heading) (value : ℕ) (lines : List (List (List ℕ)))
+      → RefuteValue heading instance value lines → ¬ ReachesValue instance value
+  never_reaches Answer value lines r = none_reaches excess_law instance sides value r.tokens r.refute
+  never_reaches Reduced value lines r = none_reaches excess_law instance sides value r.tokens r.refute
+  never_reaches Bounded value lines r = none_reaches_bounded excess_law instance sides value r.tokens r.refute
 
   backed_true : (heading : Heading) (claim : Claim) (words : List (List ℕ)) (lines : List (List (List ℕ)))
       → IsResult instance claim words → BacksUnder heading instance claim lines
@@ -106,7 +117,7 @@ module _ (instance : PlainInstance) (sides : HasPositiveSides instance) (some : 
   backed_true heading NoBins words lines r b = λ k. too_large instance k (large b.box_no b.dim b.large)
   backed_true heading (GreatestValue v) words lines r b =
       greatest_value instance v (taken_reaches v b.front b.is_front)
-      (none_reaches excess_law instance sides (suc v) b.is_back.tokens b.is_back.refute)
+      (never_reaches heading (suc v) b.back b.is_back)
   backed_true heading (ValueBetween x y) words lines r b = record {
     reached = taken_reaches x b.front b.is_front;
     below = λ t f. go t f (cases_lt t y);
@@ -114,8 +125,7 @@ module _ (instance : PlainInstance) (sides : HasPositiveSides instance) (some : 
     where
       go : (t : ℕ) → ReachesValue instance t → (t < y) ⊎ (y ≤ t) → t < y
       go t f (inl l) = l
-      go t f (inr l) = absurd (none_reaches excess_law instance sides y b.is_back.tokens b.is_back.refute
-          (reaches_lower instance y t l f))
+      go t f (inr l) = absurd (never_reaches heading y b.back b.is_back (reaches_lower instance y t l f))
 
 pub documents_are_true : DocumentsAreTrue
 documents_are_true heading text claim document =

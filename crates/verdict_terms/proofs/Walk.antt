@@ -1,6 +1,7 @@
 -- Behind the result line only the words of the lines that aren't blank count: a bad byte is refused everywhere.
 use Rattle.std.proofs.Common.{◌≡◌, ℕ, suc, pred, ◌+◌, ◌*◌, ◌&&◌, ◌==◌, ◌++◌, codes, refl, sym, ap, subst, ◌∙◌, Bool}
-use Rattle.std.proofs.Common.{true, false, cond, List, [], ◌∷◌, length, Option, Some, Result, Ok, Err}
+use Rattle.std.proofs.Common.{true, false, cond, List, [], ◌∷◌, length, Option, Some, None, Result, Ok}
+use Rattle.std.proofs.Common.{Err}
 use Rattle.std.specs.Prelude.{nat_le, nat_lt}
 use Rattle.std.specs.List.{list_any, list_all}
 use Rattle.std.proofs.lemmas.Bool.{true≢false}
@@ -14,6 +15,11 @@ use Rattle.packing_terms.specs.Packing.{PlainInstance, dims, box_count, containe
 use Rattle.packing_terms.specs.Tokens.{PlainToken}
 use Rattle.packing_terms.specs.Tokens.PlainToken.{Apart, Order, Rules, TooLarge, Scales, Assign, Choose, SetRefuted}
 use Rattle.packing_terms.specs.Tokens.PlainToken.{ValueShort, GlobalScales}
+use Rattle.packing_terms.specs.OuterRefutation.{Choice as BoxChoice}
+use Rattle.packing_terms.specs.OuterFeeding.{OpenNode}
+use Rattle.bounded_terms.specs.BoundedRefutation.{BoundedToken}
+use Rattle.bounded_terms.specs.BoundedJudging.{bounded_after}
+use Rattle.bounded_terms.specs.BoundedLines.{bounded_token_of}
 use Rattle.verdict_terms.specs.Trees.{Refuted, Tree, begun, is_whole, tree_dims, tree_after}
 use Rattle.document_terms.specs.declared.claim.Claim.{Claim}
 use Rattle.document_terms.specs.declared.claim.Claim.TheVariants.{Fitting, NotFitting, LeastHeight, HeightBetween}
@@ -22,14 +28,17 @@ use Rattle.document_terms.specs.declared.claim.Claim.TheVariants.{GreatestValue,
 use Rattle.check_terms.specs.Judging.{names_box}
 use Rattle.verdict_terms.specs.Numbers.{require, numbers_line, coordinates}
 use Rattle.document_terms.specs.TokenLines.{token_of}
-use Rattle.verdict_terms.specs.declared.heading.Heading.TheVariants.{Answer}
+use Rattle.verdict_terms.specs.declared.heading.Heading.{Heading}
+use Rattle.verdict_terms.specs.declared.heading.Heading.TheVariants.{Answer, Reduced, Bounded}
 use Rattle.verdict_terms.specs.declared.reason.Reason.{Reason}
 use Rattle.verdict_terms.specs.Reasons.{form, range, after}
 use Rattle.verdict_terms.specs.declared.reason.Reason.TheVariants.{TooShort}
 use Rattle.verdict_terms.specs.Stages.{Stage, words_line, share_line, take_box_line, exceeding_token, refused_by}
 use Rattle.verdict_terms.specs.Stages.{places_reason, bins_reason, taken_reason, to_refute, is_word, tree_token, coded}
-use Rattle.verdict_terms.specs.Stages.{late_line, grown_tree, filled_line, stage_after, placed}
+use Rattle.verdict_terms.specs.Stages.{late_line, grown_tree, filled_line, stage_after, placed, value_stage}
+use Rattle.verdict_terms.specs.Stages.{bounding_end, bounding_token}
 use Rattle.verdict_terms.specs.Stages.Stage.{Beginning, Reading, Placing, Sharing, Taking, Proving, Refuting, Exceeding}
+use Rattle.verdict_terms.specs.Stages.Stage.{Bounding}
 use Rattle.verdict_terms.specs.Stages.Stage.{Ending, Ended}
 use Rattle.verdict_terms.specs.Documents.{document_at_line, document_at_end, read_document_lines}
 use Rattle.verdict_terms.proofs.Passed.{require_ok, refused_ok, ok_is}
@@ -57,9 +66,10 @@ end_read (Beginning h) n claim e = absurd (cc (e))
 end_read (Reading h j p) n claim e = absurd (cc (e))
 end_read (Placing i c r p) n claim e = absurd (cc (e))
 end_read (Sharing i c k b p) n claim e = absurd (cc (e))
-end_read (Taking i c v t p) n claim e = absurd (cc (e))
+end_read (Taking h i c v t p) n claim e = absurd (cc (e))
 end_read (Proving c r) n claim e = absurd (cc (e))
 end_read (Refuting c t) n claim e = absurd (cc (e))
+end_read (Bounding i c y ns) n claim e = absurd (cc (e))
 end_read (Exceeding i c m) n claim e = absurd (cc (e))
 end_read (Ending c b) n claim e = absurd (cc (e))
 
@@ -89,16 +99,18 @@ filled_ok (Reading h j p) next b c words later e = absurd later
 filled_ok (Ended x) next b c words later e = absurd (cc (e))
 filled_ok (Placing i x r p) next false c words later e = (refl, e)
 filled_ok (Sharing i x k s p) next false c words later e = (refl, e)
-filled_ok (Taking i x v t p) next false c words later e = (refl, e)
+filled_ok (Taking h i x v t p) next false c words later e = (refl, e)
 filled_ok (Proving x r) next false c words later e = (refl, e)
 filled_ok (Refuting x t) next false c words later e = (refl, e)
+filled_ok (Bounding i x y ns) next false c words later e = (refl, e)
 filled_ok (Exceeding i x m) next false c words later e = (refl, e)
 filled_ok (Ending x s) next false c words later e = (refl, e)
 filled_ok (Placing i x r p) next true c words later e = absurd (cc (e))
 filled_ok (Sharing i x k s p) next true c words later e = absurd (cc (e))
-filled_ok (Taking i x v t p) next true c words later e = absurd (cc (e))
+filled_ok (Taking h i x v t p) next true c words later e = absurd (cc (e))
 filled_ok (Proving x r) next true c words later e = absurd (cc (e))
 filled_ok (Refuting x t) next true c words later e = absurd (cc (e))
+filled_ok (Bounding i x y ns) next true c words later e = absurd (cc (e))
 filled_ok (Exceeding i x m) next true c words later e = absurd (cc (e))
 filled_ok (Ending x s) next true c words later e = absurd (cc (e))
 
@@ -152,13 +164,19 @@ share_later instance claim k bins places (b ∷ ns) next e =
     (placed claim (to_refute Answer instance claim)) (placed_later claim (to_refute Answer instance claim)))
     (gives (Sharing instance claim k (bins ++ pred b ∷ []) (places ++ c.0)) tt) next c.2
 
-take_later : (instance : PlainInstance) (claim : Claim) (value : ℕ) (taken places ns : List ℕ)
-    → GivesLater (take_box_line instance claim value taken places ns)
-take_later instance claim value taken places [] next e = refuses form next e
-take_later instance claim value taken places (v ∷ ns) next e =
+value_later : (heading : Heading) (instance : PlainInstance) (claim : Claim)
+    → IsLater (value_stage heading instance claim)
+value_later Answer instance claim = tt
+value_later Reduced instance claim = tt
+value_later Bounded instance claim = tt
+
+take_later : (heading : Heading) (instance : PlainInstance) (claim : Claim) (value : ℕ) (taken places ns : List ℕ)
+    → GivesLater (take_box_line heading instance claim value taken places ns)
+take_later heading instance claim value taken places [] next e = refuses form next e
+take_later heading instance claim value taken places (v ∷ ns) next e =
     let q = require_ok (names_box instance v && list_all (λ u. nat_lt u (pred v)) taken) range _ next e in
     let c = bind_ok (coordinates ns) _ next q.1 in
-    gives (Taking instance claim value (taken ++ pred v ∷ []) (places ++ c.0)) tt next c.2
+    gives (Taking heading instance claim value (taken ++ pred v ∷ []) (places ++ c.0)) tt next c.2
 
 grown_later : (claim : Claim) (tree : Tree) → IsLater (grown_tree claim tree)
 grown_later claim tree = go (is_whole tree)
@@ -166,6 +184,17 @@ grown_later claim tree = go (is_whole tree)
     go : (b : Bool) → IsLater (cond b (Ending claim (Some (tree_dims tree))) (Refuting claim tree))
     go true = tt
     go false = tt
+
+bounding_end_later : (claim : Claim) (nodes : List (OpenNode BoxChoice)) → GivesLater (bounding_end claim nodes)
+bounding_end_later claim [] next e = gives (Ended claim) tt next e
+bounding_end_later claim (n ∷ nodes) next e = refuses TooShort next e
+
+bounding_later : (instance : PlainInstance) (claim : Claim) (value : ℕ) (nodes : List (OpenNode BoxChoice))
+    (t : Option BoundedToken) → GivesLater (bounding_token instance claim value nodes t)
+bounding_later instance claim value nodes None next e = refuses form next e
+bounding_later instance claim value nodes (Some t) next e =
+    let b = bind_ok (coded (bounded_after instance value nodes t)) (λ left. Ok (Bounding instance claim value left))
+    next e in gives (Bounding instance claim value b.0) tt next b.2
 
 exceeding_later : (instance : PlainInstance) (claim : Claim) (m : ℕ) (t : PlainToken)
     → GivesLater (exceeding_token instance claim m t)
@@ -196,11 +225,11 @@ words_later (Placing i c r p) words later next e =
 words_later (Sharing i c k b p) words later next e =
     bind_gives (numbers_line (codes "place") (suc (dims i)) words) (λ ns. share_line i c k b p ns)
     (λ ns. share_later i c k b p ns) next e
-words_later (Taking i c v t p) words later next e =
+words_later (Taking h i c v t p) words later next e =
     bool_gives (is_word (codes "proof") words) _ _
-    (refused_gives (taken_reason i v t p) (Refuting c (begun (to_refute Answer i c))) tt)
-    (bind_gives (numbers_line (codes "take") (suc (dims i)) words) (λ ns. take_box_line i c v t p ns)
-    (λ ns. take_later i c v t p ns)) next e
+    (refused_gives (taken_reason i v t p) (value_stage h i c) (value_later h i c))
+    (bind_gives (numbers_line (codes "take") (suc (dims i)) words) (λ ns. take_box_line h i c v t p ns)
+    (λ ns. take_later h i c v t p ns)) next e
 words_later (Proving c r) words later next e =
     require_gives (is_word (codes "proof") words) form (Ok (Refuting c (begun r)))
     (gives (Refuting c (begun r)) tt) next e
@@ -209,6 +238,9 @@ words_later (Refuting c t) words later next e =
     (λ x. coded (tree_after t x) >>= λ more. Ok (grown_tree c more)) next e in
     let m = bind_ok (coded (tree_after t b.0)) (λ more. Ok (grown_tree c more)) next b.2 in
     gives (grown_tree c m.0) (grown_later c m.0) next m.2
+words_later (Bounding i c y ns) words later next e =
+    bool_gives (is_word (codes "end") words) _ _ (bounding_end_later c ns)
+    (bounding_later i c y ns (bounded_token_of (dims i) words)) next e
 words_later (Exceeding i c m) words later next e =
     bind_gives (tree_token (is_word (codes "end") words) (token_of (dims i) words)) (λ x. exceeding_token i c m x)
     (λ x. exceeding_later i c m x) next e

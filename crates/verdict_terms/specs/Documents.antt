@@ -8,7 +8,7 @@ use Rattle.text_terms.specs.Spelling.{spaced}
 use Rattle.document_terms.specs.declared.claim.Claim.{Claim}
 use Rattle.document_terms.specs.Claims.{job_of, job_word, result_words}
 use Rattle.verdict_terms.specs.declared.heading.Heading.{Heading}
-use Rattle.verdict_terms.specs.declared.heading.Heading.TheVariants.{Answer, Reduced}
+use Rattle.verdict_terms.specs.declared.heading.Heading.TheVariants.{Answer, Reduced, Bounded}
 use Rattle.verdict_terms.specs.declared.reason.Reason.{Reason}
 use Rattle.verdict_terms.specs.Reasons.{reason_words}
 use Rattle.verdict_terms.specs.declared.reason.Reason.TheVariants.{TooShort}
@@ -39,12 +39,15 @@ read_document_lines stage n (line ∷ lines) =
 unfoldable pub headed_verdict : Heading → List ℕ → Result Claim Refusal
 headed_verdict heading text = read_document_lines (Beginning heading) 0 (text_lines text)
 
--- that of an answer, and that of a reduced document
+-- that of an answer, that of a reduced document, and that of a bounded one
 abbrev pub document_verdict : List ℕ → Result Claim Refusal
 document_verdict text = headed_verdict Answer text
 
 abbrev pub reduced_verdict : List ℕ → Result Claim Refusal
 reduced_verdict text = headed_verdict Reduced text
+
+abbrev pub bounded_verdict : List ℕ → Result Claim Refusal
+bounded_verdict text = headed_verdict Bounded text
 
 -- the words of the one line that is written
 abbrev pub verdict_words : Result Claim Refusal → List (List ℕ)
@@ -62,3 +65,11 @@ reduced_verdict_words (Err refusal) = verdict_words (Err refusal)
 
 abbrev pub reduced_verdict_line : Result Claim Refusal → List ℕ
 reduced_verdict_line verdict = spaced (reduced_verdict_words verdict) ++ 10 ∷ []
+
+-- the same of a bounded document
+abbrev pub bounded_verdict_words : Result Claim Refusal → List (List ℕ)
+bounded_verdict_words (Ok claim) = codes "verified" ∷ codes "bounded" ∷ job_word (job_of claim) ∷ result_words claim
+bounded_verdict_words (Err refusal) = verdict_words (Err refusal)
+
+abbrev pub bounded_verdict_line : Result Claim Refusal → List ℕ
+bounded_verdict_line verdict = spaced (bounded_verdict_words verdict) ++ 10 ∷ []

@@ -8,6 +8,8 @@ use Rattle.packing_terms.specs.Packing.{PlainInstance, dims, box_count, IsPackin
 use Rattle.packing_terms.specs.Goals.{with_last_side, subset, IsBinPacking, IsBoxSet, worth}
 use Rattle.packing_terms.specs.Tokens.{PlainToken}
 use Rattle.packing_terms.specs.Tokens.PlainToken.{TooLarge}
+use Rattle.bounded_terms.specs.BoundedRefutation.{BoundedToken, IsBoundedRefutation}
+use Rattle.bounded_terms.specs.BoundedLines.{bounded_token_of}
 use Rattle.packing_terms.specs.Refutation.{IsTooLarge}
 use Rattle.text_terms.specs.Lines.{text_lines, number_of}
 use Rattle.text_terms.specs.Form.{AreClean, filled_lines, IsNumber, HasForm}
@@ -24,7 +26,7 @@ use Rattle.verdict_terms.specs.Numbers.{most_coordinate}
 use Rattle.document_terms.specs.TokenLines.{token_of}
 use Rattle.verdict_terms.specs.Trees.{Refuted, ToFit, ToFitIn, ToReach, refuted_dims, AreRefutation}
 use Rattle.verdict_terms.specs.declared.heading.Heading.{Heading}
-use Rattle.verdict_terms.specs.declared.heading.Heading.TheVariants.{Answer, Reduced}
+use Rattle.verdict_terms.specs.declared.heading.Heading.TheVariants.{Answer, Reduced, Bounded}
 use Rattle.verdict_terms.specs.Stages.{heading_word, start_exclusions}
 use Rattle.verdict_terms.specs.Documents.{headed_verdict}
 
@@ -137,6 +139,25 @@ pub record AreRefuting (refuted : Refuted) (lines : List (List (List ℕ))) : Ty
   pub are_lines : AreTokenLines (refuted_dims refuted) lines tokens
   pub refute : AreRefutation refuted tokens
 
+-- lines of tokens with priced leaves
+abbrev pub AreBoundedLines : ℕ → List (List (List ℕ)) → List BoundedToken → Type 0
+AreBoundedLines d [] [] = Unit {0}
+AreBoundedLines d [] (t ∷ ts) = ⊥
+AreBoundedLines d (words ∷ lines) [] = ⊥
+AreBoundedLines d (words ∷ lines) (t ∷ ts) = (bounded_token_of d words ≡ Some t) × AreBoundedLines d lines ts
+
+-- lines of a refutation with priced leaves, for a value
+pub record AreBounding (instance : PlainInstance) (value : ℕ) (lines : List (List (List ℕ))) : Type 0 where
+  pub tokens : List BoundedToken
+  pub are_lines : AreBoundedLines (dims instance) lines tokens
+  pub refute : IsBoundedRefutation instance value tokens
+
+-- lines that refute a value under a heading
+abbrev pub RefuteValue : Heading → PlainInstance → ℕ → List (List (List ℕ)) → Type 0
+RefuteValue Answer instance value lines = AreRefuting (ToReach instance value) lines
+RefuteValue Reduced instance value lines = AreRefuting (ToReach instance value) lines
+RefuteValue Bounded instance value lines = AreBounding instance value lines
+
 -- one line `t V I` of a box that exceeds the container in one of the first m dimensions
 pub record IsExceedingLine (instance : PlainInstance) (m : ℕ) (lines : List (List (List ℕ))) : Type 0 where
   pub words : List (List ℕ)
@@ -174,17 +195,21 @@ BacksUnder heading instance (BinsBetween a b) lines =
     AreProved (AreShared instance b) (AreRefuting (ToFitIn instance a)) lines
 BacksUnder heading instance NoBins lines = IsExceedingLine instance (dims instance) lines
 BacksUnder heading instance (GreatestValue v) lines =
-    AreProved (AreTaken instance v) (AreRefuting (ToReach instance (suc v))) lines
+    AreProved (AreTaken instance v) (RefuteValue heading instance (suc v)) lines
 BacksUnder heading instance (ValueBetween a b) lines =
-    AreProved (AreTaken instance a) (AreRefuting (ToReach instance b)) lines
+    AreProved (AreTaken instance a) (RefuteValue heading instance b) lines
 
--- a heading names every job, or one of `fit` and `strip`
+-- a heading names every job, or one of `fit` and `strip`, or `knapsack`
 abbrev pub MayName : Heading → SolvingJob → Type 0
 MayName Answer job = Unit {0}
 MayName Reduced Fit = Unit {0}
 MayName Reduced Strip = Unit {0}
 MayName Reduced Bins = ⊥
 MayName Reduced Knapsack = ⊥
+MayName Bounded Fit = ⊥
+MayName Bounded Strip = ⊥
+MayName Bounded Bins = ⊥
+MayName Bounded Knapsack = Unit {0}
 
 -- The text is a document of the claim under this heading, which may name the claim's job: no line has
 -- a bad byte, and the lines that aren't blank are, in this order, the heading's word and the job, the
@@ -203,12 +228,15 @@ pub record IsHeadedDocument (heading : Heading) (text : List ℕ) (claim : Claim
   pub is_result : IsResult instance claim result
   pub backed : BacksUnder heading instance claim backing
 
--- a document that begins with `answer`, and one that begins with `reduced`
+-- a document that begins with `answer`, one that begins with `reduced`, and one with `bounded`
 abbrev pub IsDocument : List ℕ → Claim → Type 0
 IsDocument text claim = IsHeadedDocument Answer text claim
 
 abbrev pub IsReducedDocument : List ℕ → Claim → Type 0
 IsReducedDocument text claim = IsHeadedDocument Reduced text claim
+
+abbrev pub IsBoundedDocument : List ℕ → Claim → Type 0
+IsBoundedDocument text claim = IsHeadedDocument Bounded text claim
 
 -- ---- the laws
 

@@ -7,7 +7,8 @@
 -- place ..          Placing, Sharing (bins) or Taking (knapsacks): the coordinates so far, and what
 -- is to be refuted behind them
 --     proof             Proving: `proof` is wanted
---     d 1 1 2           Refuting: the open nodes of the tree; Exceeding: the `t` line of `none` is wanted
+--     d 1 1 2           Refuting: the open nodes of the tree; Exceeding: the `t` line of `none` is wanted;
+--                       Bounding: the open nodes of a tree with priced leaves, and `end` behind them
 --     end               Ending: `end` is wanted, behind a tree (of so many dimensions) or behind places
 --                       Ended
 use Rattle.std.specs.Prelude.{ℕ, pred, suc, ◌*◌, ◌-◌, ◌&&◌, ◌==◌, not, cond, Bool, true, false, List, [], ◌∷◌, ◌++◌}
@@ -19,6 +20,11 @@ use Rattle.packing_terms.specs.Goals.{with_last_side, subset, in_bin, places_of,
 use Rattle.packing_terms.specs.Tokens.{PlainToken}
 use Rattle.symmetry_terms.specs.Facts.{symmetry_facts}
 use Rattle.packing_terms.specs.Tokens.PlainToken.{TooLarge}
+use Rattle.packing_terms.specs.OuterRefutation.{Choice as BoxChoice, no_choice}
+use Rattle.packing_terms.specs.OuterFeeding.{OpenNode, Outer}
+use Rattle.bounded_terms.specs.BoundedRefutation.{BoundedToken}
+use Rattle.bounded_terms.specs.BoundedJudging.{bounded_after}
+use Rattle.bounded_terms.specs.BoundedLines.{bounded_token_of}
 use Rattle.text_terms.specs.declared.fault.TextFault.{TextFault}
 use Rattle.text_terms.specs.Lines.{Line, same_bytes}
 use Rattle.packing_terms.specs.Results.{◌>>=◌}
@@ -36,7 +42,7 @@ use Rattle.document_terms.specs.declared.claim.Claim.TheVariants.{Fitting, NotFi
 use Rattle.document_terms.specs.declared.claim.Claim.TheVariants.{NoHeight, LeastBins, BinsBetween, NoBins}
 use Rattle.document_terms.specs.declared.claim.Claim.TheVariants.{GreatestValue, ValueBetween}
 use Rattle.verdict_terms.specs.declared.heading.Heading.{Heading}
-use Rattle.verdict_terms.specs.declared.heading.Heading.TheVariants.{Answer, Reduced}
+use Rattle.verdict_terms.specs.declared.heading.Heading.TheVariants.{Answer, Reduced, Bounded}
 use Rattle.verdict_terms.specs.declared.reason.Reason.{Reason}
 use Rattle.verdict_terms.specs.Reasons.{form, range, after}
 use Rattle.verdict_terms.specs.declared.reason.Reason.TheVariants.{Text, Token, OutsideAt, OverlapAt, TooLittle}
@@ -51,9 +57,10 @@ pub data Stage : Type 0 where
   Reading : (heading : Heading) (job : SolvingJob) (parts : Parts) → Stage
   Placing : (instance : PlainInstance) (claim : Claim) (refuted : Refuted) (places : List ℕ) → Stage
   Sharing : (instance : PlainInstance) (claim : Claim) (count : ℕ) (bins places : List ℕ) → Stage
-  Taking : (instance : PlainInstance) (claim : Claim) (value : ℕ) (taken places : List ℕ) → Stage
+  Taking : (heading : Heading) (instance : PlainInstance) (claim : Claim) (value : ℕ) (taken places : List ℕ) → Stage
   Proving : (claim : Claim) (refuted : Refuted) → Stage
   Refuting : (claim : Claim) (tree : Tree) → Stage
+  Bounding : (instance : PlainInstance) (claim : Claim) (value : ℕ) (nodes : List (OpenNode BoxChoice)) → Stage
   Exceeding : (instance : PlainInstance) (claim : Claim) (dim_count : ℕ) → Stage
   Ending : (claim : Claim) (behind : Option ℕ) → Stage
   Ended : (claim : Claim) → Stage
@@ -118,6 +125,7 @@ taken_reason instance value taken places =
 abbrev pub start_exclusions : Heading → PlainInstance → List Exclusion
 start_exclusions Answer instance = []
 start_exclusions Reduced instance = symmetry_facts instance
+start_exclusions Bounded instance = []
 
 -- what a claim under a heading says to be refuted; the facts of the instance are those of all heights
 abbrev pub to_refute : Heading → PlainInstance → Claim → Refuted
@@ -129,6 +137,18 @@ to_refute heading instance (BinsBetween a b) = ToFitIn instance a
 to_refute heading instance (GreatestValue v) = ToReach instance (suc v)
 to_refute heading instance (ValueBetween a b) = ToReach instance b
 to_refute heading instance _ = ToFit instance (start_exclusions heading instance)
+
+-- the value that a claim says isn't reached
+abbrev pub value_refuted : Claim → ℕ
+value_refuted (GreatestValue v) = suc v
+value_refuted (ValueBetween a b) = b
+value_refuted _ = 0
+
+-- behind the `proof` of a claim on a value
+abbrev pub value_stage : Heading → PlainInstance → Claim → Stage
+value_stage Answer instance claim = Refuting claim (begun (to_refute Answer instance claim))
+value_stage Reduced instance claim = Refuting claim (begun (to_refute Reduced instance claim))
+value_stage Bounded instance claim = Bounding instance claim (value_refuted claim) (Outer no_choice ∷ [])
 
 -- behind the result line
 abbrev pub claimed : Heading → PlainInstance → Claim → Stage
@@ -142,8 +162,8 @@ claimed heading instance NoHeight = Exceeding instance NoHeight (dims instance -
 claimed heading instance (LeastBins k) = Sharing instance (LeastBins k) k [] []
 claimed heading instance (BinsBetween a b) = Sharing instance (BinsBetween a b) b [] []
 claimed heading instance NoBins = Exceeding instance NoBins (dims instance)
-claimed heading instance (GreatestValue v) = Taking instance (GreatestValue v) v [] []
-claimed heading instance (ValueBetween a b) = Taking instance (ValueBetween a b) a [] []
+claimed heading instance (GreatestValue v) = Taking heading instance (GreatestValue v) v [] []
+claimed heading instance (ValueBetween a b) = Taking heading instance (ValueBetween a b) a [] []
 
 -- the line is this one word
 abbrev pub is_word : List ℕ → List (List ℕ) → Bool
@@ -162,15 +182,18 @@ job_named word =
 abbrev pub heading_word : Heading → List ℕ
 heading_word Answer = codes "answer"
 heading_word Reduced = codes "reduced"
+heading_word Bounded = codes "bounded"
 
--- the job behind it: of reduced documents there are those of `fit` and `strip`
+-- the job behind it: of reduced documents there are those of `fit` and `strip`, of bounded ones those
+-- of `knapsack`
 abbrev pub job_headed : Heading → List ℕ → Result SolvingJob Reason
 job_headed Answer word = job_named word
 job_headed Reduced word =
     cond (same_bytes word (codes "fit")) (Ok Fit) (
     cond (same_bytes word (codes "strip")) (Ok Strip) (Err form))
+job_headed Bounded word = cond (same_bytes word (codes "knapsack")) (Ok Knapsack) (Err form)
 
--- the first line: `answer JOB`, or `reduced JOB`
+-- the first line: `answer JOB`, `reduced JOB` or `bounded JOB`
 abbrev pub heading_line : Heading → List (List ℕ) → Result Stage Reason
 heading_line heading (key ∷ word ∷ []) =
     cond (same_bytes key (heading_word heading))
@@ -231,11 +254,11 @@ share_line instance claim k bins places (b ∷ ns) =
     ])
 
 -- a box that comes behind those taken, and coordinates
-abbrev pub take_box_line : PlainInstance → Claim → ℕ → List ℕ → List ℕ → List ℕ → Result Stage Reason
-take_box_line instance claim value taken places [] = Err form
-take_box_line instance claim value taken places (v ∷ ns) =
+abbrev pub take_box_line : Heading → PlainInstance → Claim → ℕ → List ℕ → List ℕ → List ℕ → Result Stage Reason
+take_box_line heading instance claim value taken places [] = Err form
+take_box_line heading instance claim value taken places (v ∷ ns) =
     require (names_box instance v && list_all (λ u. nat_lt u (pred v)) taken) range (coordinates ns >>= λ xs.
-    Ok (Taking instance claim value (taken ++ pred v ∷ []) (places ++ xs)))
+    Ok (Taking heading instance claim value (taken ++ pred v ∷ []) (places ++ xs)))
 
 abbrev pub coded : {A : Type 0} → Result A RefuseCode → Result A Reason
 coded (Ok x) = Ok x
@@ -255,6 +278,25 @@ abbrev pub tree_line : Claim → Tree → List (List ℕ) → Result Stage Reaso
 tree_line claim tree words =
     tree_token (is_word (codes "end") words) (token_of (tree_dims tree) words) >>= λ t. coded (tree_after tree t)
     >>= λ more. Ok (grown_tree claim more)
+
+-- `end` behind a tree with priced leaves: it comes too early where a node is open
+abbrev pub bounding_end : Claim → List (OpenNode BoxChoice) → Result Stage Reason
+bounding_end claim [] = Ok (Ended claim)
+bounding_end claim (n ∷ nodes) = Err TooShort
+
+-- a token of such a tree, where one is wanted
+abbrev pub bounding_token : PlainInstance → Claim → ℕ → List (OpenNode BoxChoice) → Option BoundedToken
+    → Result Stage Reason
+bounding_token instance claim value nodes None = Err form
+bounding_token instance claim value nodes (Some t) =
+    coded (bounded_after instance value nodes t) >>= λ left. Ok (Bounding instance claim value left)
+
+abbrev pub bounding_line : PlainInstance → Claim → ℕ → List (OpenNode BoxChoice) → List (List ℕ) → Result Stage Reason
+bounding_line instance claim value nodes words =
+    elim (is_word (codes "end") words) [
+      | true ↦ bounding_end claim nodes
+      | false ↦ bounding_token instance claim value nodes (bounded_token_of (dims instance) words)
+    ]
 
 -- the `t` line of `none`: the box exceeds the container in one of the first dimensions, of which
 -- there are so many
@@ -286,16 +328,16 @@ words_line (Reading heading job parts) words = Err form
 words_line (Placing instance claim refuted places) words = place_line instance claim refuted places words
 words_line (Sharing instance claim k bins places) words =
     numbers_line (codes "place") (suc (dims instance)) words >>= λ ns. share_line instance claim k bins places ns
-words_line (Taking instance claim value taken places) words =
+words_line (Taking heading instance claim value taken places) words =
     elim (is_word (codes "proof") words) [
-      | true ↦ refused_by (taken_reason instance value taken places)
-          (Ok (Refuting claim (begun (to_refute Answer instance claim))))
+      | true ↦ refused_by (taken_reason instance value taken places) (Ok (value_stage heading instance claim))
       | false ↦ numbers_line (codes "take") (suc (dims instance)) words
-          >>= λ ns. take_box_line instance claim value taken places ns
+          >>= λ ns. take_box_line heading instance claim value taken places ns
     ]
 words_line (Proving claim refuted) words =
     require (is_word (codes "proof") words) form (Ok (Refuting claim (begun refuted)))
 words_line (Refuting claim tree) words = tree_line claim tree words
+words_line (Bounding instance claim value nodes) words = bounding_line instance claim value nodes words
 words_line (Exceeding instance claim m) words = exceeding_line instance claim m words
 words_line (Ending claim behind) words =
     require (is_word (codes "end") words) (late_line behind words) (Ok (Ended claim))
