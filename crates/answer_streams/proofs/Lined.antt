@@ -10,7 +10,7 @@ use Rattle.document_terms.specs.declared.claim.Claim.TheVariants.{NoHeight, Leas
 use Rattle.document_terms.specs.declared.claim.Claim.TheVariants.{GreatestValue, ValueBetween}
 use Rattle.verdict_terms.specs.declared.reason.Reason.{Reason}
 use Rattle.verdict_terms.specs.Reasons.{reason_words}
-use Rattle.verdict_terms.specs.Documents.{verdict_line, reduced_verdict_line}
+use Rattle.verdict_terms.specs.Documents.{verdict_line, reduced_verdict_line, bounded_verdict_line}
 use Rattle.front_verdict_terms.specs.Verdicts.{front_verdict_line}
 use Rattle.explained_documents.specs.declared.reason.ExplainedReason.{ExplainedReason}
 use Rattle.explained_documents.specs.Documents.{explained_line, reason_words as explained_words_of}
@@ -54,6 +54,19 @@ reduced_line (BinsBetween a b) = two_numbers (codes "verified reduced bins betwe
 reduced_line NoBins = refl
 reduced_line (GreatestValue v) = one_number (codes "verified reduced knapsack greatest ") (decimal v)
 reduced_line (ValueBetween a b) = two_numbers (codes "verified reduced knapsack between ") (decimal a) (decimal b)
+
+-- and of a bounded one
+pub bounded_line : (claim : Claim) → codes "verified bounded " ++ claim_text claim ≡ bounded_verdict_line (Ok claim)
+bounded_line Fitting = refl
+bounded_line NotFitting = refl
+bounded_line (LeastHeight h) = one_number (codes "verified bounded strip least ") (decimal h)
+bounded_line (HeightBetween a b) = two_numbers (codes "verified bounded strip between ") (decimal a) (decimal b)
+bounded_line NoHeight = refl
+bounded_line (LeastBins k) = one_number (codes "verified bounded bins least ") (decimal k)
+bounded_line (BinsBetween a b) = two_numbers (codes "verified bounded bins between ") (decimal a) (decimal b)
+bounded_line NoBins = refl
+bounded_line (GreatestValue v) = one_number (codes "verified bounded knapsack greatest ") (decimal v)
+bounded_line (ValueBetween a b) = two_numbers (codes "verified bounded knapsack between ") (decimal a) (decimal b)
 
 -- the line of a refusal
 pub refusal_line : (line : ℕ) (reason : Reason)

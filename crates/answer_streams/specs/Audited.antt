@@ -6,11 +6,12 @@ use Rattle.packing_terms.specs.Limits.{IsInstance}
 use Rattle.document_terms.specs.declared.claim.Claim.{Claim}
 use Rattle.document_terms.specs.Claims.{IsTrueOf}
 use Rattle.verdict_terms.specs.Documents.{Refusal, verdict_line, reduced_verdict, reduced_verdict_line}
-use Rattle.verdict_terms.specs.Form.{IsReducedDocument}
+use Rattle.verdict_terms.specs.Documents.{bounded_verdict, bounded_verdict_line}
+use Rattle.verdict_terms.specs.Form.{IsReducedDocument, IsBoundedDocument}
 use Rattle.explained_terms.specs.declared.answers.AuditCode.{AuditCode}
 use Rattle.explained_documents.specs.declared.kind.DocumentKind.{DocumentKind}
 use Rattle.explained_documents.specs.declared.kind.DocumentKind.TheVariants.{Explained as OfExplained, Front as OfFront}
-use Rattle.explained_documents.specs.declared.kind.DocumentKind.TheVariants.{Reduced as OfReduced}
+use Rattle.explained_documents.specs.declared.kind.DocumentKind.TheVariants.{Reduced as OfReduced, Bounded as OfBounded}
 use Rattle.explained_documents.specs.declared.reason.ExplainedReason.{ExplainedReason}
 use Rattle.explained_documents.specs.Kinds.{document_kind}
 use Rattle.explained_documents.specs.Documents.{ExplainedRefusal, explained_verdict, explained_line, explained_status}
@@ -24,7 +25,7 @@ use Rattle.front_verdict_terms.specs.Laws.{IsTrueFrontOf}
 use Rattle.answer_streams.specs.Lines.{number_line}
 use Rattle.answer_streams.specs.Verdicts.{plain_verdict, verdict_status}
 use Rattle.answer_streams.specs.declared.audited.AuditedVerdict.{AuditedVerdict}
-use Rattle.answer_streams.specs.declared.audited.AuditedVerdict.TheVariants.{Reduced, Explained, Front}
+use Rattle.answer_streams.specs.declared.audited.AuditedVerdict.TheVariants.{Reduced, Bounded, Explained, Front}
 use Rattle.answer_streams.specs.declared.audited.ExplainedVerdict.{ExplainedVerdict}
 use Rattle.answer_streams.specs.declared.audited.ExplainedVerdict.TheVariants.{Verified, Refused}
 use Rattle.answer_streams.specs.declared.audited_fronts.FrontAudited.{FrontAudited}
@@ -34,11 +35,13 @@ use Rattle.answer_streams.specs.declared.audited_fronts.FrontAudited.TheVariants
 -- a verdict, under the kind of the document
 pub data KindVerdict : Type 0 where
   ReducedVerdictOf : (verdict : Result Claim Refusal) → KindVerdict
+  BoundedVerdictOf : (verdict : Result Claim Refusal) → KindVerdict
   ExplainedVerdictOf : (verdict : Result PlainInstance ExplainedRefusal) → KindVerdict
   FrontVerdictOf : (verdict : Result FrontRead Refusal) → KindVerdict
 
 abbrev pub verdict_of_kind : DocumentKind → List ℕ → KindVerdict
 verdict_of_kind OfReduced text = ReducedVerdictOf (reduced_verdict text)
+verdict_of_kind OfBounded text = BoundedVerdictOf (bounded_verdict text)
 verdict_of_kind OfExplained text = ExplainedVerdictOf (explained_verdict text)
 verdict_of_kind OfFront text = FrontVerdictOf (front_document_verdict text)
 
@@ -49,11 +52,13 @@ audit_verdict text = verdict_of_kind (document_kind text) text
 -- the line that is written, and the status
 abbrev pub audit_line : KindVerdict → List ℕ
 audit_line (ReducedVerdictOf verdict) = reduced_verdict_line verdict
+audit_line (BoundedVerdictOf verdict) = bounded_verdict_line verdict
 audit_line (ExplainedVerdictOf verdict) = explained_line verdict
 audit_line (FrontVerdictOf verdict) = front_verdict_line verdict
 
 abbrev pub audit_status : KindVerdict → ℕ
 audit_status (ReducedVerdictOf verdict) = verdict_status verdict
+audit_status (BoundedVerdictOf verdict) = verdict_status verdict
 audit_status (ExplainedVerdictOf verdict) = explained_status verdict
 audit_status (FrontVerdictOf verdict) = front_verdict_status verdict
 
@@ -73,13 +78,16 @@ pub record IsTrueFrontRead (text : List ℕ) (r : FrontRead) : Type 0 where
   pub plane : dims r.instance ≡ 2
   pub front : IsTrueFrontOf r.instance r.claim (points_of_text text)
 
--- What is verified is true: a reduced document is one of its claim, which holds of the instance in
+-- What is verified is true: a reduced or bounded document is one of its claim, which holds of the instance in
 -- it; the instance of an explained document has no packing; and the points of a document of a front
 -- are what its claim says.
 abbrev pub IsTrueVerdict : List ℕ → KindVerdict → Type 0
 IsTrueVerdict text (ReducedVerdictOf (Ok claim)) =
     (document : IsReducedDocument text claim) × IsTrueOf document.instance claim
 IsTrueVerdict text (ReducedVerdictOf (Err refusal)) = ⊥
+IsTrueVerdict text (BoundedVerdictOf (Ok claim)) =
+    (document : IsBoundedDocument text claim) × IsTrueOf document.instance claim
+IsTrueVerdict text (BoundedVerdictOf (Err refusal)) = ⊥
 IsTrueVerdict text (ExplainedVerdictOf (Ok instance)) = IsTrueExplained text instance
 IsTrueVerdict text (ExplainedVerdictOf (Err refusal)) = ⊥
 IsTrueVerdict text (FrontVerdictOf (Ok r)) = IsTrueFrontRead text r
@@ -106,11 +114,13 @@ front_told_status (RefusedFront line reason) = 1
 
 abbrev pub verdict_text : AuditedVerdict → List ℕ
 verdict_text (Reduced verdict) = reduced_verdict_line (plain_verdict verdict)
+verdict_text (Bounded verdict) = bounded_verdict_line (plain_verdict verdict)
 verdict_text (Explained verdict) = explained_text verdict
 verdict_text (Front verdict) = front_audit_text verdict
 
 abbrev pub told_status : AuditedVerdict → ℕ
 told_status (Reduced verdict) = verdict_status (plain_verdict verdict)
+told_status (Bounded verdict) = verdict_status (plain_verdict verdict)
 told_status (Explained Verified) = 0
 told_status (Explained (Refused line reason)) = 1
 told_status (Front verdict) = front_told_status verdict

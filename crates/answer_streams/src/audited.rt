@@ -7,7 +7,7 @@ ghost use Rattle.answer_streams.specs.Audited.{explained_text, verdict_text, aud
 use crate::audited_fronts::{FrontAudited, write_front_verdict};
 use crate::documents::Written;
 use crate::streaming::Streamed;
-use crate::verdict::{ReducedVerdict, Verdict, write_numbered};
+use crate::verdict::{BoundedVerdict, ReducedVerdict, Verdict, write_numbered};
 use explained_documents::ExplainedReason;
 use explained_terms::AuditCode;
 use pack_streams::{Sink, write_number, write_on};
@@ -25,6 +25,7 @@ pub enum ExplainedVerdict {
 #[derive(Clone, Copy, Debug, PartialEq, Eq)]
 pub enum AuditedVerdict {
     Reduced(Verdict),
+    Bounded(Verdict),
     Explained(ExplainedVerdict),
     Front(FrontAudited),
 }
@@ -36,6 +37,7 @@ impl AuditedVerdict {
     {
         match self {
             AuditedVerdict::Reduced(verdict) => verdict.status(),
+            AuditedVerdict::Bounded(verdict) => verdict.status(),
             AuditedVerdict::Explained(ExplainedVerdict::Verified) => 0,
             AuditedVerdict::Explained(ExplainedVerdict::Refused { line: _, reason: _ }) => 1,
             AuditedVerdict::Front(verdict) => verdict.status(),
@@ -109,6 +111,7 @@ impl Streamed for AuditedVerdict {
     fn write_to<K: Sink>(&self, sink: &mut K) -> Written {
         match *self {
             AuditedVerdict::Reduced(verdict) => ReducedVerdict { verdict }.write_to(sink),
+            AuditedVerdict::Bounded(verdict) => BoundedVerdict { verdict }.write_to(sink),
             AuditedVerdict::Explained(verdict) => write_explained(sink, verdict),
             AuditedVerdict::Front(verdict) => write_front_verdict(sink, verdict),
         }

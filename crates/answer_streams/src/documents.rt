@@ -20,7 +20,7 @@ use box_instances::Instance;
 use instance_text::write_instance;
 use pack_streams::{Sink, WriteFault, write_number, write_on};
 use proof_tree::{Outcome, TokenList, write_tokens_on};
-use verdict_terms::Heading;
+use crate::tree_start::TreeStart;
 
 /// How writing went so far. Each call below writes where no fault came before, and else does
 /// nothing.
@@ -106,19 +106,19 @@ pub(crate) fn write_instance_on<K: Sink>(
 }
 
 // The first line of a document of `fit`.
-fn first_line(heading: Heading) -> &'static [u8]
-    ensures { result.now ≡ first_line heading }
+fn first_line(start: TreeStart) -> &'static [u8]
+    ensures { result.now ≡ first_line start }
 {
-    match heading {
-        Heading::Answer => b"answer fit\n",
-        Heading::Reduced => b"reduced fit\n",
+    match start {
+        TreeStart::Nothing => b"answer fit\n",
+        TreeStart::Facts => b"reduced fit\n",
     }
 }
 
 // Writes the document that says yes, with the place of each box.
 fn write_yes<K: Sink>(
     sink: &mut K,
-    heading: Heading,
+    start: TreeStart,
     instance: &Instance,
     places: &[u32],
 ) -> Written
@@ -126,9 +126,9 @@ fn write_yes<K: Sink>(
     requires one_each { length places.now ≡ box_count instance.now * dims instance.now }
     ensures { Writes (K.written sink.old) (K.written sink.new) (K.faults sink.old)
         (K.faults sink.new)
-        (headed_text heading instance.now (Claimed Fitting places.now [])) result }
+        (headed_text start instance.now (Claimed Fitting places.now [])) result }
 {
-    let named = write_on(sink, Ok(()), first_line(heading));
+    let named = write_on(sink, Ok(()), first_line(start));
     let shown = write_instance_on(sink, named, instance);
     let said = write_on(sink, shown, b"result yes\n");
     let placed = write_places(sink, said, instance, places);
@@ -138,16 +138,16 @@ fn write_yes<K: Sink>(
 // Writes the document that says no, with a refutation.
 fn write_no<K: Sink>(
     sink: &mut K,
-    heading: Heading,
+    start: TreeStart,
     instance: &Instance,
     tokens: &TokenList,
 ) -> Written
     requires { IsInstance instance.now }
     ensures { Writes (K.written sink.old) (K.written sink.new) (K.faults sink.old)
         (K.faults sink.new)
-        (headed_text heading instance.now (Claimed NotFitting [] tokens.now)) result }
+        (headed_text start instance.now (Claimed NotFitting [] tokens.now)) result }
 {
-    let named = write_on(sink, Ok(()), first_line(heading));
+    let named = write_on(sink, Ok(()), first_line(start));
     let shown = write_instance_on(sink, named, instance);
     let said = write_on(sink, shown, b"result no\n");
     let refuted = write_tokens_on(sink, said, tokens);
@@ -155,13 +155,13 @@ fn write_no<K: Sink>(
 }
 
 // Writes the document that says that the budget was spent.
-fn write_undecided<K: Sink>(sink: &mut K, heading: Heading, instance: &Instance) -> Written
+fn write_undecided<K: Sink>(sink: &mut K, start: TreeStart, instance: &Instance) -> Written
     requires { IsInstance instance.now }
     ensures { Writes (K.written sink.old) (K.written sink.new) (K.faults sink.old)
         (K.faults sink.new)
-        (headed_text heading instance.now Undecided) result }
+        (headed_text start instance.now Undecided) result }
 {
-    let named = write_on(sink, Ok(()), first_line(heading));
+    let named = write_on(sink, Ok(()), first_line(start));
     let shown = write_instance_on(sink, named, instance);
     write_on(sink, shown, b"result undecided\nend\n")
 }
@@ -170,7 +170,7 @@ fn write_undecided<K: Sink>(sink: &mut K, heading: Heading, instance: &Instance)
 /// no with its refutation, or undecided.
 pub(crate) fn write_fit<K: Sink>(
     sink: &mut K,
-    heading: Heading,
+    start: TreeStart,
     instance: &Instance,
     outcome: &Outcome,
 ) -> Written
@@ -178,11 +178,11 @@ pub(crate) fn write_fit<K: Sink>(
     requires placed { IsPlaced instance.now (plain_outcome outcome.now) }
     ensures { Writes (K.written sink.old) (K.written sink.new) (K.faults sink.old)
         (K.faults sink.new)
-        (headed_text heading instance.now (fit_answer (plain_outcome outcome.now))) result }
+        (headed_text start instance.now (fit_answer (plain_outcome outcome.now))) result }
 {
     match outcome {
-        Outcome::Yes { numbers, count: _ } => write_yes(sink, heading, instance, numbers),
-        Outcome::No { tokens, count: _ } => write_no(sink, heading, instance, tokens),
-        Outcome::Past => write_undecided(sink, heading, instance),
+        Outcome::Yes { numbers, count: _ } => write_yes(sink, start, instance, numbers),
+        Outcome::No { tokens, count: _ } => write_no(sink, start, instance, tokens),
+        Outcome::Past => write_undecided(sink, start, instance),
     }
 }

@@ -15,6 +15,7 @@ mod solution;
 mod streaming;
 mod strip_documents;
 mod summary;
+mod tree_start;
 mod verdict;
 
 pub use audited::{AuditedVerdict, ExplainedVerdict};
@@ -24,4 +25,5 @@ pub use explained::Explanation;
 pub use solution::{Solution, fit_status};
 pub use streaming::{AnswerDocument, Streamed, stream};
 pub use summary::Made;
+pub use tree_start::TreeStart;
 pub use verdict::Verdict;

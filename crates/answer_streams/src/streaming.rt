@@ -13,7 +13,7 @@ use crate::strip_documents::write_strip;
 use box_instances::Instance;
 use pack_streams::Sink;
 use std::marker::Brand;
-use verdict_terms::Heading;
+use crate::tree_start::TreeStart;
 
 /// What is written as one text.
 pub trait Streamed {
@@ -45,15 +45,15 @@ impl<'a> Streamed for AnswerDocument<'a> {
 
     fn write_to<K: Sink>(&self, sink: &mut K) -> Written {
         match self.solution {
-            Solution::Fit(outcome) => write_fit(sink, Heading::Answer, self.instance, outcome),
-            Solution::Strip(strip) => write_strip(sink, Heading::Answer, self.instance, strip),
+            Solution::Fit(outcome) => write_fit(sink, TreeStart::Nothing, self.instance, outcome),
+            Solution::Strip(strip) => write_strip(sink, TreeStart::Nothing, self.instance, strip),
             Solution::Bins(bins) => write_bins(sink, self.instance, bins),
             Solution::Knapsack(choice) => write_choice(sink, self.instance, choice),
             Solution::Reduced(outcome) => {
-                write_fit(sink, Heading::Reduced, self.instance, outcome)
+                write_fit(sink, TreeStart::Facts, self.instance, outcome)
             }
             Solution::ReducedStrip(strip) => {
-                write_strip(sink, Heading::Reduced, self.instance, strip)
+                write_strip(sink, TreeStart::Facts, self.instance, strip)
             }
         }
     }

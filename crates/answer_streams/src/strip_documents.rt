@@ -1,4 +1,4 @@
-//! The documents that answer `strip` under each heading, in their one written spelling. Writing
+//! The documents that answer `strip` by what their trees begin with, in their one written spelling. Writing
 //! takes no memory.
 ghost use Rattle.std.specs.Prelude.{◌≡◌, ◌<◌, ◌*◌, length};
 ghost use Rattle.packing_terms.specs.Packing.{dims, box_count};
@@ -20,15 +20,15 @@ use box_instances::Instance;
 use pack_streams::{Sink, write_on};
 use proof_tree::TokenList;
 use strip_solver::Strip;
-use verdict_terms::Heading;
+use crate::tree_start::TreeStart;
 
 // The first line of a document of `strip`.
-fn strip_line(heading: Heading) -> &'static [u8]
-    ensures { result.now ≡ strip_line heading }
+fn strip_line(start: TreeStart) -> &'static [u8]
+    ensures { result.now ≡ strip_line start }
 {
-    match heading {
-        Heading::Answer => b"answer strip\n",
-        Heading::Reduced => b"reduced strip\n",
+    match start {
+        TreeStart::Nothing => b"answer strip\n",
+        TreeStart::Facts => b"reduced strip\n",
     }
 }
 
@@ -53,7 +53,7 @@ fn write_certificates<K: Sink>(
 // Writes the document of a least height.
 fn write_least<K: Sink>(
     sink: &mut K,
-    heading: Heading,
+    start: TreeStart,
     instance: &Instance,
     height: u32,
     places: &[u32],
@@ -63,10 +63,10 @@ fn write_least<K: Sink>(
     requires placed { AreAllPlaced instance.now places.now }
     ensures { Writes (K.written sink.old) (K.written sink.new) (K.faults sink.old)
         (K.faults sink.new)
-        (headed_text heading instance.now
+        (headed_text start instance.now
         (Claimed (LeastHeight height) places.now tokens.now)) result }
 {
-    let begun = write_opening(sink, strip_line(heading), instance);
+    let begun = write_opening(sink, strip_line(start), instance);
     let said = write_least_line(sink, begun, height as u64);
     let shown = write_certificates(sink, said, instance, places, tokens);
     write_on(sink, shown, b"end\n")
@@ -75,7 +75,7 @@ fn write_least<K: Sink>(
 // Writes the document of two heights between which the least one lies.
 fn write_between<K: Sink>(
     sink: &mut K,
-    heading: Heading,
+    start: TreeStart,
     instance: &Instance,
     refuted: u32,
     tokens: &TokenList,
@@ -86,10 +86,10 @@ fn write_between<K: Sink>(
     requires placed { AreAllPlaced instance.now places.now }
     ensures { Writes (K.written sink.old) (K.written sink.new) (K.faults sink.old)
         (K.faults sink.new)
-        (headed_text heading instance.now
+        (headed_text start instance.now
         (Claimed (HeightBetween refuted placed) places.now tokens.now)) result }
 {
-    let begun = write_opening(sink, strip_line(heading), instance);
+    let begun = write_opening(sink, strip_line(start), instance);
     let said = write_between_line(sink, begun, refuted as u64, placed as u64);
     let shown = write_certificates(sink, said, instance, places, tokens);
     write_on(sink, shown, b"end\n")
@@ -98,7 +98,7 @@ fn write_between<K: Sink>(
 // Writes the document that says that no height holds this box.
 fn write_none<K: Sink>(
     sink: &mut K,
-    heading: Heading,
+    start: TreeStart,
     instance: &Instance,
     box_no: u32,
     dim: u32,
@@ -108,18 +108,18 @@ fn write_none<K: Sink>(
     requires in_range { dim < dims instance.now }
     ensures { Writes (K.written sink.old) (K.written sink.new) (K.faults sink.old)
         (K.faults sink.new)
-        (headed_text heading instance.now (none_answer NoHeight (box_no, dim))) result }
+        (headed_text start instance.now (none_answer NoHeight (box_no, dim))) result }
 {
-    let begun = write_opening(sink, strip_line(heading), instance);
+    let begun = write_opening(sink, strip_line(start), instance);
     let said = write_none_line(sink, begun, instance, box_no, dim);
     write_on(sink, said, b"end\n")
 }
 
-/// Writes the document of an answer of `strip` under a heading: the least height or two between
+/// Writes the document of an answer of `strip`: the least height or two between
 /// which it lies, with both certificates, or the box that no height holds.
 pub(crate) fn write_strip<K: Sink>(
     sink: &mut K,
-    heading: Heading,
+    start: TreeStart,
     instance: &Instance,
     strip: &Strip,
 ) -> Written
@@ -127,20 +127,20 @@ pub(crate) fn write_strip<K: Sink>(
     requires placed { IsPlacedStrip instance.now strip.now }
     ensures { Writes (K.written sink.old) (K.written sink.new) (K.faults sink.old)
         (K.faults sink.new)
-        (headed_text heading instance.now (strip_found strip.now)) result }
+        (headed_text start instance.now (strip_found strip.now)) result }
 {
     match strip {
         Strip::Least {
             height,
             places,
             tokens,
-        } => write_least(sink, heading, instance, *height, places, tokens),
+        } => write_least(sink, start, instance, *height, places, tokens),
         Strip::Between {
             refuted,
             tokens,
             height,
             places,
-        } => write_between(sink, heading, instance, *refuted, tokens, *height, places),
-        Strip::NoneFits { box_no, dim } => write_none(sink, heading, instance, *box_no, *dim),
+        } => write_between(sink, start, instance, *refuted, tokens, *height, places),
+        Strip::NoneFits { box_no, dim } => write_none(sink, start, instance, *box_no, *dim),
     }
 }

@@ -3,7 +3,7 @@ ghost use Rattle.std.specs.Prelude.{◌≡◌, ◌++◌, ◌∷◌, []};
 ghost use Rattle.std.specs.Fmt.{decimal};
 ghost use Rattle.pack_streams.specs.Writing.{Continues, Writes};
 ghost use Rattle.verdict_terms.specs.declared.reason.Reason.{Reason as PlainReason};
-ghost use Rattle.verdict_terms.specs.Documents.{verdict_line, reduced_verdict_line};
+ghost use Rattle.verdict_terms.specs.Documents.{verdict_line, reduced_verdict_line, bounded_verdict_line};
 ghost use Rattle.answer_streams.specs.Verdicts.{plain_verdict, verdict_status};
 ghost use Rattle.answer_streams.specs.Lines.{number_line, pair_line, claim_text, reason_end, code_end};
 
@@ -126,6 +126,16 @@ fn write_reduced<K: Sink>(sink: &mut K, claim: Claim) -> Written
     write_claim(sink, named, claim)
 }
 
+// Writes the line of a bounded document that is verified.
+fn write_bounded<K: Sink>(sink: &mut K, claim: Claim) -> Written
+    ensures { Writes (K.written sink.old) (K.written sink.new) (K.faults sink.old)
+        (K.faults sink.new)
+        (bounded_verdict_line (Ok claim)) result }
+{
+    let named = write_on(sink, Ok(()), b"verified bounded ");
+    write_claim(sink, named, claim)
+}
+
 // The end of the line that tells a code, from the space on.
 fn code_text(code: RefuseCode) -> &'static [u8]
     ensures { result.now ≡ code_end code }
@@ -206,6 +216,27 @@ impl Streamed for ReducedVerdict {
     fn write_to<K: Sink>(&self, sink: &mut K) -> Written {
         match self.verdict {
             Verdict::Verified(claim) => write_reduced(sink, claim),
+            Verdict::Refused { line, reason } => write_refusal(sink, line, reason),
+        }
+    }
+}
+
+/// The verdict on a bounded document.
+#[derive(Clone, Copy, Debug, PartialEq, Eq)]
+pub(crate) struct BoundedVerdict {
+    pub verdict: Verdict,
+}
+
+// The line of a verdict on a bounded document: `verified bounded` with the job and the words of the
+// result line, or `refused` with the number of the line and the reason.
+impl Streamed for BoundedVerdict {
+    ghost text = { λ v. bounded_verdict_line (plain_verdict v.verdict) };
+
+    ghost IsReady = { λ _. Unit {0} };
+
+    fn write_to<K: Sink>(&self, sink: &mut K) -> Written {
+        match self.verdict {
+            Verdict::Verified(claim) => write_bounded(sink, claim),
             Verdict::Refused { line, reason } => write_refusal(sink, line, reason),
         }
     }

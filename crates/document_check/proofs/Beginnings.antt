@@ -14,7 +14,7 @@ use Rattle.check_terms.specs.Checking.{starting}
 use Rattle.refutation_check.specs.Refuters.{PlainRefuter}
 use Rattle.refutation_check.proofs.Whole.{whole_set}
 use Rattle.verdict_terms.specs.declared.heading.Heading.{Heading}
-use Rattle.verdict_terms.specs.declared.heading.Heading.TheVariants.{Answer, Reduced}
+use Rattle.verdict_terms.specs.declared.heading.Heading.TheVariants.{Answer, Reduced, Bounded}
 use Rattle.document_terms.specs.declared.claim.Claim.{Claim}
 use Rattle.document_terms.specs.declared.claim.Claim.TheVariants.{Fitting}
 use Rattle.verdict_terms.specs.Stages.{Stage, placed, to_refute, claimed, start_exclusions}
@@ -33,12 +33,14 @@ inner_begun r instance es e = ap shown_inner_tree e ∙ ap (λ i. InnerTree i (e
 pub start_edges : (heading : Heading) (instance : PlainInstance) → IsInternalInstance instance
     → AreAtEdges instance (start_exclusions heading instance)
 start_edges Answer instance limits = tt
+start_edges Bounded instance limits = tt
 start_edges Reduced instance limits = facts_at_edges instance (some_dimension instance limits)
 
 -- and so it is at every height
 pub level_edges : (heading : Heading) (instance : PlainInstance) (h : ℕ) → IsInternalInstance instance
     → AreAtEdges (with_last_side instance h) (start_exclusions heading instance)
 level_edges Answer instance h limits = tt
+level_edges Bounded instance h limits = tt
 level_edges Reduced instance h limits =
     subst (λ (es : List Exclusion). AreAtEdges (with_last_side instance h) es) (level_facts instance h)
     (facts_at_edges (with_last_side instance h)

@@ -6,10 +6,11 @@ ghost use Rattle.document_check.specs.Passes.{IsPosition, IsCheckedFrom};
 ghost use Rattle.document_lines.specs.Ranges.{IsRanged};
 
 use crate::phases::{
-    check_bins, check_exceeding, check_fitting, check_heights, check_not_fitting, check_values,
+    check_bins, check_exceeding, check_fitting, check_heights, check_not_fitting,
 };
 use crate::position::Position;
 use crate::showing::read_head;
+use crate::values::check_values;
 use document_lines::Claimed;
 use document_terms::Claim;
 use pack_streams::Source;
@@ -66,10 +67,10 @@ fn check_claimed<S: Source>(
         }
         Claim::NoBins => check_exceeding(alloc, input, at, instance, claim, instance.dims()),
         Claim::GreatestValue { value } => {
-            check_values(alloc, input, at, instance, claim, value, value + 1)
+            check_values(alloc, input, at, head, value, value + 1)
         }
         Claim::ValueBetween { placed, refuted } => {
-            check_values(alloc, input, at, instance, claim, placed, refuted)
+            check_values(alloc, input, at, head, placed, refuted)
         }
     }
 }

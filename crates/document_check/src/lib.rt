@@ -6,6 +6,7 @@ mod check;
 mod phases;
 mod position;
 mod showing;
+mod values;
 
 pub use audit::{Audit, audit_document};
 pub use check::{CheckEnd, check_document};

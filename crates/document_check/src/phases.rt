@@ -101,8 +101,8 @@ fn check_proof<S: Source, C: TreeChecker + Drop>(
     check_tree(alloc, input, at, claim, dims, judge)
 }
 
-// The tree of an instance of so many dimensions, and `end`.
-fn check_tokens<S: Source, C: TreeChecker + Drop>(
+/// The tree of an instance of so many dimensions, and `end`.
+pub(crate) fn check_tokens<S: Source, C: TreeChecker + Drop>(
     alloc: Global,
     input: &mut S,
     at: &mut Position,
@@ -132,7 +132,7 @@ fn start_exclusions(
     ensures { IfOk result (λ es. es.items ≡ start_exclusions heading instance.now) }
 {
     match heading {
-        Heading::Answer => Ok(Vec::new(alloc)),
+        Heading::Answer | Heading::Bounded => Ok(Vec::new(alloc)),
         Heading::Reduced => facts(alloc, instance),
     }
 }
@@ -195,27 +195,6 @@ fn check_few_bins<S: Source>(
     let dims = instance.dims();
     match OuterRefuter::new(alloc, instance, Goal::Bins(refuted)) {
         Ok(refuter) => check_proof(alloc, input, at, claim, dims, refuter),
-        Err(_) => CheckEnd::NoMemory,
-    }
-}
-
-// A tree that refutes that the instance reaches the value, and `end`.
-fn check_high_value<S: Source>(
-    alloc: Global,
-    input: &mut S,
-    at: &mut Position,
-    claim: Claim,
-    instance: &Instance,
-    refuted: u64,
-) -> CheckEnd
-    requires { IsPosition at.old }
-    ensures { IsCheckedFrom (S.left input.old) (S.left input.new) (S.faults input.old)
-        (S.faults input.new)
-        at.old (Refuting claim (begun (ToReach instance.now refuted))) result }
-{
-    let dims = instance.dims();
-    match OuterRefuter::new(alloc, instance, Goal::Value(refuted)) {
-        Ok(refuter) => check_tokens(alloc, input, at, claim, dims, refuter),
         Err(_) => CheckEnd::NoMemory,
     }
 }
@@ -363,27 +342,5 @@ pub(crate) fn check_bins<S: Source>(
     match read_shares(alloc, input, at, instance, claim, bin_count) {
         Some(end) => end,
         None => check_few_bins(alloc, input, at, claim, instance, refuted),
-    }
-}
-
-/// The taken boxes of one value, `proof`, a tree that refutes another value, and `end`.
-pub(crate) fn check_values<S: Source>(
-    alloc: Global,
-    input: &mut S,
-    at: &mut Position,
-    instance: &Instance,
-    claim: Claim,
-    reached: u64,
-    refuted: u64,
-) -> CheckEnd
-    requires at { IsPosition at.old }
-    requires says { to_refute Answer instance.now claim ≡ ToReach instance.now refuted }
-    ensures { IsCheckedFrom (S.left input.old) (S.left input.new) (S.faults input.old)
-        (S.faults input.new)
-        at.old (Taking instance.now claim reached [] []) result }
-{
-    match read_taken(alloc, input, at, instance, claim, reached) {
-        Some(end) => end,
-        None => check_high_value(alloc, input, at, claim, instance, refuted),
     }
 }

@@ -2,9 +2,8 @@
 ghost use Rattle.std.specs.Prelude.{◌≡◌, ◌≤◌, None, Some, [], IfOk};
 ghost use Rattle.packing_terms.specs.Packing.{dims};
 ghost use Rattle.verdict_terms.specs.declared.heading.Heading.TheVariants.{Answer};
-ghost use Rattle.verdict_terms.specs.Stages.{placed, to_refute};
-ghost use Rattle.verdict_terms.specs.Stages.Stage.{Beginning, Placing, Sharing, Taking, Refuting, Exceeding, Ending};
-ghost use Rattle.verdict_terms.specs.Trees.{begun};
+ghost use Rattle.verdict_terms.specs.Stages.{placed, to_refute, value_stage};
+ghost use Rattle.verdict_terms.specs.Stages.Stage.{Beginning, Placing, Sharing, Taking, Exceeding, Ending};
 ghost use Rattle.document_check.specs.Passes.{IsPosition, Goes, GoesBehind};
 ghost use Rattle.document_lines.specs.Ranges.{IsRanged};
 ghost use Rattle.document_lines.specs.Sharings.{HaveSides};
@@ -92,18 +91,17 @@ pub(crate) fn read_taken<S: Source>(
     alloc: Global,
     input: &mut S,
     at: &mut Position,
-    instance: &Instance,
-    claim: Claim,
+    head: &Claimed,
     value: u64,
 ) -> Option<CheckEnd>
     requires { IsPosition at.old }
     ensures at { result ≡ None → IsPosition at.new }
     ensures goes { Goes (S.left input.old) (S.left input.new) (S.faults input.old)
         (S.faults input.new)
-        at.old (Taking instance.now claim value [] []) at.new
-        (Refuting claim (begun (to_refute Answer instance.now claim))) result }
+        at.old (Taking head.now.heading head.now.instance head.now.claim value [] []) at.new
+        (value_stage head.now.heading head.now.instance head.now.claim) result }
 {
-    let mut judge = TakeReader::new(alloc, instance, claim, value);
+    let mut judge = TakeReader::new(alloc, head.heading, &head.instance, head.claim, value);
     give_lines(input, at, &mut judge)
 }
 

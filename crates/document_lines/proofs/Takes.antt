@@ -9,6 +9,7 @@ use Rattle.packing_terms.specs.Packing.{PlainInstance, dims, box_count}
 use Rattle.packing_terms.specs.Goals.{IsBoxSet}
 use Rattle.check_terms.specs.Judging.{names_box}
 use Rattle.document_terms.specs.declared.claim.Claim.{Claim}
+use Rattle.verdict_terms.specs.declared.heading.Heading.{Heading}
 use Rattle.verdict_terms.specs.Reasons.{range}
 use Rattle.verdict_terms.specs.Numbers.{coordinates}
 use Rattle.verdict_terms.specs.Stages.{take_box_line}
@@ -34,10 +35,10 @@ there_by instance n named =
 module _ (instance : PlainInstance) (taken places : List ℕ) where
   pub taken_late : (numbers : List ℕ) → length numbers ≡ dims instance + 1
       → names_box instance (get_or numbers 0 0) ≡ true → list_all (λ u. nat_lt u (get_or numbers 0 0 - 1)) taken ≡ false
-      → (claim : Claim) (value : ℕ) → take_box_line instance claim value taken places numbers ≡ Err range
-  taken_late [] count named late claim value = absurd (omega (arith, count))
-  taken_late (zero ∷ ns) count named late claim value = absurd (cc (named))
-  taken_late (suc v ∷ ns) count named late claim value =
+      → (heading : Heading) (claim : Claim) (value : ℕ) → take_box_line heading instance claim value taken places numbers ≡ Err range
+  taken_late [] count named late heading claim value = absurd (omega (arith, count))
+  taken_late (zero ∷ ns) count named late heading claim value = absurd (cc (named))
+  taken_late (suc v ∷ ns) count named late heading claim value =
       let l : list_all (λ u. nat_lt u v) taken ≡ false =
       subst (λ x. list_all (λ u. nat_lt u x) taken ≡ false) (minus_one v) late in
       rw (named, l) refl
@@ -45,15 +46,15 @@ module _ (instance : PlainInstance) (taken places : List ℕ) where
   pub taken_next : (numbers : List ℕ) → length numbers ≡ dims instance + 1
       → names_box instance (get_or numbers 0 0) ≡ true → list_all (λ u. nat_lt u (get_or numbers 0 0 - 1)) taken ≡ true
       → coordinates (drop 1 numbers) ≡ Ok (drop 1 numbers)
-      → (claim : Claim) (value : ℕ) → take_box_line instance claim value taken places numbers
-      ≡ Ok (Taking instance claim value (taken ++ (get_or numbers 0 0 - 1) ∷ []) (places ++ drop 1 numbers))
-  taken_next [] count named before good claim value = absurd (omega (arith, count))
-  taken_next (zero ∷ ns) count named before good claim value = absurd (cc (named))
-  taken_next (suc v ∷ ns) count named before good claim value =
+      → (heading : Heading) (claim : Claim) (value : ℕ) → take_box_line heading instance claim value taken places numbers
+      ≡ Ok (Taking heading instance claim value (taken ++ (get_or numbers 0 0 - 1) ∷ []) (places ++ drop 1 numbers))
+  taken_next [] count named before good heading claim value = absurd (omega (arith, count))
+  taken_next (zero ∷ ns) count named before good heading claim value = absurd (cc (named))
+  taken_next (suc v ∷ ns) count named before good heading claim value =
       let l : list_all (λ u. nat_lt u v) taken ≡ true =
       subst (λ x. list_all (λ u. nat_lt u x) taken ≡ true) (minus_one v) before in
       let m : v ≡ suc v - 1 = sym (minus_one v) in
-      rw (named, l, good) (ap (λ x. Ok (Taking instance claim value (taken ++ x ∷ []) (places ++ ns))) m)
+      rw (named, l, good) (ap (λ x. Ok (Taking heading instance claim value (taken ++ x ∷ []) (places ++ ns))) m)
 
   -- the lists with the box
   module _ (numbers more more_places : List ℕ) (count : length numbers ≡ dims instance + 1)
@@ -61,12 +62,12 @@ module _ (instance : PlainInstance) (taken places : List ℕ) where
       (before : list_all (λ u. nat_lt u (get_or numbers 0 0 - 1)) taken ≡ true)
       (are : more ≡ taken ++ (get_or numbers 0 0 - 1) ∷ [])
       (are_places : more_places ≡ places ++ drop 1 numbers) where
-    pub taken_line : coordinates (drop 1 numbers) ≡ Ok (drop 1 numbers) → (claim : Claim) (value : ℕ)
-        → take_box_line instance claim value taken places numbers ≡ Ok (Taking instance claim value more more_places)
-    taken_line good claim value =
-        taken_next numbers count named before good claim value
-        ∙ (ap (λ x. Ok (Taking instance claim value x (places ++ drop 1 numbers))) (sym are)
-        ∙ ap (λ x. Ok (Taking instance claim value more x)) (sym are_places))
+    pub taken_line : coordinates (drop 1 numbers) ≡ Ok (drop 1 numbers) → (heading : Heading) (claim : Claim) (value : ℕ)
+        → take_box_line heading instance claim value taken places numbers ≡ Ok (Taking heading instance claim value more more_places)
+    taken_line good heading claim value =
+        taken_next numbers count named before good heading claim value
+        ∙ (ap (λ x. Ok (Taking heading instance claim value x (places ++ drop 1 numbers))) (sym are)
+        ∙ ap (λ x. Ok (Taking heading instance claim value more x)) (sym are_places))
 
     longer : length more ≡ suc (length taken)
     longer = ap length are ∙ (length-append taken ((get_or numbers 0 0 - 1) ∷ []) ∙ omega arith)

@@ -7,5 +7,6 @@ pub mod Heads
 pub mod Placings
 pub mod Proofs
 pub mod Takings
+pub mod Boundings
 pub mod Words
 pub mod Sharings

@@ -3,18 +3,17 @@ use Rattle.std.specs.Prelude.{ℕ, ◌*◌, ◌≡◌, Bool, true, false, List, 
 use Rattle.packing_terms.specs.Packing.{PlainInstance, dims}
 use Rattle.packing_terms.specs.Goals.{IsBoxSet}
 use Rattle.document_terms.specs.declared.claim.Claim.{Claim}
-use Rattle.verdict_terms.specs.declared.heading.Heading.TheVariants.{Answer}
+use Rattle.verdict_terms.specs.declared.heading.Heading.{Heading}
 use Rattle.verdict_terms.specs.declared.reason.Reason.{Reason}
-use Rattle.verdict_terms.specs.Stages.{Stage, to_refute, take_box_line}
-use Rattle.verdict_terms.specs.Stages.Stage.{Taking, Refuting}
-use Rattle.verdict_terms.specs.Trees.{begun}
+use Rattle.verdict_terms.specs.Stages.{Stage, value_stage, take_box_line}
+use Rattle.verdict_terms.specs.Stages.Stage.{Taking}
 use Rattle.document_lines.specs.declared.judge.LineStop.{LineStop}
 use Rattle.document_lines.specs.declared.judge.LineStop.TheVariants.{Refused, NoMemory}
 
 -- the boxes so far, and behind `proof`
-abbrev pub take_stage : PlainInstance → Claim → ℕ → List ℕ → List ℕ → Bool → Stage
-take_stage instance claim value taken places true = Refuting claim (begun (to_refute Answer instance claim))
-take_stage instance claim value taken places false = Taking instance claim value taken places
+abbrev pub take_stage : Heading → PlainInstance → Claim → ℕ → List ℕ → List ℕ → Bool → Stage
+take_stage heading instance claim value taken places true = value_stage heading instance claim
+take_stage heading instance claim value taken places false = Taking heading instance claim value taken places
 
 -- what is kept: the boxes are a set, with a coordinate in each dimension
 pub record AreBoxesTaken (instance : PlainInstance) (taken places : List ℕ) : Type 0 where
@@ -24,10 +23,11 @@ pub record AreBoxesTaken (instance : PlainInstance) (taken places : List ℕ) : 
 -- a box that was taken, or why it is refused
 abbrev pub TakesBox : PlainInstance → List ℕ → List ℕ → List ℕ → List ℕ → List ℕ → Result (Unit {0}) LineStop → Type 0
 TakesBox instance taken places numbers more_taken more_places (Ok u) =
-    (claim : Claim) (value : ℕ) → take_box_line instance claim value taken places numbers
-    ≡ Ok (Taking instance claim value more_taken more_places)
+    (heading : Heading) (claim : Claim) (value : ℕ) → take_box_line heading instance claim value taken places numbers
+    ≡ Ok (Taking heading instance claim value more_taken more_places)
 TakesBox instance taken places numbers more_taken more_places (Err (Refused reason)) =
-    (claim : Claim) (value : ℕ) → take_box_line instance claim value taken places numbers ≡ Err reason
+    (heading : Heading) (claim : Claim) (value : ℕ)
+    → take_box_line heading instance claim value taken places numbers ≡ Err reason
 TakesBox instance taken places numbers more_taken more_places (Err NoMemory) = Unit {0}
 
 -- why the boxes are refused, if they are, unless memory was refused

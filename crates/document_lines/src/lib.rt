@@ -3,6 +3,7 @@
 #![tactic(auto)]
 
 mod bins;
+mod bounding;
 mod checkers;
 mod claim;
 mod ending;
@@ -18,6 +19,7 @@ mod tree;
 mod words;
 
 pub use bins::bins_reason;
+pub use bounding::{BoundEndReader, BoundReader};
 pub use ending::EndReader;
 pub use exceeding::ExceedingReader;
 pub use head::{Claimed, HeadReader};

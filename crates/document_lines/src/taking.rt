@@ -4,10 +4,8 @@ ghost use Rattle.std.specs.List.{list_all};
 ghost use Rattle.check_terms.specs.Judging.{names_box};
 ghost use Rattle.packing_terms.specs.Packing.{dims, box_count};
 ghost use Rattle.packing_terms.specs.Goals.{worth, IsBoxSet};
-ghost use Rattle.verdict_terms.specs.declared.heading.Heading.TheVariants.{Answer};
-ghost use Rattle.verdict_terms.specs.Stages.{taken_reason, to_refute};
-ghost use Rattle.verdict_terms.specs.Stages.Stage.{Taking, Refuting};
-ghost use Rattle.verdict_terms.specs.Trees.{begun};
+ghost use Rattle.verdict_terms.specs.Stages.{taken_reason, value_stage};
+ghost use Rattle.verdict_terms.specs.Stages.Stage.{Taking};
 ghost use Rattle.document_lines.specs.Reading.{Judges, IsAt, ended_claim};
 ghost use Rattle.document_lines.specs.Takings.{AreBoxesTaken, TakesBox, IsReasonOf};
 
@@ -22,7 +20,7 @@ use instance_text::LineLexer;
 use line_cursor::{is_blank, is_word};
 use std::alloc::Global;
 use std::marker::Model;
-use verdict_terms::Reason;
+use verdict_terms::{Heading, Reason};
 
 // Whether the number names a box.
 fn names_box(instance: &Instance, number: u128) -> bool
@@ -114,6 +112,7 @@ fn reason_of(
 #[derive(Drop)]
 pub struct TakeReader<'a> {
     alloc: Global,
+    heading: Heading,
     instance: &'a Instance,
     claim: Claim,
     value: u64,
@@ -124,19 +123,16 @@ pub struct TakeReader<'a> {
 
 impl<'a> Model for TakeReader<'a> {
     ghost use Rattle.std.specs.Prelude.{not, Some};
-    ghost use Rattle.verdict_terms.specs.declared.heading.Heading.TheVariants.{Answer};
-    ghost use Rattle.verdict_terms.specs.Stages.{to_refute};
-    ghost use Rattle.verdict_terms.specs.Stages.Stage.{Refuting};
-    ghost use Rattle.verdict_terms.specs.Trees.{begun};
+    ghost use Rattle.verdict_terms.specs.Stages.{value_stage};
     ghost use Rattle.document_lines.specs.Reading.{PlainJudge};
     ghost use Rattle.document_lines.specs.Takings.{take_stage, AreBoxesTaken};
 
     ghost Value = { PlainJudge };
 
     ghost view = { λ t. record {
-      stage = take_stage t.instance.now t.claim t.value t.taken.items t.places.items t.is_taken;
+      stage = take_stage t.heading t.instance.now t.claim t.value t.taken.items t.places.items t.is_taken;
       takes = not t.is_taken;
-      behind = Some (Refuting t.claim (begun (to_refute Answer t.instance.now t.claim)));
+      behind = Some (value_stage t.heading t.instance.now t.claim);
     } };
 
     ghost invariant = { λ t. AreBoxesTaken t.instance.now t.taken.items t.places.items };
@@ -144,15 +140,22 @@ impl<'a> Model for TakeReader<'a> {
 
 impl<'a> TakeReader<'a> {
     /// No box was taken; they are to be worth so much.
-    pub fn new(alloc: Global, instance: &'a Instance, claim: Claim, value: u64) -> TakeReader<'a>
+    pub fn new(
+        alloc: Global,
+        heading: Heading,
+        instance: &'a Instance,
+        claim: Claim,
+        value: u64,
+    ) -> TakeReader<'a>
         ensures { result ≡ record {
-          stage = Taking instance.now claim value [] [];
+          stage = Taking heading instance.now claim value [] [];
           takes = true;
-          behind = Some (Refuting claim (begun (to_refute Answer instance.now claim)));
+          behind = Some (value_stage heading instance.now claim);
         } }
     {
         TakeReader {
             alloc,
+            heading,
             instance,
             claim,
             value,

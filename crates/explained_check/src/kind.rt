@@ -21,10 +21,12 @@ fn kind_of_line(line: &LineLexer) -> DocumentKind
         return DocumentKind::Explained;
     }
     if is_word(line, b"front") {
-        DocumentKind::Front
-    } else {
-        DocumentKind::Reduced
+        return DocumentKind::Front;
     }
+    if are_two(line, b"bounded", b"knapsack") {
+        return DocumentKind::Bounded;
+    }
+    DocumentKind::Reduced
 }
 
 // The kind that the lines that are left tell.

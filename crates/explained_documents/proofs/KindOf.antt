@@ -9,13 +9,15 @@ use Rattle.text_terms.proofs.FormRead.{filled_with}
 use Rattle.document_terms.specs.declared.claim.SolvingJob.{SolvingJob}
 use Rattle.document_terms.specs.declared.claim.SolvingJob.TheVariants.{Fit, Strip, Bins, Knapsack}
 use Rattle.document_terms.specs.Claims.{job_of, job_word}
-use Rattle.verdict_terms.specs.declared.heading.Heading.TheVariants.{Reduced}
+use Rattle.verdict_terms.specs.declared.heading.Heading.TheVariants.{Reduced, Bounded}
 use Rattle.verdict_terms.specs.Stages.{is_blank}
 use Rattle.verdict_terms.proofs.FormGiven.{documents_have_form}
 use Rattle.explained_documents.specs.declared.kind.DocumentKind.{DocumentKind}
 use Rattle.explained_documents.specs.declared.kind.DocumentKind.TheVariants.{Reduced as ReducedKind}
+use Rattle.explained_documents.specs.declared.kind.DocumentKind.TheVariants.{Bounded as BoundedKind}
+use Rattle.verdict_terms.specs.Form.{MayName}
 use Rattle.explained_documents.specs.Kinds.{kind_of_words, kind_of_line, kind_of_lines, document_kind}
-use Rattle.explained_documents.specs.Kinds.{ReducedDocumentsAreOfTheirKind}
+use Rattle.explained_documents.specs.Kinds.{ReducedDocumentsAreOfTheirKind, BoundedDocumentsAreOfTheirKind}
 
 -- by the parts of the first line
 abbrev kind_by : Bool → List (List ℕ) → List (List ℕ) → DocumentKind
@@ -58,3 +60,19 @@ reduced_documents text claim e =
     filled_kind (text_lines text) (codes "reduced" ∷ job_word (job_of claim) ∷ [])
     (d.written ++ (codes "result" ∷ d.result) ∷ (d.backing ++ (codes "end" ∷ []) ∷ [])) d.clean d.are
     ∙ job_kind (job_of claim)
+
+-- the one job of a bounded document
+bounded_kind : (job : SolvingJob) → MayName Bounded job
+    → kind_of_words (codes "bounded" ∷ job_word job ∷ []) ≡ BoundedKind
+unfolding same_bytes
+bounded_kind Fit h = absurd h
+bounded_kind Strip h = absurd h
+bounded_kind Bins h = absurd h
+bounded_kind Knapsack h = refl
+
+pub bounded_documents : BoundedDocumentsAreOfTheirKind
+bounded_documents text claim e =
+    let d = (documents_have_form Bounded text claim).0 e in
+    filled_kind (text_lines text) (codes "bounded" ∷ job_word (job_of claim) ∷ [])
+    (d.written ++ (codes "result" ∷ d.result) ∷ (d.backing ++ (codes "end" ∷ []) ∷ [])) d.clean d.are
+    ∙ bounded_kind (job_of claim) d.headed

@@ -6,7 +6,7 @@ use Rattle.document_terms.specs.TokenLines.{token_of}
 use Rattle.explained_terms.specs.declared.answers.AuditCode.TheVariants.{Range, Step, Choice, Conflict, Side}
 use Rattle.explained_terms.specs.StepLines.{step_of}
 use Rattle.explained_documents.specs.declared.reason.ExplainedReason.TheVariants.{Text, Line, TooShort}
-use Rattle.explained_documents.specs.declared.kind.DocumentKind.TheVariants.{Explained, Reduced}
+use Rattle.explained_documents.specs.declared.kind.DocumentKind.TheVariants.{Explained, Bounded, Reduced}
 use Rattle.explained_documents.specs.Kinds.{document_kind}
 use Rattle.explained_documents.specs.Stages.{form, after}
 use Rattle.explained_documents.specs.Documents.{explained_verdict, explained_line}
@@ -137,6 +137,10 @@ reduced_kind = refl
 other_kind : document_kind (codes "explained bins\n") ≡ Reduced
 unfolding same_bytes
 other_kind = refl
+
+bounded_kind : document_kind (codes "\nbounded knapsack\n") ≡ Bounded
+unfolding same_bytes
+bounded_kind = refl
 
 no_kind : document_kind (codes "") ≡ Reduced
 unfolding same_bytes

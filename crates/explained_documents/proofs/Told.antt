@@ -9,7 +9,7 @@ use Rattle.text_terms.specs.Texts.{Parts, no_parts, at_end as end_of, refuse, Is
 use Rattle.text_terms.specs.Feeding.{numbered_lines}
 use Rattle.text_terms.proofs.Cut.{same_front, words_cut}
 use Rattle.text_terms.proofs.LinesFed.{texts_are_lines}
-use Rattle.verdict_terms.specs.Stages.{is_blank}
+use Rattle.verdict_terms.specs.Stages.{is_blank, is_word}
 use Rattle.verdict_terms.proofs.Cuts.{is_word_cut}
 use Rattle.explained_terms.specs.StepLines.{step_of}
 use Rattle.explained_terms.specs.Auditing.{audited_after}
@@ -21,7 +21,7 @@ use Rattle.explained_documents.specs.Stages.{grown, late_by, words_line, filled_
 use Rattle.explained_documents.specs.Documents.{at_line, read_lines, told_verdict}
 use Rattle.explained_documents.specs.Documents.{explained_verdict, DocumentsAreFed}
 use Rattle.explained_documents.specs.declared.kind.DocumentKind.{DocumentKind}
-use Rattle.explained_documents.specs.declared.kind.DocumentKind.TheVariants.{Explained, Front, Reduced}
+use Rattle.explained_documents.specs.declared.kind.DocumentKind.TheVariants.{Explained, Front, Bounded, Reduced}
 use Rattle.explained_documents.specs.Kinds.{kind_of_line, kind_of_lines, kind_told}
 use Rattle.explained_documents.specs.Kinds.{KindsAreTold}
 use Rattle.explained_documents.proofs.Limits.{IsWell, stage_well}
@@ -123,9 +123,13 @@ kind_cut true [] n m later now e = refl
 kind_cut false [] n m later now e = e
 kind_cut true (w ∷ ws) n m later now e = refl
 kind_cut false (w ∷ ws) n m later now e =
-    ap₂ (λ b c. cond b Explained (cond c Front Reduced))
+    ap₂ (λ b c. cond b Explained (cond c Front
+    (cond (are_two (codes "bounded") (codes "knapsack") (cut_words (w ∷ ws))) Bounded Reduced)))
     (two_cut (codes "explained") (codes "fit") w ws (omega arith) (omega arith))
     (is_word_cut (codes "front") w ws (omega arith))
+    ∙ ap (λ d. cond (are_two (codes "explained") (codes "fit") (w ∷ ws)) Explained
+    (cond (is_word (codes "front") (w ∷ ws)) Front (cond d Bounded Reduced)))
+    (two_cut (codes "bounded") (codes "knapsack") w ws (omega arith) (omega arith))
 
 kind_is_told : (n : ℕ) (lines : List (List ℕ)) → kind_told (numbered_lines n lines) ≡ kind_of_lines lines
 kind_is_told n [] = refl

@@ -3,16 +3,17 @@ use Rattle.std.specs.Prelude.{ℕ, ◌≡◌, cond, true, false, List, [], ◌�
 use Rattle.text_terms.specs.Lines.{Line, line_of, text_lines}
 use Rattle.text_terms.specs.Feeding.{NumberedLine, lines_fed, new_lexer}
 use Rattle.document_terms.specs.declared.claim.Claim.{Claim}
-use Rattle.verdict_terms.specs.Documents.{reduced_verdict}
+use Rattle.verdict_terms.specs.Documents.{reduced_verdict, bounded_verdict}
 use Rattle.verdict_terms.specs.Stages.{is_blank, is_word}
 use Rattle.explained_documents.specs.declared.kind.DocumentKind.{DocumentKind}
-use Rattle.explained_documents.specs.declared.kind.DocumentKind.TheVariants.{Explained, Front, Reduced}
+use Rattle.explained_documents.specs.declared.kind.DocumentKind.TheVariants.{Explained, Front, Bounded, Reduced}
 use Rattle.explained_documents.specs.Stages.{are_two}
 
 -- of a document whose first line has these words
 abbrev pub kind_of_words : List (List ℕ) → DocumentKind
 kind_of_words words = cond (are_two (codes "explained") (codes "fit") words) Explained
-    (cond (is_word (codes "front") words) Front Reduced)
+    (cond (is_word (codes "front") words) Front
+    (cond (are_two (codes "bounded") (codes "knapsack") words) Bounded Reduced))
 
 -- of a document with this first line
 abbrev pub kind_of_line : Line → DocumentKind
@@ -40,3 +41,8 @@ KindsAreTold = (text : List ℕ) → kind_told (lines_fed new_lexer text) ≡ do
 abbrev pub ReducedDocumentsAreOfTheirKind : Type 0
 ReducedDocumentsAreOfTheirKind = (text : List ℕ) (claim : Claim) → reduced_verdict text ≡ Ok claim
     → document_kind text ≡ Reduced
+
+-- and so it is with a bounded one
+abbrev pub BoundedDocumentsAreOfTheirKind : Type 0
+BoundedDocumentsAreOfTheirKind = (text : List ℕ) (claim : Claim) → bounded_verdict text ≡ Ok claim
+    → document_kind text ≡ Bounded

@@ -7,6 +7,8 @@ pub enum DocumentKind {
     Explained,
     /// `front`.
     Front,
-    /// `reduced fit`, or no line of these kinds: then it is refused as a reduced document is.
+    /// `bounded knapsack`.
+    Bounded,
+    /// `reduced fit` or `reduced strip`, or no line of these kinds: then it is refused as a reduced document is.
     Reduced,
 }

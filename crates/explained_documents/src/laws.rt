@@ -1,7 +1,7 @@
 //! What the definitions promise, each the contract of a function with an empty body.
 ghost use Rattle.explained_documents.specs.Documents.{DocumentsAreFed, DocumentsAreTrue};
 ghost use Rattle.explained_documents.specs.Form.{DocumentsHaveForm};
-ghost use Rattle.explained_documents.specs.Kinds.{KindsAreTold, ReducedDocumentsAreOfTheirKind};
+ghost use Rattle.explained_documents.specs.Kinds.{KindsAreTold, ReducedDocumentsAreOfTheirKind, BoundedDocumentsAreOfTheirKind};
 
 /// The bytes of a text, fed from its start to a lexer with each line taken as it ends, give its
 /// verdict and its kind. A line is told by its first 12 words of at most 21 bytes.
@@ -24,7 +24,8 @@ pub fn explained_documents_have_form()
 {}
 
 /// A text that is verified as a reduced document is of that kind, so that an audit of it gives that
-/// verdict.
+/// verdict; and so it is with a bounded one.
 pub fn reduced_documents_are_of_their_kind()
-    ensures { ReducedDocumentsAreOfTheirKind }
+    ensures reduced { ReducedDocumentsAreOfTheirKind }
+    ensures bounded { BoundedDocumentsAreOfTheirKind }
 {}

@@ -7,14 +7,15 @@ use Rattle.document_terms.specs.declared.claim.Claim.{Claim}
 use Rattle.answer_terms.specs.declared.job.DocumentJob.{DocumentJob}
 use Rattle.text_terms.specs.declared.settings.Settings.{Settings}
 use Rattle.pack_streams.specs.Moves.{Gains}
-use Rattle.verdict_terms.specs.declared.heading.Heading.TheVariants.{Reduced}
-use Rattle.verdict_terms.specs.Documents.{Refusal, reduced_verdict, reduced_verdict_line}
-use Rattle.verdict_terms.specs.Form.{IsReducedDocument}
+use Rattle.verdict_terms.specs.declared.heading.Heading.TheVariants.{Reduced, Bounded}
+use Rattle.verdict_terms.specs.Documents.{Refusal, reduced_verdict, reduced_verdict_line, bounded_verdict}
+use Rattle.verdict_terms.specs.Documents.{bounded_verdict_line}
+use Rattle.verdict_terms.specs.Form.{IsReducedDocument, IsBoundedDocument}
 use Rattle.verdict_terms.proofs.FormGiven.{documents_have_form}
 use Rattle.verdict_terms.proofs.True.{documents_are_true}
 use Rattle.explained_documents.specs.declared.kind.DocumentKind.{DocumentKind}
 use Rattle.explained_documents.specs.declared.kind.DocumentKind.TheVariants.{Explained as OfExplained, Front as OfFront}
-use Rattle.explained_documents.specs.declared.kind.DocumentKind.TheVariants.{Reduced as OfReduced}
+use Rattle.explained_documents.specs.declared.kind.DocumentKind.TheVariants.{Reduced as OfReduced, Bounded as OfBounded}
 use Rattle.explained_documents.specs.Kinds.{document_kind}
 use Rattle.explained_documents.specs.Documents.{ExplainedRefusal, explained_verdict, explained_line, explained_status}
 use Rattle.explained_documents.proofs.Shown.{documents_are_true as explained_are_true}
@@ -25,7 +26,7 @@ use Rattle.front_verdict_terms.proofs.Verified.{verified_fronts_are_true}
 use Rattle.front_verdict_terms.proofs.FormTold.{fronts_have_form}
 use Rattle.answer_streams.specs.declared.verdict.Verdict.{Verdict}
 use Rattle.answer_streams.specs.declared.audited.AuditedVerdict.{AuditedVerdict}
-use Rattle.answer_streams.specs.declared.audited.AuditedVerdict.TheVariants.{Reduced as ToldReduced}
+use Rattle.answer_streams.specs.declared.audited.AuditedVerdict.TheVariants.{Reduced as ToldReduced, Bounded as ToldBounded}
 use Rattle.answer_streams.specs.declared.audited.AuditedVerdict.TheVariants.{Explained as ToldExplained}
 use Rattle.answer_streams.specs.declared.audited.AuditedVerdict.TheVariants.{Front as ToldFront}
 use Rattle.answer_streams.specs.declared.audited.ExplainedVerdict.{ExplainedVerdict}
@@ -34,7 +35,7 @@ use Rattle.answer_streams.specs.declared.audited_fronts.FrontAudited.{FrontAudit
 use Rattle.answer_streams.specs.declared.audited_fronts.FrontAudited.TheVariants.{Verified as VerifiedFront}
 use Rattle.answer_streams.specs.declared.audited_fronts.FrontAudited.TheVariants.{Refused as RefusedFront}
 use Rattle.answer_streams.specs.Verdicts.{plain_verdict, verdict_status}
-use Rattle.answer_streams.specs.Audited.{ReducedVerdictOf, ExplainedVerdictOf, FrontVerdictOf}
+use Rattle.answer_streams.specs.Audited.{ReducedVerdictOf, BoundedVerdictOf, ExplainedVerdictOf, FrontVerdictOf}
 use Rattle.answer_streams.specs.Audited.{verdict_of_kind, audit_verdict, audit_status, IsTrueVerdict}
 use Rattle.answer_streams.specs.Audited.{IsExplainedAs, IsFrontToldAs, IsToldAs}
 use Rattle.answer_streams.proofs.Lined.{front_line}
@@ -120,6 +121,14 @@ true_verdict bytes OfReduced zero = go (reduced_verdict bytes) refl zero
         let document : IsReducedDocument bytes claim = (documents_have_form Reduced bytes claim).0 is in
         (document, documents_are_true Reduced bytes claim document)
     go (Err refusal) is bad = absurd (cc (bad))
+true_verdict bytes OfBounded zero = go (bounded_verdict bytes) refl zero
+  where
+    go : (verdict : Result Claim Refusal) → bounded_verdict bytes ≡ verdict → verdict_status verdict ≡ 0
+        → IsTrueVerdict bytes (BoundedVerdictOf verdict)
+    go (Ok claim) is ok =
+        let document : IsBoundedDocument bytes claim = (documents_have_form Bounded bytes claim).0 is in
+        (document, documents_are_true Bounded bytes claim document)
+    go (Err refusal) is bad = absurd (cc (bad))
 true_verdict bytes OfExplained zero = go (explained_verdict bytes) refl zero
   where
     go : (verdict : Result PlainInstance ExplainedRefusal) → explained_verdict bytes ≡ verdict
@@ -153,6 +162,10 @@ audited_claimed old new sunk_old sunk_new status zero a = record {
 pub told_reduced : (verdict : Verdict) (is : Result Claim Refusal) → plain_verdict verdict ≡ is
     → IsToldAs (ReducedVerdictOf is) (ToldReduced verdict)
 told_reduced verdict is e = record { line = ap reduced_verdict_line e; status = ap verdict_status e }
+
+pub told_bounded : (verdict : Verdict) (is : Result Claim Refusal) → plain_verdict verdict ≡ is
+    → IsToldAs (BoundedVerdictOf is) (ToldBounded verdict)
+told_bounded verdict is e = record { line = ap bounded_verdict_line e; status = ap verdict_status e }
 
 pub told_explained : (verdict : ExplainedVerdict) (is : Result PlainInstance ExplainedRefusal)
     → IsExplainedAs is verdict → IsToldAs (ExplainedVerdictOf is) (ToldExplained verdict)

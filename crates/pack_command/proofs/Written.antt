@@ -13,9 +13,9 @@ use Rattle.text_terms.specs.Texts.{text_instance}
 use Rattle.answer_terms.specs.declared.job.DocumentJob.{DocumentJob}
 use Rattle.answer_terms.specs.declared.job.DocumentJob.TheVariants.{Solving as Solves, Reduced as Reduces}
 use Rattle.answer_terms.specs.declared.job.ReducedJob.TheVariants.{Fit as FromFit, Strip as FromStrip}
-use Rattle.verdict_terms.specs.declared.heading.Heading.{Heading}
-use Rattle.verdict_terms.specs.declared.heading.Heading.TheVariants.{Answer as Answered, Reduced}
-use Rattle.verdict_terms.specs.Stages.{start_exclusions}
+use Rattle.answer_streams.specs.declared.tree_start.TreeStart.{TreeStart}
+use Rattle.answer_streams.specs.declared.tree_start.TreeStart.TheVariants.{Nothing, Facts}
+use Rattle.answer_streams.specs.Headed.{start_facts}
 use Rattle.document_terms.specs.declared.claim.SolvingJob.TheVariants.{Fit, Strip, Bins, Knapsack}
 use Rattle.answer_terms.specs.Solved.{JobAnswer}
 use Rattle.pack_streams.specs.Moves.{Gives, Gains}
@@ -112,18 +112,18 @@ module _ (words : List (String Global)) (old new sunk_old sunk_new : Option (Lis
       (fit_decided settings instance written_limits sunk_old sunk_new a.1)
 
   pub written_least : AsksToSolve words (Solves Strip) settings
-      → IsStripDecided Answered instance settings sunk_old sunk_new status
+      → IsStripDecided Nothing instance settings sunk_old sunk_new status
   written_least asks =
       let a = written_answers (Solves Strip) asks in
-      subst (λ s. IsStripDecided Answered instance settings sunk_old sunk_new s) (sym a.0)
-      (strip_decided Answered settings instance written_limits sunk_old sunk_new a.1)
+      subst (λ s. IsStripDecided Nothing instance settings sunk_old sunk_new s) (sym a.0)
+      (strip_decided Nothing settings instance written_limits sunk_old sunk_new a.1)
 
   pub written_reduced_least : AsksToSolve words (Reduces FromStrip) settings
-      → IsStripDecided Reduced instance settings sunk_old sunk_new status
+      → IsStripDecided Facts instance settings sunk_old sunk_new status
   written_reduced_least asks =
       let a = written_answers (Reduces FromStrip) asks in
-      subst (λ s. IsStripDecided Reduced instance settings sunk_old sunk_new s) (sym a.0)
-      (strip_decided Reduced settings instance written_limits sunk_old sunk_new a.1)
+      subst (λ s. IsStripDecided Facts instance settings sunk_old sunk_new s) (sym a.0)
+      (strip_decided Facts settings instance written_limits sunk_old sunk_new a.1)
 
   pub written_fewest : AsksToSolve words (Solves Bins) settings
       → AreBinsDecided instance settings sunk_old sunk_new status
@@ -225,15 +225,15 @@ module _ (words : List (String Global)) (old new sunk_old sunk_new : Option (Lis
       (symmetry_facts instance) settings.scales in
       omega (arith, p, b, enough)
 
-  strip_enough : (heading : Heading) → class_bound instance ≤ settings.budget + 1
-      → IsStripDecided heading instance settings sunk_old sunk_new status → ¬ (status ≡ 3)
-  strip_enough heading enough (inl l) three = let e = l.status_is in omega (arith, e, three)
-  strip_enough heading enough (inr (inl b)) three =
-      true≢false (sym ((spent_from instance (start_exclusions heading instance) settings.budget
+  strip_enough : (start : TreeStart) → class_bound instance ≤ settings.budget + 1
+      → IsStripDecided start instance settings sunk_old sunk_new status → ¬ (status ≡ 3)
+  strip_enough start enough (inl l) three = let e = l.status_is in omega (arith, e, three)
+  strip_enough start enough (inr (inl b)) three =
+      true≢false (sym ((spent_from instance (start_facts start instance) settings.budget
       settings.scales).1 b.past)
-      ∙ enough_from instance (start_exclusions heading instance) settings.budget settings.scales
+      ∙ enough_from instance (start_facts start instance) settings.budget settings.scales
       (written_internal instance written_limits) enough)
-  strip_enough heading enough (inr (inr n)) three = let e = n.status_is in omega (arith, e, three)
+  strip_enough start enough (inr (inr n)) three = let e = n.status_is in omega (arith, e, three)
 
   fewest_enough : IsEnough (Solves Bins) instance settings.budget
       → AreBinsDecided instance settings sunk_old sunk_new status → ¬ (status ≡ 3)
@@ -254,8 +254,8 @@ module _ (words : List (String Global)) (old new sunk_old sunk_new : Option (Lis
   pub written_enough : (job : DocumentJob) → AsksToSolve words job settings → IsEnough job instance settings.budget
       → ¬ (status ≡ 3)
   written_enough (Solves Fit) asks enough = fit_enough enough (written_decides asks)
-  written_enough (Solves Strip) asks enough = strip_enough Answered enough (written_least asks)
-  written_enough (Reduces FromStrip) asks enough = strip_enough Reduced enough (written_reduced_least asks)
+  written_enough (Solves Strip) asks enough = strip_enough Nothing enough (written_least asks)
+  written_enough (Reduces FromStrip) asks enough = strip_enough Facts enough (written_reduced_least asks)
   written_enough (Solves Bins) asks enough = fewest_enough enough (written_fewest asks)
   written_enough (Solves Knapsack) asks enough = greatest_enough enough (written_greatest asks)
   written_enough (Reduces FromFit) asks enough = reduced_enough enough (written_reduced asks)

@@ -5,10 +5,10 @@ use Rattle.packing_terms.specs.Packing.{PlainInstance, Fits}
 use Rattle.answer_terms.specs.declared.job.DocumentJob.{DocumentJob}
 use Rattle.answer_terms.specs.declared.job.DocumentJob.TheVariants.{Solving as Solves, Reduced as Reduces}
 use Rattle.answer_terms.specs.declared.job.ReducedJob.TheVariants.{Fit as FromFit, Strip as FromStrip}
-use Rattle.verdict_terms.specs.declared.heading.Heading.TheVariants.{Answer as Answered, Reduced}
+use Rattle.answer_streams.specs.declared.tree_start.TreeStart.TheVariants.{Nothing, Facts}
 use Rattle.document_terms.specs.declared.claim.SolvingJob.TheVariants.{Fit, Strip, Bins, Knapsack}
 use Rattle.text_terms.specs.declared.settings.Settings.{Settings}
-use Rattle.pack_command.specs.Answered.{IsDecided}
+use Rattle.pack_command.specs.Nothing.{IsDecided}
 use Rattle.pack_command.specs.Reductions.{IsReducedDecided}
 use Rattle.pack_command.specs.Strips.{IsStripDecided}
 use Rattle.pack_command.specs.FewestBins.{AreBinsDecided}
@@ -20,8 +20,8 @@ use Rattle.pack_command.specs.GreatestValues.{IsValueDecided}
 abbrev pub IsJobDecided : DocumentJob → PlainInstance → Settings → (sunk_old sunk_new : Option (List ℕ)) → ℕ → Type 0
 IsJobDecided (Solves Fit) = IsDecided
 IsJobDecided (Reduces FromFit) = IsReducedDecided
-IsJobDecided (Solves Strip) = IsStripDecided Answered
-IsJobDecided (Reduces FromStrip) = IsStripDecided Reduced
+IsJobDecided (Solves Strip) = IsStripDecided Nothing
+IsJobDecided (Reduces FromStrip) = IsStripDecided Facts
 IsJobDecided (Solves Bins) = AreBinsDecided
 IsJobDecided (Solves Knapsack) = IsValueDecided
 

@@ -1,6 +1,6 @@
 //! The job `audit`: a document of its kind is verified, or refused at its first faulty line.
 ghost use Rattle.std.specs.Prelude.{◌≡◌, ◌≢◌, ◌≤◌, length, IfOk, IfErr};
-ghost use Rattle.verdict_terms.specs.Documents.{reduced_verdict};
+ghost use Rattle.verdict_terms.specs.Documents.{reduced_verdict, bounded_verdict};
 ghost use Rattle.explained_documents.specs.Documents.{explained_verdict};
 ghost use Rattle.answer_streams.specs.Verdicts.{plain_verdict};
 ghost use Rattle.front_verdict_terms.specs.Verdicts.{front_document_verdict};
@@ -27,6 +27,18 @@ fn reduced_on(alloc: Global, bytes: &[u8]) -> Result<Verdict, NoMemory>
     ensures { IfOk result (λ v. plain_verdict v ≡ reduced_verdict bytes.now) }
 {
     match audit_document(alloc, Heading::Reduced, bytes) {
+        Audit::Verified(claim) => Ok(Verdict::Verified(claim)),
+        Audit::Refused { line, reason } => Ok(Verdict::Refused { line, reason }),
+        Audit::NoMemory => Err(NoMemory),
+    }
+}
+
+// The verdict on them as a bounded one.
+fn bounded_on(alloc: Global, bytes: &[u8]) -> Result<Verdict, NoMemory>
+    requires { length bytes.now ≤ most_read_bytes }
+    ensures { IfOk result (λ v. plain_verdict v ≡ bounded_verdict bytes.now) }
+{
+    match audit_document(alloc, Heading::Bounded, bytes) {
         Audit::Verified(claim) => Ok(Verdict::Verified(claim)),
         Audit::Refused { line, reason } => Ok(Verdict::Refused { line, reason }),
         Audit::NoMemory => Err(NoMemory),
@@ -66,6 +78,10 @@ fn verdict_on(alloc: Global, bytes: &[u8]) -> Result<AuditedVerdict, NoMemory>
         DocumentKind::Reduced => {
             let verdict = reduced_on(alloc, bytes)?;
             Ok(AuditedVerdict::Reduced(verdict))
+        }
+        DocumentKind::Bounded => {
+            let verdict = bounded_on(alloc, bytes)?;
+            Ok(AuditedVerdict::Bounded(verdict))
         }
         DocumentKind::Explained => {
             let verdict = explained_on(alloc, bytes)?;
