@@ -95,6 +95,7 @@ fn short_token(token: &Token) -> Option<ShortStep>
 
 impl ShortStep {
     /// The step in a few bytes, if it is such a one.
+    // Longer than 40 lines, as `held` is: an arm for each kind of line.
     pub fn of(step: &Step) -> Option<ShortStep>
         ensures { IfSome result (IsShortOf (plain_step step.now)) }
     {

@@ -104,6 +104,7 @@ fn spot(at: ShortSpot) -> Spot
 
 impl ShortReason {
     /// The reason in eight bytes, if it is such a one.
+    // Longer than 40 lines: an arm for each rule.
     pub fn of(reason: Reason) -> Option<ShortReason>
         ensures { IfSome result (λ s. shown_reason s ≡ reason) }
     {
