@@ -1,5 +1,5 @@
 //! What explaining a document came to, and its text. Writing takes no memory.
-ghost use Rattle.std.specs.Prelude.{◌≡◌, map};
+ghost use Rattle.std.specs.Prelude.{◌≡◌};
 ghost use Rattle.packing_terms.specs.Limits.{IsInstance};
 ghost use Rattle.pack_streams.specs.Writing.{Continues, Writes};
 ghost use Rattle.text_terms.specs.Spelling.{lines_text};
@@ -12,7 +12,7 @@ use crate::documents::{Written, write_instance_on};
 use crate::streaming::Streamed;
 use crate::verdict::Verdict;
 use box_instances::Instance;
-use line_proofs::{Step, write_step};
+use line_proofs::{Step, StepList, write_step};
 use pack_streams::{Sink, write_on};
 use verdict_terms::Reason;
 
@@ -20,15 +20,9 @@ use verdict_terms::Reason;
 #[derive(Drop)]
 pub enum Explanation {
     /// The first line that is refused, counted from 1, and why.
-    Refused {
-        line: u64,
-        reason: Reason,
-    },
+    Refused { line: u64, reason: Reason },
     /// The steps that explain the refutation of the instance, in order.
-    Explained {
-        instance: Instance,
-        steps: Vec<Step>,
-    },
+    Explained { instance: Instance, steps: StepList },
 }
 
 impl Explanation {
@@ -56,25 +50,26 @@ fn write_step_on<K: Sink>(sink: &mut K, so_far: Written, step: &Step) -> Written
 }
 
 // Writes the lines of all steps.
-fn write_steps_on<K: Sink>(sink: &mut K, so_far: Written, steps: &[Step]) -> Written
+fn write_steps_on<K: Sink>(sink: &mut K, so_far: Written, steps: &StepList) -> Written
     ensures { Continues (K.written sink.old) (K.written sink.new) (K.faults sink.old)
         (K.faults sink.new)
-        (lines_text (step_lines (map plain_step steps.now))) so_far result }
+        (lines_text (step_lines steps.now)) so_far result }
 {
     let mut now = so_far;
     for k in 0..steps.len() {
-        now = write_step_on(sink, now, &steps[k]);
+        let held = steps.at(k);
+        now = write_step_on(sink, now, held.step());
     }
     now
 }
 
 // Writes the document: `explained fit`, the lines of the instance, `result no`, a line for each
 // step in order, and `end`.
-fn write_explained<K: Sink>(sink: &mut K, instance: &Instance, steps: &[Step]) -> Written
+fn write_explained<K: Sink>(sink: &mut K, instance: &Instance, steps: &StepList) -> Written
     requires { IsInstance instance.now }
     ensures { Writes (K.written sink.old) (K.written sink.new) (K.faults sink.old)
         (K.faults sink.new)
-        (explained_text instance.now (map plain_step steps.now)) result }
+        (explained_text instance.now steps.now) result }
 {
     let named = write_on(sink, Ok(()), b"explained fit\n");
     let shown = write_instance_on(sink, named, instance);
@@ -97,9 +92,7 @@ impl Streamed for Explanation {
                 };
                 verdict.write_to(sink)
             }
-            Explanation::Explained { instance, steps } => {
-                write_explained(sink, instance, steps.as_slice())
-            }
+            Explanation::Explained { instance, steps } => write_explained(sink, instance, steps),
         }
     }
 }

@@ -6,6 +6,8 @@ mod documents;
 #[cfg(test)]
 mod lines;
 #[cfg(test)]
+mod step_lists;
+#[cfg(test)]
 mod trees;
 #[cfg(test)]
 mod written;

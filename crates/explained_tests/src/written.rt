@@ -3,7 +3,7 @@ use box_instances::Instance;
 use class_search::decide_alone;
 use explained_terms::AuditVerdict;
 use instance_text::read_instance;
-use line_proofs::{Auditor, Step, write_step};
+use line_proofs::{Auditor, Step, StepList, write_step};
 use pack_streams::MemorySink;
 use proof_tree::{Outcome, Token, write_token};
 use refutation_steps::explain;
@@ -15,7 +15,7 @@ fn explained(
     alloc: Global,
     instance: &Instance,
     scales: bool,
-) -> Result<(Vec<Token>, Vec<Step>), Fail> {
+) -> Result<(Vec<Token>, StepList), Fail> {
     let found = decide_alone(alloc, instance, 100_000, scales)?;
     match found {
         Outcome::No { tokens, .. } => {
@@ -23,25 +23,27 @@ fn explained(
             let lines = explain(alloc, instance, tokens.as_slice())?;
             Ok((tokens, lines))
         }
-        _ => Ok((Vec::new(alloc), Vec::new(alloc))),
+        _ => Ok((Vec::new(alloc), StepList::new(alloc))),
     }
 }
 
 // Whether the auditor accepts the lines whole.
-fn is_accepted(alloc: Global, instance: &Instance, lines: &[Step]) -> Result<bool, Fail> {
+fn is_accepted(alloc: Global, instance: &Instance, lines: &StepList) -> Result<bool, Fail> {
     let mut auditor = Auditor::new(alloc, instance)?;
     let mut last = AuditVerdict::More;
-    for line in lines {
-        last = auditor.feed(line);
+    for k in 0..lines.len() {
+        let held = lines.at(k);
+        last = auditor.feed(held.step());
     }
     Ok(auditor.whole() && last == AuditVerdict::Done)
 }
 
 // The lines as they are written.
-fn spelled(alloc: Global, lines: &[Step]) -> Result<MemorySink, Fail> {
+fn spelled(alloc: Global, lines: &StepList) -> Result<MemorySink, Fail> {
     let mut sink = MemorySink::new(alloc, 10_000_000, Vec::new(alloc))?;
-    for line in lines {
-        write_step(line, &mut sink)?;
+    for k in 0..lines.len() {
+        let held = lines.at(k);
+        write_step(held.step(), &mut sink)?;
     }
     Ok(sink)
 }
@@ -51,17 +53,18 @@ fn two_large_boxes_take_four_lines(rt: HostRuntime) -> Result<(), Fail> {
     let alloc = rt.alloc();
     let two = read_instance(alloc, b"format 1\ncontainer 10 10\nbox 6 6\nbox 6 6\n")?;
     let (_, lines) = explained(alloc, &two, false)?;
-    let told = spelled(alloc, lines.as_slice())?;
+    let told = spelled(alloc, &lines)?;
     assert!(rt; told.written() == b"pair 1 1 2\npair 2 1 2\napart 2 1 2\nx 2 1 2\n".as_slice());
-    assert!(rt; is_accepted(alloc, &two, lines.as_slice())?);
+    assert!(rt; is_accepted(alloc, &two, &lines)?);
     Ok(())
 }
 
 // Whether the lines without the steps are the tokens.
-fn are_its_tokens(alloc: Global, lines: &[Step], tokens: &[Token]) -> Result<bool, Fail> {
+fn are_its_tokens(alloc: Global, lines: &StepList, tokens: &[Token]) -> Result<bool, Fail> {
     let mut among = MemorySink::new(alloc, 10_000_000, Vec::new(alloc))?;
-    for line in lines {
-        match line {
+    for k in 0..lines.len() {
+        let held = lines.at(k);
+        match held.step() {
             Step::Clash { .. } => write_token(&Token::Rules, &mut among)?,
             Step::Plain(token) => write_token(token, &mut among)?,
             _ => {}
@@ -78,10 +81,10 @@ fn are_its_tokens(alloc: Global, lines: &[Step], tokens: &[Token]) -> Result<boo
 fn line_count(alloc: Global, text: &[u8], scales: bool) -> Result<Option<usize>, Fail> {
     let instance = read_instance(alloc, text)?;
     let (tokens, lines) = explained(alloc, &instance, scales)?;
-    if !is_accepted(alloc, &instance, lines.as_slice())? {
+    if !is_accepted(alloc, &instance, &lines)? {
         return Ok(None);
     }
-    if !are_its_tokens(alloc, lines.as_slice(), tokens.as_slice())? {
+    if !are_its_tokens(alloc, &lines, tokens.as_slice())? {
         return Ok(None);
     }
     Ok(Some(lines.len()))

@@ -13,20 +13,17 @@ use Rattle.explained_terms.specs.Auditing.{Audited, audited_after, audited_after
 use Rattle.explained_terms.specs.Auditing.{is_whole, starting}
 use Rattle.explained_terms.proofs.Stepped.{tokens_joined}
 use Rattle.explained_terms.proofs.Explained.{fed_explains}
-use Rattle.line_proofs.specs.declared.step.Step.{Step}
-use Rattle.line_proofs.specs.Plain.{plain_step}
-use Rattle.refutation_steps.specs.Goes.{plain_steps}
 use Rattle.refutation_steps.specs.Shortened.{IsNoToken}
 
 -- ---- lines, one after another
 
-left_line : (ls : List Step) (k : ℕ) (d : Step) → k < length ls
-    → drop k (plain_steps ls) ≡ plain_step (get_or ls k d) ∷ drop (suc k) (plain_steps ls)
+left_line : (ls : List PlainStep) (k : ℕ) (d : PlainStep) → k < length ls
+    → drop k ls ≡ get_or ls k d ∷ drop (suc k) ls
 left_line [] k d h = absurd (omega (arith, h))
 left_line (l ∷ ls) zero d h = refl
 left_line (l ∷ ls) (suc k) d h = left_line ls k d (omega (arith, h))
 
-none_left : (ls : List Step) (k : ℕ) → length ls ≤ k → drop k (plain_steps ls) ≡ []
+none_left : (ls : List PlainStep) (k : ℕ) → length ls ≤ k → drop k ls ≡ []
 none_left [] zero h = refl
 none_left [] (suc k) h = refl
 none_left (l ∷ ls) zero h = absurd (omega (arith, h))
@@ -66,22 +63,22 @@ module _ (instance : PlainInstance) where
   pub accepted : (zs : List PlainStep) → is_whole (run instance starting zs) ≡ true → Explains instance [] zs
   accepted zs h = fed_explains instance [] zs (whole_run (at_rest [] ∷ []) zs h)
 
-  module _ (ls : List Step) (k : ℕ) (d l : Step) (there : k < length ls) (is : l ≡ get_or ls k d) where
-    pub run_next : (a b whole : Audited) → b ≡ audited_with instance a (plain_step l)
-        → run instance a (drop k (plain_steps ls)) ≡ whole
-        → run instance b (drop (k + 1) (plain_steps ls)) ≡ whole
+  module _ (ls : List PlainStep) (k : ℕ) (d l : PlainStep) (there : k < length ls) (is : l ≡ get_or ls k d) where
+    pub run_next : (a b whole : Audited) → b ≡ audited_with instance a l
+        → run instance a (drop k ls) ≡ whole
+        → run instance b (drop (k + 1) ls) ≡ whole
     run_next a b whole e h =
         let s : suc k ≡ k + 1 = omega arith in
-        ap (λ (m : Audited). run instance m (drop (k + 1) (plain_steps ls))) e
-        ∙ (ap (λ (n : ℕ). run instance (audited_with instance a (plain_step l)) (drop n (plain_steps ls))) (sym s)
-        ∙ (ap (λ (m : Step). run instance (audited_with instance a (plain_step m)) (drop (suc k) (plain_steps ls))) is
+        ap (λ (m : Audited). run instance m (drop (k + 1) ls)) e
+        ∙ (ap (λ (n : ℕ). run instance (audited_with instance a l) (drop n ls)) (sym s)
+        ∙ (ap (λ (m : PlainStep). run instance (audited_with instance a m) (drop (suc k) ls)) is
         ∙ (sym (ap (λ (m : List PlainStep). run instance a m) (left_line ls k d there)) ∙ h)))
 
-  pub run_whole : (ls : List Step) (k : ℕ) (a : Audited) (b : Bool) → length ls ≤ k
-      → run instance a (drop k (plain_steps ls)) ≡ run instance starting (plain_steps ls)
-      → b ≡ is_whole a → b ≡ true → Explains instance [] (plain_steps ls)
+  pub run_whole : (ls : List PlainStep) (k : ℕ) (a : Audited) (b : Bool) → length ls ≤ k
+      → run instance a (drop k ls) ≡ run instance starting ls
+      → b ≡ is_whole a → b ≡ true → Explains instance [] ls
   run_whole ls k a b h e f t =
-      accepted (plain_steps ls) (ap is_whole (sym e ∙ ap (λ (m : List PlainStep). run instance a m) (none_left ls k h))
+      accepted ls (ap is_whole (sym e ∙ ap (λ (m : List PlainStep). run instance a m) (none_left ls k h))
       ∙ (sym f ∙ t))
 
 -- ---- lines of reasons and tokens

@@ -20,7 +20,6 @@ use Rattle.explained_terms.specs.Explaining.{Explains, by_side, by_scales}
 use Rattle.explained_terms.proofs.Stepped.{steps_derived, tokens_joined}
 use Rattle.refutation_steps.specs.declared.empties.Place.{Place}
 use Rattle.refutation_steps.specs.declared.walk_state.Walk.{Walk}
-use Rattle.refutation_steps.specs.Goes.{plain_steps}
 use Rattle.refutation_steps.specs.Empties.{IsEmptyPlace}
 use Rattle.refutation_steps.specs.Nodes.{IsSettled, IsWalking}
 use Rattle.refutation_steps.specs.Walks.{child_of, IsFor, IsBetween, IsAt, Takes, IsLeafWritten, IsApartSplit}
@@ -56,13 +55,13 @@ module _ (instance : PlainInstance) where
 
   -- a walk whose lists are these
   between_by : (old new : Walk) (z : List PlainToken) → new.state ≡ old.state → new.given ≡ old.given
-      → IsWalking instance old.given.trail old.state.trail (reverse new.pending.items) (plain_steps new.lines.items) z
+      → IsWalking instance old.given.trail old.state.trail (reverse new.pending.items) new.lines z
       → IsBetween instance new z
   between_by old new z a b w =
       subst (λ (s : PlainEdges). IsWalking instance s.trail new.state.trail (reverse new.pending.items)
-      (plain_steps new.lines.items) z) (sym b)
+      new.lines z) (sym b)
       (subst (λ (s : PlainEdges). IsWalking instance old.given.trail s.trail (reverse new.pending.items)
-      (plain_steps new.lines.items) z) (sym a) w)
+      new.lines z) (sym a) w)
 
   leaf_taken : (old new : Walk) (closed : Option ℕ) (t : PlainToken) → IsFor instance old → IsLeafWritten old new t
       → tokens_among (Plain t ∷ []) ≡ t ∷ []
@@ -70,14 +69,14 @@ module _ (instance : PlainInstance) where
       → Explains instance old.state.trail (Plain t ∷ []) × (z ≡ n.others)) → Takes instance old new closed t
   leaf_taken old new closed t f w one by = record {
     sizes = sizes_stay old new f w.same_state w.same_given w.same_closer w.same_room;
-    tokens = leaf_tokens (plain_steps old.lines.items) (plain_steps new.lines.items) (Plain t) t one w.lines;
+    tokens = leaf_tokens old.lines new.lines (Plain t) t one w.lines;
     between = λ z n. between_by old new z w.same_state w.same_given
-        (subst (λ p. IsWalking instance old.given.trail old.state.trail (reverse p.items) (plain_steps new.lines.items)
+        (subst (λ p. IsWalking instance old.given.trail old.state.trail (reverse p.items) new.lines
         z) (sym w.same_pending)
         (leaf_after instance old.given.trail old.given.trail closed old.state old.state (reverse old.pending.items)
-        (plain_steps old.lines.items) (plain_steps old.lines.items)
-        (plain_steps new.lines.items) z t (Plain t) n (by z n).1 (nothing_more old.given.trail)
-        (goes_nowhere instance old.state (plain_steps old.lines.items)) (by z n).0 w.lines));
+        old.lines old.lines
+        new.lines z t (Plain t) n (by z n).1 (nothing_more old.given.trail)
+        (goes_nowhere instance old.state old.lines) (by z n).0 w.lines));
   }
 
   pub side_taken : (old new : Walk) (closed : Option ℕ) (v i : ℕ) → IsFor instance old
@@ -95,18 +94,18 @@ module _ (instance : PlainInstance) where
   -- ---- what a closing came to
 
   pub settled_as : (old mid : Walk) (a b : Option ℕ) → a ≡ b
-      → IsSettled instance old.state mid.state (plain_steps old.lines.items) (plain_steps mid.lines.items)
+      → IsSettled instance old.state mid.state old.lines mid.lines
       mid.given.trail
       a
-      → IsSettled instance old.state mid.state (plain_steps old.lines.items) (plain_steps mid.lines.items)
+      → IsSettled instance old.state mid.state old.lines mid.lines
       mid.given.trail b
   settled_as old mid a b e s = subst (λ (k : Option ℕ). IsSettled instance old.state mid.state
-      (plain_steps old.lines.items) (plain_steps mid.lines.items) mid.given.trail k) e s
+      old.lines mid.lines mid.given.trail k) e s
 
   module _ (old mid : Walk) (closed : Option ℕ) (same : mid.pending ≡ old.pending)
       (extends : Extends instance old.given.trail mid.given.trail) where
     pub rules_show : (ended : Option ℕ) (z : List PlainToken)
-        → IsSettled instance old.state mid.state (plain_steps old.lines.items) (plain_steps mid.lines.items)
+        → IsSettled instance old.state mid.state old.lines mid.lines
         mid.given.trail ended
         → IsAt instance old closed (Rules ∷ z) → HasNoEmptyMask instance (excludes mid.state.trail) → ⊥
     rules_show ended z s n full =
@@ -116,7 +115,7 @@ module _ (instance : PlainInstance) where
         (λ i u v r h. extends.kept i u v r (n.opened.drawn.given_all i u v r h)) s.ended k.0 full
 
     stops : (z : List PlainToken) (t : PlainToken)
-        → IsSettled instance old.state mid.state (plain_steps old.lines.items) (plain_steps mid.lines.items)
+        → IsSettled instance old.state mid.state old.lines mid.lines
         mid.given.trail None
         → (n : IsAt instance old closed (t ∷ z)) → HasConflict instance (excludes n.es)
     stops z t s n = no_stop instance n.es mid.state.trail
@@ -124,36 +123,36 @@ module _ (instance : PlainInstance) where
         n.opened.drawn.held_derived) s.ended
 
     pub apart_goes : (z : List PlainToken) (i u v : ℕ)
-        → IsSettled instance old.state mid.state (plain_steps old.lines.items) (plain_steps mid.lines.items)
+        → IsSettled instance old.state mid.state old.lines mid.lines
         mid.given.trail None
         → IsAt instance old closed (Apart i u v ∷ z) → ⊥
     apart_goes z i u v s n = (node_case instance n.opened.refutes n.others z (Apart i u v) n.parts).may.no_conflict
         (stops z (Apart i u v) s n)
 
     pub order_goes : (z : List PlainToken) (i u v : ℕ)
-        → IsSettled instance old.state mid.state (plain_steps old.lines.items) (plain_steps mid.lines.items)
+        → IsSettled instance old.state mid.state old.lines mid.lines
         mid.given.trail None
         → IsAt instance old closed (Order i u v ∷ z) → ⊥
     order_goes z i u v s n = (node_case instance n.opened.refutes n.others z (Order i u v) n.parts).may.no_conflict
         (stops z (Order i u v) s n)
 
     later_tokens : (new : Walk) (ended : Option ℕ) (s : PlainStep) (t : PlainToken)
-        → IsSettled instance old.state mid.state (plain_steps old.lines.items) (plain_steps mid.lines.items)
+        → IsSettled instance old.state mid.state old.lines mid.lines
         mid.given.trail ended
-        → tokens_among (s ∷ []) ≡ t ∷ [] → plain_steps new.lines.items ≡ plain_steps mid.lines.items ++ s ∷ []
-        → tokens_among (plain_steps new.lines.items) ≡ tokens_among (plain_steps old.lines.items) ++ t ∷ []
+        → tokens_among (s ∷ []) ≡ t ∷ [] → new.lines ≡ mid.lines ++ s ∷ []
+        → tokens_among new.lines ≡ tokens_among old.lines ++ t ∷ []
     later_tokens new ended s t settled one eq =
-        leaf_tokens (plain_steps mid.lines.items) (plain_steps new.lines.items) s t one eq
+        leaf_tokens mid.lines new.lines s t one eq
         ∙ ap (λ (k : List PlainToken). k ++ t ∷ [])
-        (goes_tokens instance old.state mid.state (plain_steps old.lines.items) (plain_steps mid.lines.items)
+        (goes_tokens instance old.state mid.state old.lines mid.lines
         settled.goes)
 
     pub rules_taken : (new : Walk) (ended : Option ℕ) (p : Place) → IsFor instance mid
-        → IsSettled instance old.state mid.state (plain_steps old.lines.items) (plain_steps mid.lines.items)
+        → IsSettled instance old.state mid.state old.lines mid.lines
         mid.given.trail ended → IsEmptyPlace mid.state p
         → new.state ≡ mid.state → new.given ≡ mid.given → new.closer ≡ mid.closer → new.room ≡ mid.room
         → new.pending ≡ mid.pending
-        → plain_steps new.lines.items ≡ plain_steps mid.lines.items ++ Clash (suc p.dim) (suc p.u) (suc p.v) ∷ []
+        → new.lines ≡ mid.lines ++ Clash (suc p.dim) (suc p.u) (suc p.v) ∷ []
         → Takes instance old new closed Rules
     rules_taken new ended p f s place a b c d e eq = record {
       sizes = sizes_stay mid new f a b c d;
@@ -163,15 +162,15 @@ module _ (instance : PlainInstance) where
           node_case instance n.opened.refutes n.others z Rules n.parts in
           between_by mid new z a b
           (subst (λ q. IsWalking instance mid.given.trail mid.state.trail (reverse q.items)
-          (plain_steps new.lines.items) z) (sym (e ∙ same))
+          new.lines z) (sym (e ∙ same))
           (leaf_after instance old.given.trail mid.given.trail closed old.state mid.state (reverse old.pending.items)
-          (plain_steps old.lines.items) (plain_steps mid.lines.items)
-          (plain_steps new.lines.items) z Rules (Clash (suc p.dim) (suc p.u) (suc p.v)) n k.1 extends s.goes
+          old.lines mid.lines
+          new.lines z Rules (Clash (suc p.dim) (suc p.u) (suc p.v)) n k.1 extends s.goes
           (clash_there instance mid.state p f.same_dims f.same_boxes place) eq));
     }
 
     pub apart_taken : (new : Walk) (mark i u v : ℕ) → IsFor instance mid
-        → IsSettled instance old.state mid.state (plain_steps old.lines.items) (plain_steps mid.lines.items)
+        → IsSettled instance old.state mid.state old.lines mid.lines
         mid.given.trail (Some mark)
         → IsApartSplit mid new mark i u v → Takes instance old new closed (Apart i u v)
     apart_taken new mark i u v f s w = record {
@@ -179,15 +178,15 @@ module _ (instance : PlainInstance) where
       tokens = later_tokens new (Some mark) (Plain (Apart i u v)) (Apart i u v) s refl w.lines;
       between = λ z n. between_by mid new z w.same_state w.same_given
           (apart_split instance mid.given.trail mid.state.trail mark (reverse old.pending.items)
-          (reverse new.pending.items) (plain_steps mid.lines.items) (plain_steps new.lines.items) z i u v
+          (reverse new.pending.items) mid.lines new.lines z i u v
           (node_on instance old.given.trail mid.given.trail closed old.state mid.state mark (reverse old.pending.items)
-          (plain_steps old.lines.items) (plain_steps mid.lines.items) (Apart i u v ∷ z) n extends s.goes s.ended)
+          old.lines mid.lines (Apart i u v ∷ z) n extends s.goes s.ended)
           (w.nodes ∙ ap (λ q. child_of mid mark (exclusion_in_text i u v Overlap) None ∷ child_of mid mark
           (exclusion_in_text i u v Before) (Some (exclusion_in_text i u v After)) ∷ reverse q.items) same) w.lines);
     }
 
     pub order_taken : (new : Walk) (mark i u v : ℕ) → IsFor instance mid
-        → IsSettled instance old.state mid.state (plain_steps old.lines.items) (plain_steps mid.lines.items)
+        → IsSettled instance old.state mid.state old.lines mid.lines
         mid.given.trail (Some mark)
         → IsOrderSplit mid new mark i u v → Takes instance old new closed (Order i u v)
     order_taken new mark i u v f s w = record {
@@ -195,9 +194,9 @@ module _ (instance : PlainInstance) where
       tokens = later_tokens new (Some mark) (Plain (Order i u v)) (Order i u v) s refl w.lines;
       between = λ z n. between_by mid new z w.same_state w.same_given
           (order_split instance mid.given.trail mid.state.trail mark (reverse old.pending.items)
-          (reverse new.pending.items) (plain_steps mid.lines.items) (plain_steps new.lines.items) z i u v s.ended
+          (reverse new.pending.items) mid.lines new.lines z i u v s.ended
           (node_on instance old.given.trail mid.given.trail closed old.state mid.state mark (reverse old.pending.items)
-          (plain_steps old.lines.items) (plain_steps mid.lines.items) (Order i u v ∷ z) n extends s.goes s.ended)
+          old.lines mid.lines (Order i u v ∷ z) n extends s.goes s.ended)
           (w.nodes ∙ ap (λ q. child_of mid mark (exclusion_in_text i u v After) None ∷ child_of mid mark
           (exclusion_in_text i u v Before) None ∷ reverse q.items) same) w.lines);
     }

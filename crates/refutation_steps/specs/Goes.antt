@@ -1,5 +1,5 @@
 -- Steps that are written behind lines, and what they lead to.
-use Rattle.std.specs.Prelude.{◌≡◌, List, ◌++◌, map, IsTrue}
+use Rattle.std.specs.Prelude.{◌≡◌, List, ◌++◌, IsTrue}
 use Rattle.packing_terms.specs.declared.Exclusion.{Exclusion}
 use Rattle.packing_terms.specs.Packing.{PlainInstance}
 use Rattle.packing_terms.specs.Exclusions.{Exclusions, excludes}
@@ -7,12 +7,6 @@ use Rattle.packing_terms.specs.Rules.{Rule, IsRuleInstance, Premises, Concludes,
 use Rattle.edge_state.specs.Edges.{PlainEdges}
 use Rattle.explained_terms.specs.Steps.{PlainStep}
 use Rattle.explained_terms.specs.Stepping.{StepsTo, lines_of_all}
-use Rattle.line_proofs.specs.declared.step.Step.{Step}
-use Rattle.line_proofs.specs.Plain.{plain_step}
-
--- the lines of a list
-abbrev pub plain_steps : List Step → List PlainStep
-plain_steps lines = map (λ l. plain_step l) lines
 
 -- steps lead from one state to the other, and their lines came behind the lines
 pub record Goes (instance : PlainInstance) (old new : PlainEdges) (before after : List PlainStep) : Type 0 where

@@ -7,4 +7,5 @@ pub mod Chains
 pub mod Nodes
 pub mod Walks
 pub mod Shortened
+pub mod ShortReasons
 pub mod Traced

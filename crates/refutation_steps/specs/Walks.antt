@@ -10,7 +10,6 @@ use Rattle.explained_terms.specs.Steps.{tokens_among}
 use Rattle.explained_terms.specs.Steps.PlainStep.{Plain}
 use Rattle.refutation_steps.specs.declared.pending.Pending.{Pending}
 use Rattle.refutation_steps.specs.declared.walk_state.Walk.{Walk}
-use Rattle.refutation_steps.specs.Goes.{plain_steps}
 use Rattle.refutation_steps.specs.Chains.{HasWeights}
 use Rattle.refutation_steps.specs.Nodes.{IsWalking, IsAtNode}
 
@@ -26,12 +25,12 @@ pub record IsFor (instance : PlainInstance) (w : Walk) : Type 0 where
 -- between two nodes, before these tokens
 abbrev pub IsBetween : PlainInstance → Walk → List PlainToken → Type 0
 IsBetween instance w tokens = IsWalking instance w.given.trail w.state.trail (reverse w.pending.items)
-    (plain_steps w.lines.items) tokens
+    w.lines tokens
 
 -- at a node, before these tokens
 abbrev pub IsAt : PlainInstance → Walk → Option ℕ → List PlainToken → Type 0
 IsAt instance w closed tokens = IsAtNode instance w.given.trail w.state.trail closed (reverse w.pending.items)
-    (plain_steps w.lines.items) tokens
+    w.lines tokens
 
 -- a line came, and two nodes
 pub record IsSplit (old new : Walk) (token : PlainToken) (near far : Pending) : Type 0 where
@@ -40,7 +39,7 @@ pub record IsSplit (old new : Walk) (token : PlainToken) (near far : Pending) : 
   pub same_closer : new.closer ≡ old.closer
   pub same_room : new.room ≡ old.room
   pub nodes : reverse new.pending.items ≡ near ∷ far ∷ reverse old.pending.items
-  pub lines : plain_steps new.lines.items ≡ plain_steps old.lines.items ++ Plain token ∷ []
+  pub lines : new.lines ≡ old.lines ++ Plain token ∷ []
 
 -- a child of the node that the walk is at
 abbrev pub child_of : Walk → ℕ → Exclusion → Option Exclusion → Pending
@@ -69,7 +68,7 @@ IsOrderSplit old new closed dim u v =
 -- is between two nodes again.
 pub record Takes (instance : PlainInstance) (old new : Walk) (closed : Option ℕ) (token : PlainToken) : Type 0 where
   pub sizes : IsFor instance new
-  pub tokens : tokens_among (plain_steps new.lines.items) ≡ tokens_among (plain_steps old.lines.items) ++ token ∷ []
+  pub tokens : tokens_among new.lines ≡ tokens_among old.lines ++ token ∷ []
   pub between : (rest : List PlainToken) → IsAt instance old closed (token ∷ rest) → IsBetween instance new rest
 
 -- a token's own line came
@@ -79,4 +78,4 @@ pub record IsLeafWritten (old new : Walk) (token : PlainToken) : Type 0 where
   pub same_closer : new.closer ≡ old.closer
   pub same_room : new.room ≡ old.room
   pub same_pending : new.pending ≡ old.pending
-  pub lines : plain_steps new.lines.items ≡ plain_steps old.lines.items ++ Plain token ∷ []
+  pub lines : new.lines ≡ old.lines ++ Plain token ∷ []

@@ -10,7 +10,6 @@ ghost use Rattle.rule_terms.specs.Runs.{IsTransitive};
 ghost use Rattle.closure_terms.specs.States.{IsSized};
 ghost use Rattle.explained_terms.specs.Steps.{box_lines};
 ghost use Rattle.explained_terms.specs.Steps.PlainStep.{Chain as PlainChain};
-ghost use Rattle.refutation_steps.specs.Goes.{plain_steps};
 ghost use Rattle.refutation_steps.specs.Places.{IsPlaced, IsSought};
 ghost use Rattle.refutation_steps.specs.Replays.{IsChainRule};
 ghost use Rattle.refutation_steps.specs.Chains.{AreWeighed, HasWeights, IsChainFound, IsChainStepped, IsChainTry};
@@ -22,7 +21,7 @@ use crate::places::is_there;
 use crate::steps::write_line;
 use box_instances::{Instance, NoMemory};
 use edge_state::{EdgeState, Exclusion, Rel};
-use line_proofs::Step;
+use line_proofs::{Step, StepList};
 use orientation_rules::heads_and_tails;
 use std::alloc::Global;
 
@@ -88,10 +87,9 @@ fn weigh_chains(instance: &Instance, state: &EdgeState, dim: u32, room: &mut Cha
 }
 
 // The boxes of a chain, a line each.
-fn write_boxes(instance: &Instance, lines: &mut Vec<Step>, boxes: &[u32]) -> Result<(), NoMemory>
+fn write_boxes(instance: &Instance, lines: &mut StepList, boxes: &[u32]) -> Result<(), NoMemory>
     requires { AreBoxes instance.now boxes.now }
-    ensures { OnOk result (plain_steps lines.new.items
-        ≡ plain_steps lines.old.items ++ box_lines boxes.now) }
+    ensures { OnOk result (lines.new ≡ lines.old ++ box_lines boxes.now) }
 {
     // For the proof alone: tells the limits of the instance.
     let _count = instance.len();
@@ -104,7 +102,7 @@ fn write_boxes(instance: &Instance, lines: &mut Vec<Step>, boxes: &[u32]) -> Res
 // The lines of a chain step.
 fn write_chain(
     instance: &Instance,
-    lines: &mut Vec<Step>,
+    lines: &mut StepList,
     dim: u32,
     before: &[u32],
     after: &[u32],
@@ -112,7 +110,7 @@ fn write_chain(
     requires dim { dim < dims instance.now }
     requires before { AreBoxes instance.now before.now }
     requires after { AreBoxes instance.now after.now }
-    ensures { OnOk result (plain_steps lines.new.items ≡ plain_steps lines.old.items
+    ensures { OnOk result (lines.new ≡ lines.old
         ++ PlainChain (suc dim) (length before.now) (length after.now)
         ∷ (box_lines before.now ++ box_lines after.now)) }
 {
@@ -132,7 +130,7 @@ fn write_chain(
 fn step_chain(
     instance: &Instance,
     state: &mut EdgeState,
-    lines: &mut Vec<Step>,
+    lines: &mut StepList,
     dim: u32,
     u: u32,
     v: u32,
@@ -143,7 +141,7 @@ fn step_chain(
     requires left { excludes state.old.trail dim u v PlainBefore ≡ false }
     requires found { IsChainFound instance.now state.old.trail dim u v to.now from.now }
     ensures { OnOk result (IsChainStepped instance.now state.old state.new
-        (plain_steps lines.old.items) (plain_steps lines.new.items) dim u v) }
+        lines.old lines.new dim u v) }
 {
     write_chain(instance, lines, dim, to, from)?;
     state.exclude(dim, u, v, Rel::Before);
@@ -154,7 +152,7 @@ fn step_chain(
 fn take_chain(
     instance: &Instance,
     state: &mut EdgeState,
-    lines: &mut Vec<Step>,
+    lines: &mut StepList,
     room: &mut ChainRoom,
     e: Exclusion,
 ) -> Result<(), NoMemory>
@@ -167,7 +165,7 @@ fn take_chain(
     requires room { HasWeights (box_count instance.now) room.old.head.items room.old.tail.items }
     ensures room { HasWeights (box_count instance.now) room.new.head.items room.new.tail.items }
     ensures sought { OnOk result (IsSought instance.now state.old state.new
-        (plain_steps lines.old.items) (plain_steps lines.new.items) e (λ rule. IsChainRule rule)) }
+        lines.old lines.new e (λ rule. IsChainRule rule)) }
 {
     // For the proof alone: tells the limits of the instance.
     let _count = instance.len();
@@ -210,7 +208,7 @@ fn take_chain(
 pub(crate) fn seek_chain(
     instance: &Instance,
     state: &mut EdgeState,
-    lines: &mut Vec<Step>,
+    lines: &mut StepList,
     room: &mut ChainRoom,
     e: Exclusion,
 ) -> Result<bool, NoMemory>
@@ -218,7 +216,7 @@ pub(crate) fn seek_chain(
     requires room { HasWeights (box_count instance.now) room.old.head.items room.old.tail.items }
     ensures room { HasWeights (box_count instance.now) room.new.head.items room.new.tail.items }
     ensures sought { IfOk result (λ stopped. IsChainTry instance.now state.old state.new
-        (plain_steps lines.old.items) (plain_steps lines.new.items) e stopped) }
+        lines.old lines.new e stopped) }
 {
     if !is_before(e.rel) {
         return Ok(false);

@@ -16,6 +16,7 @@ mod places;
 mod reasons;
 mod replay;
 mod settling;
+mod short_reasons;
 mod shortening;
 mod splits;
 mod steps;

@@ -7,20 +7,19 @@ ghost use Rattle.rule_terms.specs.Runs.{IsTransitive};
 ghost use Rattle.edge_state.specs.Edges.{is_other_box};
 ghost use Rattle.edge_state.specs.BitRows.{row_has};
 ghost use Rattle.closure_terms.specs.States.{IsSized};
-ghost use Rattle.refutation_steps.specs.Goes.{plain_steps};
 ghost use Rattle.refutation_steps.specs.Links.{IsLinkedAt, IsLinkTry, IsLinkedThrough};
 
 use crate::places::are_three;
 use crate::steps::step_compose;
 use box_instances::{Instance, NoMemory};
 use edge_state::{BitRow, EdgeState, Rel};
-use line_proofs::Step;
+use line_proofs::StepList;
 
 // COMPOSE where surely before isn't transitive at three boxes. Answers whether it wasn't.
 fn link(
     instance: &Instance,
     state: &mut EdgeState,
-    lines: &mut Vec<Step>,
+    lines: &mut StepList,
     dim: u32,
     u: u32,
     v: u32,
@@ -30,8 +29,7 @@ fn link(
     requires u { u < box_count instance.now }
     requires v { v < box_count instance.now }
     requires x { x < box_count instance.now }
-    ensures { IfOk result (λ changed. IsLinkTry instance.now state.old state.new
-        (plain_steps lines.old.items) (plain_steps lines.new.items)
+    ensures { IfOk result (λ changed. IsLinkTry instance.now state.old state.new lines.old lines.new
         (IsLinkedAt (box_count instance.now) (excludes state.old.trail) dim u v x) changed) }
 {
     if !are_three(u, v, x) {
@@ -54,7 +52,7 @@ fn link(
 fn link_row(
     instance: &Instance,
     state: &mut EdgeState,
-    lines: &mut Vec<Step>,
+    lines: &mut StepList,
     dim: u32,
     u: u32,
     v: u32,
@@ -62,8 +60,7 @@ fn link_row(
     requires sizes { IsSized instance.now state.old dim }
     requires u { u < box_count instance.now }
     requires v { v < box_count instance.now }
-    ensures { IfOk result (λ changed. IsLinkTry instance.now state.old state.new
-        (plain_steps lines.old.items) (plain_steps lines.new.items)
+    ensures { IfOk result (λ changed. IsLinkTry instance.now state.old state.new lines.old lines.new
         ((x : ℕ) → x < box_count instance.now
         → IsLinkedAt (box_count instance.now) (excludes state.old.trail) dim u v x) changed) }
 {
@@ -93,7 +90,7 @@ fn unsure_row(state: &EdgeState, dim: u32, u: u32) -> BitRow<2>
 fn link_pair(
     instance: &Instance,
     state: &mut EdgeState,
-    lines: &mut Vec<Step>,
+    lines: &mut StepList,
     dim: u32,
     u: u32,
     v: u32,
@@ -104,8 +101,7 @@ fn link_pair(
     requires v { v < box_count instance.now }
     requires unsure { (x : ℕ) → row_has unsure x ≡ is_other_box state.old.boxes u x
         && not (is_surely_before (excludes state.old.trail) dim u x) }
-    ensures { IfOk result (λ changed. IsLinkTry instance.now state.old state.new
-        (plain_steps lines.old.items) (plain_steps lines.new.items)
+    ensures { IfOk result (λ changed. IsLinkTry instance.now state.old state.new lines.old lines.new
         ((x : ℕ) → x < box_count instance.now
         → IsLinkedAt (box_count instance.now) (excludes state.old.trail) dim u v x) changed) }
 {
@@ -128,14 +124,13 @@ fn link_pair(
 fn link_from(
     instance: &Instance,
     state: &mut EdgeState,
-    lines: &mut Vec<Step>,
+    lines: &mut StepList,
     dim: u32,
     u: u32,
 ) -> Result<bool, NoMemory>
     requires sizes { IsSized instance.now state.old dim }
     requires u { u < box_count instance.now }
-    ensures { IfOk result (λ changed. IsLinkTry instance.now state.old state.new
-        (plain_steps lines.old.items) (plain_steps lines.new.items)
+    ensures { IfOk result (λ changed. IsLinkTry instance.now state.old state.new lines.old lines.new
         ((v : ℕ) → v < box_count instance.now → (x : ℕ) → x < box_count instance.now
         → IsLinkedAt (box_count instance.now) (excludes state.old.trail) dim u v x) changed) }
 {
@@ -153,12 +148,11 @@ fn link_from(
 fn link_any(
     instance: &Instance,
     state: &mut EdgeState,
-    lines: &mut Vec<Step>,
+    lines: &mut StepList,
     dim: u32,
 ) -> Result<bool, NoMemory>
     requires sizes { IsSized instance.now state.old dim }
-    ensures { IfOk result (λ changed. IsLinkTry instance.now state.old state.new
-        (plain_steps lines.old.items) (plain_steps lines.new.items)
+    ensures { IfOk result (λ changed. IsLinkTry instance.now state.old state.new lines.old lines.new
         ((u : ℕ) → u < box_count instance.now → (v : ℕ) → v < box_count instance.now
         → (x : ℕ) → x < box_count instance.now
         → IsLinkedAt (box_count instance.now) (excludes state.old.trail) dim u v x) changed) }
@@ -176,12 +170,12 @@ fn link_any(
 pub(crate) fn link_through(
     instance: &Instance,
     state: &mut EdgeState,
-    lines: &mut Vec<Step>,
+    lines: &mut StepList,
     dim: u32,
 ) -> Result<(), NoMemory>
     requires sizes { IsSized instance.now state.old dim }
     ensures { OnOk result (IsLinkedThrough instance.now dim state.old state.new
-        (plain_steps lines.old.items) (plain_steps lines.new.items)) }
+        lines.old lines.new) }
 {
     let mut changed = true;
     while changed {

@@ -5,13 +5,12 @@ ghost use Rattle.packing_terms.specs.Relations.{mirror};
 ghost use Rattle.packing_terms.specs.Exclusions.{excludes, IsEdgeAmong, IsJoined, IsSurelyBefore};
 ghost use Rattle.packing_terms.specs.Rules.{Rule, AreBoxesAmong};
 ghost use Rattle.packing_terms.specs.Rules.Rule.{Pair, Apart, Triple, Compose, Cycle, Order};
-ghost use Rattle.refutation_steps.specs.Goes.{plain_steps};
 ghost use Rattle.refutation_steps.specs.Places.{IsPlaced, IsSought, IsPlain};
 
 use crate::steps::{step_apart, step_compose, step_cycle, step_order, step_pair, step_triple};
 use box_instances::{Instance, NoMemory};
 use edge_state::{EdgeState, Exclusion, Rel};
-use line_proofs::Step;
+use line_proofs::StepList;
 
 /// Whether the exclusion is there.
 #[inline]
@@ -46,12 +45,12 @@ fn are_four(a: u32, b: u32, c: u32, d: u32) -> bool
 fn seek_pair(
     instance: &Instance,
     state: &mut EdgeState,
-    lines: &mut Vec<Step>,
+    lines: &mut StepList,
     e: Exclusion,
 ) -> Result<(), NoMemory>
     requires placed { IsPlaced instance.now state.old e }
-    ensures { OnOk result (IsSought instance.now state.old state.new (plain_steps lines.old.items)
-        (plain_steps lines.new.items) e (λ rule. rule ≡ Pair e.dim e.u e.v)) }
+    ensures { OnOk result (IsSought instance.now state.old state.new lines.old lines.new
+        e (λ rule. rule ≡ Pair e.dim e.u e.v)) }
 {
     if is_there(state, e) {
         return Ok(());
@@ -63,12 +62,12 @@ fn seek_pair(
 fn seek_apart(
     instance: &Instance,
     state: &mut EdgeState,
-    lines: &mut Vec<Step>,
+    lines: &mut StepList,
     e: Exclusion,
 ) -> Result<(), NoMemory>
     requires placed { IsPlaced instance.now state.old e }
-    ensures { OnOk result (IsSought instance.now state.old state.new (plain_steps lines.old.items)
-        (plain_steps lines.new.items) e (λ rule. rule ≡ Apart e.dim e.u e.v)) }
+    ensures { OnOk result (IsSought instance.now state.old state.new lines.old lines.new
+        e (λ rule. rule ≡ Apart e.dim e.u e.v)) }
 {
     if is_there(state, e) {
         return Ok(());
@@ -80,14 +79,14 @@ fn seek_apart(
 fn triple_with(
     instance: &Instance,
     state: &mut EdgeState,
-    lines: &mut Vec<Step>,
+    lines: &mut StepList,
     e: Exclusion,
     x: u32,
 ) -> Result<(), NoMemory>
     requires placed { IsPlaced instance.now state.old e }
     requires x { x < box_count instance.now }
-    ensures { OnOk result (IsSought instance.now state.old state.new (plain_steps lines.old.items)
-        (plain_steps lines.new.items) e (λ rule. rule ≡ Triple e.dim e.u e.v x)) }
+    ensures { OnOk result (IsSought instance.now state.old state.new lines.old lines.new
+        e (λ rule. rule ≡ Triple e.dim e.u e.v x)) }
 {
     if !are_three(e.u, e.v, x) {
         return Ok(());
@@ -102,12 +101,11 @@ fn triple_with(
 fn seek_triple(
     instance: &Instance,
     state: &mut EdgeState,
-    lines: &mut Vec<Step>,
+    lines: &mut StepList,
     e: Exclusion,
 ) -> Result<(), NoMemory>
     requires placed { IsPlaced instance.now state.old e }
-    ensures { OnOk result (IsSought instance.now state.old state.new (plain_steps lines.old.items)
-        (plain_steps lines.new.items) e
+    ensures { OnOk result (IsSought instance.now state.old state.new lines.old lines.new e
         (λ rule. (x : ℕ) × (x < box_count instance.now) × (rule ≡ Triple e.dim e.u e.v x))) }
 {
     for x in 0..instance.len() {
@@ -120,14 +118,14 @@ fn seek_triple(
 fn compose_with(
     instance: &Instance,
     state: &mut EdgeState,
-    lines: &mut Vec<Step>,
+    lines: &mut StepList,
     e: Exclusion,
     x: u32,
 ) -> Result<(), NoMemory>
     requires placed { IsPlaced instance.now state.old e }
     requires x { x < box_count instance.now }
-    ensures { OnOk result (IsSought instance.now state.old state.new (plain_steps lines.old.items)
-        (plain_steps lines.new.items) e (λ rule. rule ≡ Compose e.dim e.u x e.v)) }
+    ensures { OnOk result (IsSought instance.now state.old state.new lines.old lines.new
+        e (λ rule. rule ≡ Compose e.dim e.u x e.v)) }
 {
     if !are_three(e.u, x, e.v) {
         return Ok(());
@@ -142,12 +140,11 @@ fn compose_with(
 fn seek_compose(
     instance: &Instance,
     state: &mut EdgeState,
-    lines: &mut Vec<Step>,
+    lines: &mut StepList,
     e: Exclusion,
 ) -> Result<(), NoMemory>
     requires placed { IsPlaced instance.now state.old e }
-    ensures { OnOk result (IsSought instance.now state.old state.new (plain_steps lines.old.items)
-        (plain_steps lines.new.items) e
+    ensures { OnOk result (IsSought instance.now state.old state.new lines.old lines.new e
         (λ rule. (x : ℕ) × (x < box_count instance.now) × (rule ≡ Compose e.dim e.u x e.v))) }
 {
     for x in 0..instance.len() {
@@ -160,7 +157,7 @@ fn seek_compose(
 fn cycle_with(
     instance: &Instance,
     state: &mut EdgeState,
-    lines: &mut Vec<Step>,
+    lines: &mut StepList,
     e: Exclusion,
     a: u32,
     c: u32,
@@ -168,8 +165,8 @@ fn cycle_with(
     requires placed { IsPlaced instance.now state.old e }
     requires a { a < box_count instance.now }
     requires c { c < box_count instance.now }
-    ensures { OnOk result (IsSought instance.now state.old state.new (plain_steps lines.old.items)
-        (plain_steps lines.new.items) e (λ rule. rule ≡ Cycle e.dim a e.u c e.v)) }
+    ensures { OnOk result (IsSought instance.now state.old state.new lines.old lines.new
+        e (λ rule. rule ≡ Cycle e.dim a e.u c e.v)) }
 {
     if !are_four(a, e.u, c, e.v) {
         return Ok(());
@@ -184,14 +181,13 @@ fn cycle_with(
 fn cycles_with(
     instance: &Instance,
     state: &mut EdgeState,
-    lines: &mut Vec<Step>,
+    lines: &mut StepList,
     e: Exclusion,
     a: u32,
 ) -> Result<(), NoMemory>
     requires placed { IsPlaced instance.now state.old e }
     requires a { a < box_count instance.now }
-    ensures { OnOk result (IsSought instance.now state.old state.new (plain_steps lines.old.items)
-        (plain_steps lines.new.items) e
+    ensures { OnOk result (IsSought instance.now state.old state.new lines.old lines.new e
         (λ rule. (c : ℕ) × (c < box_count instance.now) × (rule ≡ Cycle e.dim a e.u c e.v))) }
 {
     for c in 0..instance.len() {
@@ -217,14 +213,14 @@ fn joins(state: &EdgeState, dim: u32, u: u32, v: u32) -> bool
 fn cycles_from(
     instance: &Instance,
     state: &mut EdgeState,
-    lines: &mut Vec<Step>,
+    lines: &mut StepList,
     e: Exclusion,
     a: u32,
 ) -> Result<(), NoMemory>
     requires placed { IsPlaced instance.now state.old e }
     requires a { a < box_count instance.now }
-    ensures { OnOk result (IsSought instance.now state.old state.new (plain_steps lines.old.items)
-        (plain_steps lines.new.items) e (λ rule. (c : ℕ) × (c < box_count instance.now)
+    ensures { OnOk result (IsSought instance.now state.old state.new lines.old lines.new
+        e (λ rule. (c : ℕ) × (c < box_count instance.now)
         × (rule ≡ Cycle e.dim a e.u c e.v))) }
 {
     if is_there(state, e) {
@@ -243,12 +239,11 @@ fn cycles_from(
 fn seek_cycle(
     instance: &Instance,
     state: &mut EdgeState,
-    lines: &mut Vec<Step>,
+    lines: &mut StepList,
     e: Exclusion,
 ) -> Result<(), NoMemory>
     requires placed { IsPlaced instance.now state.old e }
-    ensures { OnOk result (IsSought instance.now state.old state.new (plain_steps lines.old.items)
-        (plain_steps lines.new.items) e
+    ensures { OnOk result (IsSought instance.now state.old state.new lines.old lines.new e
         (λ rule. (a : ℕ) × (a < box_count instance.now)
         × ((c : ℕ) × (c < box_count instance.now) × (rule ≡ Cycle e.dim a e.u c e.v)))) }
 {
@@ -262,7 +257,7 @@ fn seek_cycle(
 fn order_with(
     instance: &Instance,
     state: &mut EdgeState,
-    lines: &mut Vec<Step>,
+    lines: &mut StepList,
     e: Exclusion,
     a: u32,
     d: u32,
@@ -270,8 +265,8 @@ fn order_with(
     requires placed { IsPlaced instance.now state.old e }
     requires a { a < box_count instance.now }
     requires d { d < box_count instance.now }
-    ensures { OnOk result (IsSought instance.now state.old state.new (plain_steps lines.old.items)
-        (plain_steps lines.new.items) e (λ rule. rule ≡ Order e.dim a e.v e.u d)) }
+    ensures { OnOk result (IsSought instance.now state.old state.new lines.old lines.new
+        e (λ rule. rule ≡ Order e.dim a e.v e.u d)) }
 {
     if !are_four(a, e.v, e.u, d) {
         return Ok(());
@@ -286,14 +281,13 @@ fn order_with(
 fn orders_with(
     instance: &Instance,
     state: &mut EdgeState,
-    lines: &mut Vec<Step>,
+    lines: &mut StepList,
     e: Exclusion,
     a: u32,
 ) -> Result<(), NoMemory>
     requires placed { IsPlaced instance.now state.old e }
     requires a { a < box_count instance.now }
-    ensures { OnOk result (IsSought instance.now state.old state.new (plain_steps lines.old.items)
-        (plain_steps lines.new.items) e
+    ensures { OnOk result (IsSought instance.now state.old state.new lines.old lines.new e
         (λ rule. (d : ℕ) × (d < box_count instance.now) × (rule ≡ Order e.dim a e.v e.u d))) }
 {
     for d in 0..instance.len() {
@@ -319,14 +313,14 @@ fn leads(state: &EdgeState, dim: u32, u: u32, v: u32) -> bool
 fn orders_from(
     instance: &Instance,
     state: &mut EdgeState,
-    lines: &mut Vec<Step>,
+    lines: &mut StepList,
     e: Exclusion,
     a: u32,
 ) -> Result<(), NoMemory>
     requires placed { IsPlaced instance.now state.old e }
     requires a { a < box_count instance.now }
-    ensures { OnOk result (IsSought instance.now state.old state.new (plain_steps lines.old.items)
-        (plain_steps lines.new.items) e (λ rule. (d : ℕ) × (d < box_count instance.now)
+    ensures { OnOk result (IsSought instance.now state.old state.new lines.old lines.new
+        e (λ rule. (d : ℕ) × (d < box_count instance.now)
         × (rule ≡ Order e.dim a e.v e.u d))) }
 {
     if is_there(state, e) {
@@ -342,12 +336,11 @@ fn orders_from(
 fn seek_order(
     instance: &Instance,
     state: &mut EdgeState,
-    lines: &mut Vec<Step>,
+    lines: &mut StepList,
     e: Exclusion,
 ) -> Result<(), NoMemory>
     requires placed { IsPlaced instance.now state.old e }
-    ensures { OnOk result (IsSought instance.now state.old state.new (plain_steps lines.old.items)
-        (plain_steps lines.new.items) e
+    ensures { OnOk result (IsSought instance.now state.old state.new lines.old lines.new e
         (λ rule. (a : ℕ) × (a < box_count instance.now)
         × ((d : ℕ) × (d < box_count instance.now) × (rule ≡ Order e.dim a e.v e.u d)))) }
 {
@@ -361,12 +354,12 @@ fn seek_order(
 pub(crate) fn seek_plain(
     instance: &Instance,
     state: &mut EdgeState,
-    lines: &mut Vec<Step>,
+    lines: &mut StepList,
     e: Exclusion,
 ) -> Result<(), NoMemory>
     requires placed { IsPlaced instance.now state.old e }
-    ensures { OnOk result (IsSought instance.now state.old state.new (plain_steps lines.old.items)
-        (plain_steps lines.new.items) e (λ rule. IsPlain rule)) }
+    ensures { OnOk result (IsSought instance.now state.old state.new lines.old lines.new
+        e (λ rule. IsPlain rule)) }
 {
     seek_pair(instance, state, lines, e)?;
     seek_apart(instance, state, lines, e)?;

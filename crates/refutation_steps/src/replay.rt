@@ -4,7 +4,6 @@ ghost use Rattle.packing_terms.specs.Packing.{dims, box_count};
 ghost use Rattle.packing_terms.specs.Exclusions.{excludes};
 ghost use Rattle.packing_terms.specs.Closure.{IsDerivation, IsSubset};
 ghost use Rattle.edge_state.specs.Edges.{oldest};
-ghost use Rattle.refutation_steps.specs.Goes.{plain_steps};
 ghost use Rattle.refutation_steps.specs.Places.{IsPlaced};
 ghost use Rattle.refutation_steps.specs.Replays.{IsPlainSought, AreChainsTried, IsMade, IsReplayed};
 ghost use Rattle.refutation_steps.specs.Chains.{HasWeights};
@@ -13,18 +12,17 @@ use crate::chain_steps::{ChainRoom, seek_chain};
 use crate::places::{is_there, seek_plain, turned_exclusion};
 use box_instances::{Instance, NoMemory};
 use edge_state::{EdgeState, Exclusion, Mark};
-use line_proofs::Step;
+use line_proofs::StepList;
 
 // All rules but CHAIN at the place of an exclusion, read from both boxes.
 fn seek_both(
     instance: &Instance,
     state: &mut EdgeState,
-    lines: &mut Vec<Step>,
+    lines: &mut StepList,
     e: Exclusion,
 ) -> Result<(), NoMemory>
     requires { IsPlaced instance.now state.old e }
-    ensures { OnOk result (IsPlainSought instance.now state.old state.new
-        (plain_steps lines.old.items) (plain_steps lines.new.items) e) }
+    ensures { OnOk result (IsPlainSought instance.now state.old state.new lines.old lines.new e) }
 {
     let turned = turned_exclusion(e);
     seek_plain(instance, state, lines, e)?;
@@ -35,7 +33,7 @@ fn seek_both(
 fn seek_chains(
     instance: &Instance,
     state: &mut EdgeState,
-    lines: &mut Vec<Step>,
+    lines: &mut StepList,
     room: &mut ChainRoom,
     e: Exclusion,
 ) -> Result<bool, NoMemory>
@@ -43,7 +41,7 @@ fn seek_chains(
     requires room { HasWeights (box_count instance.now) room.old.head.items room.old.tail.items }
     ensures room { HasWeights (box_count instance.now) room.new.head.items room.new.tail.items }
     ensures sought { IfOk result (λ stopped. AreChainsTried instance.now state.old state.new
-        (plain_steps lines.old.items) (plain_steps lines.new.items) e stopped) }
+        lines.old lines.new e stopped) }
 {
     let turned = turned_exclusion(e);
     let stopped = seek_chain(instance, state, lines, room, e)?;
@@ -57,7 +55,7 @@ fn seek_chains(
 fn make(
     instance: &Instance,
     state: &mut EdgeState,
-    lines: &mut Vec<Step>,
+    lines: &mut StepList,
     room: &mut ChainRoom,
     e: Exclusion,
 ) -> Result<bool, NoMemory>
@@ -65,7 +63,7 @@ fn make(
     requires room { HasWeights (box_count instance.now) room.old.head.items room.old.tail.items }
     ensures room { HasWeights (box_count instance.now) room.new.head.items room.new.tail.items }
     ensures made { IfOk result (λ stopped. IsMade instance.now state.old state.new
-        (plain_steps lines.old.items) (plain_steps lines.new.items) e stopped) }
+        lines.old lines.new e stopped) }
 {
     if is_there(state, e) {
         return Ok(false);
@@ -83,7 +81,7 @@ fn make(
 pub(crate) fn replay_on(
     instance: &Instance,
     state: &mut EdgeState,
-    lines: &mut Vec<Step>,
+    lines: &mut StepList,
     room: &mut ChainRoom,
     closed: &EdgeState,
     from: Mark,
@@ -98,7 +96,7 @@ pub(crate) fn replay_on(
     requires room { HasWeights (box_count instance.now) room.old.head.items room.old.tail.items }
     ensures room { HasWeights (box_count instance.now) room.new.head.items room.new.tail.items }
     ensures replayed { IfOk result (λ stopped. IsReplayed instance.now state.old state.new
-        (plain_steps lines.old.items) (plain_steps lines.new.items) closed.now.trail stopped) }
+        lines.old lines.new closed.now.trail stopped) }
 {
     // For the proof alone: tells the limits of the state.
     let _sizes = closed.dims();

@@ -5,7 +5,6 @@ ghost use Rattle.packing_terms.specs.Exclusions.{excludes};
 ghost use Rattle.packing_terms.specs.Closure.{IsSubset};
 ghost use Rattle.rule_terms.specs.Applied.{Extends};
 ghost use Rattle.rule_closure.specs.Closes.{IsClosed};
-ghost use Rattle.refutation_steps.specs.Goes.{plain_steps};
 ghost use Rattle.refutation_steps.specs.Nodes.{IsKnown, IsSettled};
 ghost use Rattle.refutation_steps.specs.Walks.{IsFor};
 
@@ -51,7 +50,7 @@ pub(crate) fn settle(
     ensures pending { walk.new.pending ≡ walk.old.pending }
     ensures extends { Extends instance.now walk.old.given.trail walk.new.given.trail }
     ensures settled { IfOk result (λ ended. IsSettled instance.now walk.old.state walk.new.state
-        (plain_steps walk.old.lines.items) (plain_steps walk.new.lines.items)
+        walk.old.lines walk.new.lines
         walk.new.given.trail ended) }
 {
     let from = walk.given.mark();

@@ -3,13 +3,12 @@ ghost use Rattle.std.specs.Prelude.{◌≡◌, [], IsTrue, IfOk, MatchOption};
 ghost use Rattle.explained_terms.specs.Steps.{tokens_among};
 ghost use Rattle.explained_terms.specs.Explaining.{Explains};
 ghost use Rattle.proof_tree.specs.Plain.{plain_tokens};
-ghost use Rattle.refutation_steps.specs.Goes.{plain_steps};
 
 use crate::closings::{begin_closings, trace_token};
 use crate::tracing::Trace;
 use crate::written::written;
 use box_instances::{Instance, NoMemory};
-use line_proofs::{Auditor, Step};
+use line_proofs::{Auditor, StepList};
 use proof_tree::Token;
 use std::alloc::Global;
 
@@ -27,13 +26,14 @@ fn traced(alloc: Global, instance: &Instance, tokens: &[Token]) -> Result<Option
 }
 
 // Whether an auditor accepts the lines whole.
-fn is_accepted(alloc: Global, instance: &Instance, lines: &[Step]) -> Result<bool, NoMemory>
+fn is_accepted(alloc: Global, instance: &Instance, lines: &StepList) -> Result<bool, NoMemory>
     ensures { IfOk result (λ accepted. IsTrue accepted
-        → Explains instance.now [] (plain_steps lines.now)) }
+        → Explains instance.now [] lines.now) }
 {
     let mut auditor = Auditor::new(alloc, instance)?;
-    for line in lines {
-        auditor.feed(line);
+    for k in 0..lines.len() {
+        let line = lines.at(k);
+        auditor.feed(line.step());
     }
     Ok(auditor.whole())
 }
@@ -44,16 +44,16 @@ pub(crate) fn short_explanation(
     alloc: Global,
     instance: &Instance,
     tokens: &[Token],
-) -> Result<Option<Vec<Step>>, NoMemory>
+) -> Result<Option<StepList>, NoMemory>
     ensures { IfOk result (λ short. MatchOption short (Unit {0}) (λ lines.
-        Explains instance.now [] (plain_steps lines.items)
-        × (tokens_among (plain_steps lines.items) ≡ plain_tokens tokens.now))) }
+        Explains instance.now [] lines
+        × (tokens_among lines ≡ plain_tokens tokens.now))) }
 {
     let Some(trace) = traced(alloc, instance, tokens)? else {
         return Ok(None);
     };
     let lines = written(alloc, &trace, tokens)?;
-    if is_accepted(alloc, instance, lines.as_slice())? {
+    if is_accepted(alloc, instance, &lines)? {
         return Ok(Some(lines));
     }
     Ok(None)

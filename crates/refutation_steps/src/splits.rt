@@ -3,7 +3,6 @@ ghost use Rattle.std.specs.Prelude.{◌≡◌, ◌≤◌, ◌++◌, ◌∷◌, [
 ghost use Rattle.packing_terms.specs.Refutation.{exclusion_in_text};
 ghost use Rattle.explained_terms.specs.Steps.PlainStep.{Plain as PlainPlain};
 ghost use Rattle.proof_tree.specs.Plain.{plain_token};
-ghost use Rattle.refutation_steps.specs.Goes.{plain_steps};
 ghost use Rattle.refutation_steps.specs.Walks.{child_of, IsSplit, IsApartSplit, IsOrderSplit};
 
 use crate::pending::{Pending, push_pending};

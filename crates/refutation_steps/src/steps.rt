@@ -5,27 +5,25 @@ ghost use Rattle.packing_terms.specs.Limits.{IsDimCount, IsBoxCount};
 ghost use Rattle.packing_terms.specs.Rules.{Rule, AreBoxesAmong};
 ghost use Rattle.packing_terms.specs.Rules.Rule.{Pair, Apart, Triple, Compose, Cycle, Order};
 ghost use Rattle.line_proofs.specs.Plain.{plain_step};
-ghost use Rattle.refutation_steps.specs.Goes.{plain_steps, IsStepped};
+ghost use Rattle.refutation_steps.specs.Goes.{IsStepped};
 
 use box_instances::{Instance, NoMemory};
 use edge_state::EdgeState;
-use line_proofs::{Step, take_apart, take_compose, take_cycle, take_order, take_pair, take_triple};
+use line_proofs::{
+    Step, StepList, take_apart, take_compose, take_cycle, take_order, take_pair, take_triple,
+};
 
 /// A line more.
-pub(crate) fn write_line(lines: &mut Vec<Step>, step: Step) -> Result<(), NoMemory>
-    ensures { OnOk result (plain_steps lines.new.items
-        ≡ plain_steps lines.old.items ++ plain_step step ∷ []) }
+pub(crate) fn write_line(lines: &mut StepList, step: Step) -> Result<(), NoMemory>
+    ensures { OnOk result (lines.new ≡ lines.old ++ plain_step step ∷ []) }
 {
-    let Ok(()) = lines.push(step) else {
-        return Err(NoMemory);
-    };
-    Ok(())
+    lines.push(step)
 }
 
 // The line of a step, where the step was taken.
-fn write_taken(lines: &mut Vec<Step>, taken: bool, step: Step) -> Result<(), NoMemory>
-    ensures { OnOk result (plain_steps lines.new.items ≡ (if taken
-        then plain_steps lines.old.items ++ plain_step step ∷ [] else plain_steps lines.old.items)) }
+fn write_taken(lines: &mut StepList, taken: bool, step: Step) -> Result<(), NoMemory>
+    ensures { OnOk result (lines.new ≡ (if taken
+        then lines.old ++ plain_step step ∷ [] else lines.old)) }
 {
     if !taken {
         return Ok(());
@@ -37,7 +35,7 @@ fn write_taken(lines: &mut Vec<Step>, taken: bool, step: Step) -> Result<(), NoM
 pub(crate) fn step_pair(
     instance: &Instance,
     state: &mut EdgeState,
-    lines: &mut Vec<Step>,
+    lines: &mut StepList,
     dim: u32,
     u: u32,
     v: u32,
@@ -47,7 +45,7 @@ pub(crate) fn step_pair(
     requires dim { dim < state.old.dims }
     requires boxes { AreBoxesAmong state.old.boxes (u ∷ v ∷ []) }
     ensures { OnOk result (IsStepped instance.now state.old state.new
-        (plain_steps lines.old.items) (plain_steps lines.new.items) (Pair dim u v)) }
+        lines.old lines.new (Pair dim u v)) }
 {
     // For the proof alone: tells the limits of the state.
     let _sizes = state.dims();
@@ -64,7 +62,7 @@ pub(crate) fn step_pair(
 pub(crate) fn step_apart(
     instance: &Instance,
     state: &mut EdgeState,
-    lines: &mut Vec<Step>,
+    lines: &mut StepList,
     dim: u32,
     u: u32,
     v: u32,
@@ -74,7 +72,7 @@ pub(crate) fn step_apart(
     requires dim { dim < state.old.dims }
     requires boxes { AreBoxesAmong state.old.boxes (u ∷ v ∷ []) }
     ensures { OnOk result (IsStepped instance.now state.old state.new
-        (plain_steps lines.old.items) (plain_steps lines.new.items) (Apart dim u v)) }
+        lines.old lines.new (Apart dim u v)) }
 {
     // For the proof alone: tells the limits of the state.
     let _sizes = state.dims();
@@ -91,7 +89,7 @@ pub(crate) fn step_apart(
 pub(crate) fn step_triple(
     instance: &Instance,
     state: &mut EdgeState,
-    lines: &mut Vec<Step>,
+    lines: &mut StepList,
     dim: u32,
     u: u32,
     v: u32,
@@ -102,7 +100,7 @@ pub(crate) fn step_triple(
     requires dim { dim < state.old.dims }
     requires boxes { AreBoxesAmong state.old.boxes (u ∷ v ∷ x ∷ []) }
     ensures { OnOk result (IsStepped instance.now state.old state.new
-        (plain_steps lines.old.items) (plain_steps lines.new.items) (Triple dim u v x)) }
+        lines.old lines.new (Triple dim u v x)) }
 {
     // For the proof alone: tells the limits of the state.
     let _sizes = state.dims();
@@ -120,7 +118,7 @@ pub(crate) fn step_triple(
 pub(crate) fn step_compose(
     instance: &Instance,
     state: &mut EdgeState,
-    lines: &mut Vec<Step>,
+    lines: &mut StepList,
     dim: u32,
     u: u32,
     v: u32,
@@ -131,7 +129,7 @@ pub(crate) fn step_compose(
     requires dim { dim < state.old.dims }
     requires boxes { AreBoxesAmong state.old.boxes (u ∷ v ∷ x ∷ []) }
     ensures { OnOk result (IsStepped instance.now state.old state.new
-        (plain_steps lines.old.items) (plain_steps lines.new.items) (Compose dim u v x)) }
+        lines.old lines.new (Compose dim u v x)) }
 {
     // For the proof alone: tells the limits of the state.
     let _sizes = state.dims();
@@ -149,7 +147,7 @@ pub(crate) fn step_compose(
 pub(crate) fn step_cycle(
     instance: &Instance,
     state: &mut EdgeState,
-    lines: &mut Vec<Step>,
+    lines: &mut StepList,
     dim: u32,
     a: u32,
     b: u32,
@@ -161,7 +159,7 @@ pub(crate) fn step_cycle(
     requires dim { dim < state.old.dims }
     requires boxes { AreBoxesAmong state.old.boxes (a ∷ b ∷ c ∷ d ∷ []) }
     ensures { OnOk result (IsStepped instance.now state.old state.new
-        (plain_steps lines.old.items) (plain_steps lines.new.items) (Cycle dim a b c d)) }
+        lines.old lines.new (Cycle dim a b c d)) }
 {
     // For the proof alone: tells the limits of the state.
     let _sizes = state.dims();
@@ -180,7 +178,7 @@ pub(crate) fn step_cycle(
 pub(crate) fn step_order(
     instance: &Instance,
     state: &mut EdgeState,
-    lines: &mut Vec<Step>,
+    lines: &mut StepList,
     dim: u32,
     a: u32,
     b: u32,
@@ -192,7 +190,7 @@ pub(crate) fn step_order(
     requires dim { dim < state.old.dims }
     requires boxes { AreBoxesAmong state.old.boxes (a ∷ b ∷ c ∷ d ∷ []) }
     ensures { OnOk result (IsStepped instance.now state.old state.new
-        (plain_steps lines.old.items) (plain_steps lines.new.items) (Order dim a b c d)) }
+        lines.old lines.new (Order dim a b c d)) }
 {
     // For the proof alone: tells the limits of the state.
     let _sizes = state.dims();

@@ -7,7 +7,8 @@ use crate::heaviest::{Weights, first_weights};
 use crate::marks::{
     AFTER, ALL, BEFORE, Marked, Marks, OVERLAP, Spot, as_marked, at_place, bits_there, turned_spot,
 };
-use crate::reasons::{Reason, need_reason};
+use crate::reasons::need_reason;
+use crate::short_reasons::ShortReason;
 use box_instances::{Instance, NoMemory};
 use edge_state::{EdgeState, Mark};
 use std::alloc::Global;
@@ -42,7 +43,7 @@ pub struct Trace {
     trail: Vec<Marked>,
     clash: Option<Spot>,
     open: Vec<Open>,
-    pub reasons: Vec<Reason>,
+    pub reasons: Vec<ShortReason>,
     pub boxes: Vec<u32>,
     spans: Vec<Span>,
 }
@@ -123,14 +124,18 @@ fn find_some(trace: &mut Trace, sought: Sought) -> Result<Option<Found>, NoMemor
     Ok(None)
 }
 
-// A reason more, with what it needs.
+// A reason more, with what it needs. One that has no short form has boxes of a chain at a position
+// that no memory of today holds, so that is want of memory.
 fn push_found(trace: &mut Trace, found: Option<Found>, wanted: u8) -> Result<(), NoMemory> {
     let Some(Found { reason, bits }) = found else {
         return Ok(());
     };
     let boxes = trace.boxes.as_slice();
     need_reason(&trace.facts, &mut trace.needs, boxes, reason, bits & wanted);
-    let Ok(()) = trace.reasons.push(reason) else {
+    let Some(short) = ShortReason::of(reason) else {
+        return Err(NoMemory);
+    };
+    let Ok(()) = trace.reasons.push(short) else {
         return Err(NoMemory);
     };
     Ok(())

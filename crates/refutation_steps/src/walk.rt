@@ -5,7 +5,6 @@ ghost use Rattle.packing_terms.specs.Refutation.{Refutes};
 ghost use Rattle.explained_terms.specs.Steps.{tokens_among};
 ghost use Rattle.explained_terms.specs.Explaining.{Explains};
 ghost use Rattle.proof_tree.specs.Plain.{plain_tokens};
-ghost use Rattle.refutation_steps.specs.Goes.{plain_steps};
 ghost use Rattle.refutation_steps.specs.Walks.{IsFor, IsBetween, IsAt};
 
 use crate::chain_steps::chain_room;
@@ -15,7 +14,7 @@ use crate::taking::take_token;
 use crate::walk_state::Walk;
 use box_instances::{Instance, NoMemory};
 use edge_state::{EdgeState, Mark};
-use line_proofs::Step;
+use line_proofs::StepList;
 use proof_tree::Token;
 use rule_closure::Closer;
 use std::alloc::Global;
@@ -23,7 +22,7 @@ use std::alloc::Global;
 // A walk before its first node.
 fn begin(alloc: Global, instance: &Instance) -> Result<Walk, NoMemory>
     ensures sizes { IfOk result (λ walk. IsFor instance.now walk) }
-    ensures lines { IfOk result (λ walk. plain_steps walk.lines.items ≡ []) }
+    ensures lines { IfOk result (λ walk. walk.lines ≡ []) }
     ensures between { IfOk result (λ walk. (tokens : List PlainToken)
         → Refutes instance.now [] tokens → IsBetween instance.now walk tokens) }
 {
@@ -48,7 +47,7 @@ fn begin(alloc: Global, instance: &Instance) -> Result<Walk, NoMemory>
         closer,
         room,
         pending,
-        lines: Vec::new(alloc),
+        lines: StepList::new(alloc),
     })
 }
 
@@ -79,16 +78,12 @@ fn enter_next(instance: &Instance, walk: &mut Walk) -> Option<Mark>
 }
 
 // Every step to all that each closing adds: an explanation for every refutation.
-fn explain_whole(
-    alloc: Global,
-    instance: &Instance,
-    tokens: &[Token],
-) -> Result<Vec<Step>, NoMemory>
+fn explain_whole(alloc: Global, instance: &Instance, tokens: &[Token]) -> Result<StepList, NoMemory>
     requires { Refutes instance.now [] (plain_tokens tokens.now) }
     ensures explains { IfOk result (λ lines.
-        Explains instance.now [] (plain_steps lines.items)) }
+        Explains instance.now [] lines) }
     ensures tokens { IfOk result (λ lines.
-        tokens_among (plain_steps lines.items) ≡ plain_tokens tokens.now) }
+        tokens_among lines ≡ plain_tokens tokens.now) }
 {
     let mut walk = begin(alloc, instance)?;
     for token in tokens {
@@ -105,12 +100,12 @@ fn explain_whole(
 /// The tokens are an inner refutation of the instance. Each node's own exclusions are closed, and
 /// of what the closing adds only what a conflict or a split needs is explained, traced back from
 /// there. Were that not accepted by an auditor, all of it would be, the oldest first.
-pub fn explain(alloc: Global, instance: &Instance, tokens: &[Token]) -> Result<Vec<Step>, NoMemory>
+pub fn explain(alloc: Global, instance: &Instance, tokens: &[Token]) -> Result<StepList, NoMemory>
     requires { Refutes instance.now [] (plain_tokens tokens.now) }
     ensures explains { IfOk result (λ lines.
-        Explains instance.now [] (plain_steps lines.items)) }
+        Explains instance.now [] lines) }
     ensures tokens { IfOk result (λ lines.
-        tokens_among (plain_steps lines.items) ≡ plain_tokens tokens.now) }
+        tokens_among lines ≡ plain_tokens tokens.now) }
 {
     match short_explanation(alloc, instance, tokens)? {
         Some(lines) => Ok(lines),

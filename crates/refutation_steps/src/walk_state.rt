@@ -2,7 +2,7 @@
 use crate::chain_steps::ChainRoom;
 use crate::pending::Pending;
 use edge_state::EdgeState;
-use line_proofs::Step;
+use line_proofs::StepList;
 use rule_closure::Closer;
 
 /// The exclusions that are held at a node, to which the lines lead; those that are given there, by
@@ -15,5 +15,5 @@ pub struct Walk {
     pub closer: Closer,
     pub room: ChainRoom,
     pub pending: Vec<Pending>,
-    pub lines: Vec<Step>,
+    pub lines: StepList,
 }

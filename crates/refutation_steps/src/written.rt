@@ -3,7 +3,6 @@ ghost use Rattle.std.specs.Prelude.{◌≡◌, [], ◌∷◌, ◌++◌, OnOk, If
 ghost use Rattle.explained_terms.specs.Steps.{tokens_among};
 ghost use Rattle.line_proofs.specs.Plain.{plain_step};
 ghost use Rattle.proof_tree.specs.Plain.{plain_token, plain_tokens};
-ghost use Rattle.refutation_steps.specs.Goes.{plain_steps};
 ghost use Rattle.refutation_steps.specs.Shortened.{IsNoToken};
 
 use crate::marks::Spot;
@@ -11,7 +10,7 @@ use crate::reasons::{Reason, box_of};
 use crate::steps::write_line;
 use crate::tracing::{Span, Trace};
 use box_instances::NoMemory;
-use line_proofs::Step;
+use line_proofs::{Step, StepList};
 use proof_tree::{Token, copy_token};
 use std::alloc::Global;
 
@@ -21,26 +20,23 @@ fn numbered(number: u32) -> u32 {
 }
 
 // A line that is no token.
-fn write_step(lines: &mut Vec<Step>, step: Step) -> Result<(), NoMemory>
+fn write_step(lines: &mut StepList, step: Step) -> Result<(), NoMemory>
     requires { IsNoToken (plain_step step) }
-    ensures { OnOk result (tokens_among (plain_steps lines.new.items)
-        ≡ tokens_among (plain_steps lines.old.items)) }
+    ensures { OnOk result (tokens_among lines.new ≡ tokens_among lines.old) }
 {
     write_line(lines, step)
 }
 
-fn write_box(lines: &mut Vec<Step>, boxes: &[u32], at: usize) -> Result<(), NoMemory>
-    ensures { OnOk result (tokens_among (plain_steps lines.new.items)
-        ≡ tokens_among (plain_steps lines.old.items)) }
+fn write_box(lines: &mut StepList, boxes: &[u32], at: usize) -> Result<(), NoMemory>
+    ensures { OnOk result (tokens_among lines.new ≡ tokens_among lines.old) }
 {
     let box_no = numbered(box_of(boxes, at));
     write_step(lines, Step::On { box_no })
 }
 
 // The boxes of a chain that ends where its list begins.
-fn write_back(lines: &mut Vec<Step>, boxes: &[u32], from: usize, count: u32) -> Result<(), NoMemory>
-    ensures { OnOk result (tokens_among (plain_steps lines.new.items)
-        ≡ tokens_among (plain_steps lines.old.items)) }
+fn write_back(lines: &mut StepList, boxes: &[u32], from: usize, count: u32) -> Result<(), NoMemory>
+    ensures { OnOk result (tokens_among lines.new ≡ tokens_among lines.old) }
 {
     for k in 0..count {
         let back = (count - 1 - k) as usize;
@@ -50,9 +46,8 @@ fn write_back(lines: &mut Vec<Step>, boxes: &[u32], from: usize, count: u32) -> 
 }
 
 // The boxes of a chain that starts where its list begins.
-fn write_on(lines: &mut Vec<Step>, boxes: &[u32], from: usize, count: u32) -> Result<(), NoMemory>
-    ensures { OnOk result (tokens_among (plain_steps lines.new.items)
-        ≡ tokens_among (plain_steps lines.old.items)) }
+fn write_on(lines: &mut StepList, boxes: &[u32], from: usize, count: u32) -> Result<(), NoMemory>
+    ensures { OnOk result (tokens_among lines.new ≡ tokens_among lines.old) }
 {
     for k in 0..count {
         write_box(lines, boxes, from.wrapping_add(k as usize))?;
@@ -62,15 +57,14 @@ fn write_on(lines: &mut Vec<Step>, boxes: &[u32], from: usize, count: u32) -> Re
 
 // The lines of a chain step.
 fn write_chain(
-    lines: &mut Vec<Step>,
+    lines: &mut StepList,
     boxes: &[u32],
     dim: u32,
     from: usize,
     first: u32,
     second: u32,
 ) -> Result<(), NoMemory>
-    ensures { OnOk result (tokens_among (plain_steps lines.new.items)
-        ≡ tokens_among (plain_steps lines.old.items)) }
+    ensures { OnOk result (tokens_among lines.new ≡ tokens_among lines.old) }
 {
     let step = Step::Chain {
         dim: numbered(dim),
@@ -137,9 +131,8 @@ fn step_of(reason: Reason) -> Step
 }
 
 // The lines of a reason.
-fn write_reason(lines: &mut Vec<Step>, boxes: &[u32], reason: Reason) -> Result<(), NoMemory>
-    ensures { OnOk result (tokens_among (plain_steps lines.new.items)
-        ≡ tokens_among (plain_steps lines.old.items)) }
+fn write_reason(lines: &mut StepList, boxes: &[u32], reason: Reason) -> Result<(), NoMemory>
+    ensures { OnOk result (tokens_among lines.new ≡ tokens_among lines.old) }
 {
     match reason {
         Reason::Chain {
@@ -153,20 +146,18 @@ fn write_reason(lines: &mut Vec<Step>, boxes: &[u32], reason: Reason) -> Result<
 }
 
 // The lines of one reason of the list, where there is one.
-fn write_reason_at(lines: &mut Vec<Step>, trace: &Trace, at: usize) -> Result<(), NoMemory>
-    ensures { OnOk result (tokens_among (plain_steps lines.new.items)
-        ≡ tokens_among (plain_steps lines.old.items)) }
+fn write_reason_at(lines: &mut StepList, trace: &Trace, at: usize) -> Result<(), NoMemory>
+    ensures { OnOk result (tokens_among lines.new ≡ tokens_among lines.old) }
 {
     match trace.reasons.as_slice().get(at) {
-        Some(reason) => write_reason(lines, trace.boxes.as_slice(), *reason),
+        Some(short) => write_reason(lines, trace.boxes.as_slice(), short.reason()),
         None => Ok(()),
     }
 }
 
 // The lines of the reasons of a node, the last one first.
-fn write_reasons(lines: &mut Vec<Step>, trace: &Trace, span: Span) -> Result<(), NoMemory>
-    ensures { OnOk result (tokens_among (plain_steps lines.new.items)
-        ≡ tokens_among (plain_steps lines.old.items)) }
+fn write_reasons(lines: &mut StepList, trace: &Trace, span: Span) -> Result<(), NoMemory>
+    ensures { OnOk result (tokens_among lines.new ≡ tokens_among lines.old) }
 {
     for at in span.from..span.to {
         let back = span
@@ -198,13 +189,13 @@ fn line_of(alloc: Global, token: &Token, clash: Spot) -> Result<Step, NoMemory>
 // The lines of a token: its node's reasons, and its own line.
 fn write_token(
     alloc: Global,
-    lines: &mut Vec<Step>,
+    lines: &mut StepList,
     trace: &Trace,
     span: Span,
     token: &Token,
 ) -> Result<(), NoMemory>
-    ensures { OnOk result (tokens_among (plain_steps lines.new.items)
-        ≡ tokens_among (plain_steps lines.old.items) ++ plain_token token.now ∷ []) }
+    ensures { OnOk result (tokens_among lines.new
+        ≡ tokens_among lines.old ++ plain_token token.now ∷ []) }
 {
     write_reasons(lines, trace, span)?;
     let line = line_of(alloc, token, span.clash)?;
@@ -212,13 +203,11 @@ fn write_token(
 }
 
 /// The lines of all tokens, with the reasons that were traced for them.
-pub(crate) fn written(alloc: Global, trace: &Trace, tokens: &[Token]) -> Result<Vec<Step>, NoMemory>
-    ensures { IfOk result (λ lines. tokens_among (plain_steps lines.items)
+pub(crate) fn written(alloc: Global, trace: &Trace, tokens: &[Token]) -> Result<StepList, NoMemory>
+    ensures { IfOk result (λ lines. tokens_among lines
         ≡ plain_tokens tokens.now) }
 {
-    let Ok(mut lines) = Vec::with_capacity(alloc, trace.line_count()) else {
-        return Err(NoMemory);
-    };
+    let mut lines = StepList::with_capacity(alloc, trace.line_count())?;
     for at in 0..tokens.len() {
         let span = trace.span_at(at);
         write_token(alloc, &mut lines, trace, span, &tokens[at])?;

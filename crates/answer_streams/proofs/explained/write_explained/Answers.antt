@@ -1,12 +1,10 @@
-use Rattle.std.proofs.Common.{map}
 use Rattle.pack_streams.proofs.Writers.{more, same}
-use Rattle.line_proofs.specs.Plain.{plain_step}
 use Rattle.answer_streams.proofs.ExplainedTexts.{explained_parts}
 use Rattle.answer_streams.proofs.explained.write_explained.Goals as goal
 
 pub returns : goal.returns
 returns g c =
-    (same _ _ _ _ _ _ _ _ (explained_parts c.args.instance.now (map plain_step c.args.steps.now))
+    (same _ _ _ _ _ _ _ _ (explained_parts c.args.instance.now c.args.steps.now)
     (more _ _ _ _ _ _ _ _ _ _ _ c.write_on-named.ensures.goes_on
     (more _ _ _ _ _ _ _ _ _ _ _ c.write_instance_on-shown.ensures
     (more _ _ _ _ _ _ _ _ _ _ _ c.write_on-said.ensures.goes_on

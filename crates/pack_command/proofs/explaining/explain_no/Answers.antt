@@ -1,6 +1,5 @@
-use Rattle.std.proofs.Common.{◌∙◌, ap, map}
+use Rattle.std.proofs.Common.{◌∙◌, ap}
 use Rattle.proof_tree.specs.Plain.{plain_tokens}
-use Rattle.line_proofs.specs.Plain.{plain_step}
 use Rattle.pack_command.proofs.ExplainedAs.{held_limits, held_explained}
 use Rattle.pack_command.proofs.explaining.explain_no.Goals as goal
 
@@ -9,7 +8,7 @@ returns c =
     let held = c.in_ok-held.ensures in
     record {
       is = held_explained c.args.bytes.now c.in_ok-held.held.instance (plain_tokens c.in_ok-held.held.tokens.items)
-          (map plain_step c.in_ok-steps.steps.items) c.requires held
+          c.in_ok-steps.steps c.requires held
           c.in_ok-steps.ensures.explains (c.in_ok-steps.ensures.tokens ∙ ap plain_tokens c.as_slice.ensures.value);
       ready = held_limits c.args.bytes.now c.in_ok-held.held.instance
           (plain_tokens c.in_ok-held.held.tokens.items) held;

@@ -1,6 +1,5 @@
 use Rattle.std.proofs.Common.{◌-◌, length}
 use Rattle.packing_terms.specs.Packing.{box_count}
-use Rattle.refutation_steps.specs.Goes.{plain_steps}
 use Rattle.refutation_steps.specs.Chains.{HasWeights}
 use Rattle.refutation_steps.proofs.Replayed.{IsSoFar}
 use Rattle.refutation_steps.proofs.replay.replay_on.Given as goal
@@ -8,7 +7,7 @@ use Rattle.refutation_steps.proofs.replay.replay_on.Given as goal
 abbrev pub invariant-loop-change : goal.invariant-loop-change
 invariant-loop-change l =
     record {
-      so_far : IsSoFar l.instance l.fn.state l.state (plain_steps l.fn.lines.items) (plain_steps l.lines.items)
+      so_far : IsSoFar l.instance l.fn.state l.state l.fn.lines l.lines
           l.closed.trail l.fn.from l.at;
       room : HasWeights (box_count l.instance) l.room.head.items l.room.tail.items;
     }

@@ -1,6 +1,5 @@
 use Rattle.std.proofs.Common.{subst, sym}
 use Rattle.packing_terms.specs.declared.Exclusion.{Exclusion}
-use Rattle.refutation_steps.specs.Goes.{plain_steps}
 use Rattle.refutation_steps.specs.Places.{IsPlaced, IsSought, IsPlain}
 use Rattle.refutation_steps.specs.Replays.{turned_of}
 use Rattle.refutation_steps.proofs.Going.{on_ok}
@@ -23,6 +22,6 @@ pub returns : goal.returns
 returns c = on_ok c.seek_plain-2.result
     (λ s. plain_sought c.args.instance.now _ _ _ _ _ _ c.args.e c.in_ok-seek_plain.ensures
     (subst (λ (k : Exclusion). IsSought c.args.instance.now c.seek_plain.new.state c.seek_plain-2.new.state
-    (plain_steps c.seek_plain.new.lines.items) (plain_steps c.seek_plain-2.new.lines.items) k (λ rule. IsPlain rule))
+    c.seek_plain.new.lines c.seek_plain-2.new.lines k (λ rule. IsPlain rule))
     c.turned_exclusion-turned.ensures s))
     c.seek_plain-2.ensures

@@ -1,6 +1,5 @@
 use native.Mathlib.Numerals.{unary_clauses}
 use Rattle.std.proofs.Common.{[], ◌∷◌}
-use Rattle.refutation_steps.specs.Goes.{plain_steps}
 use Rattle.packing_terms.specs.Rules.Rule.{Triple}
 use Rattle.refutation_steps.proofs.Going.{on_ok, stepped, instance_of}
 use Rattle.refutation_steps.proofs.steps.step_triple.Goals as goal
@@ -9,8 +8,8 @@ pub returns : goal.returns
 returns c =
     on_ok c.write_taken.result
     (λ e. stepped c.args.instance.now c.args.state.now c.take_triple-taken.new.state
-    (Triple c.args.dim c.args.u c.args.v c.args.x) c.take_triple-taken.result (plain_steps c.args.lines.now.items)
-    (plain_steps c.write_taken.new.lines.items)
+    (Triple c.args.dim c.args.u c.args.v c.args.x) c.take_triple-taken.result c.args.lines.now
+    c.write_taken.new.lines
     (instance_of c.args.instance.now c.args.state.now c.args.dim (c.args.u ∷ c.args.v ∷ c.args.x ∷ []) c.requires.dims
     c.requires.count c.requires.dim c.requires.boxes) c.take_triple-taken.ensures e)
     (simp unary_clauses at c.write_taken.ensures)

@@ -1,7 +1,6 @@
 use Rattle.std.proofs.Common.{subst, arith, List, reverse, ◌∙◌}
 use Rattle.packing_terms.specs.Tokens.{PlainToken}
 use Rattle.proof_tree.specs.Plain.{plain_token}
-use Rattle.refutation_steps.specs.Goes.{plain_steps}
 use Rattle.refutation_steps.specs.Walks.{IsBetween}
 use Rattle.refutation_steps.proofs.Whole.{next_between, told_more, none_left, all_told, walked}
 use Rattle.refutation_steps.proofs.walk.explain_whole.Goals as goal
@@ -32,7 +31,7 @@ loop-token-preserved c = record {
       c.token-item.is
       c.args.instance.now c.loop-token.walk c.loop-token.invariant.between));
   told = told_more c.args.tokens.now c.loop-token.token-index c.token-item.result c.loop-token-test.true c.token-item.is
-      (plain_steps c.loop-token.walk.lines.items) (plain_steps c.take_token.new.walk.lines.items)
+      c.loop-token.walk.lines c.take_token.new.walk.lines
       c.loop-token.invariant.told
       (rw (← c.enter_next-closed.ensures.lines) c.in_ok-take_token.ensures.tokens);
 }
@@ -40,7 +39,7 @@ loop-token-preserved c = record {
 pub returns-clause-explains : goal.returns-clause-explains
 returns-clause-explains c =
     walked c.args.instance.now c.loop-token.walk.given.trail c.loop-token.walk.state.trail
-    (reverse c.loop-token.walk.pending.items) (plain_steps c.loop-token.walk.lines.items)
+    (reverse c.loop-token.walk.pending.items) c.loop-token.walk.lines
     (subst (λ (l : List PlainToken). IsBetween c.args.instance.now c.loop-token.walk l)
     (none_left c.args.tokens.now c.loop-token.token-index (let h = c.loop-token-test.false in omega (arith, h)))
     c.loop-token.invariant.between)

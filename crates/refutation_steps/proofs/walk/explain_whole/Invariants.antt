@@ -1,7 +1,6 @@
 use Rattle.std.proofs.Common.{◌≡◌, take, drop}
 use Rattle.explained_terms.specs.Steps.{tokens_among}
 use Rattle.proof_tree.specs.Plain.{plain_tokens}
-use Rattle.refutation_steps.specs.Goes.{plain_steps}
 use Rattle.refutation_steps.specs.Walks.{IsFor, IsBetween}
 use Rattle.refutation_steps.proofs.walk.explain_whole.Given as goal
 
@@ -10,5 +9,5 @@ invariant-loop-token l =
     record {
       sizes : IsFor l.instance l.walk;
       between : IsBetween l.instance l.walk (drop l.token-index (plain_tokens l.tokens));
-      told : tokens_among (plain_steps l.walk.lines.items) ≡ take l.token-index (plain_tokens l.tokens);
+      told : tokens_among l.walk.lines ≡ take l.token-index (plain_tokens l.tokens);
     }

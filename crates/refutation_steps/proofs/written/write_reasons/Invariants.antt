@@ -1,7 +1,6 @@
 use Rattle.std.proofs.Common.{◌≡◌}
 use Rattle.explained_terms.specs.Steps.{tokens_among}
-use Rattle.refutation_steps.specs.Goes.{plain_steps}
 use Rattle.refutation_steps.proofs.written.write_reasons.Given as goal
 
 abbrev pub invariant-loop-at : goal.invariant-loop-at
-invariant-loop-at l = tokens_among (plain_steps l.lines.items) ≡ tokens_among (plain_steps l.fn.lines.items)
+invariant-loop-at l = tokens_among l.lines ≡ tokens_among l.fn.lines

@@ -1,8 +1,7 @@
 use Rattle.std.proofs.Common.{◌≡◌, take}
 use Rattle.explained_terms.specs.Steps.{tokens_among}
 use Rattle.proof_tree.specs.Plain.{plain_tokens}
-use Rattle.refutation_steps.specs.Goes.{plain_steps}
 use Rattle.refutation_steps.proofs.written.written.Given as goal
 
 abbrev pub invariant-loop-at : goal.invariant-loop-at
-invariant-loop-at l = tokens_among (plain_steps l.lines.items) ≡ take l.at (plain_tokens l.tokens)
+invariant-loop-at l = tokens_among l.lines ≡ take l.at (plain_tokens l.tokens)
