@@ -317,9 +317,32 @@ def test_excess(line, problem, functions, copies):
     line.need(sum(volumes) > copies * prod(wholes), "excess")
 
 
+SHARES = 10**9  # the shares of the whole container
+
+
+def test_price(line, problem, choice, goal, weights, functions):
+    """Refuses the line unless what is in can't reach the goal with undecided boxes, priced by their shares.
+
+    `choice` has the values of all boxes, the set of those that are in and the set of those that are out."""
+    values, inside, outside = choice
+    on_value, on_share = weights
+    line.need(all(is_legal(*it, whole) for it, whole in zip(functions, problem.wholes)), "range")
+    dims = range(len(problem.wholes))
+    fitting = {box for box in range(problem.count) if not any(problem.has_long_side(i, box) for i in dims)}
+    line.need(inside <= fitting, "excess")
+    wholes, images = zip(*(scaled(*it, whole) for it, whole in zip(functions, problem.wholes)))
+    whole = prod(wholes)
+    volumes = {box: prod(image(row[box]) for image, row in zip(images, problem.widths)) for box in fitting}
+    shares = {box: SHARES * volume // whole if whole else 0 for box, volume in volumes.items()}
+    gains = (max(0, on_value * values[box] - on_share * shares[box]) for box in fitting - inside - outside)
+    supply = on_value * sum(values[box] for box in inside) + on_share * SHARES + sum(gains)
+    line.need(supply < on_value * goal + on_share * sum(shares[box] for box in inside), "excess")
+
+
 # Token lines
 
 TOKENS = {"a": (3,), "d": (3,), "x": (0,), "t": (2,), "b": (1,), "c": (1,), "s": (0, 1), "w": (0,)}
+BOUNDED = {**TOKENS, "u": ()}  # two weights and a tuple, which `token_of` reads
 STEPS = {"pair": 2, "apart": 2, "triple": 3, "compose": 3, "cycle": 4, "order": 4}
 EXPLAINED = {"a": (3,), "d": (3,), "x": (3,), "t": (2,), "chain": (3,), "on": (1,)}
 EXPLAINED.update((name, (1 + boxes,)) for name, boxes in STEPS.items())
@@ -328,11 +351,19 @@ EXPLAINED.update((name, (1 + boxes,)) for name, boxes in STEPS.items())
 def token_of(words, kinds, dims):
     """The kind of a token line with its numbers or functions, or `None` if the words are no line of these kinds."""
     kind, rest = words[0], words[1:]
-    if kind == "v" or (kind == "g" and kinds is TOKENS):
+    if kind == "v" or (kind == "g" and kinds is not EXPLAINED):
         functions = functions_of(rest)
         return (kind, functions) if functions and len(functions) == dims else None
-    are_parameters = all(is_number(word) and int(word) <= MAX_PARAMETER for word in rest)
+    if kind == "u" and kind in kinds:
+        weights, functions = rest[:2], functions_of(rest[2:])
+        are_all = all(map(is_parameter, weights)) and functions and len(functions) == dims
+        return (kind, ([int(word) for word in weights], functions)) if are_all else None
+    are_parameters = all(map(is_parameter, rest))
     return (kind, [int(word) for word in rest]) if len(rest) in kinds.get(kind, ()) and are_parameters else None
+
+
+def is_parameter(word):
+    return is_number(word) and int(word) <= MAX_PARAMETER
 
 
 def functions_of(words):
@@ -340,7 +371,7 @@ def functions_of(words):
     functions, rest = [], iter(words)
     for name in rest:
         parameter = "0" if name == "id" else next(rest, "")
-        if name not in ("id", "step", "cut", "count") or not is_number(parameter) or int(parameter) > MAX_PARAMETER:
+        if name not in ("id", "step", "cut", "count") or not is_parameter(parameter):
             return None
         functions.append((name, int(parameter)))
     return functions
@@ -607,12 +638,12 @@ def read_bin_tree(lines, problem, goal):
             read_tree(lines, problem.subset(sorted(bins[numbers[0] - 1])))
 
 
-def read_value_tree(lines, problem, values, goal):
+def read_value_tree(lines, problem, values, goal, kinds):
     """Reads a tree that refutes a value. A node is the set of boxes that are in and the set of those that are out."""
     open_nodes = [(frozenset(), frozenset())]
     while open_nodes:
         inside, outside = open_nodes.pop()
-        line, kind, numbers = read_token(lines, TOKENS, len(problem.wholes))
+        line, kind, numbers = read_token(lines, kinds, len(problem.wholes))
         if kind == "c":
             line.need(1 <= numbers[0] <= problem.count, "range")
             box = {numbers[0] - 1}
@@ -620,6 +651,8 @@ def read_value_tree(lines, problem, values, goal):
             open_nodes += [(inside, outside | box), (inside | box, outside)]
         elif kind == "w":
             line.need(sum(value for box, value in enumerate(values) if box not in outside) < goal, "value")
+        elif kind == "u":
+            test_price(line, problem, (values, inside, outside), goal, *numbers)
         else:
             line.need(kind == "s" and not numbers, "form")
             line.need(inside, "set")
@@ -834,15 +867,19 @@ def read_bins(lines):
     return spell("bins", claim, numbers)
 
 
-def read_knapsack(lines):
+def read_knapsack(lines, kinds=TOKENS):
     instance, result = read_instance(lines)
     claim, numbers = read_claim(result, {"greatest": 1, "between": 2})
     placed, refuted = numbers if claim == "between" else (numbers[0], numbers[0] + 1)
     result.need(placed < refuted, "range")
     read_taken(lines, instance, placed)
-    read_value_tree(lines, instance.problem(), instance.values, refuted)
-    lines.finish(is_token(TOKENS, len(instance.container)))
+    read_value_tree(lines, instance.problem(), instance.values, refuted, kinds)
+    lines.finish(is_token(kinds, len(instance.container)))
     return spell("knapsack", claim, numbers)
+
+
+def read_bounded(lines):
+    return "bounded " + read_knapsack(lines, BOUNDED)
 
 
 def read_explained(lines):
@@ -867,6 +904,7 @@ DOCUMENTS = {
     "audit": {
         "reduced fit": read_reduced(read_fit),
         "reduced strip": read_reduced(read_strip),
+        "bounded knapsack": read_bounded,
         "explained fit": read_explained,
         "front": read_front,
     },

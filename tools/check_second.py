@@ -31,7 +31,46 @@ TWO = "explained fit\nformat 1\ncontainer 10 10\nbox 6 6\nbox 6 6\nresult no\n"
 CUBES = "explained fit\nformat 1\ncontainer 10 10 10\nbox 6 6 6\nbox 6 6 6\nresult no\n"
 ROWS = "answer fit\nformat 1\ncontainer 10 100\n"
 STEPS = ROWS.replace("answer", "explained")
+SQUARES = "bounded knapsack\nformat 1\ncontainer 10 10\n" + "box 6 6 value 5\n" * 3
+SQUARES += "result greatest 5\ntake 1 0 0\nproof\n"
 NAMED = {
+    "a value by the whole shares of boxes": (
+        "audit",
+        SQUARES + "u 1000000000 5 step 1 step 1\nend\n",
+        "verified bounded knapsack greatest 5",
+    ),
+    "a value by shares that let two boxes in": ("audit", SQUARES + "u 1000000000 5 id id\nend\n", "refused 10 excess"),
+    "weights that leave the goal reached": (
+        "audit",
+        SQUARES + "u 5 1000000000 step 1 step 1\nend\n",
+        "refused 10 excess",
+    ),
+    "a price under answer": (
+        "check",
+        SQUARES.replace("bounded", "answer") + "u 1000000000 5 step 1 step 1\nend\n",
+        "refused 10 form",
+    ),
+    "a bounded document under check": ("check", SQUARES + "u 1000000000 5 step 1 step 1\nend\n", "refused 1 form"),
+    "a price with a function that is not legal": ("audit", SQUARES + "u 1 1 step 17 id\nend\n", "refused 10 range"),
+    "a price with one function": ("audit", SQUARES + "u 1 1 id\nend\n", "refused 10 form"),
+    "a price in an inner tree": ("audit", SQUARES + "c 1\nc 2\ns\nu 1 1 id id\nend\n", "refused 13 form"),
+    "a price behind a whole tree": (
+        "audit",
+        SQUARES + "u 1000000000 5 step 1 step 1\nu 1 1 id id\nend\n",
+        "refused 11 after",
+    ),
+    "a box that is too long is in": (
+        "audit",
+        SQUARES.replace("box 6 6 value 5\nresult", "box 6 11 value 5\nresult") + "c 3\nu 0 1 id id\n",
+        "refused 11 excess",
+    ),
+    "a box that is too long gains nothing": (
+        "audit",
+        SQUARES.replace("5\nresult", "900\nresult").replace("6 value 900", "11 value 900")
+        + "u 1000000000 5 step 1 step 1\nend\n",
+        "verified bounded knapsack greatest 5",
+    ),
+    "a bounded document of fit": ("audit", "bounded fit\nformat 1\n", "refused 1 form"),
     "a place below 0": ("check", BOARD + "result yes\nplace -6 0\nend\n", "refused 6 form"),
     "a second container behind the places": (
         "check",
@@ -229,6 +268,16 @@ def fresh_documents(program, rng, rounds):
                 yield name, run_program(program, words, text.encode())[1]
 
 
+def bounded(documents):
+    """Each document of `knapsack` under the other heading: as it is, and with a price for each `w`."""
+    for name, document in documents:
+        if document.startswith(b"answer knapsack"):
+            other = document.replace(b"answer", b"bounded", 1)
+            dims = len(re.search(rb"^container (.*)$", other, re.M).group(1).split())
+            yield name + ".bounded", other
+            yield name + ".priced", re.sub(rb"^w$", b"u 1 0" + b" id" * dims, other, flags=re.M)
+
+
 def explained(program, documents):
     """What `explain` makes of each document of `fit` that says no."""
     for name, document in documents:
@@ -239,15 +288,15 @@ def explained(program, documents):
 # Forged copies
 
 HEADINGS = """answer fit|answer strip|answer bins|answer knapsack|reduced fit|reduced strip|reduced bins|explained fit
-explained strip|front|front fit|answer|answer front|answer pile""".replace("\n", "|").split("|")
+explained strip|bounded knapsack|bounded fit|bounded|front|front fit|answer|answer front|answer pile""".replace("\n", "|").split("|")
 RESULTS = """yes|no|undecided|none|maybe||no no|least|least 0|least 1|least 2|least 0002|least 7|least 128000000
 least 128000001|between 1|between 0 1|between 1 3|between 3 3|between 0 128000000001|between 0 128000000002
 greatest 0|greatest 3|greatest 128000000001|greatest 128000000002|front 0|front 1|front 2|front 000001
 front 1000001|front 4294967296|partial 0|partial 1|partial 2""".replace("\n", "|").split("|")
 NUMBERS = "0 1 2 128 129 1000000 1000001 128000001 4294967295 4294967296 -1 +1 1.0 1e1 0x1 x".split()
 NUMBERS += ["18446744073709551616", "9" * 20, "9" * 21, "0" * 19 + "1", "0" * 20 + "1", ""]
-WORDS = """a d x t v b c s w g id step cut count pair apart triple compose cycle order chain on end proof place take
-corner point result format container kerf box value times answer reduced explained front crate END""".split()
+WORDS = """a d x t v b c s w g u id step cut count pair apart triple compose cycle order chain on end proof place take
+corner point result format container kerf box value times answer reduced explained bounded front crate END""".split()
 WORDS += ["\x7f", "\xff", "\x0b"]
 FUNCTIONS = "id|id|id|id|step 0|step 1|step 2|step 16|step 17|cut 0|cut 2|cut 3|count 0|count 2|count 3".split("|")
 ODD = ["\r", "\r\r", "\t", "  ", "#", " # a comment", "#\xff", "\n", "\r\n", *"\0\x1f\x7f\x80\xff\x0c\x1c"]
@@ -259,8 +308,9 @@ COUNTS = {"a": 3, "d": 3, "x": 0, "t": 2, "b": 1, "c": 1, "s": 1, "w": 0, "on": 
 COUNTS.update({"compose": 4, "cycle": 5, "order": 5, "chain": 3})
 INNER = ["a", "d", "x", "x", "t", "v"]
 KINDS = {"answer bins": [*INNER, "b", "s", "g"], "answer knapsack": [*INNER, "c", "s", "w"]}
+KINDS["bounded knapsack"] = [*KINDS["answer knapsack"], "u", "u"]
 KINDS["explained fit"] = "pair apart triple compose cycle order chain on a d x t v".split()
-TREE_LINES = {"a ", "d ", "x", "x ", "t ", "v ", "b ", "c ", "s", "s ", "w", "g "}
+TREE_LINES = {"a ", "d ", "x", "x ", "t ", "v ", "b ", "c ", "s", "s ", "w", "g ", "u "}
 
 
 class Forger:
@@ -360,9 +410,10 @@ class Forger:
             dims = max(len(line.split()) - 1, 1) if line.startswith("container") else dims
         others = [*COUNTS, "g", "end", "proof", "place", "take"]
         kind = self.rng.choice(KINDS.get(heading, INNER) if self.rng.random() < 0.9 else others)
-        if kind in ("v", "g"):
+        if kind in ("v", "g", "u"):
+            weights = [str(self.rng.choice([0, 1, 2, 1_000_000_000, 4_294_967_295])) for _ in "QP" if kind == "u"]
             count = dims + self.rng.choice([0] * 8 + [1, -1])
-            return " ".join([kind, *(self.rng.choice(FUNCTIONS) for _ in range(count))])
+            return " ".join([kind, *weights, *(self.rng.choice(FUNCTIONS) for _ in range(count))])
         if kind in ("place", "take"):
             return " ".join([kind, *(str(self.rng.randint(0, 6)) for _ in range(dims + (kind == "take")))])
         count = 3 if kind == "x" and heading == "explained fit" else COUNTS.get(kind, 0)
@@ -505,7 +556,7 @@ def long_documents(limit):
 def main(program, copies, seed):
     rng, comparison = random.Random(seed), Comparison(program, load_second())
     documents = [*stored_documents(), *fresh_documents(program, rng, 5)]
-    documents += [*explained(program, documents)]
+    documents += [*explained(program, documents), *bounded(documents)]
     named = [(name, command, text.encode(), line) for name, (command, text, line) in NAMED.items()]
     named += long_documents(comparison.second.LIMITS["audit"])
     comparison.compare(named)

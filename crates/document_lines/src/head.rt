@@ -65,6 +65,13 @@ fn job_headed(heading: Heading, word: &[u8]) -> Result<SolvingJob, Reason>
                 Err(FORM)
             }
         }
+        Heading::Bounded => {
+            if is_same(word, b"knapsack") {
+                Ok(SolvingJob::Knapsack)
+            } else {
+                Err(FORM)
+            }
+        }
     }
 }
 
@@ -75,6 +82,7 @@ fn is_heading(heading: Heading, word: &[u8]) -> bool
     match heading {
         Heading::Answer => is_same(word, b"answer"),
         Heading::Reduced => is_same(word, b"reduced"),
+        Heading::Bounded => is_same(word, b"bounded"),
     }
 }
 

@@ -5,7 +5,8 @@ use crate::facts::{Facts, first_facts};
 use crate::finding::{Found, Sought, find_chains, find_plain};
 use crate::heaviest::{Weights, first_weights};
 use crate::marks::{
-    AFTER, ALL, BEFORE, Marked, Marks, OVERLAP, Spot, as_marked, at_place, bits_there, turned_spot,
+    AFTER, ALL, BEFORE, Marked, Marks, OVERLAP, Spot, as_marked, at_place, bits_there, has_all,
+    turned_spot,
 };
 use crate::reasons::need_reason;
 use crate::short_reasons::ShortReason;
@@ -33,12 +34,13 @@ struct Open {
     apart: Option<Spot>,
 }
 
-/// What is excluded on the way to a node, the oldest first, with what of it is needed; the nodes on
-/// that way; and the reasons of those that were left, by token.
+/// What is excluded on the way to a node, the oldest first, with what of it is needed, and what else
+/// the closing that is taken excludes; the nodes on that way; and the reasons of those that were left, by token.
 #[derive(Drop)]
 pub struct Trace {
     facts: Facts,
     needs: Marks,
+    coming: Marks,
     weights: Weights,
     trail: Vec<Marked>,
     clash: Option<Spot>,
@@ -69,6 +71,45 @@ fn push_change(trace: &mut Trace, change: Marked) -> Result<(), NoMemory> {
         return Err(NoMemory);
     };
     Ok(())
+}
+
+// What comes later at the place of a change, and is excluded by the same instance of a rule. A
+// closing excludes a relation along a whole row before it turns to the next one, but the line of a
+// rule excludes all that follows at its place: so what one line does has to come at once.
+fn excluded_with(trace: &Trace, change: Marked) -> u8 {
+    let there = trace.facts.excluded.at(change.at);
+    let later = trace.coming.at(change.at) & !there & !change.bits;
+    for bits in [ALL, BEFORE, AFTER, OVERLAP] {
+        let more = later & bits;
+        if more != 0 {
+            let sought = Sought {
+                at: change.at,
+                wanted: change.bits | more,
+                allowed: there | change.bits | later,
+            };
+            if let Some(found) = find_plain(&trace.facts, &trace.needs, sought) {
+                return found.bits & later;
+            }
+        }
+    }
+    0
+}
+
+// Excludes one relation more, unless it came already, and what comes with it.
+fn take_change(trace: &mut Trace, change: Marked) -> Result<(), NoMemory> {
+    if has_all(trace.facts.excluded.at(change.at), change.bits) {
+        return Ok(());
+    }
+    let more = excluded_with(trace, change);
+    push_change(trace, change)?;
+    if more == 0 {
+        return Ok(());
+    }
+    let with = Marked {
+        at: change.at,
+        bits: more,
+    };
+    push_change(trace, with)
 }
 
 // Takes the newest exclusion back.
@@ -219,15 +260,45 @@ fn leave_node(trace: &mut Trace, node: Open) -> Result<(), NoMemory> {
     Ok(())
 }
 
+// Marks what came behind a position as what is coming, or as no longer coming.
+fn announce(coming: &mut Marks, state: &EdgeState, from: Mark, comes: bool)
+    requires { from ≤ length state.now.trail }
+{
+    let mut at = from;
+    while let Some(change) = state.change_after(at) {
+        let Marked { at: place, bits } = as_marked(change);
+        if comes {
+            coming.change(place, bits, 0);
+        } else {
+            coming.change(place, 0, bits);
+        }
+        at = state.mark_after(at);
+    }
+}
+
+// Takes what came behind a position, one after another.
+fn take_changes(trace: &mut Trace, state: &EdgeState, from: Mark) -> Result<(), NoMemory>
+    requires { from ≤ length state.now.trail }
+{
+    let mut at = from;
+    while let Some(change) = state.change_after(at) {
+        take_change(trace, as_marked(change))?;
+        at = state.mark_after(at);
+    }
+    Ok(())
+}
+
 impl Trace {
     /// Before the first node.
     pub fn new(alloc: Global, instance: &Instance) -> Result<Trace, NoMemory> {
         let facts = first_facts(alloc, instance)?;
         let weights = first_weights(alloc, &facts)?;
         let needs = Marks::new(alloc, instance.dims(), instance.len())?;
+        let coming = Marks::new(alloc, instance.dims(), instance.len())?;
         Ok(Trace {
             facts,
             needs,
+            coming,
             weights,
             trail: Vec::new(alloc),
             clash: None,
@@ -285,12 +356,10 @@ impl Trace {
     pub fn take(&mut self, state: &EdgeState, from: Mark) -> Result<(), NoMemory>
         requires { from ≤ length state.now.trail }
     {
-        let mut at = from;
-        while let Some(change) = state.change_after(at) {
-            push_change(self, as_marked(change))?;
-            at = state.mark_after(at);
-        }
-        Ok(())
+        announce(&mut self.coming, state, from, true);
+        let taken = take_changes(self, state, from);
+        announce(&mut self.coming, state, from, false);
+        taken
     }
 
     /// The node's token is a conflict: all three relations at its place are needed.

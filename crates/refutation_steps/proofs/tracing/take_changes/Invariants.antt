@@ -1,5 +1,5 @@
 use Rattle.std.proofs.Common.{◌-◌, ◌≤◌, length}
-use Rattle.refutation_steps.proofs.tracing.Trace.take.Given as goal
+use Rattle.refutation_steps.proofs.tracing.take_changes.Given as goal
 
 abbrev pub invariant-loop-change : goal.invariant-loop-change
 invariant-loop-change l = l.at ≤ length l.state.trail
