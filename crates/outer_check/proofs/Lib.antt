@@ -8,3 +8,5 @@ pub mod ValueSteps
 pub mod Moves
 pub mod Fed
 pub mod Opened
+pub mod Prices
+pub mod Priced

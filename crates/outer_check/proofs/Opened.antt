@@ -16,7 +16,7 @@ use Rattle.check_terms.proofs.Judged.{bins_exact, value_exact}
 use Rattle.outer_check.specs.Outers.{judged_at, left_open, is_whole_view}
 
 -- the first node is judged; where it isn't refused, its children and the rest are the open nodes behind the token
-first_judged : {Node : Type 0} (r : Option RefuseCode) (nodes behind after : List (OpenNode Node))
+pub first_judged : {Node : Type 0} (r : Option RefuseCode) (nodes behind after : List (OpenNode Node))
     → (r ≡ None → nodes ++ behind ≡ after) → left_by r nodes behind ≡ left_open r after
 first_judged (Some code) nodes behind after e = refl
 first_judged None nodes behind after e = ap Ok (e refl)

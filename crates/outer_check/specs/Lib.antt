@@ -3,3 +3,4 @@ pub mod Nodes
 pub mod Outers
 pub mod Steps
 pub mod Taking
+pub mod Bounded

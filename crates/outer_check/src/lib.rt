@@ -6,11 +6,12 @@ mod goal;
 mod laws;
 mod path;
 mod point;
+mod pricing;
 mod refuter;
 mod step;
 mod taking;
 
 pub use check_terms::{FeedVerdict, RefuseCode};
 pub use goal::Goal;
-pub use laws::outer_steps_leave_the_open_nodes;
+pub use laws::{bounded_steps_leave_the_open_nodes, outer_steps_leave_the_open_nodes};
 pub use refuter::OuterRefuter;

@@ -2,14 +2,20 @@
 ghost use Rattle.std.specs.Prelude.{◌≡◌, ◌≤◌, IfOk, None, length};
 ghost use Rattle.packing_terms.specs.Packing.{box_count};
 ghost use Rattle.proof_tree.specs.Plain.{plain_token};
+ghost use Rattle.bounded_terms.specs.BoundedRefutation.{PricedOut};
+ghost use Rattle.bounded_tokens.specs.Plain.{plain_bounded};
+ghost use Rattle.outer_check.specs.Bounded.{bounded_fed};
 ghost use Rattle.outer_check.specs.Outers.{CanBeRefuted, started, fed, answered, is_whole, path_length};
 
 use crate::goal::Goal;
 use crate::path::Path;
 use crate::point::Point;
+use crate::pricing::take_priced;
 use crate::taking::take;
+use bounded_tokens::BoundedToken;
 use box_instances::{Instance, NoMemory};
 use check_terms::{FeedVerdict, RefuseCode};
+use conservative_scales::ScaleFn;
 use proof_tree::Token;
 use refutation_check::Refuter;
 use std::alloc::Global;
@@ -110,6 +116,62 @@ impl<'a> OuterRefuter<'a> {
             FeedVerdict::Done
         } else {
             FeedVerdict::More
+        }
+    }
+
+    // Takes a leaf that is priced out.
+    fn feed_priced(
+        &mut self,
+        value_weight: u32,
+        share_weight: u32,
+        tuple: &[ScaleFn],
+    ) -> FeedVerdict
+        ensures step { self.new
+            ≡ bounded_fed self.old (PricedOut value_weight share_weight tuple.now) }
+        ensures answer { result ≡ answered self.new }
+    {
+        if let Some(code) = self.refused {
+            return FeedVerdict::Refused { code };
+        }
+        let taken = take_priced(
+            self.instance,
+            self.goal,
+            &mut self.path,
+            &mut self.point,
+            value_weight,
+            share_weight,
+            tuple,
+        );
+        self.refused = taken.err();
+        if let Some(code) = self.refused {
+            return FeedVerdict::Refused { code };
+        }
+        if self.point == Point::AtEnd {
+            FeedVerdict::Done
+        } else {
+            FeedVerdict::More
+        }
+    }
+
+    /// Takes the next token of a tree with priced leaves: a plain one as `feed` takes it, and one
+    /// that prices a node out where it stands at an outer node for a value. It answers as `feed`
+    /// does.
+    ///
+    /// A leaf that is priced out is refused with `Kind` for bins, in the inner tree of a set, and
+    /// where its tuple hasn't a function for each dimension; with `Range` where a function isn't
+    /// legal for its container side; else with `Excess` where a box that is in doesn't fit alone, or
+    /// where what is in and the undecided boxes may reach the goal. It takes no memory.
+    pub fn feed_bounded(&mut self, token: &BoundedToken) -> FeedVerdict
+        ensures step { self.new ≡ bounded_fed self.old (plain_bounded token.now) }
+        ensures answer { result ≡ answered self.new }
+    {
+        match token {
+            BoundedToken::Plain(token) => self.feed(token),
+            BoundedToken::PricedOut {
+                value_weight,
+                share_weight,
+                tuple,
+            } => self.feed_priced(*value_weight, *share_weight, tuple.as_slice()),
         }
     }
 

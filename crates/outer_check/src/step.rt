@@ -119,8 +119,8 @@ pub(crate) fn step_for_bins(instance: &Instance, path: &Path, bins: u32, token: 
     }
 }
 
-// The value of the boxes that are in.
-fn taken_worth(instance: &Instance, path: &Path) -> u64
+/// The value of the boxes that are in.
+pub(crate) fn taken_worth(instance: &Instance, path: &Path) -> u64
     ensures value { result ≡ worth instance.now
         (boxes_put (box_count instance.now) path.now.frames 0) }
     ensures limit { result ≤ 128000000000 }

@@ -19,8 +19,8 @@ use check_terms::{FeedVerdict, RefuseCode};
 use proof_tree::Token;
 use refutation_check::Refuter;
 
-// The current node is closed.
-fn leave(path: &mut Path, point: &mut Point)
+/// The current node is closed.
+pub(crate) fn leave(path: &mut Path, point: &mut Point)
     ensures path { path.new ≡ record path.old { frames = next_frames path.old.frames } }
     ensures point { point.new ≡ point_behind (next_frames path.old.frames) }
 {

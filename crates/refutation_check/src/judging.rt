@@ -156,8 +156,9 @@ fn side_refusal(instance: &Instance, box_no: u32, dim: u32) -> Option<RefuseCode
     Some(RefuseCode::Side)
 }
 
-// Whether the tuple has a legal function for each dimension.
-fn are_legal(instance: &Instance, tuple: &[ScaleFn]) -> bool
+/// Whether each function of a tuple is legal for the container side of its dimension. The tuple has
+/// one function for each dimension.
+pub fn are_legal(instance: &Instance, tuple: &[ScaleFn]) -> bool
     requires { length tuple.now ≡ dims instance.now }
     ensures { result ≡ are_legal instance.now tuple.now }
 {

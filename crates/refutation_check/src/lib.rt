@@ -10,5 +10,5 @@ mod node;
 mod refuter;
 
 pub use check_terms::{FeedVerdict, RefuseCode};
-pub use judging::judge_tuple;
+pub use judging::{are_legal, judge_tuple};
 pub use refuter::Refuter;
