@@ -12,7 +12,7 @@ mod partial;
 mod rows;
 mod search;
 
-pub use excess::{exceeds, exceeds_among, image_product, whole_product};
+pub use excess::{exceeds, exceeds_among};
 pub use functions::{image, legal, whole};
 pub use packing_terms::ScaleFn;
 pub use search::{ScaleTuple, first_exceeding};

@@ -7,6 +7,7 @@ mod laws;
 mod path;
 mod point;
 mod pricing;
+mod products;
 mod refuter;
 mod step;
 mod taking;

@@ -20,11 +20,12 @@ ghost use Rattle.outer_check.specs.Bounded.{IsPriced};
 use crate::goal::Goal;
 use crate::path::Path;
 use crate::point::Point;
+use crate::products::{image_product, whole_product};
 use crate::step::taken_worth;
 use crate::taking::leave;
 use box_instances::Instance;
 use check_terms::RefuseCode;
-use conservative_scales::{ScaleFn, image_product, whole_product};
+use conservative_scales::ScaleFn;
 use refutation_check::are_legal;
 
 // Whether no side of the box is longer than the container's.
