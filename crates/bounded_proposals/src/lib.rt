@@ -3,6 +3,10 @@
 //! The caller tests each proposal. The search is proved to be safe and to end, and nothing else.
 #![tactic(auto)]
 
-mod deciding;
+mod kinds;
+mod memory;
+mod patience;
+mod refuter;
+mod sets;
 
-pub use deciding::{BoundedEffort, propose_decided_refutation};
+pub use refuter::{BoundedEffort, ValueProposal, ValueRefuter};

@@ -1,5 +1,5 @@
 use Rattle.std.proofs.Common.{ℕ, ◌+◌, ◌<◌, ◌≤◌, get_or}
-use Rattle.bounded_proposals.proofs.deciding.are_rising.Given as goal
+use Rattle.bounded_proposals.proofs.sets.are_rising.Given as goal
 
 abbrev pub invariant-loop-k : goal.invariant-loop-k
 invariant-loop-k l = record {
