@@ -96,6 +96,22 @@ impl Path {
         self.members
     }
 
+    /// The number of boxes that are in.
+    pub(crate) fn set_size(&self) -> usize {
+        self.taken.len()
+    }
+
+    /// The bits of the first `count` boxes that went in.
+    pub(crate) fn first_members(&self, count: usize) -> u128 {
+        let mut row = 0u128;
+        for k in 0..self.taken.len() {
+            if k < count {
+                row |= bit(at(&self.order, self.taken[k] as usize));
+            }
+        }
+        row
+    }
+
     /// The value of the boxes that are in.
     pub(crate) fn worth(&self) -> u64 {
         self.worth

@@ -54,6 +54,8 @@ pub struct BoundedSearch {
     path: Path,
     placed: Vec<u128>,
     tokens: Vec<BoundedToken>,
+    // Of each box that is in the number of tokens before the node at which it has just gone in.
+    starts: Vec<usize>,
     steps: u64,
     is_whole: bool,
     // Whether the last decision took a box in, and whether the node was bounded without closing.
@@ -85,6 +87,7 @@ impl BoundedSearch {
             path: Path::new(alloc, instance, fitting)?,
             placed: Vec::new(alloc),
             tokens: Vec::new(alloc),
+            starts: Vec::new(alloc),
             steps: 0,
             is_whole: true,
             has_grown: false,
@@ -104,15 +107,31 @@ impl BoundedSearch {
         self.pool.clear();
         self.path.clear();
         self.tokens = Vec::new(alloc);
+        self.starts.clear();
         self.steps = 0;
         self.is_whole = false;
         self.has_grown = false;
         self.is_bounded = false;
     }
 
-    /// The boxes that are in where the search stands, by rising number.
-    pub fn set(&self, alloc: Global, instance: &Instance) -> Result<Vec<u32>, NoMemory> {
-        members_of(alloc, instance, self.path.members())
+    /// The number of boxes that are in where the search stands.
+    pub fn set_size(&self) -> usize {
+        self.path.set_size()
+    }
+
+    /// The first `count` boxes that went in, by rising number.
+    pub fn set(
+        &self,
+        alloc: Global,
+        instance: &Instance,
+        count: usize,
+    ) -> Result<Vec<u32>, NoMemory> {
+        members_of(alloc, instance, self.path.first_members(count))
+    }
+
+    /// The value of the boxes that are in where the search stands.
+    pub fn worth(&self) -> u64 {
+        self.path.worth()
     }
 
     /// Hands out the tokens of the tree.
@@ -128,18 +147,41 @@ impl BoundedSearch {
         }
     }
 
+    // Takes out the box that went in last.
+    fn take_out(&mut self) -> bool {
+        let _start = self.starts.pop();
+        match self.path.leave() {
+            Some(v) => {
+                self.pool.remove(v);
+                true
+            }
+            None => false,
+        }
+    }
+
     // Goes on to the next node after one that is closed.
     fn leave(&mut self) {
-        match self.path.leave() {
-            Some(v) => self.pool.remove(v),
-            None => self.is_whole = true,
-        }
+        self.is_whole = !self.take_out();
         self.has_grown = false;
         self.is_bounded = false;
     }
 
-    /// Closes the node by a refutation of its set, as tokens of an inner refutation.
-    pub fn close_set(&mut self, tokens: Vec<Token>) -> Result<(), NoMemory> {
+    // Goes back to the node at which only the first `count` boxes are in and the last of them has
+    // just gone in. What was below that node is dropped.
+    fn go_back(&mut self, count: usize) {
+        for _ in count..self.path.set_size() {
+            let _taken = self.take_out();
+        }
+        if count > 0 && count <= self.starts.len() {
+            self.tokens.truncate(self.starts[count - 1]);
+        }
+    }
+
+    /// Closes the node at which the first `count` boxes have gone in, by a refutation of their set
+    /// as tokens of an inner refutation. `count` is at least 1. What was below that node is
+    /// dropped.
+    pub fn close_set(&mut self, count: usize, tokens: Vec<Token>) -> Result<(), NoMemory> {
+        self.go_back(count);
         self.push(BoundedToken::Plain(Token::SetRefuted { bin: None }))?;
         for token in tokens {
             self.push(BoundedToken::Plain(token))?;
@@ -148,12 +190,12 @@ impl BoundedSearch {
         Ok(())
     }
 
-    /// Remembers that the set fits, so the search doesn't pause at a part of it again.
-    pub fn keep_placed(&mut self) -> Result<(), NoMemory> {
+    /// Remembers that the first `count` boxes fit, so the search doesn't pause at a part of them.
+    pub fn keep_placed(&mut self, count: usize) -> Result<(), NoMemory> {
         if self.placed.len() >= MAX_PLACED {
             self.placed.clear();
         }
-        pushed(&mut self.placed, self.path.members())
+        pushed(&mut self.placed, self.path.first_members(count))
     }
 
     // Whether the set is part of one that fits.
@@ -165,6 +207,11 @@ impl BoundedSearch {
     /// The steps that were made for the goal.
     pub fn steps(&self) -> u64 {
         self.steps
+    }
+
+    /// Adds steps that were made outside the search, as those by which a set was decided.
+    pub fn charge(&mut self, steps: u64) {
+        self.steps = self.steps.saturating_add(steps);
     }
 
     // Closes the node by weights of a tuple that price it out.
@@ -195,7 +242,7 @@ impl BoundedSearch {
     fn close_priced(&mut self, alloc: Global) -> Result<bool, NoMemory> {
         let node = self.path.node(self.goal);
         let recent = self.recent.len();
-        self.spend(recent);
+        self.charge(recent as u64);
         if let Some((position, weights)) = self.recent_weights(&node) {
             self.recent.raise(position);
             let tuple = self.recent.tuple(0);
@@ -203,17 +250,13 @@ impl BoundedSearch {
             return Ok(true);
         }
         let tuples = self.pool.len();
-        self.spend(tuples);
+        self.charge(tuples as u64);
         let Some((tuple, weights)) = self.pool.first_closing(&node) else {
             return Ok(false);
         };
         self.recent.add(tuple)?;
         self.close_by(alloc, tuple, weights)?;
         Ok(true)
-    }
-
-    fn spend(&mut self, steps: usize) {
-        self.steps = self.steps.saturating_add(steps as u64);
     }
 
     // Closes the node if what is in and undecided is worth too little, or if a tuple prices it out.
@@ -237,6 +280,7 @@ impl BoundedSearch {
         if self.has_grown {
             self.path.enter()?;
             self.pool.add(v);
+            pushed(&mut self.starts, self.tokens.len())?;
             return Ok(());
         }
         self.push(BoundedToken::Plain(Token::SetRefuted { bin: None }))?;
@@ -258,7 +302,7 @@ impl BoundedSearch {
 
     // Visits the node at which the search stands, unless it pauses there.
     fn visit(&mut self, alloc: Global) -> Result<Option<Pause>, NoMemory> {
-        self.spend(1);
+        self.charge(1);
         if !self.is_bounded && self.close(alloc)? {
             return Ok(None);
         }
