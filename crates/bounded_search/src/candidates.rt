@@ -95,8 +95,8 @@ fn offer_all_counts(
 /// most `most`.
 ///
 /// A first pass drops what an earlier function dominates, a second one what a later one does.
-/// Dominated functions are dropped before tuples are made: 6,561 tuples become 81 for 100 boxes in
-/// two dimensions, 148,877 become 1,020 for 60 boxes in three.
+/// Dominated functions are dropped before tuples are made: of 980 functions for 100 boxes in two
+/// dimensions 16 to 62 are left, of 660 for 60 boxes in three 33 to 38.
 pub(crate) fn undominated(
     alloc: Global,
     instance: &Instance,

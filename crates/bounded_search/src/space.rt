@@ -11,7 +11,8 @@ use std::alloc::Global;
 pub(crate) const WHOLE_SHARE: u32 = 1_000_000_000;
 
 // The most functions of a dimension, for 2, 3 and 4 dimensions: at most 16,384, 15,625 and 14,641
-// tuples.
+// tuples. In three dimensions more than 25 change no bound at the root of 7 instances of 20 to 60
+// boxes, and take 2.5 times as long.
 const MAX_FUNCTIONS_IN_2: usize = 128;
 
 const MAX_FUNCTIONS_IN_3: usize = 25;
