@@ -2,6 +2,8 @@
 #![tactic(auto)]
 
 #[cfg(test)]
+mod bounded_trees;
+#[cfg(test)]
 mod bins;
 #[cfg(test)]
 mod choices;
