@@ -4,7 +4,6 @@ use bounded_proposals::{BoundedEffort, ValueProposal, ValueRefuter};
 use bounded_search::TreeLimits;
 use bounded_tokens::BoundedToken;
 use box_instances::Instance;
-
 use outer_check::{Goal, OuterRefuter};
 use std::alloc::Global;
 use std::test::Fail;
