@@ -4,6 +4,8 @@
 #![tactic(auto)]
 
 #[cfg(test)]
+mod bounded;
+#[cfg(test)]
 mod codes;
 #[cfg(test)]
 mod instances;
