@@ -16,11 +16,11 @@ ghost use Rattle.answer_terms.specs.Solved.{fit_answer};
 ghost use Rattle.answer_streams.specs.Headed.{first_line, headed_text};
 ghost use Rattle.answer_streams.specs.Placed.{IsPlaced};
 
+use crate::tree_start::TreeStart;
 use box_instances::Instance;
 use instance_text::write_instance;
 use pack_streams::{Sink, WriteFault, write_number, write_on};
 use proof_tree::{Outcome, TokenList, write_tokens_on};
-use crate::tree_start::TreeStart;
 
 /// How writing went so far. Each call below writes where no fault came before, and else does
 /// nothing.

@@ -10,10 +10,10 @@ use crate::front::{Behind, Done, Front, front_before, hand_back};
 use crate::knapsack_documents::write_choice;
 use crate::solution::Solution;
 use crate::strip_documents::write_strip;
+use crate::tree_start::TreeStart;
 use box_instances::Instance;
 use pack_streams::Sink;
 use std::marker::Brand;
-use crate::tree_start::TreeStart;
 
 /// What is written as one text.
 pub trait Streamed {

@@ -16,11 +16,11 @@ use crate::documents::{Written, write_places};
 use crate::results::{
     write_between_line, write_least_line, write_none_line, write_opening, write_proof,
 };
+use crate::tree_start::TreeStart;
 use box_instances::Instance;
 use pack_streams::{Sink, write_on};
 use proof_tree::TokenList;
 use strip_solver::Strip;
-use crate::tree_start::TreeStart;
 
 // The first line of a document of `strip`.
 fn strip_line(start: TreeStart) -> &'static [u8]

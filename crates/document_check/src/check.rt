@@ -5,9 +5,7 @@ ghost use Rattle.document_check.specs.Checked.{IsCheckedUnder};
 ghost use Rattle.document_check.specs.Passes.{IsPosition, IsCheckedFrom};
 ghost use Rattle.document_lines.specs.Ranges.{IsRanged};
 
-use crate::phases::{
-    check_bins, check_exceeding, check_fitting, check_heights, check_not_fitting,
-};
+use crate::phases::{check_bins, check_exceeding, check_fitting, check_heights, check_not_fitting};
 use crate::position::Position;
 use crate::showing::read_head;
 use crate::values::check_values;
@@ -66,9 +64,7 @@ fn check_claimed<S: Source>(
             check_bins(alloc, input, at, instance, claim, placed, refuted)
         }
         Claim::NoBins => check_exceeding(alloc, input, at, instance, claim, instance.dims()),
-        Claim::GreatestValue { value } => {
-            check_values(alloc, input, at, head, value, value + 1)
-        }
+        Claim::GreatestValue { value } => { check_values(alloc, input, at, head, value, value + 1) }
         Claim::ValueBetween { placed, refuted } => {
             check_values(alloc, input, at, head, placed, refuted)
         }

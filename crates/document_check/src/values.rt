@@ -1,6 +1,6 @@
 //! The rest of a document of a value behind its result line: the taken boxes, a tree that refutes
 //! another value, and `end`.
-ghost use Rattle.std.specs.Prelude.{◌≡◌, ◌≤◌, Some, None, [], ◌∷◌};
+ghost use Rattle.std.specs.Prelude.{◌≡◌, ◌≤◌, true, None, [], ◌∷◌};
 ghost use Rattle.packing_terms.specs.Packing.{dims};
 ghost use Rattle.packing_terms.specs.OuterRefutation.{no_choice};
 ghost use Rattle.packing_terms.specs.OuterFeeding.{Outer};
@@ -52,21 +52,21 @@ fn read_bounded<S: Source>(
     input: &mut S,
     at: &mut Position,
     claim: Claim,
-    dims: u32,
+    dim_count: u32,
     refuter: OuterRefuter<'_>,
 ) -> Option<CheckEnd>
     requires at { IsPosition at.old }
-    requires least { 2 ≤ dims }
-    requires most { dims ≤ 4 }
-    requires same_dims { dims ≡ dims refuter.instance }
+    requires least { 2 ≤ dim_count }
+    requires most { dim_count ≤ 4 }
+    requires same_dims { dim_count ≡ dims refuter.instance }
     requires opens { is_outer_open refuter ≡ true }
     requires for_value { IsForValue refuter.tree }
     ensures at { result ≡ None → IsPosition at.new }
     ensures goes { Goes (S.left input.old) (S.left input.new) (S.faults input.old)
         (S.faults input.new)
-        at.old (at_nodes claim refuter) at.new (behind_nodes claim refuter) result }
+        at.old (at_nodes claim refuter.entry) at.new (behind_nodes claim refuter.entry) result }
 {
-    let mut judge = BoundReader::new(alloc, claim, dims, refuter);
+    let mut judge = BoundReader::new(alloc, claim, dim_count, refuter);
     give_lines(input, at, &mut judge)
 }
 

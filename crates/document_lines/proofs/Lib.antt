@@ -4,6 +4,7 @@ pub mod Exceeds
 pub mod Lengths
 pub mod BoxesIn
 pub mod Outers
+pub mod Bounds
 pub mod PlaceReasons
 pub mod PlacesIn
 pub mod Ranged

@@ -1,5 +1,6 @@
 //! The tree with priced leaves of a document, and the line `end` behind it.
-ghost use Rattle.std.specs.Prelude.{◌≡◌, ◌≤◌, not, true, false, None, Some, IsTrue, []};
+ghost use Rattle.std.specs.Prelude.{◌≡◌, ◌≤◌, ℕ, not, true, false, None, Some, IsTrue, [], Err};
+ghost use Rattle.document_terms.specs.declared.claim.Claim.{Claim as PlainClaim};
 ghost use Rattle.packing_terms.specs.Packing.{dims};
 ghost use Rattle.bounded_tokens.specs.Plain.{plain_bounded};
 ghost use Rattle.verdict_terms.specs.Stages.{bounding_token};
@@ -36,12 +37,12 @@ fn feed(refuter: &mut OuterRefuter<'_>, token: &BoundedToken) -> FeedVerdict
 fn take_token(
     alloc: Global,
     refuter: &mut OuterRefuter<'_>,
-    dims: u32,
+    dim_count: u32,
     line: &LineLexer,
 ) -> Result<bool, LineStop>
-    requires least { 2 ≤ dims }
-    requires most { dims ≤ 4 }
-    requires same_dims { dims ≡ dims refuter.old.instance }
+    requires least { 2 ≤ dim_count }
+    requires most { dim_count ≤ 4 }
+    requires same_dims { dim_count ≡ dims refuter.old.instance }
     requires opens { is_outer_open refuter.old ≡ true }
     requires for_value { IsForValue refuter.old.tree }
     requires good { line.now.held.bad ≡ false }
@@ -50,7 +51,7 @@ fn take_token(
     if is_word(line, b"end") {
         return Err(LineStop::Refused(Reason::TooShort));
     }
-    let Some(token) = read_bounded_token(alloc, line, dims) else {
+    let Some(token) = read_bounded_token(alloc, line, dim_count) else {
         return Err(LineStop::Refused(FORM));
     };
     match feed(refuter, &token) {
@@ -76,7 +77,7 @@ pub(crate) enum BoundStep {
 pub struct BoundReader<'a> {
     alloc: Global,
     claim: Claim,
-    dims: u32,
+    dim_count: u32,
     step: BoundStep,
     refuter: OuterRefuter<'a>,
 }
@@ -94,7 +95,7 @@ impl<'a> Model for BoundReader<'a> {
       behind = Some (behind_nodes r.claim r.refuter);
     } };
 
-    ghost invariant = { λ r. IsBoundHeld r.step r.refuter r.dims };
+    ghost invariant = { λ r. IsBoundHeld r.step r.refuter r.dim_count };
 }
 
 impl<'a> BoundReader<'a> {
@@ -102,24 +103,24 @@ impl<'a> BoundReader<'a> {
     pub fn new(
         alloc: Global,
         claim: Claim,
-        dims: u32,
+        dim_count: u32,
         refuter: OuterRefuter<'a>,
     ) -> BoundReader<'a>
-        requires least { 2 ≤ dims }
-        requires most { dims ≤ 4 }
-        requires same_dims { dims ≡ dims refuter.instance }
+        requires least { 2 ≤ dim_count }
+        requires most { dim_count ≤ 4 }
+        requires same_dims { dim_count ≡ dims refuter.instance }
         requires opens { is_outer_open refuter ≡ true }
         requires for_value { IsForValue refuter.tree }
         ensures { result ≡ record {
-          stage = at_nodes claim refuter;
+          stage = at_nodes claim refuter.entry;
           takes = true;
-          behind = Some (behind_nodes claim refuter);
+          behind = Some (behind_nodes claim refuter.entry);
         } }
     {
         BoundReader {
             alloc,
             claim,
-            dims,
+            dim_count,
             step: BoundStep::Tokens,
             refuter,
         }
@@ -145,7 +146,7 @@ impl<'a> LineJudge for BoundReader<'a> {
         if line.bad_byte() {
             return Err(LineStop::Refused(FORM));
         }
-        match take_token(self.alloc, &mut self.refuter, self.dims, line) {
+        match take_token(self.alloc, &mut self.refuter, self.dim_count, line) {
             Ok(is_whole) => {
                 if is_whole {
                     self.step = BoundStep::Whole;
@@ -208,7 +209,7 @@ impl<'a> Model for BoundEndReader<'a> {
 // Why a line where `end` is wanted is refused: a token comes too late.
 fn late_reason(alloc: Global, instance: &Instance, line: &LineLexer) -> Reason
     requires good { line.now.held.bad ≡ false }
-    ensures { (claim : Claim) (value : ℕ) → bounding_token instance.now claim value []
+    ensures { (claim : PlainClaim) (value : ℕ) → bounding_token instance.now claim value []
         (bounded_token_of (dims instance.now) line.now.held.words) ≡ Err result }
 {
     match read_bounded_token(alloc, line, instance.dims()) {

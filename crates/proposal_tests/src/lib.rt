@@ -2,9 +2,9 @@
 #![tactic(auto)]
 
 #[cfg(test)]
-mod bounded_trees;
-#[cfg(test)]
 mod bins;
+#[cfg(test)]
+mod bounded_trees;
 #[cfg(test)]
 mod choices;
 #[cfg(test)]
