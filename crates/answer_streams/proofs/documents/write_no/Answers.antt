@@ -4,8 +4,8 @@ use Rattle.answer_streams.proofs.documents.write_no.Goals as goal
 
 pub returns : goal.returns
 returns g c =
-    (same _ _ _ _ _ _ _ _ (headed c.args.heading c.first_line.result.now _ _ c.first_line.ensures
-    (no_text c.args.heading c.args.instance.now c.args.tokens.now))
+    (same _ _ _ _ _ _ _ _ (headed c.args.start c.first_line.result.now _ _ c.first_line.ensures
+    (no_text c.args.start c.args.instance.now c.args.tokens.now))
     (more _ _ _ _ _ _ _ _ _ _ _ c.write_on-named.ensures.goes_on
     (more _ _ _ _ _ _ _ _ _ _ _ c.write_instance_on-shown.ensures
     (more _ _ _ _ _ _ _ _ _ _ _ c.write_on-said.ensures.goes_on
