@@ -541,7 +541,7 @@ class Comparison:
 def stored_documents():
     folder = f"{ROOT}/examples"
     for name in sorted(os.listdir(folder)):
-        if name.endswith((".document", ".explained")):
+        if name.endswith((".document", ".explained", ".bounded")):
             with open(f"{folder}/{name}", "rb") as it:
                 yield name, it.read()
 
