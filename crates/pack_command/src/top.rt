@@ -108,10 +108,10 @@ pub fn run<R: Threads + Wait + Sync, S: Source, K: Sink, E: Sink, G: Gate + Sync
         → IsClaimed (S.left input.old) (S.left input.new) (K.written out.old) (K.written out.new) }
 
     // `audit` writes exactly the line of the verdict on the input as a document of its kind,
-    // reduced, explained or of a front, with its status, and what it verifies is true, whoever
-    // wrote it: the claim of a reduced document of the instance in it, that the instance of an
-    // explained one has no packing, and that the points of a front are all least sizes of its
-    // instance, or all up to the last of them, and as many as are told.
+    // reduced, bounded, explained or of a front, with its status, and what it verifies is true,
+    // whoever wrote it: the claim of a reduced or bounded document of the instance in it, that the
+    // instance of an explained one has no packing, and that the points of a front are all least
+    // sizes of its instance, or all up to the last of them, and as many as are told.
     ensures audits { (bytes : List ℕ) → IsAuditing words.now (S.left input.old) bytes
         → IsAnswerStatus result
         → IsExactlyRead Audits bytes (K.written out.old) (K.written out.new) result }
