@@ -27,9 +27,9 @@ use Rattle.document_terms.specs.declared.claim.Claim.TheVariants.{NoHeight, Leas
 use Rattle.document_terms.specs.declared.claim.Claim.TheVariants.{GreatestValue, ValueBetween}
 use Rattle.verdict_terms.specs.Trees.{ToFit, ToFitIn, ToReach}
 use Rattle.verdict_terms.specs.declared.heading.Heading.{Heading}
-use Rattle.verdict_terms.specs.declared.heading.Heading.TheVariants.{Answer, Reduced}
+use Rattle.verdict_terms.specs.declared.heading.Heading.TheVariants.{Answer, Reduced, Bounded}
 use Rattle.verdict_terms.specs.Stages.{heading_word, start_exclusions}
-use Rattle.verdict_terms.specs.Form.{IsResult, BacksUnder, MayName, IsHeadedDocument, AreProved, AreRefuting, ArePlaced}
+use Rattle.verdict_terms.specs.Form.{RefuteValue, IsResult, BacksUnder, MayName, IsHeadedDocument, AreProved, AreRefuting, ArePlaced}
 use Rattle.verdict_terms.specs.Form.{AreShared, AreTaken, IsExceedingLine}
 use Rattle.answer_terms.specs.Answers.{Lines, answer_text, headed_lines, document_lines, backing_lines, place_lines}
 use Rattle.answer_terms.specs.Answers.{bin_lines, take_lines, token_lines, proved_lines}
@@ -65,6 +65,7 @@ pub record IsBacked (heading : Heading) (instance : PlainInstance) (claim : Clai
 heading_plain : (heading : Heading) (job : SolvingJob) → AreWords (heading_word heading ∷ job_word job ∷ [])
 heading_plain Answer job = (omega arith, refl, job_plain job)
 heading_plain Reduced job = (omega arith, refl, job_plain job)
+heading_plain Bounded job = (omega arith, refl, job_plain job)
 
 pub filled_document : (heading : Heading) (instance : PlainInstance) (job : SolvingJob) (result : List (List ℕ))
     (backing : Lines) → IsInstance instance → AreWords result → AreFilled backing
@@ -420,10 +421,23 @@ values_backed instance a b numbers tokens limits shown =
       };
     }
 
+-- the headings under which a value is refuted by plain tokens
+abbrev pub TakesPlain : Heading → Type 0
+TakesPlain Answer = Unit {0}
+TakesPlain Reduced = Unit {0}
+TakesPlain Bounded = ⊥
+
+value_plain : (heading : Heading) (instance : PlainInstance) (reached refuted : ℕ) (lines : Lines) → TakesPlain heading
+    → AreProved (AreTaken instance reached) (AreRefuting (ToReach instance refuted)) lines
+    → AreProved (AreTaken instance reached) (RefuteValue heading instance refuted) lines
+value_plain Answer instance reached refuted lines plain backs = backs
+value_plain Reduced instance reached refuted lines plain backs = backs
+value_plain Bounded instance reached refuted lines plain backs = absurd plain
+
 greatest_value_backed : (heading : Heading) (instance : PlainInstance) (v : ℕ) (numbers : List ℕ)
-    (tokens : List PlainToken) → IsInstance instance
+    (tokens : List PlainToken) → IsInstance instance → TakesPlain heading
     → ShowsValue instance v (suc v) numbers tokens → IsBacked heading instance (GreatestValue v) numbers tokens
-greatest_value_backed heading instance v numbers tokens limits shown =
+greatest_value_backed heading instance v numbers tokens limits plain shown =
     let values = values_backed instance v (suc v) numbers tokens limits shown in
     let m = shown.most in
     record {
@@ -434,13 +448,13 @@ greatest_value_backed heading instance v numbers tokens limits shown =
         is_number = decimal_number 0 most_worth v (omega arith) (omega (arith, m)) (omega arith);
       };
       filled = values.filled;
-      backs = values.backs;
+      backs = value_plain heading instance v (suc v) _ plain values.backs;
     }
 
 between_values_backed : (heading : Heading) (instance : PlainInstance) (a b : ℕ) (numbers : List ℕ)
-    (tokens : List PlainToken) → IsInstance instance
+    (tokens : List PlainToken) → IsInstance instance → TakesPlain heading
     → ShowsValue instance a b numbers tokens → IsBacked heading instance (ValueBetween a b) numbers tokens
-between_values_backed heading instance a b numbers tokens limits shown =
+between_values_backed heading instance a b numbers tokens limits plain shown =
     let values = values_backed instance a b numbers tokens limits shown in
     let m = shown.most in
     let r = shown.rising in
@@ -456,44 +470,44 @@ between_values_backed heading instance a b numbers tokens limits shown =
         most = m;
       };
       filled = values.filled;
-      backs = values.backs;
+      backs = value_plain heading instance a b _ plain values.backs;
     }
 
 -- ---- all claims
 
 backed : (heading : Heading) (instance : PlainInstance) (claim : Claim) (numbers : List ℕ) (tokens : List PlainToken)
-    → IsInstance instance → ShowsFrom (start_exclusions heading instance) instance claim numbers tokens
+    → IsInstance instance → TakesPlain heading → ShowsFrom (start_exclusions heading instance) instance claim numbers tokens
     → IsBacked heading instance claim numbers tokens
-backed heading instance Fitting numbers tokens limits h = fit_yes heading instance numbers tokens limits h
-backed heading instance NotFitting numbers tokens limits h = fit_no heading instance numbers tokens limits h
-backed heading instance (LeastHeight n) numbers tokens limits h =
+backed heading instance Fitting numbers tokens limits plain h = fit_yes heading instance numbers tokens limits h
+backed heading instance NotFitting numbers tokens limits plain h = fit_no heading instance numbers tokens limits h
+backed heading instance (LeastHeight n) numbers tokens limits plain h =
     least_height_backed heading instance n numbers tokens limits h
-backed heading instance (HeightBetween a b) numbers tokens limits h =
+backed heading instance (HeightBetween a b) numbers tokens limits plain h =
     between_heights_backed heading instance a b numbers tokens limits h
-backed heading instance NoHeight numbers tokens limits h = no_height_backed heading instance numbers tokens limits h
-backed heading instance (LeastBins k) numbers tokens limits h =
+backed heading instance NoHeight numbers tokens limits plain h = no_height_backed heading instance numbers tokens limits h
+backed heading instance (LeastBins k) numbers tokens limits plain h =
     least_bins_backed heading instance k numbers tokens limits h
-backed heading instance (BinsBetween a b) numbers tokens limits h =
+backed heading instance (BinsBetween a b) numbers tokens limits plain h =
     between_bins_backed heading instance a b numbers tokens limits h
-backed heading instance NoBins numbers tokens limits h = no_bins_backed heading instance numbers tokens limits h
-backed heading instance (GreatestValue v) numbers tokens limits h =
-    greatest_value_backed heading instance v numbers tokens limits h
-backed heading instance (ValueBetween a b) numbers tokens limits h =
-    between_values_backed heading instance a b numbers tokens limits h
+backed heading instance NoBins numbers tokens limits plain h = no_bins_backed heading instance numbers tokens limits h
+backed heading instance (GreatestValue v) numbers tokens limits plain h =
+    greatest_value_backed heading instance v numbers tokens limits plain h
+backed heading instance (ValueBetween a b) numbers tokens limits plain h =
+    between_values_backed heading instance a b numbers tokens limits plain h
 
 pub shown_headed : (heading : Heading) (instance : PlainInstance) (claim : Claim) (numbers : List ℕ)
-    (tokens : List PlainToken) → IsInstance instance → MayName heading (job_of claim)
+    (tokens : List PlainToken) → IsInstance instance → TakesPlain heading → MayName heading (job_of claim)
     → ShowsFrom (start_exclusions heading instance) instance claim numbers tokens
     → IsHeadedAbout heading instance
     (lines_text (headed_lines (heading_word heading) instance (Claimed claim numbers tokens))) claim
-shown_headed heading instance claim numbers tokens limits headed h =
+shown_headed heading instance claim numbers tokens limits plain headed h =
     backed_document heading instance claim numbers tokens limits headed
-    (backed heading instance claim numbers tokens limits h)
+    (backed heading instance claim numbers tokens limits plain h)
 
 pub shown_documents : ShownClaimsHaveDocuments
 unfolding answer_text
 shown_documents instance claim numbers tokens limits h =
-    let is = shown_headed Answer instance claim numbers tokens limits tt h in
+    let is = shown_headed Answer instance claim numbers tokens limits tt tt h in
     record { document = is.document; about = is.about }
 
 pub own_verified : OwnDocumentsAreVerified

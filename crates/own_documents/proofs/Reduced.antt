@@ -21,7 +21,7 @@ pub own_reduced : OwnReducedDocumentsAreVerified
 unfolding reduced_text
 own_reduced job budget scales instance claim numbers tokens limits e =
     let shown = reduced_shown job budget scales instance claim numbers tokens limits e in
-    let is = shown_headed Reduced instance claim numbers tokens limits
+    let is = shown_headed Reduced instance claim numbers tokens limits tt
     (subst (λ (j : SolvingJob). MayName Reduced j) (sym shown.of_job) (may_name job)) shown.shown in
     let verified = (documents_have_form Reduced (reduced_text instance (Claimed claim numbers tokens)) claim).1
     is.document in
