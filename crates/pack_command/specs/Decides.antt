@@ -8,7 +8,7 @@ use Rattle.answer_terms.specs.declared.job.ReducedJob.TheVariants.{Fit as FromFi
 use Rattle.answer_streams.specs.declared.tree_start.TreeStart.TheVariants.{Nothing, Facts}
 use Rattle.document_terms.specs.declared.claim.SolvingJob.TheVariants.{Fit, Strip, Bins, Knapsack}
 use Rattle.text_terms.specs.declared.settings.Settings.{Settings}
-use Rattle.pack_command.specs.Nothing.{IsDecided}
+use Rattle.pack_command.specs.Answered.{IsDecided}
 use Rattle.pack_command.specs.Reductions.{IsReducedDecided}
 use Rattle.pack_command.specs.Strips.{IsStripDecided}
 use Rattle.pack_command.specs.FewestBins.{AreBinsDecided}
