@@ -1,8 +1,8 @@
 -- Command lines with their jobs.
 use Rattle.std.proofs.Common.{◌≡◌, [], ◌∷◌, Some, None, refl, codes, true, false}
 use Rattle.text_terms.specs.Lines.{number_of}
-use Rattle.pack_words.specs.declared.job.Job.TheVariants.{Fit, Strip, Make, Audit, Explain, Reduced, Front}
-use Rattle.pack_words.specs.declared.job.Job.TheVariants.{ReducedStrip, Proposed}
+use Rattle.pack_words.specs.declared.job.Job.TheVariants.{Fit, Strip, Knapsack, Make, Audit, Explain, Reduced, Front}
+use Rattle.pack_words.specs.declared.job.Job.TheVariants.{ReducedStrip, Proposed, Bounded}
 use Rattle.document_terms.specs.declared.claim.SolvingJob.TheVariants.{Fit as SolvesFit, Strip as SolvesStrip}
 use Rattle.document_terms.specs.declared.claim.SolvingJob.TheVariants.{Bins as SolvesBins, Knapsack as SolvesKnapsack}
 use Rattle.pack_words.specs.Job.{job_of_words}
@@ -202,3 +202,76 @@ facts_of_bins = refl
 facts_of_fit : job_of_words (codes "fit" ∷ codes "--facts" ∷ codes "yes" ∷ []) ≡ None
 unfolding job_of_words number_of
 facts_of_fit = refl
+
+bounds_asked : job_of_words (codes "knapsack" ∷ codes "--bounds" ∷ codes "yes" ∷ [])
+    ≡ Some (record {
+      job = Bounded false;
+      settings = record { workers = 1; budget = 1000000; scales = true };
+      number = 0;
+    })
+unfolding job_of_words number_of
+bounds_asked = refl
+
+bounds_with_proposals : job_of_words (codes "knapsack" ∷ codes "--bounds=yes" ∷ codes "--proposals" ∷ codes "yes" ∷ [])
+    ≡ Some (record {
+      job = Bounded true;
+      settings = record { workers = 1; budget = 1000000; scales = true };
+      number = 0;
+    })
+unfolding job_of_words number_of
+bounds_with_proposals = refl
+
+bounds_without_proposals : job_of_words (codes "knapsack" ∷ codes "--proposals=no" ∷ codes "--bounds=yes" ∷ [])
+    ≡ Some (record {
+      job = Bounded false;
+      settings = record { workers = 1; budget = 1000000; scales = true };
+      number = 0;
+    })
+unfolding job_of_words number_of
+bounds_without_proposals = refl
+
+bounds_declined : job_of_words (codes "knapsack" ∷ codes "--bounds" ∷ codes "no" ∷ [])
+    ≡ Some (record {
+      job = Knapsack;
+      settings = record { workers = 1; budget = 1000000; scales = true };
+      number = 0;
+    })
+unfolding job_of_words number_of
+bounds_declined = refl
+
+proposals_without_bounds : job_of_words (codes "knapsack" ∷ codes "--bounds=no" ∷ codes "--proposals=yes" ∷ [])
+    ≡ Some (record {
+      job = Proposed SolvesKnapsack;
+      settings = record { workers = 1; budget = 1000000; scales = true };
+      number = 0;
+    })
+unfolding job_of_words number_of
+proposals_without_bounds = refl
+
+bounds_misspelled : job_of_words (codes "knapsack" ∷ codes "--bounds" ∷ codes "maybe" ∷ []) ≡ None
+unfolding job_of_words number_of
+bounds_misspelled = refl
+
+bounds_with_facts : job_of_words (codes "knapsack" ∷ codes "--bounds=yes" ∷ codes "--facts=yes" ∷ []) ≡ None
+unfolding job_of_words number_of
+bounds_with_facts = refl
+
+bounds_of_strip : job_of_words (codes "strip" ∷ codes "--bounds" ∷ codes "yes" ∷ []) ≡ None
+unfolding job_of_words number_of
+bounds_of_strip = refl
+
+bounds_of_fit : job_of_words (codes "fit" ∷ codes "--bounds" ∷ codes "no" ∷ []) ≡ None
+unfolding job_of_words number_of
+bounds_of_fit = refl
+
+bounds_of_bins : job_of_words (codes "bins" ∷ codes "--bounds" ∷ codes "yes" ∷ []) ≡ None
+unfolding job_of_words number_of
+bounds_of_bins = refl
+
+bounds_of_check : job_of_words (codes "check" ∷ codes "--bounds" ∷ codes "no" ∷ []) ≡ None
+unfolding job_of_words number_of
+bounds_of_check = refl
+
+bounds_of_make : job_of_words (codes "make" ∷ codes "--bounds" ∷ codes "no" ∷ []) ≡ None
+unfolding job_of_words number_of
+bounds_of_make = refl

@@ -29,10 +29,11 @@ if_none true o e = e
 if_none false o e = refl
 
 -- the job of what stands at most once, or stands twice
-abbrev judged : (job workers budget scales number proposals facts : Option (Option Text)) → Option JobWords
-judged job workers budget scales number proposals facts =
+abbrev judged : (job workers budget scales number proposals facts bounds : Option (Option Text)) → Option JobWords
+judged job workers budget scales number proposals facts bounds =
     (job >>= λ j. workers >>= λ w. budget >>= λ b. scales >>= λ s. number >>= λ n. proposals >>= λ p. facts >>= λ f.
-    Some (record { job = j; workers = w; budget = b; scales = s; number = n; proposals = p; facts = f }))
+    bounds >>= λ u.
+    Some (record { job = j; workers = w; budget = b; scales = s; number = n; proposals = p; facts = f; bounds = u }))
     >>= λ texts. job_of_texts texts
 
 abbrev judge : List Item → Option JobWords
@@ -42,10 +43,10 @@ judge items = texts_of items >>= λ texts. job_of_texts texts
 abbrev once : Text → List Item → Option (Option Text)
 once name items = at_most_once (values_of name items)
 
-judged_none : (j w b s n p f : Option (Option Text))
-    → ((job workers budget scales number proposals facts : Option Text) → j ≡ Some job → w ≡ Some workers
+judged_none : (j w b s n p f u : Option (Option Text))
+    → ((job workers budget scales number proposals facts bounds : Option Text) → j ≡ Some job → w ≡ Some workers
     → b ≡ Some budget → s ≡ Some scales → n ≡ Some number
-    → p ≡ Some proposals → f ≡ Some facts
+    → p ≡ Some proposals → f ≡ Some facts → u ≡ Some bounds
     → job_of_texts (record {
       job = job;
       workers = workers;
@@ -54,31 +55,43 @@ judged_none : (j w b s n p f : Option (Option Text))
       number = number;
       proposals = proposals;
       facts = facts;
+      bounds = bounds;
     }) ≡ None)
-    → judged j w b s n p f ≡ None
-judged_none None w b s n p f e = refl
-judged_none (Some j) None b s n p f e = refl
-judged_none (Some j) (Some w) None s n p f e = refl
-judged_none (Some j) (Some w) (Some b) None n p f e = refl
-judged_none (Some j) (Some w) (Some b) (Some s) None p f e = refl
-judged_none (Some j) (Some w) (Some b) (Some s) (Some n) None f e = refl
-judged_none (Some j) (Some w) (Some b) (Some s) (Some n) (Some p) None e = refl
-judged_none (Some j) (Some w) (Some b) (Some s) (Some n) (Some p) (Some f) e =
-    e j w b s n p f refl refl refl refl refl refl refl
+    → judged j w b s n p f u ≡ None
+judged_none None w b s n p f u e = refl
+judged_none (Some j) None b s n p f u e = refl
+judged_none (Some j) (Some w) None s n p f u e = refl
+judged_none (Some j) (Some w) (Some b) None n p f u e = refl
+judged_none (Some j) (Some w) (Some b) (Some s) None p f u e = refl
+judged_none (Some j) (Some w) (Some b) (Some s) (Some n) None f u e = refl
+judged_none (Some j) (Some w) (Some b) (Some s) (Some n) (Some p) None u e = refl
+judged_none (Some j) (Some w) (Some b) (Some s) (Some n) (Some p) (Some f) None e = refl
+judged_none (Some j) (Some w) (Some b) (Some s) (Some n) (Some p) (Some f) (Some u) e =
+    e j w b s n p f u refl refl refl refl refl refl refl refl
 
-abbrev pub texts_like : (job workers budget scales number proposals facts : Option Text) → Texts
-texts_like j w b s n p f = record { job = j; workers = w; budget = b; scales = s; number = n; proposals = p; facts = f }
+abbrev pub texts_like : (job workers budget scales number proposals facts bounds : Option Text) → Texts
+texts_like j w b s n p f u = record {
+  job = j;
+  workers = w;
+  budget = b;
+  scales = s;
+  number = n;
+  proposals = p;
+  facts = f;
+  bounds = u;
+}
 
 judge_none : (items : List Item)
-    → ((j w b s n p f : Option Text) → at_most_once (job_words items) ≡ Some j → once (codes "workers") items ≡ Some w
+    → ((j w b s n p f u : Option Text) → at_most_once (job_words items) ≡ Some j → once (codes "workers") items ≡ Some w
     → once (codes "budget") items ≡ Some b → once (codes "scales") items ≡ Some s → once (codes "number") items ≡ Some n
     → once (codes "proposals") items ≡ Some p → once (codes "facts") items ≡ Some f
-    → job_of_texts (texts_like j w b s n p f) ≡ None)
+    → once (codes "bounds") items ≡ Some u
+    → job_of_texts (texts_like j w b s n p f u) ≡ None)
     → judge items ≡ None
 judge_none items =
     judged_none (at_most_once (job_words items)) (once (codes "workers") items) (once (codes "budget") items)
     (once (codes "scales") items) (once (codes "number") items)
-    (once (codes "proposals") items) (once (codes "facts") items)
+    (once (codes "proposals") items) (once (codes "facts") items) (once (codes "bounds") items)
 
 -- a text that stands twice, or that the test refuses
 abbrev IsBad : {A : Type 0} → (Option Text → Option A) → Option (Option Text) → Type 0
@@ -107,51 +120,59 @@ no_settings texts e =
 
 bad_job : (items : List Item) → IsBad job_in (at_most_once (job_words items)) → judge items ≡ None
 bad_job items bad = judge_none items
-    (λ j w b s n p f ej ew eb es en ep ef. no_job_text (texts_like j w b s n p f)
+    (λ j w b s n p f u ej ew eb es en ep ef eu. no_job_text (texts_like j w b s n p f u)
     (bad_text job_in (at_most_once (job_words items)) j bad ej))
 
 bad_workers : (items : List Item) → IsBad (number_or 1 64 1) (once (codes "workers") items) → judge items ≡ None
-bad_workers items bad = judge_none items (λ j w b s n p f ej ew eb es en ep ef.
-    no_settings (texts_like j w b s n p f)
+bad_workers items bad = judge_none items (λ j w b s n p f u ej ew eb es en ep ef eu.
+    no_settings (texts_like j w b s n p f u)
     (λ job. let e : number_or 1 64 1 w ≡ None = bad_text (number_or 1 64 1) (once (codes "workers") items) w bad
     ew in rw e refl))
 
 bad_budget : (items : List Item) → IsBad (number_or 0 10000000 1000000) (once (codes "budget") items)
     → judge items ≡ None
-bad_budget items bad = judge_none items (λ j w b s n p f ej ew eb es en ep ef.
-    no_settings (texts_like j w b s n p f) (λ job. bind_none (number_or 1 64 1 w) _ (λ x.
+bad_budget items bad = judge_none items (λ j w b s n p f u ej ew eb es en ep ef eu.
+    no_settings (texts_like j w b s n p f u) (λ job. bind_none (number_or 1 64 1 w) _ (λ x.
     let e : number_or 0 10000000 1000000 b ≡ None =
     bad_text (number_or 0 10000000 1000000) (once (codes "budget") items) b bad eb in rw e refl)))
 
 bad_scales : (items : List Item) → IsBad scales_in (once (codes "scales") items) → judge items ≡ None
-bad_scales items bad = judge_none items (λ j w b s n p f ej ew eb es en ep ef.
-    no_settings (texts_like j w b s n p f)
+bad_scales items bad = judge_none items (λ j w b s n p f u ej ew eb es en ep ef eu.
+    no_settings (texts_like j w b s n p f u)
     (λ job. bind_none (number_or 1 64 1 w) _ (λ x. bind_none (number_or 0 10000000 1000000 b) _ (λ y.
     let e : scales_in s ≡ None = bad_text scales_in (once (codes "scales") items) s bad es in rw e refl))))
 
 bad_number : (items : List Item) → IsBad (number_or 0 2147483647 0) (once (codes "number") items) → judge items ≡ None
-bad_number items bad = judge_none items (λ j w b s n p f ej ew eb es en ep ef.
-    no_settings (texts_like j w b s n p f)
+bad_number items bad = judge_none items (λ j w b s n p f u ej ew eb es en ep ef eu.
+    no_settings (texts_like j w b s n p f u)
     (λ job. bind_none (number_or 1 64 1 w) _
     (λ x. bind_none (number_or 0 10000000 1000000 b) _ (λ y. bind_none (scales_in s) _ (λ z.
     let e : number_or 0 2147483647 0 n ≡ None =
     bad_text (number_or 0 2147483647 0) (once (codes "number") items) n bad en in rw e refl)))))
 
 bad_proposals : (items : List Item) → IsBad asked_in (once (codes "proposals") items) → judge items ≡ None
-bad_proposals items bad = judge_none items (λ j w b s n p f ej ew eb es en ep ef.
-    no_settings (texts_like j w b s n p f)
+bad_proposals items bad = judge_none items (λ j w b s n p f u ej ew eb es en ep ef eu.
+    no_settings (texts_like j w b s n p f u)
     (λ job. bind_none (number_or 1 64 1 w) _
     (λ x. bind_none (number_or 0 10000000 1000000 b) _ (λ y. bind_none (scales_in s) _ (λ z.
     bind_none (number_or 0 2147483647 0 n) _ (λ q.
     let e : asked_in p ≡ None = bad_text asked_in (once (codes "proposals") items) p bad ep in rw e refl))))))
 
 bad_facts : (items : List Item) → IsBad asked_in (once (codes "facts") items) → judge items ≡ None
-bad_facts items bad = judge_none items (λ j w b s n p f ej ew eb es en ep ef.
-    no_settings (texts_like j w b s n p f)
+bad_facts items bad = judge_none items (λ j w b s n p f u ej ew eb es en ep ef eu.
+    no_settings (texts_like j w b s n p f u)
     (λ job. bind_none (number_or 1 64 1 w) _
     (λ x. bind_none (number_or 0 10000000 1000000 b) _ (λ y. bind_none (scales_in s) _ (λ z.
     bind_none (number_or 0 2147483647 0 n) _ (λ q. bind_none (asked_in p) _ (λ r.
     let e : asked_in f ≡ None = bad_text asked_in (once (codes "facts") items) f bad ef in rw e refl)))))))
+
+bad_bounds : (items : List Item) → IsBad asked_in (once (codes "bounds") items) → judge items ≡ None
+bad_bounds items bad = judge_none items (λ j w b s n p f u ej ew eb es en ep ef eu.
+    no_settings (texts_like j w b s n p f u)
+    (λ job. bind_none (number_or 1 64 1 w) _
+    (λ x. bind_none (number_or 0 10000000 1000000 b) _ (λ y. bind_none (scales_in s) _ (λ z.
+    bind_none (number_or 0 2147483647 0 n) _ (λ q. bind_none (asked_in p) _ (λ r. bind_none (asked_in f) _ (λ v.
+    let e : asked_in u ≡ None = bad_text asked_in (once (codes "bounds") items) u bad eu in rw e refl))))))))
 
 -- ---- a text that begins with `-`
 
@@ -191,7 +212,7 @@ hyphen_asked : (text : Text) → begins_with_hyphen text ≡ true → asked_in (
 hyphen_asked [] e = cc
 hyphen_asked (b ∷ bs) e = subst (λ x. asked_in (Some (x ∷ bs)) ≡ None) (sym (eqb-true b 45 e)) refl
 
--- one of the six options
+-- one of the seven options
 pub data OptionName (name : Text) : Type 0 where
   is_workers : name ≡ codes "workers" → OptionName name
   is_budget : name ≡ codes "budget" → OptionName name
@@ -199,6 +220,7 @@ pub data OptionName (name : Text) : Type 0 where
   is_number : name ≡ codes "number" → OptionName name
   is_proposals : name ≡ codes "proposals" → OptionName name
   is_facts : name ≡ codes "facts" → OptionName name
+  is_bounds : name ≡ codes "bounds" → OptionName name
 
 which_option : (name : Text) → is_option_name name ≡ true → OptionName name
 which_option name e =
@@ -212,9 +234,12 @@ which_option name e =
             | inl h ↦ is_number (sym (bytes_same (codes "number") name h))
             | inr h ↦ elim (or_cases (bytes_eq (codes "proposals") name) _ h) [
               | inl h ↦ is_proposals (sym (bytes_same (codes "proposals") name h))
-              | inr h ↦ elim (or_cases (bytes_eq (codes "facts") name) false h) [
+              | inr h ↦ elim (or_cases (bytes_eq (codes "facts") name) _ h) [
                 | inl h ↦ is_facts (sym (bytes_same (codes "facts") name h))
-                | inr h ↦ cc
+                | inr h ↦ elim (or_cases (bytes_eq (codes "bounds") name) false h) [
+                  | inl h ↦ is_bounds (sym (bytes_same (codes "bounds") name h))
+                  | inr h ↦ cc
+                ]
               ]
             ]
           ]
@@ -282,6 +307,10 @@ odd_option items name (is_facts is) e =
     bad_facts items (odd_bad asked_in hyphen_asked (once (codes "facts") items)
     (odd_once (values_of (codes "facts") items)
     (subst (λ m. list_any begins_with_hyphen (values_of m items) ≡ true) is e)))
+odd_option items name (is_bounds is) e =
+    bad_bounds items (odd_bad asked_in hyphen_asked (once (codes "bounds") items)
+    (odd_once (values_of (codes "bounds") items)
+    (subst (λ m. list_any begins_with_hyphen (values_of m items) ≡ true) is e)))
 
 -- odd items name no job
 odd_items : (items : List Item) → list_all is_named items ≡ true → list_any is_odd items ≡ true → judge items ≡ None
@@ -318,6 +347,7 @@ texts_of_rows rows = record {
   number = first_of (codes "number") rows;
   proposals = first_of (codes "proposals") rows;
   facts = first_of (codes "facts") rows;
+  bounds = first_of (codes "bounds") rows;
 }
 
 once_said : (items : List Item) (rows : List Row) → Ended [] items rows → (id : Text) (texts : List Text)
@@ -343,7 +373,9 @@ texts_are items rows named e =
     once_said items rows ended (codes "proposals") _ (said_option (codes "proposals") refl items) in
     let f : at_most_once (values_of (codes "facts") items) ≡ Some (first_of (codes "facts") rows) =
     once_said items rows ended (codes "facts") _ (said_option (codes "facts") refl items) in
-    rw (j, w, b, s, n, p, f) refl
+    let u : at_most_once (values_of (codes "bounds") items) ≡ Some (first_of (codes "bounds") rows) =
+    once_said items rows ended (codes "bounds") _ (said_option (codes "bounds") refl items) in
+    rw (j, w, b, s, n, p, f, u) refl
 
 once_bad : {A : Type 0} (test : Option Text → Option A) (o : Option (Option Text)) → o ≡ None → IsBad test o
 once_bad test o e = subst (IsBad test) (sym e) tt
@@ -373,6 +405,10 @@ option_twice items name (is_proposals is) e =
 option_twice items name (is_facts is) e =
     bad_facts items (once_bad asked_in (once (codes "facts") items)
     (ap at_most_once (sym (said_option (codes "facts") refl items))
+    ∙ subst (λ m. at_most_once (said_at m items) ≡ None) is e))
+option_twice items name (is_bounds is) e =
+    bad_bounds items (once_bad asked_in (once (codes "bounds") items)
+    (ap at_most_once (sym (said_option (codes "bounds") refl items))
     ∙ subst (λ m. at_most_once (said_at m items) ≡ None) is e))
 
 job_twice : (items : List Item) → list_all is_named items ≡ true → at_most_once (said_at (codes "job") items) ≡ None
@@ -437,11 +473,12 @@ unfolding job_of_words
 no_job_of_rows words e = none_when (reads None words) (items_from None words) (alike words None) (named_items words) e
 
 -- the texts that are found
-pub texts_same : (job workers budget scales number proposals facts : Option Text) (rows : List Row)
+pub texts_same : (job workers budget scales number proposals facts bounds : Option Text) (rows : List Row)
     → job ≡ first_of (codes "job") rows → workers ≡ first_of (codes "workers") rows
     → budget ≡ first_of (codes "budget") rows
     → scales ≡ first_of (codes "scales") rows → number ≡ first_of (codes "number") rows
     → proposals ≡ first_of (codes "proposals") rows
-    → facts ≡ first_of (codes "facts") rows
-    → texts_like job workers budget scales number proposals facts ≡ texts_of_rows rows
-texts_same job workers budget scales number proposals facts rows j w b s n p f = rw (j, w, b, s, n, p, f) refl
+    → facts ≡ first_of (codes "facts") rows → bounds ≡ first_of (codes "bounds") rows
+    → texts_like job workers budget scales number proposals facts bounds ≡ texts_of_rows rows
+texts_same job workers budget scales number proposals facts bounds rows j w b s n p f u =
+    rw (j, w, b, s, n, p, f, u) refl

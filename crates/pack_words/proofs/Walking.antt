@@ -154,11 +154,11 @@ if_same false x = refl
 
 -- no argument has a default
 pub finished_is : (rows : List Row) → fold with_default rows rules ≡ rows
-finished_is rows = rw (if_same, if_same, if_same, if_same, if_same, if_same, if_same) refl
+finished_is rows = rw (if_same, if_same, if_same, if_same, if_same, if_same, if_same, if_same) refl
 
 pub no_default_fault : (rows : List Row) → defaults_fault rows rules ≡ []
 unfolding defaults_fault
-no_default_fault rows = rw (or-true, or-true, or-true, or-true, or-true, or-true, or-true) refl
+no_default_fault rows = rw (or-true, or-true, or-true, or-true, or-true, or-true, or-true, or-true) refl
 
 pub check_end : (rs : List Row) → obs (check_fault top rs false) rs ≡ finish rs []
 check_end rs = elim (is_given (codes "job") rs) as

@@ -1,4 +1,4 @@
--- The command line, as `clap` sees it: six options that take a value each, and one required job
+-- The command line, as `clap` sees it: seven options that take a value each, and one required job
 -- word.
 use Rattle.std.specs.Prelude.{Some, codes, true}
 use Rattle.clap.specs.Walk.{Rule, Text}
@@ -15,7 +15,7 @@ abbrev pub bare_app : App
 bare_app = on_top (λ s. record s { no_binary_name = true; disable_help_flag = true }) (new_app (codes "pack"))
 
 abbrev pub pack_app : App
-pack_app = with_rule (with_rule (with_rule (with_rule (with_rule (with_rule (with_rule bare_app
+pack_app = with_rule (with_rule (with_rule (with_rule (with_rule (with_rule (with_rule (with_rule bare_app
     (option_rule (codes "workers"))) (option_rule (codes "budget")))
     (option_rule (codes "scales"))) (option_rule (codes "number"))) (option_rule (codes "proposals")))
-    (option_rule (codes "facts"))) job_rule
+    (option_rule (codes "facts"))) (option_rule (codes "bounds"))) job_rule

@@ -30,7 +30,7 @@ begins_with_two_hyphens (b ∷ bs) = (b == 45) && begins_with_hyphen bs
 
 abbrev pub option_names : List Text
 option_names = codes "workers" ∷ codes "budget" ∷ codes "scales" ∷ codes "number" ∷ codes "proposals"
-    ∷ codes "facts" ∷ []
+    ∷ codes "facts" ∷ codes "bounds" ∷ []
 
 abbrev pub is_option_name : Text → Bool
 is_option_name name = list_any (λ n. bytes_eq n name) option_names

@@ -8,7 +8,7 @@ use Rattle.document_terms.specs.declared.claim.SolvingJob.TheVariants.{Bins as S
 use Rattle.pack_words.specs.Items.{Text, Item, option, word, items_from}
 use Rattle.pack_words.specs.declared.job.Job.{Job}
 use Rattle.pack_words.specs.declared.job.Job.TheVariants.{Fit, Strip, Bins, Knapsack, Check, Make, Audit, Explain}
-use Rattle.pack_words.specs.declared.job.Job.TheVariants.{Reduced, Front, ReducedStrip, Proposed}
+use Rattle.pack_words.specs.declared.job.Job.TheVariants.{Reduced, Front, ReducedStrip, Proposed, Bounded}
 use Rattle.pack_words.specs.declared.job.JobWords.{JobWords}
 use Rattle.pack_words.specs.declared.job.WordsError.{WordsError}
 use Rattle.pack_words.specs.declared.job.WordsError.TheVariants.{Refused, NoMemory}
@@ -27,6 +27,7 @@ pub record Texts : Type 0 where
   pub number : Option Text
   pub proposals : Option Text
   pub facts : Option Text
+  pub bounds : Option Text
 
 -- the values that an option is given
 abbrev pub values_of : Text → List Item → List Text
@@ -56,6 +57,7 @@ texts_of items =
     at_most_once (values_of (codes "number") items) >>= λ number.
     at_most_once (values_of (codes "proposals") items) >>= λ proposals.
     at_most_once (values_of (codes "facts") items) >>= λ facts.
+    at_most_once (values_of (codes "bounds") items) >>= λ bounds.
     Some (record {
       job = job;
       workers = workers;
@@ -64,6 +66,7 @@ texts_of items =
       number = number;
       proposals = proposals;
       facts = facts;
+      bounds = bounds;
     })
 
 abbrev pub job_of_name : Text → Option Job
@@ -81,7 +84,7 @@ job_of_name text =
     else None)))))))))
 
 -- `check`, `audit` and `explain` take no option, `make` alone takes a number, `fit`, `strip`, `bins` and
--- `knapsack` alone take proposals, and `strip` alone takes facts
+-- `knapsack` alone take proposals, `strip` alone takes facts, and `knapsack` alone takes bounds
 abbrev pub takes_settings : Job → Bool
 takes_settings Check = false
 takes_settings Audit = false
@@ -103,13 +106,18 @@ abbrev pub takes_facts : Job → Bool
 takes_facts Strip = true
 takes_facts _ = false
 
+abbrev pub takes_bounds : Job → Bool
+takes_bounds Knapsack = true
+takes_bounds _ = false
+
 -- each option that is given is one that the job takes
 abbrev pub are_taken : Job → Texts → Bool
 are_taken job texts =
     (takes_settings job || not (is_some texts.workers || (is_some texts.budget || is_some texts.scales)))
     && ((takes_number job || not (is_some texts.number))
     && ((takes_proposals job || not (is_some texts.proposals))
-    && (takes_facts job || not (is_some texts.facts))))
+    && ((takes_facts job || not (is_some texts.facts))
+    && (takes_bounds job || not (is_some texts.bounds)))))
 
 -- a number in its range, both ends included
 abbrev pub kept_in_range : ℕ → ℕ → Option ℕ → Option ℕ
@@ -156,6 +164,16 @@ by_ways proposals false job = Some (by_proposals proposals job)
 by_ways false true job = Some (from_facts job)
 by_ways true true job = None
 
+-- a job whose upper bounds may have priced leaves, if it takes them: with proposals where it has them
+abbrev pub bounded : Job → Job
+bounded Knapsack = Bounded false
+bounded (Proposed SolvesKnapsack) = Bounded true
+bounded job = job
+
+-- a job, with priced leaves or without
+abbrev pub by_bounds : Bool → Job → Job
+by_bounds bounds job = if bounds then bounded job else job
+
 -- the settings and the number of a job that these texts give
 abbrev pub settings_of : Job → Texts → Option JobWords
 settings_of job texts =
@@ -165,9 +183,10 @@ settings_of job texts =
     number_or 0 2147483647 0 texts.number >>= λ number.
     asked_in texts.proposals >>= λ proposals.
     asked_in texts.facts >>= λ facts.
+    asked_in texts.bounds >>= λ bounds.
     by_ways proposals facts job >>= λ asked.
     Some (record {
-      job = asked;
+      job = by_bounds bounds asked;
       settings = record { workers = workers; budget = budget; scales = scales };
       number = number;
     })

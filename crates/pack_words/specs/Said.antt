@@ -12,4 +12,5 @@ plain_found f = record {
   number = option_map (λ s. s.now) f.number;
   proposals = option_map (λ s. s.now) f.proposals;
   facts = option_map (λ s. s.now) f.facts;
+  bounds = option_map (λ s. s.now) f.bounds;
 }

@@ -40,6 +40,7 @@ fn pack_command<'a>(alloc: Global) -> Result<Command<'a>, AllocError>
         .arg(option_arg(alloc, "number"))?
         .arg(option_arg(alloc, "proposals"))?
         .arg(option_arg(alloc, "facts"))?
+        .arg(option_arg(alloc, "bounds"))?
         .arg(job_arg(alloc))
 }
 

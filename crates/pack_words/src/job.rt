@@ -31,11 +31,14 @@ pub enum Job {
     ReducedStrip,
     /// A solving job that decides by proposals first.
     Proposed(SolvingJob),
+    /// The greatest value of boxes that fit the container. The choice trees of its upper bounds may
+    /// have priced leaves. `proposals` says whether it decides by proposals first.
+    Bounded { proposals: bool },
 }
 
 /// A job with its settings, and the number that `make` generates from. Where the words don't give
 /// one, the workers are 1, the budget is 1,000,000, scales are used, the number is 0, and there are
-/// no proposals and no symmetry facts.
+/// no proposals, no symmetry facts and no priced leaves.
 #[derive(Clone, Copy, Debug, PartialEq, Eq)]
 pub struct JobWords {
     pub job: Job,

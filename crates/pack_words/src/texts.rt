@@ -1,6 +1,6 @@
 //! From texts to a job and its settings.
 ghost use Rattle.std.specs.Prelude.{◌≡◌, option_map};
-ghost use Rattle.pack_words.specs.Job.{job_of_name, takes_settings, takes_number, takes_proposals, takes_facts, are_taken, number_or, scales_in, asked_in, proposed, by_proposals, from_facts, by_ways, settings_of, job_of_texts};
+ghost use Rattle.pack_words.specs.Job.{job_of_name, takes_settings, takes_number, takes_proposals, takes_facts, takes_bounds, are_taken, number_or, scales_in, asked_in, proposed, by_proposals, from_facts, by_ways, bounded, by_bounds, settings_of, job_of_texts};
 ghost use Rattle.pack_words.specs.Said.{plain_found};
 
 use crate::job::{Job, JobWords};
@@ -32,12 +32,14 @@ fn are_taken(job: Job, found: Found<'_>) -> bool
 {
     let has_settings = found.workers.is_some() | found.budget.is_some() | found.scales.is_some();
     let factless = found.facts.is_none();
-    let plain = found.proposals.is_none() & factless;
+    let boundless = found.bounds.is_none();
+    let plain = found.proposals.is_none() & (factless & boundless);
     match job {
         Job::Check | Job::Audit | Job::Explain => { !has_settings & found.number.is_none() & plain }
         Job::Make => plain,
-        Job::Strip => found.number.is_none(),
-        Job::Fit | Job::Bins | Job::Knapsack => found.number.is_none() & factless,
+        Job::Strip => found.number.is_none() & boundless,
+        Job::Fit | Job::Bins => found.number.is_none() & factless & boundless,
+        Job::Knapsack => found.number.is_none() & factless,
         _ => found.number.is_none() & plain,
     }
 }
@@ -126,6 +128,25 @@ fn by_ways(proposals: bool, facts: bool, job: Job) -> Option<Job>
     Some(from_facts(job))
 }
 
+// A job whose upper bounds may have priced leaves, if it takes them: with proposals where it has
+// them.
+fn bounded(job: Job) -> Job
+    ensures { result ≡ bounded job }
+{
+    match job {
+        Job::Knapsack => Job::Bounded { proposals: false },
+        Job::Proposed(SolvingJob::Knapsack) => Job::Bounded { proposals: true },
+        other => other,
+    }
+}
+
+// A job, with priced leaves or without.
+fn by_bounds(bounds: bool, job: Job) -> Job
+    ensures { result ≡ by_bounds bounds job }
+{
+    if bounds { bounded(job) } else { job }
+}
+
 fn settings_of(job: Job, found: Found<'_>) -> Option<JobWords>
     ensures { result ≡ settings_of job (plain_found found.entry) }
 {
@@ -135,7 +156,8 @@ fn settings_of(job: Job, found: Found<'_>) -> Option<JobWords>
     let number = number_or(0, 2_147_483_647, 0, found.number)?;
     let proposals = asked_in(found.proposals)?;
     let facts = asked_in(found.facts)?;
-    let job = by_ways(proposals, facts, job)?;
+    let bounds = asked_in(found.bounds)?;
+    let job = by_bounds(bounds, by_ways(proposals, facts, job)?);
     let settings = Settings {
         workers,
         budget: budget as u64,

@@ -19,6 +19,7 @@ pub(crate) struct Found<'a> {
     pub number: Option<&'a str>,
     pub proposals: Option<&'a str>,
     pub facts: Option<&'a str>,
+    pub bounds: Option<&'a str>,
 }
 
 // The texts that the words say, where they are well formed and none stands twice.
@@ -37,6 +38,7 @@ fn found_in<'a>(alloc: Global, words: &'a [String]) -> Result<Found<'a>, WordsEr
             number: matches.get_str("number"),
             proposals: matches.get_str("proposals"),
             facts: matches.get_str("facts"),
+            bounds: matches.get_str("bounds"),
         }),
         Err(error) => {
             if error.kind() == ErrorKind::OutOfMemory {
@@ -51,14 +53,16 @@ fn found_in<'a>(alloc: Global, words: &'a [String]) -> Result<Found<'a>, WordsEr
 /// contain the program's name.
 ///
 /// Up to a word `--`, `--NAME VALUE` and `--NAME=VALUE` are options, with `NAME` one of `workers`,
-/// `budget`, `scales`, `number`, `proposals` and `facts`; a value in a word of its own doesn't
-/// begin with `-`. Every other word is a job word, of which there must be exactly one: `fit`,
-/// `strip`, `bins`, `knapsack`, `check`, `make`, `explain`, `audit`, `reduced` or `front`. Each
-/// option stands at most once. `workers` is from 1 to 64, `budget` from 0 to 10,000,000, `scales`,
-/// `proposals` and `facts` are `yes` or `no`, and `number` is from 0 to 2,147,483,647. `check`,
-/// `explain` and `audit` take no option, `make` alone takes `number`, `fit`, `strip`, `bins` and
-/// `knapsack` alone take `proposals`, and `strip` alone takes `facts`, of which it takes one or the
-/// other with `yes`. It answers `Refused` exactly where the words name no job by these rules.
+/// `budget`, `scales`, `number`, `proposals`, `facts` and `bounds`; a value in a word of its own
+/// doesn't begin with `-`. Every other word is a job word, of which there must be exactly one:
+/// `fit`, `strip`, `bins`, `knapsack`, `check`, `make`, `explain`, `audit`, `reduced` or `front`.
+/// Each option stands at most once. `workers` is from 1 to 64, `budget` from 0 to 10,000,000,
+/// `scales`, `proposals`, `facts` and `bounds` are `yes` or `no`, and `number` is from 0 to
+/// 2,147,483,647. `check`, `explain` and `audit` take no option, `make` alone takes `number`,
+/// `fit`, `strip`, `bins` and `knapsack` alone take `proposals`, `strip` alone takes `facts`, and
+/// `knapsack` alone takes `bounds`. `strip` takes at most one of `proposals` and `facts` with
+/// `yes`; `knapsack` may take both `proposals` and `bounds` with `yes`. It answers `Refused`
+/// exactly where the words name no job by these rules.
 pub fn read_words(alloc: Global, words: &[String]) -> Result<JobWords, WordsError>
     ensures { IsJobAnswer (job_of_words (map string_bytes words.now)) result }
 {

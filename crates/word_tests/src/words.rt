@@ -1,5 +1,5 @@
 //! Tests of command lines: each job with its options, and words that are refused.
-use pack_words::{Job, JobWords, WordsError, read_words};
+use pack_words::{Job, JobWords, SolvingJob, WordsError, read_words};
 use std::alloc::{AllocError, Global};
 use std::test::Fail;
 use text_terms::Settings;
@@ -115,5 +115,47 @@ fn words_that_name_no_job_are_refused(rt: HostRuntime) -> Result<(), Fail> {
         assert!(rt; job_of(rt.alloc(), line) == REFUSED, "{line}");
     }
     assert!(rt; job_of(rt.alloc(), "fit --") == by_default(Job::Fit));
+    Ok(())
+}
+
+// What `knapsack` with bounds names.
+const BOUNDED: [(&str, Job); 4] = [
+    ("knapsack --bounds yes", Job::Bounded { proposals: false }),
+    (
+        "knapsack --bounds=yes --proposals yes",
+        Job::Bounded { proposals: true },
+    ),
+    ("knapsack --bounds no", Job::Knapsack),
+    (
+        "knapsack --bounds no --proposals yes",
+        Job::Proposed(SolvingJob::Knapsack),
+    ),
+];
+
+#[test]
+fn knapsack_takes_bounds_with_proposals_or_without(rt: HostRuntime) -> Result<(), Fail> {
+    for row in &BOUNDED {
+        let (line, job) = *row;
+        assert!(rt; job_of(rt.alloc(), line) == by_default(job), "{line}");
+    }
+    Ok(())
+}
+
+// Bounds for jobs that take none, beside an option that `knapsack` does not take, with a value that
+// is neither `yes` nor `no`, and given twice.
+const NO_BOUNDS: [&str; 6] = [
+    "strip --bounds yes",
+    "fit --bounds no",
+    "check --bounds no",
+    "knapsack --bounds yes --facts yes",
+    "knapsack --bounds maybe",
+    "knapsack --bounds yes --bounds yes",
+];
+
+#[test]
+fn bounds_that_no_job_takes_are_refused(rt: HostRuntime) -> Result<(), Fail> {
+    for line in NO_BOUNDS {
+        assert!(rt; job_of(rt.alloc(), line) == REFUSED, "{line}");
+    }
     Ok(())
 }

@@ -17,5 +17,7 @@ returns c =
     ∙ ap₂ with_rule four c.option_arg-5.ensures.rule in
     let six = c.in_ok-arg-6.ensures.shape c.option_arg-6.ensures.local
     ∙ ap₂ with_rule five c.option_arg-6.ensures.rule in
-    IfOk-weaker c.arg-7.result _ _ (λ r h. h.shape c.job_arg.ensures.local ∙ ap₂ with_rule six c.job_arg.ensures.rule)
-    c.arg-7.ensures
+    let seven = c.in_ok-arg-7.ensures.shape c.option_arg-7.ensures.local
+    ∙ ap₂ with_rule six c.option_arg-7.ensures.rule in
+    IfOk-weaker c.arg-8.result _ _ (λ r h. h.shape c.job_arg.ensures.local ∙ ap₂ with_rule seven c.job_arg.ensures.rule)
+    c.arg-8.ensures

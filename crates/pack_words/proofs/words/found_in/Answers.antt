@@ -19,14 +19,15 @@ returns-in-Ok-clause-ok c =
     let rows = c.in-Ok.ensures.rows in
     let found = found_of c.in-Ok.matches in
     job_of_rows words (matches_of pack_app words) (ok_rows words c.in-Ok.ensures.fails)
-    ∙ ap job_of_texts (sym (texts_same _ _ _ _ _ _ _ (matches_of pack_app words)
+    ∙ ap job_of_texts (sym (texts_same _ _ _ _ _ _ _ _ (matches_of pack_app words)
     (c.get_str.ensures ∙ (first_value-rows found (codes "job") ∙ ap (first_of (codes "job")) rows))
     (c.get_str-in-Ok.ensures ∙ (first_value-rows found (codes "workers") ∙ ap (first_of (codes "workers")) rows))
     (c.get_str-in-Ok-2.ensures ∙ (first_value-rows found (codes "budget") ∙ ap (first_of (codes "budget")) rows))
     (c.get_str-in-Ok-3.ensures ∙ (first_value-rows found (codes "scales") ∙ ap (first_of (codes "scales")) rows))
     (c.get_str-in-Ok-4.ensures ∙ (first_value-rows found (codes "number") ∙ ap (first_of (codes "number")) rows))
     (c.get_str-in-Ok-5.ensures ∙ (first_value-rows found (codes "proposals") ∙ ap (first_of (codes "proposals")) rows))
-    (c.get_str-in-Ok-6.ensures ∙ (first_value-rows found (codes "facts") ∙ ap (first_of (codes "facts")) rows))))
+    (c.get_str-in-Ok-6.ensures ∙ (first_value-rows found (codes "facts") ∙ ap (first_of (codes "facts")) rows))
+    (c.get_str-in-Ok-7.ensures ∙ (first_value-rows found (codes "bounds") ∙ ap (first_of (codes "bounds")) rows))))
 
 pub returns-else-eq-clause-refused : goal.returns-else-eq-clause-refused
 returns-else-eq-clause-refused c = λ _.
