@@ -1,0 +1,7 @@
+//! The documents that answer `knapsack` with priced leaves, as definitions, and that they are
+//! verified.
+#![tactic(auto)]
+
+mod laws;
+
+pub use laws::{bounded_answers_are_true, own_bounded_documents_are_verified};
