@@ -106,7 +106,7 @@ impl SetMemory {
         Ok(tokens)
     }
 
-    // Forgets all sets if one with so many tokens more is too much.
+    // Forgets all sets if a further one with `tokens` tokens is over a limit.
     fn make_room(&mut self, tokens: usize) {
         if self.sets.len() >= MAX_SETS || self.tokens.len().saturating_add(tokens) > MAX_TOKENS {
             self.sets.clear();
@@ -115,8 +115,8 @@ impl SetMemory {
         }
     }
 
-    /// Remembers that a set is refuted by tokens, or without any that it stayed undecided under so
-    /// many splits.
+    /// Remembers that a set is refuted by `tokens`, or if there are none, that it stayed undecided
+    /// under `splits` splits.
     pub(crate) fn remember(
         &mut self,
         alloc: Global,

@@ -24,9 +24,9 @@ pub struct BoundedEffort {
 /// What is proposed of a value.
 ///
 /// `Refuted`: the tokens of a choice tree that refutes it. `Placed`: boxes by rising number that
-/// are worth it, with their coordinates, box after box. `Undecided`: a set of boxes that is worth
-/// so much was explored in vain, so no value up to that is refuted by the same splits. `Spent`:
-/// the limits of the tree were used up.
+/// are worth it, with their coordinates, box after box. `Undecided`: a set of boxes of value `worth`
+/// stayed undecided, so the same splits refute no value up to `worth`. `Spent`: the limits of the
+/// tree were used up.
 #[derive(Drop)]
 pub enum ValueProposal {
     Refuted(Vec<BoundedToken>),
@@ -88,6 +88,11 @@ impl ValueRefuter {
     /// The least value that one priced leaf at the root refutes.
     pub fn root_goal(&self) -> u64 {
         self.search.root_goal()
+    }
+
+    /// The steps that the last goal took, those of its splits among them.
+    pub fn steps(&self) -> u64 {
+        self.search.steps()
     }
 
     // The splits that the steps that are left pay for.

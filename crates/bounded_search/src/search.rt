@@ -1,8 +1,8 @@
 //! The search for a choice tree that refutes a value, node by node.
 //!
 //! A node is closed if what is in and undecided is worth less than the goal, or if a tuple prices
-//! it out. Else its next box is in, then out. The search pauses at sets of boxes that somebody
-//! else decides, and closes a node whose set is refuted.
+//! it out. Else its next box is in, then out. The search pauses at sets of boxes that the
+//! caller decides, and closes a node whose set is refuted.
 
 use crate::boxes::{exclusion_rows, fitting_boxes, members_of};
 use crate::fill::{OpenNode, Weights};
@@ -159,7 +159,7 @@ impl BoundedSearch {
         }
     }
 
-    // Goes on to the next node after one that is closed.
+    // Moves from a closed node to the next open one.
     fn leave(&mut self) {
         self.is_whole = !self.take_out();
         self.has_grown = false;
