@@ -2,11 +2,11 @@
 ghost use Rattle.std.specs.Prelude.{◌≡◌};
 ghost use Rattle.proposed_answers.specs.Shares.{level_share};
 
-// A tree of so many branchings takes some milliseconds up to a third of a second, by the number of
+// A tree with 2,000 branchings takes some milliseconds up to a third of a second, by the number of
 // boxes. Two levels beside the ends are asked in any case.
 const LEAST_SHARE: u64 = 2_000;
 
-// A run decides some ten levels in vain, each with more branchings than the share where the budget
+// A run leaves some ten levels undecided, each with more branchings than the share if the budget
 // allows them.
 const SHARES: u64 = 500;
 

@@ -44,8 +44,8 @@ const VALUE_BATCH_COST: u64 = 800;
 
 const MOST_VALUE_BATCHES: u64 = 40;
 
-// The steps of so many branchings, each of the first ones at one price and each further one at
-// another.
+// The steps of the branchings of a budget: the first ones cost `small` steps each, each further one
+// `more`.
 fn steps_of(budget: u64, small: u64, more: u64) -> u64 {
     let first = budget.min(SMALL_BUDGET).saturating_mul(small);
     budget.saturating_mul(more).saturating_add(first)
@@ -85,7 +85,7 @@ fn batches_within(instance: &Instance, steps: u64, cost: u64) -> u64 {
 }
 
 /// The batches of rounds of swaps for a packing of all boxes under a budget, at most 64. There is
-/// none where the boxes are so many that a batch is dear for a budget of 0.
+/// none if the steps of the budget don't pay for one.
 pub fn swap_batches(instance: &Instance, budget: u64) -> u64 {
     let cost = if instance.dims() == 2 {
         FLAT_BATCH_COST

@@ -11,4 +11,4 @@ mod values;
 pub use bin_knapsack::Choice;
 pub use greatest::greatest_value_proposed;
 pub use refuting::is_value_refutation;
-pub use testing::is_choice;
+pub use testing::{is_choice, worth_of};

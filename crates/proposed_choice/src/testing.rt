@@ -83,8 +83,8 @@ pub fn is_choice(
     are_packed(alloc, instance, taken, places)
 }
 
-/// The total value of some boxes.
-pub(crate) fn worth_of(instance: &Instance, taken: &[u32]) -> u128
+/// What some boxes are worth together.
+pub fn worth_of(instance: &Instance, taken: &[u32]) -> u128
     requires { IsBoxSet instance.now taken.now }
     ensures { result ≡ worth instance.now taken.now }
 {

@@ -83,7 +83,7 @@ pub(crate) fn ask_level<R: Threads + Wait + Sync, G: Gate + Sync>(
 }
 
 /// Bounds of the greatest value, narrowed by choice trees of `branchings` until both values beside
-/// them were decided in vain or the two are neighbours.
+/// them stay undecided or the two are neighbours.
 pub(crate) fn narrow_values<R: Threads + Wait + Sync, G: Gate + Sync>(
     rt: &R,
     alloc: Global,

@@ -164,8 +164,8 @@ pub(crate) fn lowered(
     Ok(bounds.after(level, answer))
 }
 
-/// Bounds of the least height, narrowed until both heights beside them were decided in vain or the
-/// two are neighbours.
+/// Bounds of the least height, narrowed until both heights beside them stay undecided or the two
+/// are neighbours.
 pub(crate) fn narrow_heights<R: Threads + Wait + Sync, G: Gate + Sync>(
     rt: &R,
     alloc: Global,

@@ -26,7 +26,7 @@ const PART_OF_MANY: u64 = 8;
 // From round to round a tree has four times the branchings.
 const RISE: u64 = 4;
 
-// Behind three levels in vain the two beside the ends are asked.
+// After three undecided levels in a row the two beside the ends are asked.
 const BESIDE: u32 = 3;
 
 /// What the trees and the proposals of a run may still cost, in pair steps, with the branchings of
