@@ -1,0 +1,54 @@
+//! The levels before any tree: what proposed boxes are worth, and one more than all boxes.
+ghost use Rattle.std.specs.Prelude.{◌≡◌, IfOk};
+ghost use Rattle.level_search.specs.Runs.{plain_reached};
+ghost use Rattle.bounded_choice.specs.Levels.{plain_levels, reached_levels, AreLevels};
+
+use crate::levels::{ValueLevels, ValueProof};
+use crate::placed::tested_value;
+use bin_knapsack::first_values;
+use box_instances::{Instance, NoMemory};
+use level_search::Reached;
+use proposals::propose_choice;
+use proposed_answers::value_batches;
+use std::alloc::Global;
+
+// The levels of a run that begins.
+fn levels_of(first: Reached) -> ValueLevels
+    ensures { plain_levels result ≡ reached_levels (plain_reached first) }
+{
+    ValueLevels {
+        placed: first.placed,
+        numbers: first.numbers,
+        refuted: first.refuted,
+        proof: ValueProof::Plain(first.tokens),
+    }
+}
+
+// The levels that need no search: no box, and one more than all boxes are worth.
+fn widest(alloc: Global, instance: &Instance) -> Result<ValueLevels, NoMemory>
+    ensures { IfOk result (λ l. AreLevels instance.now l) }
+{
+    // For the proof alone: tells the limits of the instance.
+    let _limits = instance.len();
+    let first = first_values(alloc, instance)?;
+    Ok(levels_of(first))
+}
+
+/// The widest levels, with the proposed boxes if these pass their test.
+pub(crate) fn placed_first(
+    alloc: Global,
+    instance: &Instance,
+    budget: u64,
+) -> Result<ValueLevels, NoMemory>
+    ensures { IfOk result (λ l. AreLevels instance.now l) }
+{
+    let widest = widest(alloc, instance)?;
+    let batches = value_batches(instance, budget);
+    let Some(proposed) = propose_choice(alloc, instance, batches)? else {
+        return Ok(widest);
+    };
+    match tested_value(alloc, instance, &proposed.taken, &proposed.places)? {
+        Some(found) => Ok(widest.raised(found)),
+        None => Ok(widest),
+    }
+}
