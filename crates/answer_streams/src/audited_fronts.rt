@@ -11,7 +11,7 @@ use verdict_terms::Reason;
 /// The verdict on a document of a front.
 #[derive(Clone, Copy, Debug, PartialEq, Eq)]
 pub enum FrontAudited {
-    /// The document shows all points, or those of a part, and so many.
+    /// The document shows all points, or those of a part: `points` of them.
     Verified { complete: bool, points: u32 },
     /// The first refused line, counted from 1, and why.
     Refused { line: u64, reason: Reason },

@@ -17,8 +17,8 @@ use box_instances::Instance;
 use pack_streams::{Sink, write_number, write_on};
 use proof_tree::TokenList;
 
-// Writes the result line of a greatest value.
-fn write_greatest_line<K: Sink>(sink: &mut K, so_far: Written, value: u64) -> Written
+/// Writes the result line of a greatest value.
+pub(crate) fn write_greatest_line<K: Sink>(sink: &mut K, so_far: Written, value: u64) -> Written
     ensures { Continues (K.written sink.old) (K.written sink.new) (K.faults sink.old)
         (K.faults sink.new)
         (lines_text ((codes "result" ∷ codes "greatest" ∷ decimal value ∷ []) ∷ [])) so_far result }
@@ -26,6 +26,22 @@ fn write_greatest_line<K: Sink>(sink: &mut K, so_far: Written, value: u64) -> Wr
     let named = write_on(sink, so_far, b"result greatest ");
     let said = write_number(sink, named, value);
     write_on(sink, said, b"\n")
+}
+
+/// Writes a line for each taken box, with its place.
+pub(crate) fn write_taken<K: Sink>(
+    sink: &mut K,
+    so_far: Written,
+    instance: &Instance,
+    numbers: &[u32],
+) -> Written
+    ensures { Continues (K.written sink.old) (K.written sink.new) (K.faults sink.old)
+        (K.faults sink.new)
+        (lines_text (take_lines instance.now numbers.now)) so_far result }
+{
+    let dims = instance.dims();
+    let count = numbers.len() / (dims as usize + 1);
+    write_all_numbered(sink, so_far, b"take", numbers, count, dims)
 }
 
 // Writes the taken boxes with their places, and the refutation of more value.
@@ -41,9 +57,7 @@ fn write_certificates<K: Sink>(
         (lines_text (proved_lines (take_lines instance.now numbers.now) tokens.now))
         so_far result }
 {
-    let dims = instance.dims();
-    let count = numbers.len() / (dims as usize + 1);
-    let taken = write_all_numbered(sink, so_far, b"take", numbers, count, dims);
+    let taken = write_taken(sink, so_far, instance, numbers);
     write_proof(sink, taken, tokens)
 }
 

@@ -5,6 +5,7 @@
 mod audited;
 mod audited_fronts;
 mod bins_documents;
+mod bounded_documents;
 mod documents;
 mod explained;
 mod front;
@@ -20,6 +21,7 @@ mod verdict;
 
 pub use audited::{AuditedVerdict, ExplainedVerdict};
 pub use audited_fronts::FrontAudited;
+pub use bounded_documents::{BoundedDocument, bounded_status};
 pub use documents::Written;
 pub use explained::Explanation;
 pub use solution::{Solution, fit_status};

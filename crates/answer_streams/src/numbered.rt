@@ -55,7 +55,7 @@ fn write_numbered<K: Sink>(
     write_on(sink, placed, b"\n")
 }
 
-/// Writes a line of each of so many numbers, with its coordinates.
+/// Writes `count` lines, each with a number and its coordinates.
 pub(crate) fn write_all_numbered<K: Sink>(
     sink: &mut K,
     so_far: Written,
