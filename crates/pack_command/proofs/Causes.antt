@@ -4,13 +4,12 @@ use Rattle.std.proofs.Common.{Option, Some, Result, Ok, Err, String, Global}
 use Rattle.packing_terms.specs.Packing.{PlainInstance}
 use Rattle.text_terms.specs.declared.fault.TextFault.{TextFault}
 use Rattle.text_terms.specs.declared.settings.Settings.{Settings}
-use Rattle.document_terms.specs.declared.claim.SolvingJob.{SolvingJob}
 use Rattle.answer_terms.specs.declared.job.DocumentJob.{DocumentJob}
 use Rattle.document_terms.specs.declared.claim.Claim.{Claim}
 use Rattle.verdict_terms.specs.Documents.{Refusal}
 use Rattle.pack_streams.specs.Faults.{FaultCount, Stays, FailedOnce}
 use Rattle.pack_command.specs.Answered.{IsAnswerStatus}
-use Rattle.pack_command.specs.Asked.{AsksToSolve, AsksCheck, AsksToMake, AsksNothing, IsSolving, IsChecking, IsReading}
+use Rattle.pack_command.specs.Asked.{ProposedJob, AsksToSolve, AsksCheck, AsksToMake, AsksNothing, IsSolving, IsChecking, IsReading}
 use Rattle.pack_command.specs.Asked.{IsFronting, IsProposing, HasAnswer, ReadsNothing, IsLongInstance, IsLongDocument}
 use Rattle.pack_command.specs.Asked.{IsLongReading, IsFaultyText, IsRefusable}
 use Rattle.pack_command.specs.Checks.{IsVerdictStatus, IsWithoutVerdict, IsPastLimit}
@@ -248,7 +247,7 @@ module _ (words : List (String Global)) (old new sunk_old sunk_new : Option (Lis
       by_cases stop (front_never_stops words old new sunk_old sunk_new settings instance s stop
       (fronted_undone words old new sunk_old sunk_new stop settings s.asks undone))
 
-  proposing_stops : (job : SolvingJob) (settings : Settings) (instance : PlainInstance)
+  proposing_stops : (job : ProposedJob) (settings : Settings) (instance : PlainInstance)
       → IsProposing words old job settings instance → (stop : Stop)
       → IsUndone words old new sunk_old sunk_new stop → IsFault stop
   proposing_stops job settings instance s stop undone =

@@ -16,11 +16,13 @@ pub mod ExplainedAs
 pub mod OneJob
 pub mod Fronted
 pub mod ProposedEnds
+pub mod ProposedFound
 pub mod ProposedOwn
 pub mod ProposedFit
 pub mod ProposedStrip
 pub mod ProposedBins
 pub mod ProposedChoice
 pub mod ProposedDecided
+pub mod BoundedDecided
 pub mod Sized
 pub mod FrontAnswering

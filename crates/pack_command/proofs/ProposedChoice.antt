@@ -1,16 +1,13 @@
 -- What the answer of `knapsack` with proposals says.
-use Rattle.std.proofs.Common.{ℕ, zero, suc, ◌≡◌, ◌+◌, ◌≤◌, ◌<◌, ◌⊎◌, inl, inr, arith, refl, sym, subst, List}
-use Rattle.std.proofs.Common.{get_or}
+use Rattle.std.proofs.Common.{ℕ, suc, ◌≡◌, ◌≤◌, ◌<◌, ◌⊎◌, inl, inr, arith, refl, sym, subst, List}
 use Rattle.std.specs.declared.option.Option.{Option}
 use Rattle.std.proofs.lemmas.Bool.{cases_lt}
-use Rattle.packing_terms.specs.Packing.{PlainInstance, no_box, box_count}
-use Rattle.packing_terms.specs.Goals.{ReachesValue, worth}
+use Rattle.packing_terms.specs.Packing.{PlainInstance}
+use Rattle.packing_terms.specs.Goals.{ReachesValue}
 use Rattle.packing_terms.specs.Limits.{IsInstance, IsInternalInstance}
-use Rattle.packing_terms.specs.Sums.{below}
 use Rattle.packing_terms.proofs.Internal.{written_internal}
 use Rattle.tree_terms.specs.OuterSearch.{AreTakenNumbers}
 use Rattle.text_terms.specs.declared.settings.Settings.{Settings}
-use Rattle.document_terms.specs.Claims.{most_worth}
 use Rattle.document_terms.specs.declared.claim.SolvingJob.TheVariants.{Knapsack as SolvesKnapsack}
 use Rattle.answer_terms.specs.Answers.{Answer, answer_text, status_of}
 use Rattle.answer_streams.specs.declared.solution.Solution.TheVariants.{Knapsack}
@@ -18,9 +15,9 @@ use Rattle.answer_streams.specs.Solutions.{choice_found}
 use Rattle.bin_knapsack.specs.declared.choice.Choice.{Choice as FoundChoice}
 use Rattle.bin_knapsack.specs.declared.choice.Choice.TheVariants.{Greatest, Between}
 use Rattle.bin_knapsack.specs.Choices.{IsTrueChoice}
-use Rattle.bin_knapsack.proofs.Summing.{IsSum, sum_next}
 use Rattle.proposed_answers.specs.Shares.{level_share}
-use Rattle.proposed_choice.specs.Values.{top_value, value_count, IsLimitedChoice, IsPastBeside}
+use Rattle.proposed_choice.specs.Values.{value_count, IsLimitedChoice, IsPastBeside}
+use Rattle.proposed_choice.proofs.Tops.{top_small}
 use Rattle.pack_streams.specs.Moves.{Gains}
 use Rattle.pack_command.specs.Proposed.{IsProposedChoice, IsProposedSolution, IsProposedValueDecided}
 use Rattle.pack_command.proofs.ProposedOwn.{IsOwnAnswer}
@@ -39,30 +36,10 @@ choice_proposed settings instance choice right limited past = record {
 -- ---- its document is shown
 
 module _ (instance : PlainInstance) (limits : IsInternalInstance instance) where
-  -- what the boxes below v are worth
-  sum_to : (v : ℕ) → v ≤ box_count instance → (sum : ℕ) × IsSum instance v sum
-  sum_to zero l = (0, record { is = refl; small = omega arith })
-  sum_to (suc v) l =
-      let below_v = sum_to v (omega (arith, l)) in
-      let next = sum_next instance limits v below_v.0 (get_or instance.boxes v no_box).value (omega (arith, l))
-      below_v.1 refl in
-      let e : v + 1 ≡ suc v = omega arith in (
-        below_v.0 + (get_or instance.boxes v no_box).value,
-        subst (λ (n : ℕ). IsSum instance n (below_v.0 + (get_or instance.boxes v no_box).value)) e next,
-      )
-
-  top_small : top_value instance ≤ most_worth
-  top_small =
-      let all = sum_to (box_count instance) (omega arith) in
-      let is = (all.1).is in
-      let small = (all.1).small in
-      let few = limits.boxes.count.1 in
-      omega (arith, is, small, few)
-
   own_by : (choice : FoundChoice) → IsTrueChoice instance choice → IsLimitedChoice instance choice
       → IsOwnAnswer SolvesKnapsack instance (choice_found choice)
   own_by (Greatest value numbers tokens) t limited =
-      let s = top_small in (
+      let s = top_small instance limits in (
         refl,
         record {
           rising = omega arith;
@@ -72,7 +49,7 @@ module _ (instance : PlainInstance) (limits : IsInternalInstance instance) where
         },
       )
   own_by (Between placed numbers refuted tokens) t limited =
-      let s = top_small in
+      let s = top_small instance limits in
       (refl, record { rising = t.order; most = omega (arith, limited, s); packing = t.packed; refutation = t.refutes })
 
 -- ---- and it is the greatest value, or two values

@@ -1,5 +1,5 @@
 -- What the answers of the jobs with proposals say.
-use Rattle.std.proofs.Common.{ℕ, ◌≡◌, ◌+◌, ◌≤◌, sym, subst, List, Ok, String, Global}
+use Rattle.std.proofs.Common.{ℕ, ◌≡◌, ◌+◌, ◌≤◌, sym, subst, List, String, Global}
 use Rattle.std.specs.declared.option.Option.{Option}
 use Rattle.packing_terms.specs.Packing.{PlainInstance}
 use Rattle.packing_terms.specs.Limits.{IsInstance}
@@ -10,14 +10,12 @@ use Rattle.document_terms.specs.declared.claim.SolvingJob.TheVariants.{Bins as S
 use Rattle.answer_terms.specs.declared.job.DocumentJob.TheVariants.{Solving as Solves}
 use Rattle.answer_terms.specs.Answers.{Answer, answer_text, status_of}
 use Rattle.pack_streams.specs.Moves.{Gains}
-use Rattle.pack_streams.specs.Writing.{GainsPart}
 use Rattle.pack_command.specs.Answered.{class_bound}
-use Rattle.pack_command.specs.Asked.{AsksProposed, IsProposing}
+use Rattle.pack_command.specs.Asked.{ProposedJob, Plain, IsProposing}
 use Rattle.pack_command.specs.Decides.{IsExactlyFit}
-use Rattle.pack_command.specs.Inputs.{IsInputRead}
 use Rattle.pack_command.specs.Own.{IsOwnDocument}
-use Rattle.pack_command.specs.Proposed.{IsProposed, IsProposedAnswered, IsProposedWritten}
-use Rattle.pack_command.specs.Proposed.{IsProposedCut, IsProposedDecided, IsAmple}
+use Rattle.pack_command.specs.Proposed.{IsProposed, IsProposedFound, IsFound, IsProposedWritten, IsProposedDecided}
+use Rattle.pack_command.specs.Proposed.{IsAmple}
 use Rattle.pack_command.proofs.OneJob.{proposed_settings, proposed_job}
 use Rattle.pack_command.proofs.ProposedBins.{bins_own, bins_proposed_decided, bins_within}
 use Rattle.pack_command.proofs.ProposedChoice.{choice_own, choice_proposed_decided, choice_within}
@@ -49,43 +47,9 @@ module _ (settings : Settings) (instance : PlainInstance) (limits : IsInstance i
   job_own SolvesKnapsack is = own_proposed SolvesKnapsack instance limits answer
       (choice_own settings instance answer is limits) old new written
 
--- ---- of what was read and found
-
-module _ (words : List (String Global)) (old new sunk_old sunk_new : Option (List ℕ)) (job : SolvingJob)
-    (settings : Settings) (instance : PlainInstance) (answer : Answer)
-    (asks : AsksProposed words job settings) (read : IsInputRead old new (Ok instance)) (limits : IsInstance instance)
-    (is : IsProposed job settings instance answer) where
-  answered : IsProposedAnswered words old new job settings instance answer
-  answered = record { asked = asks; bytes = read.0; input = read.1; read = read.2; limits = limits; is = is }
-
-  pub proposed_written : (status : ℕ) → status ≡ status_of answer
-      → Gains sunk_old sunk_new (answer_text instance answer)
-      → IsProposedWritten words old new sunk_old sunk_new status
-  proposed_written status e written =
-      record {
-        job = job;
-        settings = settings;
-        instance = instance;
-        answer = answer;
-        answered = answered;
-        status_is = e;
-        written = written;
-      }
-
-  pub proposed_cut : GainsPart sunk_old sunk_new (answer_text instance answer)
-      → IsProposedCut words old new sunk_old sunk_new
-  proposed_cut part = record {
-    job = job;
-    settings = settings;
-    instance = instance;
-    answer = answer;
-    answered = answered;
-    part = part;
-  }
-
 -- ---- of the instance that the source tells
 
-module _ (words : List (String Global)) (old new sunk_old sunk_new : Option (List ℕ)) (status : ℕ) (job : SolvingJob)
+module _ (words : List (String Global)) (old new sunk_old sunk_new : Option (List ℕ)) (status : ℕ) (job : ProposedJob)
     (settings : Settings) (instance : PlainInstance)
     (s : IsProposing words old job settings instance)
     (w : IsProposedWritten words old new sunk_old sunk_new status) where
@@ -97,32 +61,42 @@ module _ (words : List (String Global)) (old new sunk_old sunk_new : Option (Lis
       let two = s.read in
       cc (same, one, two)
 
-  told_limits : IsInstance instance
+  pub told_limits : IsInstance instance
   told_limits = subst IsInstance same_instance (w.answered).limits
 
-  told_is : IsProposed job settings instance w.answer
-  told_is =
-      subst (λ (i : PlainInstance). IsProposed job settings i w.answer) same_instance
-      (subst (λ (t : Settings). IsProposed job t w.instance w.answer)
+  pub told_found : IsFound job settings instance status w.document
+  told_found =
+      subst (λ (i : PlainInstance). IsFound job settings i status w.document) same_instance
+      (subst (λ (t : Settings). IsFound job t w.instance status w.document)
       (proposed_settings words w.job job w.settings settings (w.answered).asked s.asks)
-      (subst (λ (j : SolvingJob). IsProposed j w.settings w.instance w.answer)
+      (subst (λ (j : ProposedJob). IsFound j w.settings w.instance status w.document)
       (proposed_job words w.job job w.settings settings (w.answered).asked s.asks) (w.answered).is))
 
-  told_written : Gains sunk_old sunk_new (answer_text instance w.answer)
-  told_written = subst (λ (i : PlainInstance). Gains sunk_old sunk_new (answer_text i w.answer)) same_instance w.written
+module _ (words : List (String Global)) (old new sunk_old sunk_new : Option (List ℕ)) (status : ℕ) (job : SolvingJob)
+    (settings : Settings) (instance : PlainInstance)
+    (s : IsProposing words old (Plain job) settings instance)
+    (w : IsProposedWritten words old new sunk_old sunk_new status) where
+  limits : IsInstance instance
+  limits = told_limits words old new sunk_old sunk_new status (Plain job) settings instance s w
+
+  found : IsProposedFound job settings instance status w.document
+  found = told_found words old new sunk_old sunk_new status (Plain job) settings instance s w
+
+  written : Gains sunk_old sunk_new (answer_text instance found.answer)
+  written = subst (λ (document : List ℕ). Gains sunk_old sunk_new document) found.document_is w.written
 
   pub proposed_decided : IsProposedDecided job instance settings sunk_old sunk_new status
   proposed_decided =
-      subst (λ (n : ℕ). IsProposedDecided job instance settings sunk_old sunk_new n) (sym w.status_is)
-      (job_decided settings instance told_limits w.answer sunk_old sunk_new told_written job told_is)
+      subst (λ (n : ℕ). IsProposedDecided job instance settings sunk_old sunk_new n) (sym found.status_is)
+      (job_decided settings instance limits found.answer sunk_old sunk_new written job found.is)
 
   pub proposed_own : IsOwnDocument (Solves job) instance sunk_old sunk_new status
   proposed_own =
-      subst (λ (n : ℕ). IsOwnDocument (Solves job) instance sunk_old sunk_new n) (sym w.status_is)
-      (job_own settings instance told_limits w.answer sunk_old sunk_new told_written job told_is)
+      subst (λ (n : ℕ). IsOwnDocument (Solves job) instance sunk_old sunk_new n) (sym found.status_is)
+      (job_own settings instance limits found.answer sunk_old sunk_new written job found.is)
 
   pub proposed_limits : IsInstance instance
-  proposed_limits = told_limits
+  proposed_limits = limits
 
 within_by : (job : SolvingJob) (settings : Settings) (instance : PlainInstance) (old new : Option (List ℕ)) (status : ℕ)
     → IsProposedDecided job instance settings old new status
@@ -135,14 +109,14 @@ within_by SolvesKnapsack settings instance old new status d ample =
 
 module _ (words : List (String Global)) (old new sunk_old sunk_new : Option (List ℕ)) (status : ℕ) where
   pub proposed_within : (job : SolvingJob) (settings : Settings) (instance : PlainInstance)
-      → IsProposing words old job settings instance
+      → IsProposing words old (Plain job) settings instance
       → IsProposedWritten words old new sunk_old sunk_new status → IsAmple job settings instance → ¬ (status ≡ 3)
   proposed_within job settings instance s w ample =
       within_by job settings instance sunk_old sunk_new status
       (proposed_decided words old new sunk_old sunk_new status job settings instance s w) ample
 
   pub proposed_exactly : (settings : Settings) (instance : PlainInstance)
-      → IsProposing words old SolvesFit settings instance
+      → IsProposing words old (Plain SolvesFit) settings instance
       → IsProposedWritten words old new sunk_old sunk_new status → class_bound instance ≤ settings.budget + 1
       → IsExactlyFit instance status
   proposed_exactly settings instance s w enough =

@@ -3,10 +3,8 @@ use Rattle.std.proofs.Common.{◌≡◌, ℕ, ◌≤◌, ◌⊎◌, inl, inr, ar
 use Rattle.packing_terms.specs.Packing.{PlainInstance}
 use Rattle.text_terms.specs.declared.fault.TextFault.{TextFault}
 use Rattle.text_terms.specs.declared.settings.Settings.{Settings}
-use Rattle.document_terms.specs.declared.claim.SolvingJob.{SolvingJob}
 use Rattle.answer_terms.specs.declared.job.DocumentJob.{DocumentJob}
-use Rattle.answer_terms.specs.Answers.{Answer}
-use Rattle.pack_command.specs.Asked.{AsksToSolve, AsksNothing, AsksProposed, IsProposing, IsLongProposed}
+use Rattle.pack_command.specs.Asked.{ProposedJob, AsksToSolve, AsksNothing, AsksProposed, IsProposing, IsLongProposed}
 use Rattle.pack_command.specs.Asked.{IsFaultyProposed}
 use Rattle.pack_command.specs.Ends.{IsDone, IsUndone}
 use Rattle.pack_command.specs.Proposed.{IsProposedWritten, IsProposedAnswered, IsWithoutProposed}
@@ -19,7 +17,7 @@ use Rattle.pack_command.proofs.OneJob.{proposed_solves, proposed_checks, propose
 use Rattle.pack_command.proofs.OneJob.{proposed_fronts}
 
 module _ (words : List (String Global)) (old new sunk_old sunk_new : Option (List ℕ)) where
-  pub proposed_done : (status : ℕ) (job : SolvingJob) (settings : Settings) → AsksProposed words job settings
+  pub proposed_done : (status : ℕ) (job : ProposedJob) (settings : Settings) → AsksProposed words job settings
       → IsDone words old new sunk_old sunk_new status
       → IsProposedWritten words old new sunk_old sunk_new status
   proposed_done status job settings asks (inl w) =
@@ -33,7 +31,7 @@ module _ (words : List (String Global)) (old new sunk_old sunk_new : Option (Lis
       absurd (proposed_fronts words job f.settings settings f.answered.asked asks)
   proposed_done status job settings asks (inr (inr (inr (inr (inr p))))) = p
 
-  pub proposed_undone : (stop : Stop) (job : SolvingJob) (settings : Settings) → AsksProposed words job settings
+  pub proposed_undone : (stop : Stop) (job : ProposedJob) (settings : Settings) → AsksProposed words job settings
       → IsUndone words old new sunk_old sunk_new stop
       → IsWithoutProposed words old new sunk_old sunk_new stop ⊎ (stop ≡ NoMemory)
   proposed_undone stop job settings asks (inl s) = go stop s
@@ -65,7 +63,7 @@ module _ (words : List (String Global)) (old new sunk_old sunk_new : Option (Lis
 
   -- ---- an input that has an answer
 
-  module _ (job : SolvingJob) (settings : Settings) (instance : PlainInstance)
+  module _ (job : ProposedJob) (settings : Settings) (instance : PlainInstance)
       (s : IsProposing words old job settings instance) where
     never_long : (bytes : List ℕ) → old ≡ Some bytes → length bytes ≤ 1048576
         → IsWithoutProposed words old new sunk_old sunk_new TooLong → ⊥
@@ -93,18 +91,18 @@ module _ (words : List (String Global)) (old new sunk_old sunk_new : Option (Lis
   -- ---- an input that is to be refused
 
   long_answered : IsLongProposed words old
-      → (job : SolvingJob) (settings : Settings) (instance : PlainInstance) (answer : Answer)
-      → IsProposedAnswered words old new job settings instance answer → ⊥
-  long_answered l job settings instance answer a =
+      → (job : ProposedJob) (settings : Settings) (instance : PlainInstance) (status : ℕ) (document : List ℕ)
+      → IsProposedAnswered words old new job settings instance status document → ⊥
+  long_answered l job settings instance status document a =
       let same : a.bytes ≡ l.bytes = taken_all old new a.bytes l.bytes l.told a.input.taken a.input.ended in
       let few = a.input.within in
       let past = l.past in
       omega (arith, ap length same, few, past)
 
   faulty_answered : (fault : TextFault) → IsFaultyProposed words old fault
-      → (job : SolvingJob) (settings : Settings) (instance : PlainInstance) (answer : Answer)
-      → IsProposedAnswered words old new job settings instance answer → ⊥
-  faulty_answered fault l job settings instance answer a =
+      → (job : ProposedJob) (settings : Settings) (instance : PlainInstance) (status : ℕ) (document : List ℕ)
+      → IsProposedAnswered words old new job settings instance status document → ⊥
+  faulty_answered fault l job settings instance status document a =
       let same : a.bytes ≡ l.bytes = taken_all old new a.bytes l.bytes l.told a.input.taken a.input.ended in
       let wrong = l.wrong in
       let read = a.read in
@@ -112,11 +110,11 @@ module _ (words : List (String Global)) (old new sunk_old sunk_new : Option (Lis
 
   pub long_proposed : (status : ℕ) → IsLongProposed words old
       → IsProposedWritten words old new sunk_old sunk_new status → ⊥
-  long_proposed status l w = long_answered l w.job w.settings w.instance w.answer w.answered
+  long_proposed status l w = long_answered l w.job w.settings w.instance status w.document w.answered
 
   pub faulty_proposed : (status : ℕ) (fault : TextFault) → IsFaultyProposed words old fault
       → IsProposedWritten words old new sunk_old sunk_new status → ⊥
-  faulty_proposed status fault l w = faulty_answered fault l w.job w.settings w.instance w.answer w.answered
+  faulty_proposed status fault l w = faulty_answered fault l w.job w.settings w.instance status w.document w.answered
 
   -- how else it ends: for this cause, or by a failed read or want of memory
   abbrev EndsFor : Stop → Stop → Type 0
@@ -135,7 +133,7 @@ module _ (words : List (String Global)) (old new sunk_old sunk_new : Option (Lis
       absurd (omega (arith, ap length same, few, past))
   proposed_long_ends l Dimensions (inl s) = absurd s
   proposed_long_ends l ReadFault (inl s) = inr (inl refl)
-  proposed_long_ends l WriteFault (inl s) = absurd (long_answered l s.job s.settings s.instance s.answer s.answered)
+  proposed_long_ends l WriteFault (inl s) = absurd (long_answered l s.job s.settings s.instance s.status s.document s.answered)
   proposed_long_ends l NoMemory (inl s) = inr (inr refl)
 
   pub proposed_faulty_ends : (fault : TextFault) → IsFaultyProposed words old fault → (end : Stop)
@@ -157,5 +155,5 @@ module _ (words : List (String Global)) (old new sunk_old sunk_new : Option (Lis
   proposed_faulty_ends fault l Dimensions (inl s) = absurd s
   proposed_faulty_ends fault l ReadFault (inl s) = inr (inl refl)
   proposed_faulty_ends fault l WriteFault (inl s) =
-      absurd (faulty_answered fault l s.job s.settings s.instance s.answer s.answered)
+      absurd (faulty_answered fault l s.job s.settings s.instance s.status s.document s.answered)
   proposed_faulty_ends fault l NoMemory (inl s) = inr (inr refl)

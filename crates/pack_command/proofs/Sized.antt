@@ -1,5 +1,5 @@
 -- What the answer of `front` says of the instance, and that its document is verified.
-use Rattle.std.proofs.Common.{◌≡◌, ℕ, zero, suc, ◌+◌, ◌-◌, ◌≤◌, arith, refl, sym, ap, ap₂}
+use Rattle.std.proofs.Common.{◌≡◌, ℕ, zero, suc, ◌+◌, ◌≤◌, arith, refl, sym, ap, ap₂}
 use Rattle.std.proofs.Common.{subst, ◌∙◌, Bool, true, false, List, [], ◌∷◌, length, Option, String}
 use Rattle.std.proofs.Common.{Global}
 use Rattle.std.specs.Prelude.{◌↔◌}

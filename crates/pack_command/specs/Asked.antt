@@ -1,5 +1,6 @@
 -- What the words of a command line ask for.
-use Rattle.std.specs.Prelude.{ℕ, ◌≡◌, ◌<◌, ◌≤◌, ◌⊎◌, List, length, map, take, String, string_bytes, Option, Some, None}
+use Rattle.std.specs.Prelude.{ℕ, ◌≡◌, ◌<◌, ◌≤◌, ◌⊎◌, Bool, List, length, map, take, String, string_bytes, Option, Some}
+use Rattle.std.specs.Prelude.{None}
 use Rattle.std.specs.Prelude.{Result, Ok, Err}
 use Rattle.std.specs.declared.alloc.Global.{Global}
 use Rattle.packing_terms.specs.Packing.{PlainInstance, dims}
@@ -13,7 +14,7 @@ use Rattle.document_terms.specs.declared.claim.SolvingJob.TheVariants.{Bins as S
 use Rattle.pack_words.specs.Job.{job_of_words}
 use Rattle.pack_words.specs.declared.job.Job.{Job}
 use Rattle.pack_words.specs.declared.job.Job.TheVariants.{Fit, Strip, Bins, Knapsack, Check, Make, Audit, Explain}
-use Rattle.pack_words.specs.declared.job.Job.TheVariants.{Reduced, Front, ReducedStrip, Proposed}
+use Rattle.pack_words.specs.declared.job.Job.TheVariants.{Reduced, Front, ReducedStrip, Proposed, Bounded}
 use Rattle.pack_words.specs.declared.job.JobWords.{JobWords}
 use Rattle.text_terms.specs.declared.settings.Settings.{Settings}
 use Rattle.verdict_terms.specs.Fed.{NoneRefused}
@@ -23,7 +24,7 @@ use Rattle.pack_command.specs.Inputs.{most_instance_bytes, most_read_bytes}
 use Rattle.pack_command.specs.Readings.{DocumentTask, Audits, Explains}
 use Rattle.pack_command.specs.declared.words.Asked.{Asked}
 use Rattle.pack_command.specs.declared.words.Asked.TheVariants.{Solving, Checking, Making, Auditing, Explaining}
-use Rattle.pack_command.specs.declared.words.Asked.TheVariants.{Fronting, Proposing}
+use Rattle.pack_command.specs.declared.words.Asked.TheVariants.{Fronting, Proposing, Bounding}
 use Rattle.pack_command.specs.declared.stop.Stop.{Stop}
 use Rattle.pack_command.specs.declared.stop.Stop.TheVariants.{Words, TooLong, Text, Dimensions, ReadFault, WriteFault}
 use Rattle.pack_command.specs.declared.stop.Stop.TheVariants.{NoMemory}
@@ -42,6 +43,7 @@ document_job Audit = None
 document_job Explain = None
 document_job Front = None
 document_job (Proposed job) = None
+document_job (Bounded proposals) = None
 
 -- the job of the words, if they are one
 abbrev pub asked_job : List (String Global) → Option JobWords
@@ -85,11 +87,21 @@ pub record AsksFront (words : List (String Global)) (settings : Settings) : Type
   pub job : asked.job ≡ Front
   pub with_settings : asked.settings ≡ settings
 
+-- A job whose answer is proposed and tested: a solving job with proposals, or `knapsack` with priced
+-- leaves, behind proposals or behind the choice trees.
+pub data ProposedJob : Type 0 where
+  Plain : (job : SolvingJob) → ProposedJob
+  Bounds : (proposals : Bool) → ProposedJob
+
+abbrev pub job_proposed : ProposedJob → Job
+job_proposed (Plain job) = Proposed job
+job_proposed (Bounds proposals) = Bounded proposals
+
 -- the words are the job with proposals and these settings
-pub record AsksProposed (words : List (String Global)) (job : SolvingJob) (settings : Settings) : Type 0 where
+pub record AsksProposed (words : List (String Global)) (job : ProposedJob) (settings : Settings) : Type 0 where
   pub asked : JobWords
   pub is : asked_job words ≡ Some asked
-  pub job_is : asked.job ≡ Proposed job
+  pub job_is : asked.job ≡ job_proposed job
   pub with_settings : asked.settings ≡ settings
 
 -- the words are the job `make` with this number and these settings
@@ -112,7 +124,8 @@ IsAsked words (Ok Auditing) = AsksTask words Audits
 IsAsked words (Ok Explaining) = AsksTask words Explains
 IsAsked words (Ok (Making number settings)) = AsksToMake words number settings
 IsAsked words (Ok (Fronting settings)) = AsksFront words settings
-IsAsked words (Ok (Proposing job settings)) = AsksProposed words job settings
+IsAsked words (Ok (Proposing job settings)) = AsksProposed words (Plain job) settings
+IsAsked words (Ok (Bounding proposals settings)) = AsksProposed words (Bounds proposals) settings
 IsAsked words (Err Words) = AsksNothing words
 IsAsked words (Err NoMemory) = Unit {0}
 IsAsked words (Err TooLong) = ⊥
@@ -162,7 +175,7 @@ pub record IsFronting (words : List (String Global)) (left : Option (List ℕ)) 
   pub plane : dims instance ≡ 2
 
 -- the words ask for the job with proposals, and the input is the text of this instance
-pub record IsProposing (words : List (String Global)) (left : Option (List ℕ)) (job : SolvingJob) (settings : Settings)
+pub record IsProposing (words : List (String Global)) (left : Option (List ℕ)) (job : ProposedJob) (settings : Settings)
     (instance : PlainInstance) : Type 0 where
   pub asks : AsksProposed words job settings
   pub bytes : List ℕ
@@ -179,7 +192,7 @@ HasAnswer words left =
     ⊎ (((number : ℕ) × (settings : Settings) × AsksToMake words number settings)
     ⊎ (((task : DocumentTask) × (bytes : List ℕ) × IsReading words left task bytes)
     ⊎ (((settings : Settings) × (instance : PlainInstance) × IsFronting words left settings instance)
-    ⊎ ((job : SolvingJob) × (settings : Settings) × (instance : PlainInstance)
+    ⊎ ((job : ProposedJob) × (settings : Settings) × (instance : PlainInstance)
     × IsProposing words left job settings instance)))))
 
 -- the words are a job that reads nothing, or none
@@ -252,7 +265,7 @@ pub record IsOtherFront (words : List (String Global)) (left : Option (List ℕ)
 
 -- more bytes come for a job with proposals than an instance may have
 pub record IsLongProposed (words : List (String Global)) (left : Option (List ℕ)) : Type 0 where
-  pub job : SolvingJob
+  pub job : ProposedJob
   pub settings : Settings
   pub asks : AsksProposed words job settings
   pub bytes : List ℕ
@@ -261,7 +274,7 @@ pub record IsLongProposed (words : List (String Global)) (left : Option (List �
 
 -- the words ask for a job with proposals, and the input has this fault
 pub record IsFaultyProposed (words : List (String Global)) (left : Option (List ℕ)) (fault : TextFault) : Type 0 where
-  pub job : SolvingJob
+  pub job : ProposedJob
   pub settings : Settings
   pub asks : AsksProposed words job settings
   pub bytes : List ℕ

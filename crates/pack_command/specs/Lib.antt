@@ -2,6 +2,7 @@ pub mod Stops
 pub mod Answered
 pub mod Asked
 pub mod Fronts
+pub mod Bounded
 pub mod Proposed
 pub mod Strips
 pub mod FewestBins

@@ -39,7 +39,8 @@ use Rattle.proposed_choice.specs.Values.{value_count, IsLimitedChoice, IsPastBes
 use Rattle.pack_streams.specs.Moves.{Gains}
 use Rattle.pack_streams.specs.Writing.{GainsPart}
 use Rattle.pack_command.specs.Answered.{branchings}
-use Rattle.pack_command.specs.Asked.{AsksProposed}
+use Rattle.pack_command.specs.Asked.{ProposedJob, Plain, Bounds, AsksProposed}
+use Rattle.pack_command.specs.Bounded.{IsBoundedFound}
 use Rattle.pack_command.specs.FewestBins.{HasNoBins}
 use Rattle.pack_command.specs.Inputs.{IsWholeInput, IsPartTaken, IsInputRead}
 use Rattle.pack_command.specs.Strips.{HasNoStrip}
@@ -99,40 +100,54 @@ pub record IsProposedSolution (job : SolvingJob) (settings : Settings) (instance
   pub text : solution_text instance solution ≡ answer_text instance (answer_found solution)
   pub placed : IsPlacedSolution instance solution
 
--- the words ask for the job with proposals, the whole input is the text of this instance, and this is
--- its answer
-pub record IsProposedAnswered (words : List (String Global)) (old new : Option (List ℕ)) (job : SolvingJob)
-    (settings : Settings) (instance : PlainInstance) (answer : Answer) : Type 0 where
+-- the status and the document are those of such an answer
+pub record IsProposedFound (job : SolvingJob) (settings : Settings) (instance : PlainInstance) (status : ℕ)
+    (document : List ℕ) : Type 0 where
+  pub answer : Answer
+  pub is : IsProposed job settings instance answer
+  pub status_is : status ≡ status_of answer
+  pub document_is : document ≡ answer_text instance answer
+
+-- of a solving job, or of `knapsack` with priced leaves
+abbrev pub IsFound : ProposedJob → Settings → PlainInstance → ℕ → List ℕ → Type 0
+IsFound (Plain job) settings instance status document = IsProposedFound job settings instance status document
+IsFound (Bounds proposals) settings instance status document =
+    IsBoundedFound proposals settings instance status document
+
+-- the words ask for the job with proposals, the whole input is the text of this instance, and these are
+-- the status and the document of its answer
+pub record IsProposedAnswered (words : List (String Global)) (old new : Option (List ℕ)) (job : ProposedJob)
+    (settings : Settings) (instance : PlainInstance) (status : ℕ) (document : List ℕ) : Type 0 where
   pub asked : AsksProposed words job settings
   pub bytes : List ℕ
   pub input : IsWholeInput old new bytes
   pub read : text_instance bytes ≡ Ok instance
   pub limits : IsInstance instance
-  pub is : IsProposed job settings instance answer
+  pub is : IsFound job settings instance status document
 
 -- the document of the answer was written whole, with its status
 pub record IsProposedWritten (words : List (String Global)) (old new sunk_old sunk_new : Option (List ℕ)) (status : ℕ) :
     Type 0 where
-  pub job : SolvingJob
+  pub job : ProposedJob
   pub settings : Settings
   pub instance : PlainInstance
-  pub answer : Answer
-  pub answered : IsProposedAnswered words old new job settings instance answer
-  pub status_is : status ≡ status_of answer
-  pub written : Gains sunk_old sunk_new (answer_text instance answer)
+  pub document : List ℕ
+  pub answered : IsProposedAnswered words old new job settings instance status document
+  pub written : Gains sunk_old sunk_new document
 
 -- an answer was found, and a part at the front of its document was written
 pub record IsProposedCut (words : List (String Global)) (old new sunk_old sunk_new : Option (List ℕ)) : Type 0 where
-  pub job : SolvingJob
+  pub job : ProposedJob
   pub settings : Settings
   pub instance : PlainInstance
-  pub answer : Answer
-  pub answered : IsProposedAnswered words old new job settings instance answer
-  pub part : GainsPart sunk_old sunk_new (answer_text instance answer)
+  pub status : ℕ
+  pub document : List ℕ
+  pub answered : IsProposedAnswered words old new job settings instance status document
+  pub part : GainsPart sunk_old sunk_new document
 
 -- the words ask for a job with proposals
 abbrev pub AsksForProposals : List (String Global) → Type 0
-AsksForProposals words = (job : SolvingJob) × (settings : Settings) × AsksProposed words job settings
+AsksForProposals words = (job : ProposedJob) × (settings : Settings) × AsksProposed words job settings
 
 -- why it ended without its document
 abbrev pub IsWithoutProposed : List (String Global) → (old new sunk_old sunk_new : Option (List ℕ)) → Stop → Type 0

@@ -2,6 +2,7 @@
 #![tactic(auto)]
 
 mod auditing;
+mod bounding;
 mod checking;
 mod explaining;
 mod fronting;

@@ -3,7 +3,7 @@ ghost use Rattle.std.specs.Prelude.{◌≡◌, ◌≢◌, List, String, IfOk, If
 ghost use Rattle.std.specs.declared.alloc.Global.{Global as PlainGlobal};
 ghost use Rattle.packing_terms.specs.Limits.{IsInstance};
 ghost use Rattle.pack_command.specs.Answered.{IsAnswerStatus};
-ghost use Rattle.pack_command.specs.Asked.{AsksProposed};
+ghost use Rattle.pack_command.specs.Asked.{AsksProposed, Plain};
 ghost use Rattle.pack_command.specs.Counts.{CountsReads, CountsWrites};
 ghost use Rattle.pack_command.specs.Proposed.{IsProposedSolution, IsProposedWritten, IsWithoutProposed};
 
@@ -65,11 +65,11 @@ pub(crate) fn tell_proposed<R: Threads + Wait + Sync, S: Source, K: Sink, G: Gat
     out: &mut K,
     gate: &G,
 ) -> Result<u8, Stop>
-    ensures answered { (words : List (String PlainGlobal)) → AsksProposed words job settings.now
+    ensures answered { (words : List (String PlainGlobal)) → AsksProposed words (Plain job) settings.now
         → IfOk result (IsProposedWritten words (S.left input.old) (S.left input.new)
         (K.written out.old) (K.written out.new)) }
     ensures status { IfOk result IsAnswerStatus }
-    ensures stopped { (words : List (String PlainGlobal)) → AsksProposed words job settings.now
+    ensures stopped { (words : List (String PlainGlobal)) → AsksProposed words (Plain job) settings.now
         → IfErr result (IsWithoutProposed words (S.left input.old) (S.left input.new)
         (K.written out.old) (K.written out.new)) }
     ensures unwritten { IfErr result (λ stop. stop ≢ Stop.WriteFault → out.new ≡ out.old) }

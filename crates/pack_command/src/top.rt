@@ -1,5 +1,5 @@
 //! The top call.
-ghost use Rattle.std.specs.Prelude.{◌≡◌, ◌≢◌, ◌≤◌, ◌+◌, ◌⊎◌, ℕ, List, String, Err, IfOk, IfErr};
+ghost use Rattle.std.specs.Prelude.{◌≡◌, ◌≢◌, ◌≤◌, ◌+◌, ◌⊎◌, ℕ, Bool, List, String, Err, IfOk, IfErr};
 ghost use Rattle.std.specs.declared.alloc.Global.{Global as PlainGlobal};
 ghost use Rattle.packing_terms.specs.Packing.{PlainInstance};
 ghost use Rattle.pack_streams.specs.Moves.{Gains};
@@ -8,8 +8,9 @@ ghost use Rattle.answer_terms.specs.declared.job.DocumentJob.TheVariants.{Solvin
 ghost use Rattle.document_terms.specs.declared.claim.SolvingJob.{SolvingJob as PlainSolvingJob};
 ghost use Rattle.document_terms.specs.declared.claim.SolvingJob.TheVariants.{Fit as SolvesFit};
 ghost use Rattle.pack_command.specs.Answered.{answer_for, class_bound, IsAnswerStatus, IsEnough};
-ghost use Rattle.pack_command.specs.Asked.{AsksToSolve, AsksCheck, AsksToMake, AsksAudit, IsSolving, IsChecking, IsAuditing, IsExplaining, IsFronting, IsProposing, HasAnswer, ReadsNothing, IsRefusable};
+ghost use Rattle.pack_command.specs.Asked.{Plain, Bounds, AsksToSolve, AsksCheck, AsksToMake, AsksAudit, IsSolving, IsChecking, IsAuditing, IsExplaining, IsFronting, IsProposing, HasAnswer, ReadsNothing, IsRefusable};
 ghost use Rattle.pack_command.specs.Audits.{IsAuditClaimed};
+ghost use Rattle.pack_command.specs.Bounded.{IsBoundedDecided, IsBoundsAmple, IsOwnBounded};
 ghost use Rattle.pack_command.specs.Readings.{Audits, Explains, IsExactlyRead};
 ghost use Rattle.pack_command.specs.Checks.{IsExactly, IsClaimed};
 ghost use Rattle.pack_command.specs.Counts.{CountsReads, CountsWrites, CountsStatus, IsFaultStatus};
@@ -25,6 +26,7 @@ ghost use Rattle.pack_command.specs.declared.stop.Stop.{Stop as PlainStop};
 ghost use Rattle.text_terms.specs.declared.settings.Settings.{Settings as PlainSettings};
 
 use crate::auditing::audit;
+use crate::bounding::tell_bounded;
 use crate::checking::check;
 use crate::explaining::explain;
 use crate::fronting::tell_front;
@@ -101,17 +103,17 @@ pub fn run<R: Threads + Wait + Sync, S: Source, K: Sink, E: Sink, G: Gate + Sync
         → IsOwnDocument job instance (K.written out.old) (K.written out.new) result }
 
     // `check` writes exactly the line of the verdict on the input, with its status, and what it
-    // verifies is true of the instance in the document, whoever wrote it.
+    // verifies is true of the instance in the document.
     ensures checks { (bytes : List ℕ) → IsChecking words.now (S.left input.old) bytes
         → IsAnswerStatus result → IsExactly bytes (K.written out.old) (K.written out.new) result }
     ensures claimed { AsksCheck words.now → result ≡ 0
         → IsClaimed (S.left input.old) (S.left input.new) (K.written out.old) (K.written out.new) }
 
     // `audit` writes exactly the line of the verdict on the input as a document of its kind,
-    // reduced, bounded, explained or of a front, with its status, and what it verifies is true,
-    // whoever wrote it: the claim of a reduced or bounded document of the instance in it, that the
-    // instance of an explained one has no packing, and that the points of a front are all least
-    // sizes of its instance, or all up to the last of them, and as many as are told.
+    // reduced, bounded, explained or of a front, with its status, and what it verifies is true: the
+    // claim of a reduced or bounded document of the instance in it, that the instance of an
+    // explained one has no packing, and that the points of a front are all least sizes of its
+    // instance, or all up to the last of them, and as many as the line says.
     ensures audits { (bytes : List ℕ) → IsAuditing words.now (S.left input.old) bytes
         → IsAnswerStatus result
         → IsExactlyRead Audits bytes (K.written out.old) (K.written out.new) result }
@@ -160,7 +162,8 @@ pub fn run<R: Threads + Wait + Sync, S: Source, K: Sink, E: Sink, G: Gate + Sync
     // numbers of bins and their bin trees, with the whole budget for the share.
     ensures proposes { (job : PlainSolvingJob) (settings : PlainSettings)
         (instance : PlainInstance)
-        → IsProposing words.now (S.left input.old) job settings instance → IsAnswerStatus result
+        → IsProposing words.now (S.left input.old) (Plain job) settings instance
+        → IsAnswerStatus result
         → IsProposedDecided job instance settings (K.written out.old) (K.written out.new) result }
 
     // Where the trees of the job have no more branchings than the budget (`fit`, `bins`) or its share
@@ -168,10 +171,10 @@ pub fn run<R: Threads + Wait + Sync, S: Source, K: Sink, E: Sink, G: Gate + Sync
     // `fit` says exactly whether the instance fits.
     ensures settles { (job : PlainSolvingJob) (settings : PlainSettings)
         (instance : PlainInstance)
-        → IsProposing words.now (S.left input.old) job settings instance
+        → IsProposing words.now (S.left input.old) (Plain job) settings instance
         → IsAmple job settings instance → result ≢ 3 }
     ensures settled { (settings : PlainSettings) (instance : PlainInstance)
-        → IsProposing words.now (S.left input.old) SolvesFit settings instance
+        → IsProposing words.now (S.left input.old) (Plain SolvesFit) settings instance
         → IsAnswerStatus result
         → class_bound instance ≤ settings.budget + 1 → IsExactlyFit instance result }
 
@@ -179,8 +182,32 @@ pub fn run<R: Threads + Wait + Sync, S: Source, K: Sink, E: Sink, G: Gate + Sync
     // alone, it says undecided and is verified with none.
     ensures vouched { (job : PlainSolvingJob) (settings : PlainSettings)
         (instance : PlainInstance)
-        → IsProposing words.now (S.left input.old) job settings instance → IsAnswerStatus result
+        → IsProposing words.now (S.left input.old) (Plain job) settings instance
+        → IsAnswerStatus result
         → IsOwnDocument (Solves job) instance (K.written out.old) (K.written out.new) result }
+
+    // With `--bounds yes` `knapsack` is the greatest value over all sets of boxes that fit, with
+    // both certificates, or two values between which it lies, with both: only where the run without
+    // priced leaves says two values, and within these. That run is the one with the same words but
+    // `--bounds`. Its budget is spent on the tree of a value that it decides, or with proposals on
+    // its share of the trees of the values beside the two.
+    ensures bounds { (proposals : Bool) (settings : PlainSettings) (instance : PlainInstance)
+        → IsProposing words.now (S.left input.old) (Bounds proposals) settings instance
+        → IsAnswerStatus result
+        → IsBoundedDecided proposals instance settings (K.written out.old) (K.written out.new)
+        result }
+
+    // It is the greatest value where the budget, or with proposals its share, is enough for the tree
+    // of every value; and `audit` verifies the document with its claim about that instance.
+    ensures bounds_settle { (proposals : Bool) (settings : PlainSettings)
+        (instance : PlainInstance)
+        → IsProposing words.now (S.left input.old) (Bounds proposals) settings instance
+        → IsBoundsAmple proposals settings instance → result ≢ 3 }
+    ensures bounds_vouched { (proposals : Bool) (settings : PlainSettings)
+        (instance : PlainInstance)
+        → IsProposing words.now (S.left input.old) (Bounds proposals) settings instance
+        → IsAnswerStatus result
+        → IsOwnBounded instance (K.written out.old) (K.written out.new) result }
 
     // `make` writes exactly the summary of the number, with the status of its decision: yes only
     // where the generated instance fits, no only where it doesn't, and undecided exactly where its
@@ -299,6 +326,10 @@ fn job<R: Threads + Wait + Sync, S: Source, K: Sink, G: Gate + Sync>(
         Asked::Proposing { job, settings } => {
             tell_proposed(rt, alloc, job, &settings, input, out, gate)
         }
+        Asked::Bounding {
+            proposals,
+            settings,
+        } => tell_bounded(rt, alloc, proposals, &settings, input, out, gate),
         Asked::Making { number, settings } => {
             make_and_tell(rt, alloc, number, &settings, out, gate)
         }

@@ -31,6 +31,11 @@ pub enum Asked {
         job: SolvingJob,
         settings: Settings,
     },
+    /// `knapsack` with priced leaves, behind proposals or not, and how its trees are to be decided.
+    Bounding {
+        proposals: bool,
+        settings: Settings,
+    },
     /// `make`, the number that it generates from, and how the instance is to be decided.
     Making {
         number: u32,
@@ -60,6 +65,12 @@ pub(crate) fn read_job(alloc: Global, words: &[String]) -> Result<Asked, Stop>
         Job::Explain => return Ok(Asked::Explaining),
         Job::Front => return Ok(Asked::Fronting { settings }),
         Job::Proposed(job) => return Ok(Asked::Proposing { job, settings }),
+        Job::Bounded { proposals } => {
+            return Ok(Asked::Bounding {
+                proposals,
+                settings,
+            });
+        }
         Job::Make => {
             return Ok(Asked::Making {
                 number: asked.number,

@@ -1,4 +1,5 @@
 use Rattle.std.proofs.Common.{◌∙◌, ap, arith, inl, inr, List, ℕ}
+use Rattle.pack_command.specs.Asked.{Plain, Bounds}
 use Rattle.pack_command.specs.Run.{IsTold}
 use Rattle.pack_command.specs.Stops.{stop_status}
 use Rattle.pack_command.proofs.OwnWritten.{own_written}
@@ -8,6 +9,7 @@ use Rattle.pack_command.proofs.Audited.{reading_done, exactly_read, audited_clai
 use Rattle.pack_command.proofs.Fronted.{fronted_done}
 use Rattle.pack_command.proofs.ProposedEnds.{proposed_done}
 use Rattle.pack_command.proofs.ProposedDecided.{proposed_decided, proposed_own, proposed_within, proposed_exactly}
+use Rattle.pack_command.proofs.BoundedDecided.{bounded_decided, bounded_own, bounded_within}
 use Rattle.pack_command.proofs.Sized.{told_decided, told_front, told_whole, told_own}
 use Rattle.pack_command.proofs.Checked.{solved_done, judged_done, judged_exactly, judged_claimed}
 use Rattle.pack_command.proofs.Causes.{answer_counts, completes, never_read, refusable_done, refuses, stop_reads}
@@ -87,12 +89,12 @@ returns-in-Ok-clause-confirmed g c =
 pub returns-in-Ok-clause-proposes : goal.returns-in-Ok-clause-proposes
 returns-in-Ok-clause-proposes g c = λ job settings instance asked answer.
     proposed_decided _ _ _ _ _ _ job settings instance asked
-    (proposed_done _ _ _ _ _ _ job settings asked.asks c.in-Ok.ensures.answered)
+    (proposed_done _ _ _ _ _ _ (Plain job) settings asked.asks c.in-Ok.ensures.answered)
 
 pub returns-in-Ok-clause-settles : goal.returns-in-Ok-clause-settles
 returns-in-Ok-clause-settles g c = λ job settings instance asked few.
     proposed_within _ _ _ _ _ _ job settings instance asked
-    (proposed_done _ _ _ _ _ _ job settings asked.asks c.in-Ok.ensures.answered) few
+    (proposed_done _ _ _ _ _ _ (Plain job) settings asked.asks c.in-Ok.ensures.answered) few
 
 pub returns-in-Ok-clause-settled : goal.returns-in-Ok-clause-settled
 returns-in-Ok-clause-settled g c = λ settings instance asked answer enough.
@@ -102,7 +104,22 @@ returns-in-Ok-clause-settled g c = λ settings instance asked answer enough.
 pub returns-in-Ok-clause-vouched : goal.returns-in-Ok-clause-vouched
 returns-in-Ok-clause-vouched g c = λ job settings instance asked answer.
     proposed_own _ _ _ _ _ _ job settings instance asked
-    (proposed_done _ _ _ _ _ _ job settings asked.asks c.in-Ok.ensures.answered)
+    (proposed_done _ _ _ _ _ _ (Plain job) settings asked.asks c.in-Ok.ensures.answered)
+
+pub returns-in-Ok-clause-bounds : goal.returns-in-Ok-clause-bounds
+returns-in-Ok-clause-bounds g c = λ proposals settings instance asked answer.
+    bounded_decided _ _ _ _ _ _ proposals settings instance asked
+    (proposed_done _ _ _ _ _ _ (Bounds proposals) settings asked.asks c.in-Ok.ensures.answered)
+
+pub returns-in-Ok-clause-bounds_settle : goal.returns-in-Ok-clause-bounds_settle
+returns-in-Ok-clause-bounds_settle g c = λ proposals settings instance asked few.
+    bounded_within _ _ _ _ _ _ proposals settings instance asked
+    (proposed_done _ _ _ _ _ _ (Bounds proposals) settings asked.asks c.in-Ok.ensures.answered) few
+
+pub returns-in-Ok-clause-bounds_vouched : goal.returns-in-Ok-clause-bounds_vouched
+returns-in-Ok-clause-bounds_vouched g c = λ proposals settings instance asked answer.
+    bounded_own _ _ _ _ _ _ proposals settings instance asked
+    (proposed_done _ _ _ _ _ _ (Bounds proposals) settings asked.asks c.in-Ok.ensures.answered)
 
 pub returns-in-Ok-clause-makes : goal.returns-in-Ok-clause-makes
 returns-in-Ok-clause-makes g c =
@@ -177,6 +194,14 @@ returns-in-Err-clause-settled g c =
 pub returns-in-Err-clause-vouched : goal.returns-in-Err-clause-vouched
 returns-in-Err-clause-vouched g c =
     λ job settings instance asked answer. absurd (stop_unanswered c.in-Err.stop _ c.status.ensures answer)
+
+pub returns-in-Err-clause-bounds : goal.returns-in-Err-clause-bounds
+returns-in-Err-clause-bounds g c =
+    λ proposals settings instance asked answer. absurd (stop_unanswered c.in-Err.stop _ c.status.ensures answer)
+
+pub returns-in-Err-clause-bounds_vouched : goal.returns-in-Err-clause-bounds_vouched
+returns-in-Err-clause-bounds_vouched g c =
+    λ proposals settings instance asked answer. absurd (stop_unanswered c.in-Err.stop _ c.status.ensures answer)
 
 pub returns-in-Err-clause-makes : goal.returns-in-Err-clause-makes
 returns-in-Err-clause-makes g c =
