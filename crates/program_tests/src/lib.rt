@@ -4,6 +4,8 @@
 #[cfg(test)]
 mod bins;
 #[cfg(test)]
+mod bounding;
+#[cfg(test)]
 mod explanations;
 #[cfg(test)]
 mod fits;

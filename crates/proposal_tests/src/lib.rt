@@ -4,8 +4,6 @@
 #[cfg(test)]
 mod bins;
 #[cfg(test)]
-mod bounded_trees;
-#[cfg(test)]
 mod choices;
 #[cfg(test)]
 mod decisions;

@@ -6,8 +6,8 @@ use proposed_choice::is_value_refutation;
 use std::alloc::Global;
 use std::test::Fail;
 
-/// Squares with these sides and values in a square of 10.
-pub(crate) fn squares(alloc: Global, boxes: &[(u32, u64)]) -> Result<Instance, Fail> {
+// Squares with these sides and values in a square of 10.
+fn squares(alloc: Global, boxes: &[(u32, u64)]) -> Result<Instance, Fail> {
     let mut items = Vec::new(alloc);
     for (side, value) in boxes {
         items.push(BoxItem {

@@ -1,5 +1,5 @@
 //! Proposed trees with priced leaves, and the check of them.
-use crate::outer_trees::squares;
+use crate::instances::squares;
 use bounded_proposals::{BoundedEffort, ValueProposal, ValueRefuter};
 use bounded_search::TreeLimits;
 use bounded_tokens::BoundedToken;
@@ -15,7 +15,7 @@ enum Came {
     Refuted,
     // A tree that it doesn't.
     Wrong,
-    // Boxes, so many.
+    // Boxes: their number.
     Placed(usize),
     // Nothing.
     Nothing,
@@ -35,7 +35,7 @@ fn is_accepted(
     Ok(refuter.whole())
 }
 
-// What is proposed of a goal with so many steps.
+// What is proposed of a goal with `steps` steps.
 fn came_of(
     alloc: Global,
     instance: &Instance,
