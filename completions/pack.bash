@@ -14,7 +14,7 @@ _pack() {
         name=$before
     fi
     case $name in
-        --scales | --proposals | --facts)
+        --scales | --proposals | --facts | --bounds)
             COMPREPLY=($(compgen -W "yes no" -- "$word"))
             return
             ;;
@@ -34,12 +34,13 @@ _pack() {
     done
     case $job in
         strip) options="--workers --budget --scales --proposals --facts" ;;
-        fit | bins | knapsack) options="--workers --budget --scales --proposals" ;;
+        knapsack) options="--workers --budget --scales --proposals --bounds" ;;
+        fit | bins) options="--workers --budget --scales --proposals" ;;
         reduced | front) options="--workers --budget --scales" ;;
         make) options="--workers --budget --scales --number" ;;
         check | audit | explain) options="" ;;
         *)
-            COMPREPLY=($(compgen -W "$jobs --workers --budget --scales --number --proposals --facts" -- "$word"))
+            COMPREPLY=($(compgen -W "$jobs --workers --budget --scales --number --proposals --facts --bounds" -- "$word"))
             return
             ;;
     esac
