@@ -239,14 +239,17 @@ def run_program(program, words, text):
     return ran.returncode, ran.stdout + ran.stderr
 
 
-def make_instance(rng, dims):
-    """A small instance text, in about a third of the cases with kerfs, and with values and equal boxes."""
+def make_instance(rng, dims, box_lines=(1, 5)):
+    """A small instance text, in about a third of the cases with kerfs, and with values and equal boxes.
+
+    `box_lines` are the fewest and the most lines of boxes.
+    """
     container = [rng.randint(3, 12) for _ in range(dims)]
     kerf = [rng.randint(0, 2) for _ in range(dims)] if rng.random() < 0.35 else None
     lines = ["format 2", "container " + " ".join(map(str, container))]
     lines += ["kerf " + " ".join(map(str, kerf))] if kerf else []
     least = rng.choice([1, 2, 3])
-    for _ in range(rng.randint(1, 5)):
+    for _ in range(rng.randint(*box_lines)):
         sides = [rng.randint(min(least, side * 2 // 3), side * 2 // 3 + rng.choice([0, 0, 1])) for side in container]
         line = "box " + " ".join(map(str, sides))
         line += rng.choice(["", f" value {rng.randint(0, 9)}"])
@@ -257,7 +260,8 @@ def make_instance(rng, dims):
 
 def fresh_documents(program, rng, rounds):
     """The documents of all jobs for `rounds` instances of 2, 3 and 4 dimensions each, as calls to run."""
-    jobs = [["fit"], ["reduced"], ["strip"], ["strip", "--facts", "yes"], ["bins"], ["knapsack"], ["front"]]
+    jobs = [["fit"], ["reduced"], ["strip"], ["strip", "--facts", "yes"], ["bins"], ["knapsack"]]
+    jobs += [["knapsack", "--bounds", "yes"], ["front"]]
     for number in range(rounds):
         for dims in (2, 3, 4):
             text = make_instance(rng, dims)
@@ -266,6 +270,16 @@ def fresh_documents(program, rng, rounds):
                 words += ["--scales", rng.choice(["yes", "no", "no"])]
                 name = f"{'-'.join(job)}-{dims}-{number}"
                 yield name, run_program(program, words, text.encode())[1]
+
+
+def priced_documents(program, rng, rounds):
+    """Documents of `knapsack --bounds yes` for more boxes and small budgets, so that most have priced leaves."""
+    for number in range(rounds):
+        for dims in (2, 3, 4):
+            text = make_instance(rng, dims, (6, 12)).encode()
+            for more in ([], ["--proposals", "yes"]):
+                words = ["knapsack", "--bounds", "yes", "--budget", rng.choice(["0", "0", "30"]), *more]
+                yield f"{'-'.join(words)}-{dims}-{number}", run_program(program, words, text)[1]
 
 
 def bounded(documents):
@@ -555,7 +569,7 @@ def long_documents(limit):
 
 def main(program, copies, seed):
     rng, comparison = random.Random(seed), Comparison(program, load_second())
-    documents = [*stored_documents(), *fresh_documents(program, rng, 5)]
+    documents = [*stored_documents(), *fresh_documents(program, rng, 5), *priced_documents(program, rng, 5)]
     documents += [*explained(program, documents), *bounded(documents)]
     named = [(name, command, text.encode(), line) for name, (command, text, line) in NAMED.items()]
     named += long_documents(comparison.second.LIMITS["audit"])
