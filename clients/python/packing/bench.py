@@ -76,7 +76,8 @@ def run_problem(problem, options):
     instance, job = problem.instance, problem.job or "bins"
     facts = {"instance": problem.name, "job": job, "dimensions": len(instance.container),
              "boxes": len(instance.boxes)}
-    effort = checked_effort(options.budget, options.workers, options.seconds, not options.no_proposals)
+    effort = checked_effort(job, options.budget, options.workers, options.seconds, not options.no_proposals,
+                            options.bounds and job == "knapsack")
     try:
         if options.once:
             return run_once(job, instance, effort, facts)
@@ -97,6 +98,7 @@ def run_once(job, instance, effort, facts):
     words = [job] + (["--budget", str(effort.budget)] if effort.budget is not None else [])
     words += ["--workers", str(effort.workers)] if effort.workers else []
     words += ["--proposals", "yes"] if effort.proposals else []
+    words += ["--bounds", "yes"] if effort.bounds else []
     ran = run_pack(words, instance.text(), effort.seconds)
     document = parse_document(ran.output)
     verdict = "" if document.result[0] == "undecided" else verify_text(ran.output)

@@ -8,7 +8,7 @@ from typing import Tuple
 from .errors import QuestionRefused
 from .instance import Instance, parse_instance, spaced
 
-READERS = {"answer": "check", "reduced": "audit", "explained": "audit", "front": "audit"}
+READERS = {"answer": "check", "reduced": "audit", "bounded": "audit", "explained": "audit", "front": "audit"}
 
 
 @dataclass(frozen=True)

@@ -7,7 +7,8 @@ from .question import Box, ask
 from .solving import checked_effort, solve_question
 from .turning import solve_turned
 
-KEYS = {"job", "container", "boxes", "kerf", "budget", "workers", "seconds", "proposals", "turn"}
+KEYS = {"job", "container", "boxes", "kerf", "budget", "workers", "seconds", "proposals", "bounds",
+        "turn"}
 BOX_KEYS = {"sides", "name", "value", "quantity"}
 
 
@@ -52,8 +53,8 @@ def solve_json(text, seconds=None):
     found = read_json(text, "the question")
     question = question_of_json(found)
     limit = found.get("seconds", seconds)
-    effort = checked_effort(found.get("budget"), found.get("workers"), limit and float(limit),
-                            found.get("proposals", True))
+    effort = checked_effort(question.job, found.get("budget"), found.get("workers"), limit and float(limit),
+                            found.get("proposals", True), found.get("bounds", False))
     if found.get("turn"):
         return solve_turned(question, effort.seconds or 20.0)
     return solve_question(question, effort)

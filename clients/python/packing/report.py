@@ -54,7 +54,8 @@ class Report:
 
 def answer_question(question, options):
     """The answer under the options of the command line."""
-    effort = checked_effort(options.budget, options.workers, options.seconds, not options.no_proposals)
+    effort = checked_effort(question.job, options.budget, options.workers, options.seconds,
+                            not options.no_proposals, getattr(options, "bounds", False))
     if getattr(options, "turn", False):
         return solve_turned(question, effort.seconds)
     return solve_question(question, effort)

@@ -23,6 +23,7 @@ class Effort:
     workers: Optional[int] = None
     seconds: Optional[float] = None
     proposals: bool = True
+    bounds: bool = False
 
 
 @dataclass(frozen=True)
@@ -73,7 +74,8 @@ class Search:
             words += ["--budget", str(budget)]
         if self.effort.workers:
             words += ["--workers", str(self.effort.workers)]
-        return words + (["--proposals", "yes"] if proposals else [])
+        words += ["--proposals", "yes"] if proposals else []
+        return words + (["--bounds", "yes"] if self.effort.bounds and job == "knapsack" else [])
 
     def run(self, words, instance, share):
         """The document of a run of the program. None where it was killed, or out of memory under a limit."""

@@ -7,26 +7,30 @@ from .ways import go
 
 
 def solve(job, container, boxes, kerf=None, names=None, quantities=None, values=None, budget=None,
-          workers=None, seconds=None, proposals=True):
+          workers=None, seconds=None, proposals=True, bounds=False):
     """Solves one question and returns its verified `Answer`.
 
     `job` is fit, strip, bins or knapsack; `boxes` are sequences of sides or `Box`, and `names`,
     `quantities`, `values` go box by box. A strip's last container side isn't looked at, and may be
     left out. With `seconds` budgets rise until then, and the best verified document is returned;
-    without, the program runs once with `budget`. Errors are subclasses of `PackingError`.
+    without, the program runs once with `budget`. With `bounds`, for knapsack alone, values are refuted
+    also by the volume that is left, and `audit` verifies the document. Errors are subclasses of
+    `PackingError`.
     """
     question = ask(job, container, boxes, kerf, names, quantities, values)
-    return solve_question(question, checked_effort(budget, workers, seconds, proposals))
+    return solve_question(question, checked_effort(job, budget, workers, seconds, proposals, bounds))
 
 
-def checked_effort(budget=None, workers=None, seconds=None, proposals=True):
-    """The effort, if its numbers are in range."""
+def checked_effort(job, budget=None, workers=None, seconds=None, proposals=True, bounds=False):
+    """The effort, if its numbers are in range and `bounds` is for the job."""
     for what, number, least, most in (("budget", budget, 0, 10_000_000), ("workers", workers, 1, 64)):
         if number is not None and not (isinstance(number, int) and least <= number <= most):
             raise QuestionRefused(f"{what} is {number!r}", f"give a number from {least} to {most:,}")
     if seconds is not None and not seconds > 0:
         raise QuestionRefused(f"seconds is {seconds!r}", "give a number greater than 0")
-    return Effort(budget, workers, seconds, bool(proposals))
+    if bounds and job != "knapsack":
+        raise QuestionRefused(f"bounds is given for {job}", "give it for knapsack alone")
+    return Effort(budget, workers, seconds, bool(proposals), bool(bounds))
 
 
 def solve_question(question, effort, progress=None):

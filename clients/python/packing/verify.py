@@ -9,6 +9,7 @@ from .instance import content_lines, parse_instance
 from .program import CHECKOUT, Clock, run_words, verdict_of
 
 MAX_BYTES = 256 << 20
+FORMS = ("reduced", "bounded", "explained")
 CHECKER = "clients/check.py"
 DECIDED, BOUNDS, REFUSED = 0, 3, 1
 
@@ -42,7 +43,7 @@ def read_document(path, most):
 
 def meaning_of(line):
     """What a `verified` line says in words, and whether something is left open."""
-    words = [it for it in line.split()[1:] if it not in ("reduced", "explained")]
+    words = [it for it in line.split()[1:] if it not in FORMS]
     numbers = [int(it) for it in words if it.isdigit()]
     key = " ".join(it for it in words if not it.isdigit())
     said = MEANINGS.get(key, key).format(*(f"{it:,}" for it in numbers))
@@ -153,7 +154,7 @@ def verify(options):
 
 def is_same_question(text, line, path):
     """Compares a verified document with a question file, and prints what differs."""
-    job = next((it for it in line.split()[1:] if it not in ("reduced", "explained")), "fit")
+    job = next((it for it in line.split()[1:] if it not in FORMS), "fit")
     wrong, remarks = differences(job, instance_part(text), question_instance(path))
     for it in wrong:
         print(f"another question: {it}")

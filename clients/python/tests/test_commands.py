@@ -57,6 +57,15 @@ class Cuts(FolderCase):
         self.assertEqual(status, 0)
         ElementTree.fromstring(out)
 
+    def test_bounds_of_one_sheet(self):
+        table = self.file("parts.csv", "name,length,width,quantity,value\na,120,80,3,5\nb,100,60,2,4\n")
+        status, out, _ = run_main("cut", table, "--sheet", "200x100", "--take", "--bounds")
+        self.assertEqual(status, 0)
+        self.assertIn("(verified bounded knapsack greatest ", out)
+        status, _, err = run_main("cut", table, "--sheet", "200x100", "--bounds")
+        self.assertEqual(status, 2)
+        self.assertIn("bounds is given for bins", err)
+
     def test_turned_parts_say_what_is_proved(self):
         table = self.file("parts.csv", "name,length,width,quantity\na,6,4,4\n")
         status, out, _ = run_main("cut", table, "--sheet", "10x10", "--turn", "--seconds", 5)
@@ -170,6 +179,12 @@ class Benches(FolderCase):
         self.assertIn("all: 6 of 6 solved", out)
         status, out, _ = run_main("bench", self.folder, "--once", "--match", "planks")
         self.assertIn("bins: 1 of 1 solved", out)
+        for more in ((), ("--once",)):
+            status, out, _ = run_main("bench", self.folder, "--bounds", "--seconds", 5,
+                                      "--out", self.path("b.csv"), *more)
+            self.assertIn("all: 3 of 3 solved", out)
+            rows = list(csv.DictReader(io.StringIO((self.folder / "b.csv").read_text())))
+            self.assertIn("verified bounded knapsack greatest 8", [it["verdict"] for it in rows])
 
     def test_json_with_items_and_objects(self):
         text = json.dumps({"Name": "x", "Objects": [{"Length": 10, "Height": 8, "Stock": None, "Cost": 80}],

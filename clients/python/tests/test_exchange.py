@@ -64,6 +64,18 @@ class SpeaksJson(FolderCase):
         self.assertEqual(found["placements"][0]["sides"], [800, 600.25])
         self.assertTrue(found["document"].startswith("answer bins\n"))
 
+    def test_bounds_of_a_knapsack(self):
+        question = {**self.QUESTION, "job": "knapsack", "bounds": True}
+        self.assertEqual(faults(question, {"$ref": "#/$defs/question"}), [])
+        status, out, _ = run_main("solve", self.file("q.json", json.dumps(question)))
+        self.assertEqual(status, 0)
+        self.assertTrue(json.loads(out)["verdict"].startswith("verified bounded knapsack greatest "))
+        for change in ({}, {"turn": True}):
+            other = json.dumps({**question, "job": "fit", **change})
+            status, _, err = run_main("solve", self.file("q.json", other))
+            self.assertEqual(status, 2)
+            self.assertIn("bounds is given for fit", err)
+
     def test_decimals_keep_their_digits(self):
         self.assertEqual(str(read_json('{"a": 60.10}', "it")["a"]), "60.10")
 

@@ -41,7 +41,8 @@ class AgreesWithTheProgram(unittest.TestCase):
                 instance = ask(job, container, boxes, kerf, values=values).instance
                 plain = parse_document(run_pack([job], instance.text()).output)
                 answer = packing.solve(job, container, boxes, kerf, values=values,
-                                       seconds=(None, 5.0)[at % 2], proposals=at % 3 > 0)
+                                       seconds=(None, 5.0)[at % 2], proposals=at % 3 > 0,
+                                       bounds=job == "knapsack" and at % 5 > 1)
                 self.assertEqual(answer.status, plain.result[0])
                 self.assertTrue(answer.is_proved)
                 self.assertTrue(answer.verdict.startswith("verified "))
@@ -112,6 +113,37 @@ class KeepsTimeLimits(unittest.TestCase):
         self.assertEqual((answer.status, answer.lower, answer.upper), ("between", 0, 30))
         self.assertEqual(answer.words("sheet", "sheets"), "between 1 and 30 sheets")
         self.assertEqual(answer.exit_status, 3)
+
+
+class BoundsValues(unittest.TestCase):
+    """With `bounds` a knapsack has a bounded document, which `audit` verifies; no other job takes it."""
+
+    EIGHT = ("knapsack", (23, 10), [(3, 6)] * 8)
+
+    def test_the_document_is_bounded(self):
+        for effort in ({"budget": 0}, {"seconds": 5.0}, {}):
+            with self.subTest(effort=effort):
+                answer = packing.solve(*self.EIGHT, bounds=True, **effort)
+                self.assertEqual((answer.status, answer.lower), ("greatest", 7))
+                self.assertEqual(answer.verdict, "verified bounded knapsack greatest 7")
+                self.assertTrue(answer.document.startswith("bounded knapsack\n"))
+                self.assertEqual(run_pack(["audit"], answer.document).output.strip(), answer.verdict)
+                self.assertTrue(all("--bounds yes" in it for it in answer.tried if it.startswith("knapsack")))
+
+    def test_bounds_under_a_small_budget(self):
+        answer = packing.solve(*self.EIGHT, budget=0, proposals=False, bounds=True)
+        self.assertTrue(answer.lower <= 7 < answer.upper)
+        self.assertIn("\nu ", answer.document)
+
+    def test_without_bounds_the_document_is_plain(self):
+        answer = packing.solve(*self.EIGHT)
+        self.assertEqual(answer.verdict, "verified knapsack greatest 7")
+
+    def test_other_jobs_refuse_it(self):
+        for job in ("fit", "strip", "bins"):
+            said = f"bounds is given for {job}"
+            with self.subTest(job=job), self.assertRaisesRegex(packing.QuestionRefused, said):
+                packing.solve(job, (23, 10), [(3, 6)] * 8, bounds=True)
 
 
 class TurnsBoxes(unittest.TestCase):

@@ -30,11 +30,24 @@ class VerifiesDocuments(FolderCase):
                 self.assertEqual(found, status)
                 self.assertIn(words, out)
 
+    def test_a_bounded_document(self):
+        document = EXAMPLES / "three_squares.bounded"
+        status, out, _ = self.verify(document, "--question", document, "--second")
+        self.assertEqual(status, 0)
+        self.assertIn("verified bounded knapsack greatest 5\na proved optimum: worth 5, and no choice", out)
+        self.assertIn("the question is that of", out)
+        question = document.read_text().split("result")[0].split("\n", 1)[1].replace("value 5", "value 6")
+        status, out, _ = self.verify(document, "--question", self.file("q.txt", question))
+        self.assertEqual(status, 1)
+        self.assertIn("another question", out)
+
     def test_bounds_of_knapsack_in_words(self):
         self.assertEqual(meaning_of("verified knapsack between 5 9"),
                          ("bounds alone: worth at least 5, and none is worth 9 or more", True))
         self.assertTrue(meaning_of("verified front partial 2")[1])
         self.assertTrue(meaning_of("verified reduced strip between 1 5")[1])
+        self.assertEqual(meaning_of("verified bounded knapsack between 5 9"),
+                         meaning_of("verified knapsack between 5 9"))
 
     def test_its_own_question_in_other_spellings(self):
         document = EXAMPLES / "panels.bins.document"
