@@ -83,7 +83,7 @@ impl GoalSearch {
         })
     }
 
-    // The levels after a goal that is tried by so many steps.
+    // The levels after a goal that is tried by `steps` steps.
     fn ask(
         &mut self,
         alloc: Global,

@@ -187,10 +187,11 @@ pub fn run<R: Threads + Wait + Sync, S: Source, K: Sink, E: Sink, G: Gate + Sync
         → IsOwnDocument (Solves job) instance (K.written out.old) (K.written out.new) result }
 
     // With `--bounds yes` `knapsack` is the greatest value over all sets of boxes that fit, with
-    // both certificates, or two values between which it lies, with both: only where the run without
-    // priced leaves says two values, and within these. That run is the one with the same words but
-    // `--bounds`. Its budget is spent on the tree of a value that it decides, or with proposals on
-    // its share of the trees of the values beside the two.
+    // both certificates, or two values between which it lies, with both. There are two only if the
+    // run without priced leaves, by the same words but `--bounds`, ends open: a value that it decides
+    // has a choice tree with more branchings than the budget, and the two lie within its values.
+    // With proposals the two lie within two others, and the trees of the value above the lower one
+    // and of the value below the upper one have more branchings than the share of the budget.
     ensures bounds { (proposals : Bool) (settings : PlainSettings) (instance : PlainInstance)
         → IsProposing words.now (S.left input.old) (Bounds proposals) settings instance
         → IsAnswerStatus result
