@@ -1,6 +1,6 @@
 -- What an outcome behind a proposal is worth.
-use Rattle.std.proofs.Common.{◌≡◌, ℕ, ◌-◌, ◌<◌, ◌≤◌, refl, sym, ◌∙◌, subst, Bool, true}
-use Rattle.std.proofs.Common.{false, ltb, if◌then◌else◌, List, [], map}
+use Rattle.std.proofs.Common.{◌≡◌, ℕ, ◌<◌, ◌≤◌, refl, sym, ◌∙◌, subst, Bool, true}
+use Rattle.std.proofs.Common.{false, ltb, if◌then◌else◌, List, [], map, arith}
 use Rattle.std.proofs.lemmas.Bool.{ltb-true}
 use Rattle.packing_terms.specs.Packing.{PlainInstance}
 use Rattle.packing_terms.specs.Limits.{IsInternalInstance}
@@ -137,6 +137,13 @@ right_decides instance limits (Decided (Yes places count)) h = (places, h)
 right_decides instance limits (Decided (No tokens count)) h =
     none_fits excess_law instance (internal_sides instance limits) tokens h
 right_decides instance limits Past h = tt
+
+-- an outcome that is past only where the tree has more branchings than the budget is yes or no within it
+pub told_within : (instance : PlainInstance) (budget : ℕ) (scales : Bool) (o : PlainOutcome)
+    → (o ≡ Past → budget < tree_count instance scales) → tree_count instance scales ≤ budget → IsYesOrNo o
+told_within instance budget scales (Decided (Yes places count)) past l = tt
+told_within instance budget scales (Decided (No tokens count)) past l = tt
+told_within instance budget scales Past past l = let more = past refl in absurd (omega (arith, more, l))
 
 module _ (instance : PlainInstance) (limits : IsInternalInstance instance) (budget : ℕ) (scales : Bool)
     (p : PlainProposal) (r : PlainOutcome)

@@ -10,7 +10,6 @@ use Rattle.packing_terms.specs.declared.ScaleFn.{ScaleFn}
 use Rattle.packing_terms.specs.Packing.{PlainInstance, dims, box_count}
 use Rattle.packing_terms.specs.Exclusions.{Exclusions, excludes}
 use Rattle.packing_terms.specs.Rank.{ranked_pairs}
-use Rattle.packing_terms.specs.Tokens.{PlainToken}
 use Rattle.check_terms.specs.declared.answers.PlaceVerdict.{PlaceVerdict}
 use Rattle.check_terms.specs.declared.answers.PlaceVerdict.TheVariants.{Good, Outside, Overlap}
 use Rattle.check_terms.specs.Placing.{place_verdict}
@@ -123,7 +122,7 @@ module _ (instance : PlainInstance) where
 
   -- ---- with a proposal
 
-  behind_without : (p : PlainProposal) (other : PlainOutcome) → IsPlainProposal p → IsWithoutScales other
+  pub behind_without : (p : PlainProposal) (other : PlainOutcome) → IsPlainProposal p → IsWithoutScales other
       → IsWithoutScales (answer_behind instance p other)
   behind_without (Places places) other plain h = go (place_verdict instance places)
     where

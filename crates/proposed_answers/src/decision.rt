@@ -7,7 +7,8 @@ ghost use Rattle.class_search.specs.Right.{IsRight, Decides, IsYesOrNo};
 ghost use Rattle.conflict_search.specs.Sizes.{IsSized};
 ghost use Rattle.proposed_answers.specs.Behind.{plain_proposal, answer_behind, tree_count, tree_told, IsWithoutScales};
 
-use crate::proposing::propose;
+use crate::proposing::{propose_packed, propose_refuted};
+use crate::steps::branching_steps;
 use crate::testing::{is_refutation, wanted};
 use box_instances::{Instance, NoMemory};
 use check_terms::PlaceVerdict;
@@ -85,14 +86,87 @@ pub fn decide_behind<R: Threads + Wait + Sync, G: Gate + Sync>(
     }
 }
 
-/// Whether an instance fits, by proposals first and then by the class tree under the budget.
+// The pair steps of the tree that comes before the search for a refutation: 100,000 branchings of 14
+// boxes, 50,000 of 20, some 0.3 s, where the search takes up to seconds.
+const EARLY_STEPS: u64 = 20_000_000;
+
+// The settings of that tree.
+fn early_settings(instance: &Instance, settings: &Settings) -> Settings
+    ensures budget { result.budget ≤ settings.now.budget }
+    ensures scales { result.scales ≡ settings.now.scales }
+{
+    let branchings = EARLY_STEPS / branching_steps(instance).max(1);
+    Settings {
+        workers: settings.workers,
+        budget: settings.budget.min(branchings),
+        scales: settings.scales,
+    }
+}
+
+// Decides an instance whose tree has more branchings than `early`: by a refutation, and then by the
+// tree if the budget allows more.
+fn decide_open<R: Threads + Wait + Sync, G: Gate + Sync>(
+    rt: &R,
+    alloc: Global,
+    instance: &Instance,
+    early: u64,
+    settings: &Settings,
+    gate: &G,
+) -> Result<Outcome, NoMemory>
+    requires { early < tree_count instance.now settings.now.scales }
+    ensures right { IfOk result (λ r. IsRight instance.now [] (plain_outcome r)) }
+    ensures past { IfOk result (λ r. plain_outcome r ≡ PlainPast
+        → settings.now.budget < tree_count instance.now settings.now.scales) }
+    ensures plain { settings.now.scales ≡ false
+        → IfOk result (λ r. IsWithoutScales (plain_outcome r)) }
+{
+    // For the proof alone: tells the limits of the instance.
+    let _limits = instance.len();
+    let proposal = propose_refuted(alloc, instance, settings.scales, settings.budget)?;
+    let proposal = wanted(instance, proposal, settings.scales);
+    if settings.budget <= early {
+        return answer_of(alloc, instance, proposal);
+    }
+    decide_behind(rt, alloc, instance, proposal, settings, gate)
+}
+
+// Decides an instance by places, by the tree on a part of the budget, by a refutation, and by the
+// tree, in this order. The tree on a part of the budget is fast where it decides, and the search for
+// a refutation takes seconds where it finds none.
+fn decide_in_order<R: Threads + Wait + Sync, G: Gate + Sync>(
+    rt: &R,
+    alloc: Global,
+    instance: &Instance,
+    settings: &Settings,
+    gate: &G,
+) -> Result<Outcome, NoMemory>
+    ensures right { IfOk result (λ r. IsRight instance.now [] (plain_outcome r)) }
+    ensures past { IfOk result (λ r. plain_outcome r ≡ PlainPast
+        → settings.now.budget < tree_count instance.now settings.now.scales) }
+    ensures plain { settings.now.scales ≡ false
+        → IfOk result (λ r. IsWithoutScales (plain_outcome r)) }
+{
+    // For the proof alone: tells the limits of the instance.
+    let _limits = instance.len();
+    let places = propose_packed(alloc, instance, settings.budget)?;
+    let places = wanted(instance, places, settings.scales);
+    let early = early_settings(instance, settings);
+    match decide_behind(rt, alloc, instance, places, &early, gate)? {
+        Outcome::Yes { numbers, count } => Ok(Outcome::Yes { numbers, count }),
+        Outcome::No { tokens, count } => Ok(Outcome::No { tokens, count }),
+        Outcome::Past => decide_open(rt, alloc, instance, early.budget, settings, gate),
+    }
+}
+
+/// Whether an instance fits, by proposals and by the class tree under the budget: by proposed
+/// places, by the tree on a part of the budget, by a proposed refutation, and by the tree.
 ///
 /// A yes comes only with a packing, and a no only with a refutation of the instance, which has no
 /// `v` line if the settings want no scales. `Past` comes only where the class tree has more
 /// branchings than the budget: within the budget the answer is yes or no. Which packing, which
 /// refutation and how few branchings isn't promised. That the outcome is the same for every number
-/// of workers follows from the code and stands in no clause: `propose` doesn't take the number of
-/// workers, and `decide_behind` gives one outcome for its proposal.
+/// of workers follows from the code and stands in no clause: the searches for proposals don't take
+/// the number of workers, and `decide_behind` gives one outcome for its proposal.
 pub fn decide_proposed<R: Threads + Wait + Sync, G: Gate + Sync>(
     rt: &R,
     alloc: Global,
@@ -114,7 +188,5 @@ pub fn decide_proposed<R: Threads + Wait + Sync, G: Gate + Sync>(
 {
     // For the proof alone: tells the limits of the instance.
     let _limits = instance.len();
-    let proposal = propose(alloc, instance, settings.scales, settings.budget)?;
-    let proposal = wanted(instance, proposal, settings.scales);
-    decide_behind(rt, alloc, instance, proposal, settings, gate)
+    decide_in_order(rt, alloc, instance, settings, gate)
 }

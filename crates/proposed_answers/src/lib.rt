@@ -9,7 +9,7 @@ mod testing;
 
 pub use conflict_search::Proposal;
 pub use decision::{answer_of, decide_behind, decide_proposed};
-pub use proposing::{most_splits, propose, propose_within};
+pub use proposing::{most_splits, propose_within};
 pub use share::level_share;
 pub use steps::{
     branching_steps, splits_within, steps_of_splits, swap_batches, tree_steps, value_batches,

@@ -43,12 +43,10 @@ pub fn propose_within(
     propose_refutation(alloc, instance, scales, splits)
 }
 
-/// A proposal for an instance under a budget: places by rounds of swaps or by filling gaps, or a
-/// refutation, of a search with as many splits as the budget pays for, at most `most_splits`.
-pub fn propose(
+/// Places for an instance under a budget, by rounds of swaps or by filling gaps, or nothing.
+pub(crate) fn propose_packed(
     alloc: Global,
     instance: &Instance,
-    scales: bool,
     budget: u64,
 ) -> Result<Proposal, NoMemory>
     ensures { IfOk result (IsSized instance.now) }
@@ -57,6 +55,22 @@ pub fn propose(
     if let Some(places) = propose_packing(alloc, instance, batches)? {
         return Ok(Proposal::Places(places));
     }
+    match propose_places(alloc, instance, PLACE_STEPS)? {
+        Some(places) => Ok(Proposal::Places(places)),
+        None => Ok(Proposal::Nothing),
+    }
+}
+
+/// A refutation of an instance under a budget, by a search with as many splits as the budget pays
+/// for, at most `most_splits`, or nothing. The search may come upon places too.
+pub(crate) fn propose_refuted(
+    alloc: Global,
+    instance: &Instance,
+    scales: bool,
+    budget: u64,
+) -> Result<Proposal, NoMemory>
+    ensures { IfOk result (IsSized instance.now) }
+{
     let paid = splits_within(instance, tree_steps(budget));
-    propose_within(alloc, instance, scales, paid.min(most_splits(instance)))
+    propose_refutation(alloc, instance, scales, paid.min(most_splits(instance)))
 }
