@@ -56,9 +56,10 @@ use work_share::{Gate, Settings};
 /// out is said by no clause: the tests show pieces of 4,096 bytes.
 ///
 /// Several workers share each search tree. Nothing that is written depends on their number, or on
-/// the gate, which they call around the exploring of each task. For jobs with proposals no clause
-/// says so: it holds by structure, since a search for a proposal takes neither the number of workers
-/// nor the budget, and the tree is decided with the same outcome by any number of workers.
+/// the gate, which they call around the exploring of each task. For jobs with proposals, and for
+/// `knapsack` with priced leaves, no clause says so: it holds by structure, since no search for a
+/// proposal takes the number of workers, and a tree is decided with the same outcome by any number
+/// of workers.
 pub fn run<R: Threads + Wait + Sync, S: Source, K: Sink, E: Sink, G: Gate + Sync>(
     rt: &R,
     alloc: Global,
