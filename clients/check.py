@@ -339,10 +339,27 @@ def test_price(line, problem, choice, goal, weights, functions):
     line.need(supply < on_value * goal + on_share * sum(shares[box] for box in inside), "excess")
 
 
+def test_exchange(line, problem, choice, numbers):
+    """Refuses the line unless its first box is out, its second is in, and the first comes before the second."""
+    values, inside, outside = choice
+    line.need(all(1 <= number <= problem.count for number in numbers), "range")
+    u, v = (number - 1 for number in numbers)
+    line.need(u in outside and v in inside and comes_before(problem, values, u, v), "choice")
+
+
+def comes_before(problem, values, u, v):
+    """Whether no side of box `u` is longer than that of `v` and its value no less; of equal boxes the first comes first."""
+
+    def replaces(one, other):
+        return values[one] >= values[other] and all(row[one] <= row[other] for row in problem.widths)
+
+    return replaces(u, v) and (u < v or not replaces(v, u))
+
+
 # Token lines
 
 TOKENS = {"a": (3,), "d": (3,), "x": (0,), "t": (2,), "b": (1,), "c": (1,), "s": (0, 1), "w": (0,)}
-BOUNDED = {**TOKENS, "u": ()}  # two weights and a tuple, which `token_of` reads
+BOUNDED = {**TOKENS, "e": (2,), "u": ()}  # `token_of` reads the weights and the tuple of `u`
 STEPS = {"pair": 2, "apart": 2, "triple": 3, "compose": 3, "cycle": 4, "order": 4}
 EXPLAINED = {"a": (3,), "d": (3,), "x": (3,), "t": (2,), "chain": (3,), "on": (1,)}
 EXPLAINED.update((name, (1 + boxes,)) for name, boxes in STEPS.items())
@@ -653,6 +670,8 @@ def read_value_tree(lines, problem, values, goal, kinds):
             line.need(sum(value for box, value in enumerate(values) if box not in outside) < goal, "value")
         elif kind == "u":
             test_price(line, problem, (values, inside, outside), goal, *numbers)
+        elif kind == "e":
+            test_exchange(line, problem, (values, inside, outside), numbers)
         else:
             line.need(kind == "s" and not numbers, "form")
             line.need(inside, "set")
@@ -914,15 +933,19 @@ DOCUMENTS = {
 def answer(command, stream):
     """The line of `check` or `audit` on a stream of bytes, and its status. What stops it raises `Stopped`."""
     lines = Lines(stream, LIMITS[command])
+    is_held = command == "audit"  # then the input is read to its end before any line is refused
     try:
         line = lines.wanted()
-        read = DOCUMENTS[command].get(" ".join(line.words))
+        name = " ".join(line.words)
+        read = DOCUMENTS[command].get(name)
         line.need(read, "form")
+        if name == "bounded knapsack":  # which `audit` reads as `check` reads an answer
+            is_held = False
+            lines.left += LIMITS["check"] - LIMITS["audit"]
         return "verified " + read(lines), 0
     except Refused as refusal:
-        if command == "audit":  # which reads its input to the end before any line is refused
-            while lines.next_if_any():
-                pass
+        while is_held and lines.next_if_any():
+            pass
         return "refused {} {}".format(*refusal.args), 1
 
 

@@ -70,6 +70,26 @@ NAMED = {
         + "u 1000000000 5 step 1 step 1\nend\n",
         "verified bounded knapsack greatest 5",
     ),
+    "an exchange of equal boxes": (
+        "audit",
+        SQUARES + "c 1\nu 1000000000 5 step 1 step 1\nc 2\ne 1 2\nc 3\ne 1 3\nw\nend\n",
+        "verified bounded knapsack greatest 5",
+    ),
+    "an exchange in turned order": (
+        "audit",
+        SQUARES + "c 2\nu 1000000000 5 step 1 step 1\nc 1\ne 2 1\nend\n",
+        "refused 13 choice",
+    ),
+    "an exchange for a box of less value": (
+        "audit",
+        SQUARES.replace("5\nbox", "4\nbox", 1).replace("take 1", "take 2")
+        + "c 1\nu 1000000000 5 step 1 step 1\nc 2\ne 1 2\nend\n",
+        "refused 13 choice",
+    ),
+    "an exchange with an undecided box": ("audit", SQUARES + "c 2\ne 1 2\nend\n", "refused 11 choice"),
+    "an exchange of no box": ("audit", SQUARES + "c 2\ne 4 2\nend\n", "refused 11 range"),
+    "an exchange in an inner tree": ("audit", SQUARES + "c 1\nc 2\ns\ne 1 2\nend\n", "refused 13 form"),
+    "an exchange under answer": ("check", SQUARES.replace("bounded", "answer") + "e 1 2\nend\n", "refused 10 form"),
     "a bounded document of fit": ("audit", "bounded fit\nformat 1\n", "refused 1 form"),
     "a place below 0": ("check", BOARD + "result yes\nplace -6 0\nend\n", "refused 6 form"),
     "a second container behind the places": (
@@ -309,7 +329,7 @@ greatest 0|greatest 3|greatest 128000000001|greatest 128000000002|front 0|front 
 front 1000001|front 4294967296|partial 0|partial 1|partial 2""".replace("\n", "|").split("|")
 NUMBERS = "0 1 2 128 129 1000000 1000001 128000001 4294967295 4294967296 -1 +1 1.0 1e1 0x1 x".split()
 NUMBERS += ["18446744073709551616", "9" * 20, "9" * 21, "0" * 19 + "1", "0" * 20 + "1", ""]
-WORDS = """a d x t v b c s w g u id step cut count pair apart triple compose cycle order chain on end proof place take
+WORDS = """a d x t v b c s w g u e id step cut count pair apart triple compose cycle order chain on end proof place take
 corner point result format container kerf box value times answer reduced explained bounded front crate END""".split()
 WORDS += ["\x7f", "\xff", "\x0b"]
 FUNCTIONS = "id|id|id|id|step 0|step 1|step 2|step 16|step 17|cut 0|cut 2|cut 3|count 0|count 2|count 3".split("|")
@@ -319,12 +339,12 @@ ENDINGS = [b"\r\n", b"\r\r\n", b"\r", b" \r\n", b"\n\n", b" # c\r\n", b"#\n"]
 ADDED = [" times 2", " times 1", " value 3 times 2", " times 128", " value 0", " times 2 value 3"]
 # How many numbers a token has, and the tokens of each heading's trees.
 COUNTS = {"a": 3, "d": 3, "x": 0, "t": 2, "b": 1, "c": 1, "s": 1, "w": 0, "on": 1, "pair": 3, "apart": 3, "triple": 4}
-COUNTS.update({"compose": 4, "cycle": 5, "order": 5, "chain": 3})
+COUNTS.update({"e": 2, "compose": 4, "cycle": 5, "order": 5, "chain": 3})
 INNER = ["a", "d", "x", "x", "t", "v"]
 KINDS = {"answer bins": [*INNER, "b", "s", "g"], "answer knapsack": [*INNER, "c", "s", "w"]}
-KINDS["bounded knapsack"] = [*KINDS["answer knapsack"], "u", "u"]
+KINDS["bounded knapsack"] = [*KINDS["answer knapsack"], "u", "u", "e", "e"]
 KINDS["explained fit"] = "pair apart triple compose cycle order chain on a d x t v".split()
-TREE_LINES = {"a ", "d ", "x", "x ", "t ", "v ", "b ", "c ", "s", "s ", "w", "g ", "u "}
+TREE_LINES = {"a ", "d ", "x", "x ", "t ", "v ", "b ", "c ", "s", "s ", "w", "g ", "u ", "e "}
 
 
 class Forger:
@@ -431,7 +451,7 @@ class Forger:
         if kind in ("place", "take"):
             return " ".join([kind, *(str(self.rng.randint(0, 6)) for _ in range(dims + (kind == "take")))])
         count = 3 if kind == "x" and heading == "explained fit" else COUNTS.get(kind, 0)
-        first = [self.rng.randint(1, dims)] if count > 1 else []
+        first = [self.rng.randint(1, dims)] if count > 1 and kind != "e" else []
         numbers = self.rng.sample(range(1, boxes + 1), min(boxes, count - len(first)))
         if kind in ("a", "d", "x") and self.rng.random() < 0.9:
             numbers.sort()
@@ -561,10 +581,15 @@ def stored_documents():
 
 
 def long_documents(limit):
-    """A document as long as `audit` allows, and one that is a byte longer."""
+    """A document as long as `audit` holds, one that is a byte longer, and longer bounded ones."""
     text = NAMED["symmetry facts under reduced"][1].encode()
     yield "a document at the limit", "audit", text.ljust(limit, b"#"), "verified reduced fit no"
     yield "a document past the limit", "audit", text.ljust(limit + 1, b"#"), "pack: input too long"
+    squares, begun = SQUARES + "u 1000000000 5 step 1 step 1\nend\n", SQUARES + "end\n"
+    line = "verified bounded knapsack greatest 5"
+    yield "a bounded document past the limit", "audit", squares.encode().ljust(limit + 1, b"#"), line
+    yield "a bounded tree that ends early", "audit", begun.encode().ljust(limit + 1, b"#"), "refused 10 short"
+    yield "a heading past the limit", "audit", b"#" * limit + b"\n" + squares.encode(), "pack: input too long"
 
 
 def main(program, copies, seed):

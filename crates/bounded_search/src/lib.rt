@@ -9,9 +9,11 @@
 
 mod boxes;
 mod candidates;
+mod exchanges;
 mod fill;
 mod functions;
 mod path;
+mod pause;
 mod pool;
 mod proposal;
 mod recent;
@@ -19,5 +21,6 @@ mod search;
 mod slots;
 mod space;
 
+pub use pause::{Pause, TreeLimits};
 pub use proposal::{bounded_root, propose_bounded_refutation};
-pub use search::{BoundedSearch, Pause, TreeLimits};
+pub use search::BoundedSearch;

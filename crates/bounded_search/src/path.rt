@@ -1,82 +1,77 @@
-//! The path of a choice tree: the boxes that are in and those that are out, in the order of
-//! branching.
+//! The path of a choice tree: the boxes that are in, and those that are undecided.
 
 use crate::boxes::decision_order;
 use crate::fill::OpenNode;
 use crate::slots::{bit, entry};
 use box_instances::{Instance, NoMemory};
-use loose_lists::{at, pushed};
+use loose_lists::pushed;
 use std::alloc::Global;
+
+// The most boxes of an instance.
+const MAX_BOXES: u32 = 128;
+
+/// A box that is in: with the box that it has to be in with, which is itself if it was chosen; and
+/// of the node before it the position in the order, the undecided boxes and their value.
+#[derive(Clone, Copy)]
+pub(crate) struct TakenBox {
+    pub(crate) box_no: u32,
+    pub(crate) with: u32,
+    depth: usize,
+    open: u128,
+    open_worth: u64,
+}
 
 /// The path to a node.
 #[derive(Drop)]
 pub(crate) struct Path {
     order: Vec<u32>,
-    // Of each position of the order the value of its box, the value of all boxes from it on, and
-    // their bits.
+    // The value of each box, and the bits and the value of the boxes of the order.
     values: Vec<u64>,
-    rest: Vec<u64>,
-    later: Vec<u128>,
-    // How many boxes are decided, the positions of those that are in, their value and their bits.
-    depth: u32,
-    taken: Vec<u32>,
+    all: u128,
+    all_worth: u64,
+    // The boxes before this position of the order are decided.
+    depth: usize,
+    open: u128,
+    open_worth: u64,
+    taken: Vec<TakenBox>,
     worth: u64,
     members: u128,
 }
 
-// The values of boxes in an order.
-fn values_of(alloc: Global, instance: &Instance, order: &[u32]) -> Result<Vec<u64>, NoMemory> {
+// The values of all boxes.
+fn values_of(alloc: Global, instance: &Instance) -> Result<Vec<u64>, NoMemory> {
     let mut values = Vec::new(alloc);
-    for v in order {
-        let value = if *v < instance.len() {
-            instance.value(*v)
-        } else {
-            0
-        };
-        pushed(&mut values, value)?;
+    for v in 0..instance.len() {
+        pushed(&mut values, instance.value(v))?;
     }
     Ok(values)
 }
 
-// The sum of the values from each position on.
-fn rest_of(alloc: Global, values: &[u64]) -> Result<Vec<u64>, NoMemory> {
-    let mut rest = Vec::new(alloc);
-    for k in 0..values.len() {
-        let mut sum = 0u64;
-        for value in &values[k..] {
-            sum = sum.saturating_add(*value);
+// The value of the boxes of a row.
+fn worth_of(values: &[u64], row: u128) -> u64 {
+    let mut sum = 0u64;
+    for v in 0..MAX_BOXES {
+        if row & bit(v) != 0 {
+            sum = sum.saturating_add(entry(values, v as usize, 0));
         }
-        pushed(&mut rest, sum)?;
     }
-    Ok(rest)
-}
-
-// The bits of the boxes from each position on.
-fn later_of(alloc: Global, order: &[u32]) -> Result<Vec<u128>, NoMemory> {
-    let mut later = Vec::new(alloc);
-    for k in 0..order.len() {
-        let mut row = 0u128;
-        for v in &order[k..] {
-            row |= bit(*v);
-        }
-        pushed(&mut later, row)?;
-    }
-    Ok(later)
+    sum
 }
 
 impl Path {
     /// The path to the root of a tree over the boxes of a row.
     pub(crate) fn new(alloc: Global, instance: &Instance, row: u128) -> Result<Path, NoMemory> {
         let order = decision_order(alloc, instance, row)?;
-        let values = values_of(alloc, instance, &order)?;
-        let rest = rest_of(alloc, &values)?;
-        let later = later_of(alloc, &order)?;
+        let values = values_of(alloc, instance)?;
+        let all_worth = worth_of(&values, row);
         Ok(Path {
             order,
             values,
-            rest,
-            later,
+            all: row,
+            all_worth,
             depth: 0,
+            open: row,
+            open_worth: all_worth,
             taken: Vec::new(alloc),
             worth: 0,
             members: 0,
@@ -86,6 +81,8 @@ impl Path {
     /// Goes back to the root.
     pub(crate) fn clear(&mut self) {
         self.depth = 0;
+        self.open = self.all;
+        self.open_worth = self.all_worth;
         self.taken.clear();
         self.worth = 0;
         self.members = 0;
@@ -94,6 +91,11 @@ impl Path {
     /// The bits of the boxes that are in.
     pub(crate) fn members(&self) -> u128 {
         self.members
+    }
+
+    /// The bits of the undecided boxes.
+    pub(crate) fn open(&self) -> u128 {
+        self.open
     }
 
     /// The number of boxes that are in.
@@ -106,7 +108,7 @@ impl Path {
         let mut row = 0u128;
         for k in 0..self.taken.len() {
             if k < count {
-                row |= bit(at(&self.order, self.taken[k] as usize));
+                row |= bit(self.taken[k].box_no);
             }
         }
         row
@@ -119,53 +121,64 @@ impl Path {
 
     /// The value of what is in and what is undecided.
     pub(crate) fn most(&self) -> u64 {
-        self.worth
-            .saturating_add(entry(&self.rest, self.depth as usize, 0))
+        self.worth.saturating_add(self.open_worth)
     }
 
     /// The node at the end of the path, for a goal.
     pub(crate) fn node(&self, goal: u64) -> OpenNode {
         OpenNode {
-            open: entry(&self.later, self.depth as usize, 0),
+            open: self.open,
             worth: self.worth,
             goal,
         }
     }
 
-    /// The box that is decided next.
-    pub(crate) fn next_box(&self) -> Option<u32> {
-        let position = self.depth as usize;
-        if position < self.order.len() {
-            Some(self.order[position])
-        } else {
-            None
+    /// The first undecided box of the order.
+    pub(crate) fn next_box(&mut self) -> Option<u32> {
+        for position in self.depth..self.order.len() {
+            let v = self.order[position];
+            if self.open & bit(v) != 0 {
+                self.depth = position;
+                return Some(v);
+            }
         }
+        None
     }
 
-    /// Decides that the next box is in.
-    pub(crate) fn enter(&mut self) -> Result<(), NoMemory> {
-        pushed(&mut self.taken, self.depth)?;
-        let position = self.depth as usize;
-        self.worth = self.worth.saturating_add(entry(&self.values, position, 0));
-        self.members |= bit(at(&self.order, position));
-        self.depth = self.depth.saturating_add(1);
+    /// Decides that a box is out.
+    pub(crate) fn leave_out(&mut self, v: u32) {
+        self.open &= !bit(v);
+        let value = entry(&self.values, v as usize, 0);
+        self.open_worth = self.open_worth.saturating_sub(value);
+    }
+
+    /// Decides that a box is in, as it has to be with box `with`.
+    pub(crate) fn take(&mut self, v: u32, with: u32) -> Result<(), NoMemory> {
+        let taken = TakenBox {
+            box_no: v,
+            with,
+            depth: self.depth,
+            open: self.open,
+            open_worth: self.open_worth,
+        };
+        pushed(&mut self.taken, taken)?;
+        self.leave_out(v);
+        self.members |= bit(v);
+        let value = entry(&self.values, v as usize, 0);
+        self.worth = self.worth.saturating_add(value);
         Ok(())
     }
 
-    /// Decides that the next box is out.
-    pub(crate) fn skip(&mut self) {
-        self.depth = self.depth.saturating_add(1);
-    }
-
-    /// Goes to the next node in depth-first order: the last box that is in is out. It returns that
-    /// box, or `None` if no box is in.
-    pub(crate) fn leave(&mut self) -> Option<u32> {
+    /// Goes back to the node before the last box that is in, and returns that box, or `None` if no
+    /// box is in.
+    pub(crate) fn take_back(&mut self) -> Option<TakenBox> {
         let last = self.taken.pop()?;
-        let position = last as usize;
-        let v = at(&self.order, position);
-        self.worth = self.worth.saturating_sub(entry(&self.values, position, 0));
-        self.members &= !bit(v);
-        self.depth = last.saturating_add(1);
-        Some(v)
+        self.members &= !bit(last.box_no);
+        let value = entry(&self.values, last.box_no as usize, 0);
+        self.worth = self.worth.saturating_sub(value);
+        self.depth = last.depth;
+        self.open = last.open;
+        self.open_worth = last.open_worth;
+        Some(last)
     }
 }

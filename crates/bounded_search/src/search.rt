@@ -1,12 +1,19 @@
 //! The search for a choice tree that refutes a value, node by node.
 //!
 //! A node is closed if what is in and undecided is worth less than the goal, or if a tuple prices
-//! it out. Else its next box is in, then out. The search pauses at sets of boxes that the
-//! caller decides, and closes a node whose set is refuted.
+//! it out. Else its next box is in, then out. With a box that is in all boxes are in that come before
+//! it, and with a box that is out all are out that it comes before: what is left over of these
+//! splits is closed by exchanges. The search pauses at sets of boxes that the caller decides, and
+//! closes a node whose set is refuted.
+//!
+//! Exchanges take 0.7 of the nodes of 9 instances without equal boxes, and 0.03 to 0.3 of those of
+//! instances with many copies.
 
-use crate::boxes::{exclusion_rows, fitting_boxes, members_of};
+use crate::boxes::{exclusion_rows, fitting_boxes, members_of, worth_outside};
+use crate::exchanges::Exchanges;
 use crate::fill::{OpenNode, Weights};
-use crate::path::Path;
+use crate::path::{Path, TakenBox};
+use crate::pause::{Pause, TreeLimits};
 use crate::pool::Pool;
 use crate::recent::Recent;
 use crate::slots::{bit, entry};
@@ -20,35 +27,16 @@ use std::mem::replace;
 // The most sets that are kept as placed.
 const MAX_PLACED: usize = 256;
 
-/// Where a search pauses.
-///
-/// `Whole`: the tree is whole. `Spent`: the steps or the tokens are used up. `Reached`: the boxes
-/// that are in are worth the goal, so their node is closed only if they don't fit. `Grown`: a box
-/// went in, and no leaf closes the node.
-#[derive(Clone, Copy, Debug, PartialEq, Eq)]
-pub enum Pause {
-    Whole,
-    Spent,
-    Reached,
-    Grown,
-}
-
-/// What a search may use up in all: steps, one for each node and each tuple that is tried at it,
-/// and tokens of its tree.
-#[derive(Clone, Copy)]
-pub struct TreeLimits {
-    pub steps: u64,
-    pub tokens: u64,
-}
-
 /// The search for one goal after another: the tuples of an instance, and the tree of the last goal
 /// up to the node at which the search stands.
 #[derive(Drop)]
 pub struct BoundedSearch {
     goal: u64,
+    boxes: u32,
     // The value of the boxes that don't fit alone.
     large_worth: u64,
     exclusions: Vec<u128>,
+    exchanges: Exchanges,
     pool: Pool,
     recent: Recent,
     path: Path,
@@ -63,25 +51,16 @@ pub struct BoundedSearch {
     is_bounded: bool,
 }
 
-// The value of the boxes outside a row.
-fn worth_outside(instance: &Instance, row: u128) -> u64 {
-    let mut sum = 0u64;
-    for v in 0..instance.len() {
-        if row & bit(v) == 0 {
-            sum = sum.saturating_add(instance.value(v));
-        }
-    }
-    sum
-}
-
 impl BoundedSearch {
     /// A search without a goal: its tree is whole. It takes all memory but that of tokens.
     pub fn new(alloc: Global, instance: &Instance) -> Result<BoundedSearch, NoMemory> {
         let fitting = fitting_boxes(instance);
         Ok(BoundedSearch {
             goal: u64::MAX,
+            boxes: instance.len(),
             large_worth: worth_outside(instance, fitting),
             exclusions: exclusion_rows(alloc, instance)?,
+            exchanges: Exchanges::new(alloc, instance)?,
             pool: Pool::new(alloc, instance, fitting)?,
             recent: Recent::new(alloc),
             path: Path::new(alloc, instance, fitting)?,
@@ -147,23 +126,102 @@ impl BoundedSearch {
         }
     }
 
-    // Takes out the box that went in last.
-    fn take_out(&mut self) -> bool {
-        let _start = self.starts.pop();
-        match self.path.leave() {
-            Some(v) => {
-                self.pool.remove(v);
-                true
-            }
-            None => false,
-        }
+    // Appends the token of a split by a box.
+    fn push_split(&mut self, v: u32) -> Result<(), NoMemory> {
+        self.push(BoundedToken::Plain(Token::Choose {
+            box_no: v.saturating_add(1),
+        }))
     }
 
-    // Moves from a closed node to the next open one.
-    fn leave(&mut self) {
-        self.is_whole = !self.take_out();
+    // Appends the leaf at which box `u` is out and box `v` is in, though `u` comes before `v`.
+    fn push_exchange(&mut self, u: u32, v: u32) -> Result<(), NoMemory> {
+        self.push(BoundedToken::Exchange {
+            left_no: u.saturating_add(1),
+            taken_no: v.saturating_add(1),
+        })
+    }
+
+    // Appends the refutation of a set with two boxes that exclude each other.
+    fn push_excluded(&mut self) -> Result<(), NoMemory> {
+        self.push(BoundedToken::Plain(Token::SetRefuted { bin: None }))?;
+        self.push(BoundedToken::Plain(Token::Rules))
+    }
+
+    // Whether a box that is in excludes another one.
+    fn is_excluded(&self, v: u32) -> bool {
+        self.path.members() & entry(&self.exclusions, v as usize, 0) != 0
+    }
+
+    // Takes out the box that went in last, and returns it.
+    fn take_out(&mut self) -> Option<TakenBox> {
+        let _start = self.starts.pop();
+        let last = self.path.take_back()?;
+        self.pool.remove(last.box_no);
+        Some(last)
+    }
+
+    // Moves from a closed node to the next open one: the last box that was chosen to be in is out.
+    fn leave(&mut self) -> Result<(), NoMemory> {
         self.has_grown = false;
         self.is_bounded = false;
+        for _ in 0..self.path.set_size() {
+            let Some(last) = self.take_out() else {
+                break;
+            };
+            if last.with == last.box_no {
+                return self.leave_out(last.box_no);
+            }
+            self.push_exchange(last.box_no, last.with)?;
+        }
+        self.is_whole = true;
+        Ok(())
+    }
+
+    // Decides that a box is out, and with it each undecided box that it comes before.
+    fn leave_out(&mut self, v: u32) -> Result<(), NoMemory> {
+        self.path.leave_out(v);
+        let row = entry(&self.exchanges.behind, v as usize, 0) & self.path.open();
+        if row == 0 {
+            return Ok(());
+        }
+        for w in 0..self.boxes {
+            if row & bit(w) != 0 {
+                self.push_split(w)?;
+                self.push_exchange(v, w)?;
+                self.path.leave_out(w);
+            }
+        }
+        Ok(())
+    }
+
+    // Decides that a box is in, as it has to be with box `with`.
+    fn take_one(&mut self, v: u32, with: u32) -> Result<(), NoMemory> {
+        self.path.take(v, with)?;
+        self.pool.add(v);
+        pushed(&mut self.starts, self.tokens.len())
+    }
+
+    // Decides that a box is in, and with it each undecided box that comes before it. If one of
+    // these is excluded, the node is closed. Returns whether it is open.
+    fn take_in(&mut self, v: u32) -> Result<bool, NoMemory> {
+        self.take_one(v, v)?;
+        let row = entry(&self.exchanges.before, v as usize, 0) & self.path.open();
+        if row == 0 {
+            return Ok(true);
+        }
+        for u in 0..self.boxes {
+            if row & bit(u) != 0 {
+                self.push_split(u)?;
+                if self.is_excluded(u) {
+                    self.push_excluded()?;
+                    self.push_exchange(u, v)?;
+                    self.leave()?;
+                    return Ok(false);
+                }
+                self.take_one(u, v)?;
+            }
+        }
+        Ok(true)
     }
 
     // Goes back to the node at which only the first `count` boxes are in and the last of them has
@@ -186,8 +244,7 @@ impl BoundedSearch {
         for token in tokens {
             self.push(BoundedToken::Plain(token))?;
         }
-        self.leave();
-        Ok(())
+        self.leave()
     }
 
     /// Remembers that the first `count` boxes fit, so the search doesn't pause at a part of them.
@@ -222,8 +279,7 @@ impl BoundedSearch {
             share_weight: weights.share,
             tuple: functions,
         })?;
-        self.leave();
-        Ok(())
+        self.leave()
     }
 
     // The first of the tuples that closed last that prices the node out, by its position.
@@ -263,29 +319,23 @@ impl BoundedSearch {
     fn close(&mut self, alloc: Global) -> Result<bool, NoMemory> {
         if self.path.most().saturating_add(self.large_worth) < self.goal {
             self.push(BoundedToken::Plain(Token::ValueShort))?;
-            self.leave();
+            self.leave()?;
             return Ok(true);
         }
         self.close_priced(alloc)
     }
 
-    // Splits the node by its next box, and closes the child with the box in if another box that is
-    // in excludes it.
+    // Splits the node by a box, and closes the child with the box in if another box that is in
+    // excludes it.
     fn split(&mut self, v: u32) -> Result<(), NoMemory> {
-        self.push(BoundedToken::Plain(Token::Choose {
-            box_no: v.saturating_add(1),
-        }))?;
+        self.push_split(v)?;
         self.is_bounded = false;
-        self.has_grown = self.path.members() & entry(&self.exclusions, v as usize, 0) == 0;
-        if self.has_grown {
-            self.path.enter()?;
-            self.pool.add(v);
-            pushed(&mut self.starts, self.tokens.len())?;
-            return Ok(());
+        if self.is_excluded(v) {
+            self.has_grown = false;
+            self.push_excluded()?;
+            return self.leave_out(v);
         }
-        self.push(BoundedToken::Plain(Token::SetRefuted { bin: None }))?;
-        self.push(BoundedToken::Plain(Token::Rules))?;
-        self.path.skip();
+        self.has_grown = self.take_in(v)?;
         Ok(())
     }
 

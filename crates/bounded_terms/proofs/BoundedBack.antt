@@ -19,8 +19,8 @@ use Rattle.document_terms.specs.TokenLines.{most_parameter, at_most, parameter, 
 use Rattle.document_terms.specs.TokenLines.{token_words, function_words, IsParameter, IsWrittenTuple}
 use Rattle.document_terms.proofs.TokensBack.{tokens_are_read_back}
 use Rattle.document_terms.proofs.Cuts.{cut_rest, functions_many, token_cut}
-use Rattle.bounded_terms.specs.BoundedRefutation.{BoundedToken, Plain, PricedOut}
-use Rattle.bounded_terms.specs.BoundedLines.{priced_by, priced_of, bounded_token_of}
+use Rattle.bounded_terms.specs.BoundedRefutation.{BoundedToken, Plain, PricedOut, Exchange}
+use Rattle.bounded_terms.specs.BoundedLines.{priced_by, priced_of, exchange_by, exchange_of, bounded_token_of}
 use Rattle.bounded_terms.specs.BoundedLines.{BoundedTokensAreReadBack, BoundedLinesAreTold}
 
 -- the priced leaf that has the tuple of a plain token
@@ -63,7 +63,10 @@ priced_back d q p fs h k w =
     ∙ sym (weights_of_tuple d q p (functions (flat_map function_words fs)))
     ∙ ap (with_weights q p) (tuple_back d fs w)
 
--- no plain token begins with `u`
+exchange_back : (u v : ℕ) → IsParameter u → IsParameter v → exchange_of (decimal u ∷ decimal v ∷ []) ≡ Some (Exchange u v)
+exchange_back u v h k = ap₂ exchange_by (parameter_back u h) (parameter_back v k)
+
+-- no plain token begins with `u` or `e`
 plain_words : (d : ℕ) (t : PlainToken) → bounded_token_of d (token_words t)
     ≡ option_map (λ x. Plain x) (token_of d (token_words t))
 unfolding bounded_token_of same_bytes
@@ -84,6 +87,7 @@ unfolding bounded_token_of same_bytes
 bounded_tokens_are_read_back d (Plain t) h =
     plain_words d t ∙ ap (λ o. option_map (λ x. Plain x) o) (tokens_are_read_back d t h)
 bounded_tokens_are_read_back d (PricedOut q p fs) h = priced_back d q p fs h.0 h.1 h.2
+bounded_tokens_are_read_back d (Exchange u v) h = exchange_back u v h.0 h.1
 
 -- ---- told
 
@@ -132,6 +136,12 @@ priced_cut d (q ∷ p ∷ words) few =
     ∙ same_tuple d (parameter q) (parameter p) (functions (take 9 (map (take 21) words))) (functions words)
     (nine_words d words few)
 
+exchange_cut : (words : List (List ℕ)) → exchange_of (cut_rest words) ≡ exchange_of words
+exchange_cut [] = refl
+exchange_cut (u ∷ []) = refl
+exchange_cut (u ∷ v ∷ []) = ap₂ exchange_by (parameter_front u) (parameter_front v)
+exchange_cut (u ∷ v ∷ w ∷ words) = refl
+
 words_cut : (d : ℕ) (words : List (List ℕ)) → d ≤ 4 → bounded_token_of d (cut_words words) ≡ bounded_token_of d words
 unfolding bounded_token_of
 words_cut d [] few = refl
@@ -139,6 +149,8 @@ words_cut d (key ∷ words) few =
     rw (
       same_front 21 key (codes "u") (omega arith),
       priced_cut d words few,
+      same_front 21 key (codes "e") (omega arith),
+      exchange_cut words,
       token_cut d key words few,
     ) refl
 

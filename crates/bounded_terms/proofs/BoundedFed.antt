@@ -1,4 +1,4 @@
--- Tokens with priced leaves that leave no open node are a refutation, and a refutation is fed
+-- Tokens of a bounded refutation that leave no open node are a refutation, and a refutation is fed
 -- whole.
 use Rattle.std.proofs.Common.{◌≡◌, ℕ, zero, suc, pred, ◌<◌, ◌≤◌, refl, sym, ap, subst, ◌∙◌, arith, List, [], ◌∷◌, ◌++◌}
 use Rattle.std.proofs.Common.{map, length, append_assoc, Some, None}
@@ -13,8 +13,8 @@ use Rattle.packing_terms.specs.Feeding.{children, Feeds}
 use Rattle.packing_terms.specs.OuterRefutation.{Choice, with_taken, with_left}
 use Rattle.packing_terms.specs.OuterFeeding.{OpenNode, Outer, Inner}
 use Rattle.packing_terms.proofs.Fed.{fed, fed_refutes}
-use Rattle.bounded_terms.specs.BoundedRefutation.{BoundedToken, Plain, PricedOut, RefutesBounded, none_left, by_value}
-use Rattle.bounded_terms.specs.BoundedRefutation.{by_price, by_set, by_box}
+use Rattle.bounded_terms.specs.BoundedRefutation.{BoundedToken, Plain, PricedOut, Exchange, RefutesBounded, none_left}
+use Rattle.bounded_terms.specs.BoundedRefutation.{by_value, by_price, by_exchange, by_set, by_box}
 use Rattle.bounded_terms.specs.BoundedFeeding.{FeedsBounded, bounded_children}
 
 module _ (instance : PlainInstance) (goal : ℕ) where
@@ -79,6 +79,7 @@ module _ (instance : PlainInstance) (goal : ℕ) where
       record { own = []; rest = z; joined = refl; shorter = omega arith; feeds = refl; rest_feeds = h }
   inner_parts keep (es ∷ nodes) [] behind h = absurd (cc)
   inner_parts keep (es ∷ nodes) (PricedOut q p fs ∷ z) behind h = absurd h.0
+  inner_parts keep (es ∷ nodes) (Exchange u v ∷ z) behind h = absurd h.0
   inner_parts keep (es ∷ nodes) (Plain t ∷ z) behind h =
       let p = inner_parts keep (children es t ++ nodes) z behind
       (subst (λ l. FeedsBounded instance goal l z []) (step keep es t nodes behind) h.1) in
@@ -99,6 +100,7 @@ module _ (instance : PlainInstance) (goal : ℕ) where
   bounded_fed none_left = refl
   bounded_fed (by_value h rest) = (h, bounded_fed rest)
   bounded_fed (by_price h rest) = (h, bounded_fed rest)
+  bounded_fed (by_exchange h rest) = (h, bounded_fed rest)
   bounded_fed (by_set {c = c} {nodes = nodes} {x = x} {y = y} some inside e rest) = (
     some,
     subst (λ z. FeedsBounded instance goal (Inner c.taken [] ∷ outer nodes) z []) (sym e)
@@ -115,6 +117,7 @@ module _ (instance : PlainInstance) (goal : ℕ) where
   fed_bounded (suc n) [] (c ∷ nodes) l h = absurd (cc)
   fed_bounded (suc n) (t ∷ z) [] l h = absurd h
   fed_bounded (suc n) (PricedOut q p fs ∷ z) (c ∷ nodes) l h = by_price h.0 (fed_bounded n z nodes (omega arith) h.1)
+  fed_bounded (suc n) (Exchange u v ∷ z) (c ∷ nodes) l h = by_exchange h.0 (fed_bounded n z nodes (omega arith) h.1)
   fed_bounded (suc n) (Plain ValueShort ∷ z) (c ∷ nodes) l h = by_value h.0 (fed_bounded n z nodes (omega arith) h.1)
   fed_bounded (suc n) (Plain (SetRefuted None) ∷ z) (c ∷ nodes) l h =
       let p = inner_parts c.taken ([] ∷ []) z (outer nodes) h.1 in

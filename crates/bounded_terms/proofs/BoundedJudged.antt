@@ -1,26 +1,28 @@
--- A token of a tree with priced leaves isn't refused exactly where the node accepts it, and tokens
+-- A token of a bounded refutation isn't refused exactly where the node accepts it, and tokens
 -- are taken one by one and leave no node open exactly where they are a refutation.
-use Rattle.std.proofs.Common.{◌≡◌, ◌∙◌, ℕ, refl, ap, arith, true, List, [], ◌∷◌, ◌++◌, length, Option, Some, None, Ok}
+use Rattle.std.proofs.Common.{◌≡◌, ◌∙◌, ℕ, pred, refl, ap, arith, Bool, true, ◌&&◌, nat_le, List, [], ◌∷◌, ◌++◌, length, Option, Some, None, Ok}
 use Rattle.std.specs.Prelude.{◌↔◌, IsTrue}
-use Rattle.std.proofs.lemmas.Bool.{and_parts, and_from, ltb-true, lt-ltb, eqb-true, eq-eqb}
+use Rattle.std.proofs.lemmas.Bool.{and_parts, and_from, ltb-true, lt-ltb, eqb-true, eq-eqb, leb-true, le-leb}
 use Rattle.packing_terms.specs.declared.ScaleFn.{ScaleFn}
-use Rattle.packing_terms.specs.Packing.{PlainInstance, dims, container_side}
+use Rattle.packing_terms.specs.Packing.{PlainInstance, dims, box_count, container_side}
 use Rattle.packing_terms.specs.Scales.{IsTuple, function_at}
 use Rattle.packing_terms.specs.Sums.{below}
 use Rattle.packing_terms.specs.Tokens.{PlainToken}
 use Rattle.packing_terms.specs.Results.{◌>>=◌}
-use Rattle.packing_terms.specs.OuterRefutation.{Choice, no_choice}
+use Rattle.packing_terms.specs.OuterRefutation.{Choice as BoxChoice, has_box, no_choice}
 use Rattle.packing_terms.specs.OuterFeeding.{OpenNode, Outer, Inner}
 use Rattle.packing_terms.proofs.Members.{all_at, all_from, in_range, range_in}
 use Rattle.packing_terms.proofs.Boxes.{each_in, each_from}
 use Rattle.check_terms.specs.declared.answers.RefuseCode.{RefuseCode}
-use Rattle.check_terms.specs.Judging.{is_legal, are_legal}
+use Rattle.check_terms.specs.declared.answers.RefuseCode.TheVariants.{Range, Choice}
+use Rattle.check_terms.specs.Judging.{unless, names_box, is_legal, are_legal}
 use Rattle.check_terms.specs.Checking.{left_by, value_after}
 use Rattle.check_terms.proofs.Judged.{passed, passes, legal, legal_is, value_exact}
 use Rattle.bounded_terms.specs.Shares.{fits_alone, IsPricedOut}
-use Rattle.bounded_terms.specs.BoundedRefutation.{BoundedToken, Plain, PricedOut, IsBoundedRefutation}
+use Rattle.bounded_terms.specs.Exchanges.{comes_before, IsExchange}
+use Rattle.bounded_terms.specs.BoundedRefutation.{BoundedToken, Plain, PricedOut, Exchange, IsBoundedRefutation}
 use Rattle.bounded_terms.specs.BoundedFeeding.{AcceptsBounded, bounded_children, FeedsBounded}
-use Rattle.bounded_terms.specs.BoundedJudging.{price_refusal, bounded_refusal, bounded_after, bounded_after_all}
+use Rattle.bounded_terms.specs.BoundedJudging.{price_refusal, exchange_refusal, bounded_refusal, bounded_after, bounded_after_all}
 use Rattle.bounded_terms.proofs.BoundedFed.{bounded_fed, fed_refutes_bounded}
 
 module _ (instance : PlainInstance) where
@@ -39,7 +41,7 @@ module _ (instance : PlainInstance) where
       let p = range_in 0 (dims instance) i h in
       legal_is instance (container_side instance i) (function_at fs i) (tuple.legal i (omega (arith, p.1))))
 
-  price_exact : (goal : ℕ) (c : Choice) (q p : ℕ) (fs : List ScaleFn)
+  price_exact : (goal : ℕ) (c : BoxChoice) (q p : ℕ) (fs : List ScaleFn)
       → (price_refusal instance goal c q p fs ≡ None) ↔ IsPricedOut instance goal fs q p c
   price_exact goal c q p fs = (there, back)
     where
@@ -63,15 +65,61 @@ module _ (instance : PlainInstance) where
           (passes _ _ _ (and_from _ _ (all_from (fits_alone instance) c.taken
           (each_in (λ v. IsTrue (fits_alone instance v)) c.taken out.fit)) (lt-ltb _ _ out.more)) refl))
 
+  exchange_exact : (c : BoxChoice) (u v : ℕ)
+      → (exchange_refusal instance c u v ≡ None) ↔ IsExchange instance c u v
+  exchange_exact c u v = (there, back)
+    where
+      is_out : Bool
+      is_out = has_box (pred u) c.left
+
+      is_in : Bool
+      is_in = has_box (pred v) c.taken
+
+      is_before : Bool
+      is_before = comes_before instance (pred u) (pred v)
+
+      there : exchange_refusal instance c u v ≡ None → IsExchange instance c u v
+      there e =
+          let range = passed (names_box instance u && names_box instance v) Range
+          (unless (is_out && is_in && is_before) Choice None) e in
+          let here = passed (is_out && is_in && is_before) Choice None range.1 in
+          let names = and_parts (names_box instance u) (names_box instance v) range.0 in
+          let first = and_parts (nat_le 1 u) (nat_le u (box_count instance)) names.0 in
+          let second = and_parts (nat_le 1 v) (nat_le v (box_count instance)) names.1 in
+          let tests = and_parts (is_out && is_in) is_before here.0 in
+          let sides = and_parts is_out is_in tests.0 in
+          record {
+            out_from = leb-true 1 u first.0;
+            out_to = leb-true u (box_count instance) first.1;
+            in_from = leb-true 1 v second.0;
+            in_to = leb-true v (box_count instance) second.1;
+            out = sides.0;
+            taken = sides.1;
+            before = tests.1;
+          }
+
+      back : IsExchange instance c u v → exchange_refusal instance c u v ≡ None
+      back x =
+          passes (names_box instance u && names_box instance v) Range (unless (is_out && is_in && is_before) Choice None)
+          (and_from (names_box instance u) (names_box instance v)
+          (and_from (nat_le 1 u) (nat_le u (box_count instance)) (le-leb 1 u x.out_from)
+          (le-leb u (box_count instance) x.out_to))
+          (and_from (nat_le 1 v) (nat_le v (box_count instance)) (le-leb 1 v x.in_from)
+          (le-leb v (box_count instance) x.in_to)))
+          (passes (is_out && is_in && is_before) Choice None
+          (and_from (is_out && is_in) is_before (and_from is_out is_in x.out x.taken) x.before) refl)
+
   module _ (goal : ℕ) where
-    pub bounded_exact : (node : OpenNode Choice) (t : BoundedToken)
+    pub bounded_exact : (node : OpenNode BoxChoice) (t : BoundedToken)
         → (bounded_refusal instance goal node t ≡ None) ↔ AcceptsBounded instance goal node t
     bounded_exact node (Plain t) = value_exact instance goal node t
     bounded_exact (Outer c) (PricedOut q p fs) = price_exact goal c q p fs
     bounded_exact (Inner keep es) (PricedOut q p fs) = (λ e. absurd (cc), λ h. absurd h)
+    bounded_exact (Outer c) (Exchange u v) = exchange_exact c u v
+    bounded_exact (Inner keep es) (Exchange u v) = (λ e. absurd (cc), λ h. absurd h)
 
     -- tokens that are taken one by one are those that are fed
-    taken_fed : (nodes : List (OpenNode Choice)) (ts : List BoundedToken) (left : List (OpenNode Choice))
+    taken_fed : (nodes : List (OpenNode BoxChoice)) (ts : List BoundedToken) (left : List (OpenNode BoxChoice))
         → bounded_after_all instance goal nodes ts ≡ Ok left → FeedsBounded instance goal nodes ts left
     taken_fed nodes [] left e = cc (e)
     taken_fed [] (t ∷ ts) left e = absurd (cc (e))
@@ -86,7 +134,7 @@ module _ (instance : PlainInstance) where
         go None f k later = ((bounded_exact n t).0 f, later k)
         go (Some code) f k later = absurd (cc (k))
 
-    fed_taken : (nodes : List (OpenNode Choice)) (ts : List BoundedToken) (left : List (OpenNode Choice))
+    fed_taken : (nodes : List (OpenNode BoxChoice)) (ts : List BoundedToken) (left : List (OpenNode BoxChoice))
         → FeedsBounded instance goal nodes ts left → bounded_after_all instance goal nodes ts ≡ Ok left
     fed_taken nodes [] left e = ap Ok e
     fed_taken [] (t ∷ ts) left e = absurd e
@@ -104,7 +152,7 @@ module _ (instance : PlainInstance) where
       λ h. fed_taken (Outer no_choice ∷ []) tokens [] (bounded_fed instance goal h),
     )
 
-    pub plain_after : (nodes : List (OpenNode Choice)) (t : PlainToken)
+    pub plain_after : (nodes : List (OpenNode BoxChoice)) (t : PlainToken)
         → bounded_after instance goal nodes (Plain t) ≡ value_after instance goal nodes t
     plain_after [] t = refl
     plain_after (n ∷ nodes) t = refl

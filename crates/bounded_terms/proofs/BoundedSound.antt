@@ -1,7 +1,9 @@
--- What is refuted with priced leaves isn't reached, and a plain refutation is one with priced
--- leaves. The cases of plain leaves and of splits are those of plain refutations for a value.
-use Rattle.std.proofs.Common.{ℕ, pred, ◌+◌, ◌≤◌, ◌⊎◌, inl, inr, refl, ap, subst, ◌∙◌, arith, List, [], ◌∷◌}
+-- What a bounded refutation refutes isn't reached, and a plain refutation is a bounded one. The cases
+-- of plain leaves and of splits are those of plain refutations for a value. A node at which an
+-- exchange is open agrees with no complete set, and what is reached is reached by a complete set.
+use Rattle.std.proofs.Common.{◌≡◌, ℕ, pred, ◌+◌, ◌<◌, ◌≤◌, true, false, sym, ◌⊎◌, inl, inr, refl, ap, subst, ◌∙◌, arith, List, [], ◌∷◌}
 use Rattle.std.proofs.Common.{◌++◌, map}
+use Rattle.std.proofs.lemmas.Bool.{true≢false}
 use Rattle.std.proofs.lemmas.List.{map-append}
 use Rattle.std.proofs.lemmas.List.Sums.{sum_by-append}
 use Rattle.packing_terms.specs.Packing.{PlainInstance, HasPositiveSides, box_count, value, Fits}
@@ -10,19 +12,21 @@ use Rattle.packing_terms.specs.Meanings.{AgreesWith}
 use Rattle.packing_terms.specs.Tokens.{PlainToken}
 use Rattle.packing_terms.specs.ExcessLaw.{ExcessLaw}
 use Rattle.packing_terms.specs.OuterRefutation as plain
-use Rattle.packing_terms.specs.OuterRefutation.{Choice, no_choice, undecided, with_taken, with_left, RefutesValue}
+use Rattle.packing_terms.specs.OuterRefutation.{Choice, has_box, no_choice, undecided, with_taken, with_left, RefutesValue}
 use Rattle.packing_terms.proofs.Members.{IsIn}
-use Rattle.packing_terms.proofs.Boxes.{sum_within}
+use Rattle.packing_terms.proofs.Boxes.{each_in, found, sum_within}
 use Rattle.packing_terms.proofs.Refuted.{none_fits}
 use Rattle.packing_terms.proofs.BinsRefuted.{set_sides}
 use Rattle.packing_terms.proofs.ValueRefuted.{part_fits, child_agrees}
 use Rattle.bounded_terms.specs.BoundedRefutation.{BoundedToken, Plain, RefutesBounded, none_left, by_value, by_price}
-use Rattle.bounded_terms.specs.BoundedRefutation.{by_set, by_box}
+use Rattle.bounded_terms.specs.Exchanges.{IsComplete, IsExchange}
+use Rattle.bounded_terms.specs.BoundedRefutation.{by_exchange, by_set, by_box}
 use Rattle.packing_terms.proofs.Agreeing.{set_boxes, taken_in, covered}
 use Rattle.bounded_terms.proofs.PricedSets.{node_worth_less}
+use Rattle.bounded_terms.proofs.Exchanged.{reached_completely}
 
 module _ (law : ExcessLaw) (instance : PlainInstance) (sides : HasPositiveSides instance) (goal : ℕ) (keep : List ℕ)
-    (set : IsBoxSet instance keep)
+    (set : IsBoxSet instance keep) (complete : IsComplete instance keep)
     (reached : goal ≤ worth instance keep) (fits : Fits (subset instance keep)) where
   -- what is in and what is undecided is worth the goal
   enough : (c : Choice) → AgreesWith instance keep c
@@ -33,6 +37,14 @@ module _ (law : ExcessLaw) (instance : PlainInstance) (sides : HasPositiveSides 
       (covered instance keep c boxes agrees) in
       let sum = sum_by-append (λ v. value instance v) c.taken (undecided instance c) in
       omega (arith, reached, most, sum)
+
+  -- a complete set that has box v has box u
+  no_exchange : (c : Choice) (u v : ℕ) → IsExchange instance c u v → ¬ AgreesWith instance keep c
+  no_exchange c u v x agrees =
+      let taken = each_in (λ w. has_box w keep ≡ true) c.taken agrees.taken (pred v) (found (pred v) c.taken x.taken) in
+      let left = each_in (λ w. has_box w keep ≡ false) c.left agrees.left (pred u) (found (pred u) c.left x.out) in
+      let there : pred u < box_count instance = (let h = x.out_from in let j = x.out_to in omega (arith, h, j)) in
+      true≢false (sym (complete (pred u) (pred v) there x.before taken) ∙ left)
 
   pub bounded_sound : {nodes : List Choice} {z : List BoundedToken} → RefutesBounded instance goal nodes z → (c : Choice)
       → IsIn c nodes → ¬ AgreesWith instance keep c
@@ -45,6 +57,9 @@ module _ (law : ExcessLaw) (instance : PlainInstance) (sides : HasPositiveSides 
       (subst (λ x. AgreesWith instance keep x) e g) fits in
       omega (arith, less, reached)
   bounded_sound (by_price out rest) c (inr i) g = bounded_sound rest c i g
+  bounded_sound (by_exchange {c = own} {u = u} {v = v} x rest) c (inl e) g =
+      no_exchange own u v x (subst (λ y. AgreesWith instance keep y) e g)
+  bounded_sound (by_exchange x rest) c (inr i) g = bounded_sound rest c i g
   bounded_sound (by_set {c = own} some inner e rest) c (inl f) g =
       let agrees = subst (λ x. AgreesWith instance keep x) f g in
       none_fits law (subset instance own.taken) (set_sides instance sides own.taken agrees.boxes) _ inner
@@ -62,14 +77,15 @@ module _ (law : ExcessLaw) (instance : PlainInstance) (sides : HasPositiveSides 
       go (inr k) in_child out_child = out_child k
   bounded_sound (by_box free rest) c (inr i) g = bounded_sound rest c (inr (inr i)) g
 
--- a refutation with priced leaves shows that the instance doesn't reach the value
+-- a bounded refutation shows that the instance doesn't reach the value
 pub none_reaches_bounded : ExcessLaw → (instance : PlainInstance) → HasPositiveSides instance → (goal : ℕ)
     (z : List BoundedToken) → RefutesBounded instance goal (no_choice ∷ []) z → ¬ ReachesValue instance goal
-none_reaches_bounded law instance sides goal z h (keep, set, reached, fits) =
-    bounded_sound law instance sides goal keep set reached fits h no_choice (inl refl)
+none_reaches_bounded law instance sides goal z h reaches =
+    let s = reached_completely instance goal reaches in
+    bounded_sound law instance sides goal s.keep s.set s.complete s.reached s.fits h no_choice (inl refl)
     (record { boxes = tt; taken = tt; left = tt })
 
--- a plain refutation for a value is one with priced leaves
+-- a plain refutation for a value is a bounded one
 pub plain_is_bounded : (instance : PlainInstance) (goal : ℕ) {nodes : List Choice} {z : List PlainToken}
     → RefutesValue instance goal nodes z → RefutesBounded instance goal nodes (map (λ t. Plain t) z)
 plain_is_bounded instance goal plain.none_left = none_left

@@ -1,8 +1,8 @@
--- The open nodes of a tree with priced leaves are those of its path, and the path is short.
+-- The open nodes of a bounded refutation are those of its path, and the path is short.
 --
--- Tokens that are accepted are accepted as plain ones for a goal that is high enough: a leaf that is
--- priced out stands for one that is worth too little, and every leaf is worth too little for some
--- goal. So the laws of plain trees give those of trees with priced leaves.
+-- Tokens that are accepted are accepted as plain ones for a goal that is high enough: a further leaf
+-- stands for one that is worth too little, and every leaf is worth too little for some goal. So the
+-- laws of plain trees give those of bounded refutations.
 use Rattle.std.proofs.Common.{◌≡◌, ℕ, suc, ◌+◌, ◌≤◌, arith, List, [], ◌∷◌, ◌++◌, map, length, Some, None}
 use Rattle.packing_terms.specs.Packing.{PlainInstance, box_count}
 use Rattle.packing_terms.specs.Goals.{worth}
@@ -13,7 +13,7 @@ use Rattle.packing_terms.specs.OuterRefutation.{Choice, no_choice, undecided}
 use Rattle.packing_terms.specs.OuterFeeding.{OpenNode, Outer, Inner, AcceptsValue, choice_children, FeedsValue}
 use Rattle.packing_terms.specs.OuterPaths.{OuterView, On, At, open_nodes, path_of, choices_with}
 use Rattle.packing_terms.proofs.OuterViews.{value_view, value_path}
-use Rattle.bounded_terms.specs.BoundedRefutation.{BoundedToken, Plain, PricedOut}
+use Rattle.bounded_terms.specs.BoundedRefutation.{BoundedToken, Plain, PricedOut, Exchange}
 use Rattle.bounded_terms.specs.BoundedFeeding.{FeedsBounded}
 use Rattle.bounded_terms.specs.BoundedPaths.{stands_for, bounded_views_after}
 
@@ -50,6 +50,21 @@ module _ (instance : PlainInstance) where
     above : goal ≤ high
     feeds : FeedsValue instance high nodes (map stands_for ts) left
 
+  -- a leaf that is worth too little in front, for a goal that is high enough for it
+  short_fed : (goal : ℕ) (c : Choice) (nodes : List (OpenNode Choice)) (ts : List BoundedToken)
+      (left : List (OpenNode Choice)) → FedHigher goal nodes ts left
+      → (high : ℕ) × (goal ≤ high) × FeedsValue instance high (Outer c ∷ nodes) (ValueShort ∷ map stands_for ts) left
+  short_fed goal c nodes ts left rest =
+      let own = worth instance c.taken + worth instance (undecided instance c) in
+      let above = rest.above in (
+        suc own + rest.high,
+        omega (arith, above),
+        (
+          omega arith,
+          higher_feeds rest.high (suc own + rest.high) (omega arith) nodes (map stands_for ts) left rest.feeds,
+        ),
+      )
+
   fed_higher : (goal : ℕ) (nodes : List (OpenNode Choice)) (ts : List BoundedToken) (left : List (OpenNode Choice))
       → FeedsBounded instance goal nodes ts left → FedHigher goal nodes ts left
   fed_higher goal nodes [] left h = record { high = goal; above = omega arith; feeds = h }
@@ -63,17 +78,12 @@ module _ (instance : PlainInstance) where
       }
   fed_higher goal (Inner keep es ∷ nodes) (PricedOut q p fs ∷ ts) left h = absurd h.0
   fed_higher goal (Outer c ∷ nodes) (PricedOut q p fs ∷ ts) left h =
-      let rest = fed_higher goal nodes ts left h.1 in
-      let own = worth instance c.taken + worth instance (undecided instance c) in
-      let above = rest.above in
-      record {
-        high = suc own + rest.high;
-        above = omega (arith, above);
-        feeds = (
-          omega arith,
-          higher_feeds rest.high (suc own + rest.high) (omega arith) nodes (map stands_for ts) left rest.feeds,
-        );
-      }
+      let (high, above, feeds) = short_fed goal c nodes ts left (fed_higher goal nodes ts left h.1) in
+      record { high = high; above = above; feeds = feeds }
+  fed_higher goal (Inner keep es ∷ nodes) (Exchange u v ∷ ts) left h = absurd h.0
+  fed_higher goal (Outer c ∷ nodes) (Exchange u v ∷ ts) left h =
+      let (high, above, feeds) = short_fed goal c nodes ts left (fed_higher goal nodes ts left h.1) in
+      record { high = high; above = above; feeds = feeds }
 
   pub bounded_view : (goal : ℕ) (view : OuterView Choice) (ts : List BoundedToken) (left : List (OpenNode Choice))
       → FeedsBounded instance goal (open_nodes choices_with view) ts left

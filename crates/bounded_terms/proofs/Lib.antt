@@ -3,6 +3,8 @@ pub mod ShareBounds
 pub mod ShareSteps
 pub mod Agreeing
 pub mod PricedSets
+pub mod Before
+pub mod Exchanged
 pub mod BoundedSound
 pub mod BoundedFed
 pub mod BoundedViews

@@ -21,7 +21,7 @@ use Rattle.packing_terms.proofs.Agreeing.{set_boxes, taken_in, covered}
 use Rattle.bounded_terms.proofs.Agreeing.{undecided_aside}
 
 -- a box of the list is found
-is_found : (v : ℕ) (us : List ℕ) → IsIn v us → has_box v us ≡ true
+pub is_found : (v : ℕ) (us : List ℕ) → IsIn v us → has_box v us ≡ true
 is_found v us i = any_at (λ u. eqb u v) v us i (eq-eqb v v refl)
 
 module _ (law : ExcessLaw) (instance : PlainInstance) (goal q p : ℕ) (fs : List ScaleFn) (taken others keep : List ℕ)

@@ -1,8 +1,12 @@
--- Shares and priced out nodes of small instances, computed from the definitions.
-use Rattle.std.proofs.Common.{◌≡◌, ℕ, refl, true, false, List, [], ◌∷◌, ltb}
+-- Shares, priced out nodes and exchanges of small instances, computed from the definitions.
+use Rattle.std.proofs.Common.{◌≡◌, ℕ, refl, true, false, List, [], ◌∷◌, ltb, Some, None}
 use Rattle.packing_terms.specs.declared.ScaleFn.{ScaleFn}
 use Rattle.packing_terms.specs.declared.ScaleFn.TheVariants.{Id, Step, Count}
 use Rattle.packing_terms.specs.Packing.{PlainInstance, PlainBox}
+use Rattle.packing_terms.specs.OuterRefutation.{Choice}
+use Rattle.check_terms.specs.declared.answers.RefuseCode.TheVariants.{Range, Choice as NotOpen}
+use Rattle.bounded_terms.specs.Exchanges.{comes_before}
+use Rattle.bounded_terms.specs.BoundedJudging.{exchange_refusal}
 use Rattle.bounded_terms.specs.Shares.{share, shares, fits_alone, gain, supply, demand}
 
 abbrev box : ℕ → ℕ → ℕ → PlainBox
@@ -93,3 +97,43 @@ count_share = refl
 -- what `q` of 0 says: the boxes that are in exceed, whatever the goal
 in_exceeds : ltb (supply squares halves 0 1 (0 ∷ 1 ∷ []) (2 ∷ 3 ∷ [])) (demand squares halves 0 1 (0 ∷ 1 ∷ []) 0) ≡ true
 in_exceeds = refl
+
+-- ---- exchanges
+
+-- of equal boxes the lower number comes first, and no box before itself
+equal_boxes : comes_before squares 0 1 ≡ true
+equal_boxes = refl
+
+equal_boxes_turned : comes_before squares 1 0 ≡ false
+equal_boxes_turned = refl
+
+itself : comes_before squares 1 1 ≡ false
+itself = refl
+
+-- a smaller box that is worth more comes before a larger one of a lower number
+smaller : comes_before mixed 1 0 ≡ true
+smaller = refl
+
+-- a box with one longer side doesn't, though it is worth more and has less area
+longer : comes_before mixed 2 0 ≡ false
+longer = refl
+
+-- nor does a smaller box that is worth less
+less_worth : comes_before (record squares { boxes = box 2 2 4 ∷ box 6 6 5 ∷ [] }) 0 1 ≡ false
+less_worth = refl
+
+-- the leaf names the box that is out, and then the one that is in
+abbrev second_in : Choice
+second_in = record { taken = 1 ∷ []; left = 0 ∷ [] }
+
+exchange_open : exchange_refusal squares second_in 1 2 ≡ None
+exchange_open = refl
+
+exchange_turned : exchange_refusal squares second_in 2 1 ≡ Some NotOpen
+exchange_turned = refl
+
+exchange_undecided : exchange_refusal squares (record second_in { left = [] }) 1 2 ≡ Some NotOpen
+exchange_undecided = refl
+
+exchange_out_of_range : exchange_refusal squares second_in 0 5 ≡ Some Range
+exchange_out_of_range = refl

@@ -1,4 +1,5 @@
 pub mod Shares
+pub mod Exchanges
 pub mod BoundedRefutation
 pub mod BoundedFeeding
 pub mod BoundedPaths

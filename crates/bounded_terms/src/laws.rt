@@ -1,4 +1,4 @@
-//! The laws over shares and priced nodes. Each is proved of all instances, and is read in its
+//! The laws over shares, priced nodes and exchanges. Each is proved of all instances, and is read in its
 //! contract.
 
 ghost use Rattle.std.specs.Prelude.{None, Ok, ◌≡◌, ◌↔◌, ◌++◌, ◌<◌, ◌≤◌, ◌+◌, ◌*◌, ◌/◌, ◌%◌, ◌||◌, ℕ, length, map, slice_index_or, List, [], ◌∷◌, false, IsTrue};
@@ -15,6 +15,7 @@ ghost use Rattle.check_terms.specs.Checking.{value_after};
 ghost use Rattle.packing_terms.specs.Meanings.{AgreesWith};
 ghost use Rattle.packing_terms.specs.declared.ScaleFn.{ScaleFn as PlainScale};
 ghost use Rattle.bounded_terms.specs.Shares.{whole_share, share, shares, fits_alone, ArePricedOut, IsPricedOut};
+ghost use Rattle.bounded_terms.specs.Exchanges.{comes_before, IsComplete};
 ghost use Rattle.bounded_terms.specs.BoundedRefutation.{BoundedToken, Plain, RefutesBounded, IsBoundedRefutation};
 ghost use Rattle.bounded_terms.specs.BoundedFeeding.{AcceptsBounded, FeedsBounded};
 ghost use Rattle.bounded_terms.specs.BoundedPaths.{bounded_views_after};
@@ -53,9 +54,21 @@ pub fn priced_out_reaches_nothing()
         → ¬ Fits (subset instance keep) }
 {}
 
-/// What a refutation with priced leaves says is true: the instance doesn't reach the value, and no
-/// set of boxes that fits and is worth it agrees with a refuted node. Each plain refutation for a
-/// value is one with priced leaves.
+/// A value that is reached is reached by a complete set. Box u, which comes before box v, takes its
+/// place in a set that fits: the set fits still, and is worth no less. No box comes before itself,
+/// and one that comes before a second box comes before all that this one comes before.
+pub fn some_best_set_is_complete()
+    ensures reached { (instance : PlainInstance) (goal : ℕ) → ReachesValue instance goal
+        → (keep : List ℕ) × IsBoxSet instance keep × IsComplete instance keep
+        × (goal ≤ worth instance keep) × Fits (subset instance keep) }
+    ensures strict { (instance : PlainInstance) (v : ℕ) → comes_before instance v v ≡ false }
+    ensures chained { (instance : PlainInstance) (u v w : ℕ) → IsTrue (comes_before instance u v)
+        → IsTrue (comes_before instance v w) → IsTrue (comes_before instance u w) }
+{}
+
+/// What a bounded refutation says is true: the instance doesn't reach the value, and no complete set
+/// of boxes that fits and is worth it agrees with a refuted node. Each plain refutation for a value
+/// is a bounded one.
 pub fn bounded_refutations_are_sound()
     ensures value { (instance : PlainInstance) (goal : ℕ) (tokens : List BoundedToken)
         → HasPositiveSides instance → IsBoundedRefutation instance goal tokens
@@ -63,14 +76,14 @@ pub fn bounded_refutations_are_sound()
     ensures value_nodes { (instance : PlainInstance) (goal : ℕ) (nodes : List Choice)
         (tokens : List BoundedToken) (keep : List ℕ) (b : ℕ) → HasPositiveSides instance
         → RefutesBounded instance goal nodes tokens → b < length nodes → IsBoxSet instance keep
-        → goal ≤ worth instance keep → Fits (subset instance keep)
+        → IsComplete instance keep → goal ≤ worth instance keep → Fits (subset instance keep)
         → ¬ AgreesWith instance keep (slice_index_or nodes b no_choice) }
     ensures plain { (instance : PlainInstance) (goal : ℕ) (nodes : List Choice)
         (tokens : List PlainToken) → RefutesValue instance goal nodes tokens
         → RefutesBounded instance goal nodes (map (λ t. Plain t) tokens) }
 {}
 
-/// Tokens with priced leaves fed one by one leave no open node exactly where they are a refutation.
+/// Tokens of a bounded refutation fed one by one leave no open node exactly where they are a refutation.
 /// They may be fed in parts.
 pub fn bounded_feeding_is_refuting()
     ensures whole { (instance : PlainInstance) (goal : ℕ) (tokens : List BoundedToken) →

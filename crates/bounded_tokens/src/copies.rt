@@ -28,5 +28,9 @@ pub fn copy_bounded_token(alloc: Global, token: &BoundedToken) -> Result<Bounded
                 tuple,
             })
         }
+        BoundedToken::Exchange { left_no, taken_no } => Ok(BoundedToken::Exchange {
+            left_no: *left_no,
+            taken_no: *taken_no,
+        }),
     }
 }

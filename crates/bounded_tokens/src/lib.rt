@@ -1,4 +1,4 @@
-//! Tokens of choice trees with priced leaves: read from a line, copied and written.
+//! Tokens of bounded refutations: read from a line, copied and written.
 #![tactic(auto)]
 
 mod copies;

@@ -3,7 +3,7 @@ ghost use Rattle.std.specs.Prelude.{◌≡◌, ◌≤◌, length, drop, option_m
 ghost use Rattle.text_terms.specs.Feeding.{ended_line};
 ghost use Rattle.document_terms.specs.TokenLines.{line_token};
 ghost use Rattle.bounded_terms.specs.BoundedRefutation.{Plain};
-ghost use Rattle.bounded_terms.specs.BoundedLines.{priced_of, bounded_line_token};
+ghost use Rattle.bounded_terms.specs.BoundedLines.{priced_of, exchange_of, bounded_line_token};
 ghost use Rattle.bounded_tokens.specs.Plain.{plain_bounded};
 
 use crate::BoundedToken;
@@ -30,6 +30,19 @@ fn priced_token(alloc: Global, line: &LineLexer, dims: u32) -> Option<BoundedTok
     })
 }
 
+// The exchange of the two boxes whose numbers stand behind the first word.
+fn exchange_token(line: &LineLexer) -> Option<BoundedToken>
+    requires word { 1 ≤ length line.now.held.words }
+    ensures { option_map plain_bounded result ≡ exchange_of (drop 1 line.now.held.words) }
+{
+    if line.word_count() != 3 {
+        return None;
+    }
+    let left_no = parameter_at(line, 1)?;
+    let taken_no = parameter_at(line, 2)?;
+    Some(BoundedToken::Exchange { left_no, taken_no })
+}
+
 // The plain token that a line is.
 fn plain_line(alloc: Global, line: &LineLexer, dims: u32) -> Option<BoundedToken>
     requires least { 2 ≤ dims }
@@ -47,8 +60,8 @@ fn plain_line(alloc: Global, line: &LineLexer, dims: u32) -> Option<BoundedToken
 /// answered `Line`.
 ///
 /// It answers `None` exactly where the line has a bad byte or is no token line: neither a plain
-/// token nor `u Q P F1 .. Fd`, where Q and P are numbers from 0 to 4,294,967,295 and F1 .. Fd is a
-/// function for each dimension. It takes no memory.
+/// token, nor `u Q P F1 .. Fd`, nor `e U V`, where Q, P, U and V are numbers from 0 to 4,294,967,295
+/// and F1 .. Fd is a function for each dimension. It takes no memory.
 pub fn read_bounded_token(alloc: Global, line: &LineLexer, dims: u32) -> Option<BoundedToken>
     requires least { 2 ≤ dims }
     requires most { dims ≤ 4 }
@@ -62,6 +75,9 @@ pub fn read_bounded_token(alloc: Global, line: &LineLexer, dims: u32) -> Option<
     }
     if is_same(line.word(0), b"u") {
         return priced_token(alloc, line, dims);
+    }
+    if is_same(line.word(0), b"e") {
+        return exchange_token(line);
     }
     plain_line(alloc, line, dims)
 }

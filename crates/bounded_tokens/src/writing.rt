@@ -35,6 +35,17 @@ fn write_priced<K: Sink>(
     write_on(sink, said, b"\n")
 }
 
+// Writes the line of the numbers of two boxes.
+fn write_exchange<K: Sink>(sink: &mut K, so_far: Written, boxes: &[u32]) -> Written
+    ensures { Continues (K.written sink.old) (K.written sink.new) (K.faults sink.old)
+        (K.faults sink.new)
+        ((codes "e" ++ after_spaces (map decimal boxes.now)) ++ 10 ∷ []) so_far result }
+{
+    let named = write_on(sink, so_far, b"e");
+    let said = write_numbers(sink, named, boxes);
+    write_on(sink, said, b"\n")
+}
+
 /// Writes the line of a token where no fault came before, and else does nothing and hands the fault
 /// on.
 pub fn write_bounded_token_on<K: Sink>(
@@ -58,6 +69,9 @@ pub fn write_bounded_token_on<K: Sink>(
             &[*value_weight, *share_weight],
             tuple.as_slice(),
         ),
+        BoundedToken::Exchange { left_no, taken_no } => {
+            write_exchange(sink, so_far, &[*left_no, *taken_no])
+        }
     }
 }
 

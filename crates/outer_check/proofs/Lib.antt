@@ -9,4 +9,5 @@ pub mod Moves
 pub mod Fed
 pub mod Opened
 pub mod Prices
-pub mod Priced
+pub mod FurtherLeaves
+pub mod BoxExchanges

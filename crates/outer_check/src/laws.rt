@@ -31,7 +31,7 @@ pub fn outer_steps_leave_the_open_nodes()
         → (open_nodes choices_with view ≡ []) ↔ (is_whole_view view ≡ true) }
 {}
 
-/// The same for trees with priced leaves: the open nodes behind a token are those of the definition.
+/// The same for bounded refutations: the open nodes behind a token are those of the definition.
 pub fn bounded_steps_leave_the_open_nodes()
     ensures { (instance : PlainInstance) (goal : ℕ) (view : OuterView BoxChoice)
         (t : BoundedToken)

@@ -1,9 +1,11 @@
-//! Whether tokens refute that boxes fit in so many bins, or that they reach a value, taken one by
-//! one.
+//! Whether tokens refute that boxes fit in a number of bins, or that they reach a value, taken one
+//! by one.
 #![tactic(auto)]
 
+mod exchanging;
 mod goal;
 mod laws;
+mod leaves;
 mod path;
 mod point;
 mod pricing;

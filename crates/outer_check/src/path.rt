@@ -88,7 +88,7 @@ fn has_child(frames: &[Frame], child: u32) -> bool
 }
 
 impl Path {
-    /// The path of the root, with room for a split by each of so many boxes.
+    /// The path of the root, with room for a split by each of `boxes` boxes.
     pub fn new(alloc: Global, boxes: u32) -> Result<Path, NoMemory>
         requires { IsBoxCount boxes }
         ensures { IfOk result (λ p. p ≡ record { boxes = boxes; frames = [] }) }

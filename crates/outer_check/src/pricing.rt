@@ -7,22 +7,15 @@ ghost use Rattle.packing_terms.specs.OuterRefutation.{no_choice};
 ghost use Rattle.packing_terms.specs.OuterPaths.{choices_with};
 ghost use Rattle.packing_terms.specs.Scales.{IsTuple};
 ghost use Rattle.bounded_terms.specs.Shares.{fits_alone, share, shares, gain, supply, demand};
-ghost use Rattle.bounded_terms.specs.BoundedRefutation.{PricedOut};
 ghost use Rattle.bounded_terms.specs.BoundedJudging.{price_refusal};
-ghost use Rattle.refutation_check.specs.Refuters.{PlainRefuter};
 ghost use Rattle.outer_check.specs.declared.goal.Goal.TheVariants.{Value as PlainValue};
-ghost use Rattle.outer_check.specs.declared.point.Point.TheVariants.{AtNode};
 ghost use Rattle.outer_check.specs.Frames.{boxes_put, open_boxes};
 ghost use Rattle.outer_check.specs.Nodes.{node_below};
-ghost use Rattle.outer_check.specs.Outers.{IsGoing, AreOf};
-ghost use Rattle.outer_check.specs.Bounded.{IsPriced};
+ghost use Rattle.outer_check.specs.Outers.{AreOf};
 
-use crate::goal::Goal;
 use crate::path::Path;
-use crate::point::Point;
 use crate::products::{image_product, whole_product};
 use crate::step::taken_worth;
-use crate::taking::leave;
 use box_instances::Instance;
 use check_terms::RefuseCode;
 use conservative_scales::ScaleFn;
@@ -206,11 +199,11 @@ fn demand(
     goal + share_weight as u128 * taken_shares(instance, path, tuple) as u128
 }
 
-// The first test that a leaf that is priced out fails at the node for a value that the path leads
-// to: `Kind` where the tuple hasn't a function for each dimension, `Range` where one isn't legal for
-// its container side, else `Excess` where a box that is in doesn't fit alone, or where what is in
-// and the undecided boxes may reach the value.
-fn price_refusal(
+/// The first test that a leaf that is priced out fails at the node for a value that the path leads
+/// to: `Kind` where the tuple hasn't a function for each dimension, `Range` where one isn't legal for
+/// its container side, else `Excess` where a box that is in doesn't fit alone, or where what is in
+/// and the undecided boxes may reach the value.
+pub(crate) fn price_refusal(
     instance: &Instance,
     path: &Path,
     value: u64,
@@ -239,66 +232,4 @@ fn price_refusal(
         return None;
     }
     Some(RefuseCode::Excess)
-}
-
-// A leaf that is priced out, at an outer node for a value.
-fn take_at_node(
-    instance: &Instance,
-    value: u64,
-    path: &mut Path,
-    point: &mut Point,
-    value_weight: u32,
-    share_weight: u32,
-    tuple: &[ScaleFn],
-) -> Result<(), RefuseCode>
-    requires boxes { path.old.boxes ≡ box_count instance.now }
-    requires are { AreOf (PlainValue value) path.old.frames }
-    requires there { point.old ≡ AtNode }
-    ensures { (inner : PlainRefuter)
-        → IsGoing instance.now (PlainValue value) path.old point.old inner
-        → IsPriced instance.now (PlainValue value) path.old point.old inner
-        (PricedOut value_weight share_weight tuple.now) path.new point.new result }
-{
-    match price_refusal(instance, path, value, value_weight, share_weight, tuple) {
-        Some(code) => Err(code),
-        None => {
-            leave(path, point);
-            Ok(())
-        }
-    }
-}
-
-/// A leaf that is priced out, where nothing was refused: it is refused and leaves the tree, or the
-/// tree is that behind it.
-pub(crate) fn take_priced(
-    instance: &Instance,
-    goal: Goal,
-    path: &mut Path,
-    point: &mut Point,
-    value_weight: u32,
-    share_weight: u32,
-    tuple: &[ScaleFn],
-) -> Result<(), RefuseCode>
-    requires boxes { path.old.boxes ≡ box_count instance.now }
-    requires are { AreOf goal path.old.frames }
-    ensures { (inner : PlainRefuter) → IsGoing instance.now goal path.old point.old inner
-        → IsPriced instance.now goal path.old point.old inner
-        (PricedOut value_weight share_weight tuple.now) path.new point.new result }
-{
-    match *point {
-        Point::AtEnd => Err(RefuseCode::After),
-        Point::InSet => Err(RefuseCode::Kind),
-        Point::AtNode => match goal {
-            Goal::Bins(_) => Err(RefuseCode::Kind),
-            Goal::Value(value) => take_at_node(
-                instance,
-                value,
-                path,
-                point,
-                value_weight,
-                share_weight,
-                tuple,
-            ),
-        },
-    }
 }

@@ -2,26 +2,24 @@
 ghost use Rattle.std.specs.Prelude.{◌≡◌, ◌≤◌, IfOk, None, length};
 ghost use Rattle.packing_terms.specs.Packing.{box_count};
 ghost use Rattle.proof_tree.specs.Plain.{plain_token};
-ghost use Rattle.bounded_terms.specs.BoundedRefutation.{PricedOut};
 ghost use Rattle.bounded_tokens.specs.Plain.{plain_bounded};
-ghost use Rattle.outer_check.specs.Bounded.{bounded_fed};
+ghost use Rattle.outer_check.specs.Bounded.{bounded_fed, IsFurther};
 ghost use Rattle.outer_check.specs.Outers.{CanBeRefuted, started, fed, answered, is_whole, path_length};
 
 use crate::goal::Goal;
+use crate::leaves::take_leaf;
 use crate::path::Path;
 use crate::point::Point;
-use crate::pricing::take_priced;
 use crate::taking::take;
 use bounded_tokens::BoundedToken;
 use box_instances::{Instance, NoMemory};
 use check_terms::{FeedVerdict, RefuseCode};
-use conservative_scales::ScaleFn;
 use proof_tree::Token;
 use refutation_check::Refuter;
 use std::alloc::Global;
 use std::marker::Model;
 
-/// Checks an outer refutation token by token: that an instance doesn't fit in so many bins, or
+/// Checks an outer refutation token by token: that an instance doesn't fit in a number of bins, or
 /// doesn't reach a value. It takes all its memory when it is made.
 ///
 /// It is seen as the goal with the path to the current node, each split with the number of its
@@ -119,28 +117,21 @@ impl<'a> OuterRefuter<'a> {
         }
     }
 
-    // Takes a leaf that is priced out.
-    fn feed_priced(
-        &mut self,
-        value_weight: u32,
-        share_weight: u32,
-        tuple: &[ScaleFn],
-    ) -> FeedVerdict
-        ensures step { self.new
-            ≡ bounded_fed self.old (PricedOut value_weight share_weight tuple.now) }
+    // Takes a further leaf.
+    fn feed_leaf(&mut self, token: &BoundedToken) -> FeedVerdict
+        requires { IsFurther (plain_bounded token.now) }
+        ensures step { self.new ≡ bounded_fed self.old (plain_bounded token.now) }
         ensures answer { result ≡ answered self.new }
     {
         if let Some(code) = self.refused {
             return FeedVerdict::Refused { code };
         }
-        let taken = take_priced(
+        let taken = take_leaf(
             self.instance,
             self.goal,
             &mut self.path,
             &mut self.point,
-            value_weight,
-            share_weight,
-            tuple,
+            token,
         );
         self.refused = taken.err();
         if let Some(code) = self.refused {
@@ -153,25 +144,23 @@ impl<'a> OuterRefuter<'a> {
         }
     }
 
-    /// Takes the next token of a tree with priced leaves: a plain one as `feed` takes it, and one
-    /// that prices a node out where it stands at an outer node for a value. It answers as `feed`
-    /// does.
+    /// Takes the next token of a bounded refutation: a plain one as `feed` takes it, and a further
+    /// leaf where it stands at an outer node for a value. It answers as `feed` does.
     ///
-    /// A leaf that is priced out is refused with `Kind` for bins, in the inner tree of a set, and
-    /// where its tuple hasn't a function for each dimension; with `Range` where a function isn't
-    /// legal for its container side; else with `Excess` where a box that is in doesn't fit alone, or
-    /// where what is in and the undecided boxes may reach the goal. It takes no memory.
+    /// A further leaf is refused with `Kind` for bins and in the inner tree of a set. A leaf that is
+    /// priced out is refused with `Kind` where its tuple hasn't a function for each dimension; with
+    /// `Range` where a function isn't legal for its container side; else with `Excess` where a box
+    /// that is in doesn't fit alone, or where what is in and the undecided boxes may reach the goal.
+    /// An exchange is refused with `Range` where a number names no box, else with `Choice` where its
+    /// first box isn't out, its second isn't in, or the first doesn't come before the second. It
+    /// takes no memory.
     pub fn feed_bounded(&mut self, token: &BoundedToken) -> FeedVerdict
         ensures step { self.new ≡ bounded_fed self.old (plain_bounded token.now) }
         ensures answer { result ≡ answered self.new }
     {
         match token {
             BoundedToken::Plain(token) => self.feed(token),
-            BoundedToken::PricedOut {
-                value_weight,
-                share_weight,
-                tuple,
-            } => self.feed_priced(*value_weight, *share_weight, tuple.as_slice()),
+            BoundedToken::PricedOut { .. } | BoundedToken::Exchange { .. } => self.feed_leaf(token),
         }
     }
 

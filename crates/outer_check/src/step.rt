@@ -33,14 +33,14 @@ pub enum Step {
     Begin(u32),
 }
 
-// Whether the number of a text names a box.
-fn names_box(instance: &Instance, box_no: u32) -> bool
+/// Whether the number of a text names a box.
+pub(crate) fn names_box(instance: &Instance, box_no: u32) -> bool
     ensures { result ≡ names_box instance.now box_no }
 {
     (1 <= box_no) & (box_no <= instance.len())
 }
 
-// A tuple of scale functions for so many containers.
+// A tuple of scale functions for `bins` containers.
 fn scales_step(instance: &Instance, path: &Path, bins: u32, tuple: &[ScaleFn]) -> Step
     requires few { bins ≤ most_boxes }
     requires are { AreOf (PlainBins bins) path.now.frames }
@@ -53,7 +53,7 @@ fn scales_step(instance: &Instance, path: &Path, bins: u32, tuple: &[ScaleFn]) -
     }
 }
 
-// How many children a node has at which so many bins are used.
+// How many children a node has at which `used` bins are used.
 fn bin_count(bins: u32, used: u32) -> u32
     ensures { result ≡ bin_count bins used }
 {

@@ -1,4 +1,4 @@
-//! Choice trees with priced leaves.
+//! Choice trees with priced leaves and exchanges.
 use bounded_tokens::BoundedToken;
 use box_instances::{BoxItem, Instance, Sides};
 use conservative_scales::{ScaleFn, ScaleTuple};
@@ -8,17 +8,18 @@ use refutation_check::{FeedVerdict, RefuseCode};
 use std::alloc::Global;
 use std::test::Fail;
 
-// A token by a short name: a box that is chosen, a set, a leaf of a value, or one that is priced
-// out with its two weights and its scale functions.
+// A token by a short name: a box that is chosen, a set, a leaf of a value, one that is priced out
+// with its two weights and its scale functions, or an exchange for the box that is in.
 #[derive(Clone, Copy)]
 enum Step {
     Choose(u32),
     Set,
     Short,
     Priced(u32, u32, &'static [ScaleFn]),
+    Exchange(u32, u32),
 }
 
-use Step::{Choose, Priced, Set, Short};
+use Step::{Choose, Exchange, Priced, Set, Short};
 
 fn token_of(alloc: Global, step: Step) -> Result<BoundedToken, Fail> {
     Ok(match step {
@@ -30,6 +31,7 @@ fn token_of(alloc: Global, step: Step) -> Result<BoundedToken, Fail> {
             share_weight,
             tuple: ScaleTuple::from_slice(alloc, functions)?,
         },
+        Exchange(left_no, taken_no) => BoundedToken::Exchange { left_no, taken_no },
     })
 }
 
@@ -58,7 +60,7 @@ const ALONE: &[ScaleFn] = &[ScaleFn::Id];
 // one behind them, or none where it makes the tree whole.
 type Case = (u64, &'static [Step], u32, Option<RefuseCode>);
 
-const CASES: [Case; 11] = [
+const CASES: [Case; 17] = [
     (6, &[Priced(1000000000, 5, HALVES)], 0, None),
     (
         5,
@@ -114,6 +116,42 @@ const CASES: [Case; 11] = [
         Some(RefuseCode::Value),
     ),
     (21, &[Short], 0, None),
+    (
+        6,
+        &[
+            Choose(1),
+            Priced(1000000000, 5, HALVES),
+            Choose(2),
+            Exchange(1, 2),
+            Choose(3),
+            Exchange(1, 3),
+            Choose(4),
+            Exchange(1, 4),
+            Short,
+        ],
+        8,
+        None,
+    ),
+    (
+        6,
+        &[
+            Choose(2),
+            Priced(1000000000, 5, HALVES),
+            Choose(1),
+            Exchange(2, 1),
+        ],
+        3,
+        Some(RefuseCode::Choice),
+    ),
+    (6, &[Choose(2), Exchange(1, 2)], 1, Some(RefuseCode::Choice)),
+    (6, &[Exchange(1, 2)], 0, Some(RefuseCode::Choice)),
+    (6, &[Choose(2), Exchange(0, 2)], 1, Some(RefuseCode::Range)),
+    (
+        6,
+        &[Choose(1), Set, Exchange(1, 2)],
+        2,
+        Some(RefuseCode::Kind),
+    ),
 ];
 
 // How many of the tokens are taken with more to come, and what the one behind them is answered.
@@ -159,7 +197,7 @@ fn cases_are_checked(alloc: Global, instance: &Instance) -> Result<bool, Fail> {
 }
 
 #[test]
-fn priced_leaves_are_refuted_or_not(rt: HostRuntime) -> Result<(), Fail> {
+fn further_leaves_are_accepted_or_refused(rt: HostRuntime) -> Result<(), Fail> {
     let instance = squares(rt.alloc())?;
     assert!(rt; cases_are_checked(rt.alloc(), &instance)?);
     Ok(())

@@ -10,8 +10,8 @@ returns-clause-value c instance goal_value tokens sides h =
     none_reaches_bounded excess_law instance sides goal_value tokens h
 
 pub returns-clause-value_nodes : goal.returns-clause-value_nodes
-returns-clause-value_nodes c instance goal_value nodes tokens keep b sides h l set reached fits =
-    bounded_sound excess_law instance sides goal_value keep set reached fits h (get_or nodes b no_choice)
+returns-clause-value_nodes c instance goal_value nodes tokens keep b sides h l set complete reached fits =
+    bounded_sound excess_law instance sides goal_value keep set complete reached fits h (get_or nodes b no_choice)
     (index_in {X = Choice} no_choice nodes b l)
 
 pub returns-clause-plain : goal.returns-clause-plain

@@ -1,7 +1,7 @@
 use Rattle.std.proofs.Common.{arith, sym, ap, ◌∙◌, codes}
 use Rattle.text_terms.specs.Lines.{same_bytes}
 use Rattle.text_terms.specs.Feeding.{ended_line}
-use Rattle.bounded_tokens.proofs.FirstWords.{empty_line, priced_line, plain_line}
+use Rattle.bounded_tokens.proofs.FirstWords.{empty_line, priced_line, exchange_line, plain_line}
 use Rattle.bounded_tokens.proofs.reading.read_bounded_token.Goals as goal
 
 pub returns-then-word_count-eq0 : goal.returns-then-word_count-eq0
@@ -22,6 +22,17 @@ returns-then-is_same c =
     (omega (arith, n, l, o))
     (ap (λ w. same_bytes w (codes "u")) (sym c.word.ensures) ∙ sym c.is_same.ensures ∙ c.if-is_same.true)
 
+pub returns-then-is_same-2 : goal.returns-then-is_same-2
+returns-then-is_same-2 c =
+    let n = c.word_count.ensures.count in
+    let l = c.word_count.ensures.limits.held in
+    let o = c.if-word_count-eq0.false in
+    c.exchange_token.ensures
+    ∙ exchange_line c.args.dims (ended_line c.args.line.now.held) (sym c.bad_byte.ensures ∙ c.if-bad_byte.false)
+    (omega (arith, n, l, o))
+    (ap (λ w. same_bytes w (codes "u")) (sym c.word.ensures) ∙ sym c.is_same.ensures ∙ c.if-is_same.false)
+    (ap (λ w. same_bytes w (codes "e")) (sym c.word-2.ensures) ∙ sym c.is_same-2.ensures ∙ c.if-is_same-2.true)
+
 pub returns : goal.returns
 returns c =
     let n = c.word_count.ensures.count in
@@ -31,3 +42,4 @@ returns c =
     ∙ plain_line c.args.dims (ended_line c.args.line.now.held) (sym c.bad_byte.ensures ∙ c.if-bad_byte.false)
     (omega (arith, n, l, o))
     (ap (λ w. same_bytes w (codes "u")) (sym c.word.ensures) ∙ sym c.is_same.ensures ∙ c.if-is_same.false)
+    (ap (λ w. same_bytes w (codes "e")) (sym c.word-2.ensures) ∙ sym c.is_same-2.ensures ∙ c.if-is_same-2.false)
