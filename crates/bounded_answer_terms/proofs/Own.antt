@@ -26,7 +26,7 @@ use Rattle.own_documents.proofs.Filled.{AreFilled, filled_append, clean_text, fi
 use Rattle.own_documents.proofs.Written.{IsBounded, internal_bounded}
 use Rattle.own_documents.proofs.Numbered.{taken_filled, taken_taken}
 use Rattle.own_documents.proofs.Accepted.{filled_document, IsHeadedAbout, decimal_number, number_plain, numbers_plain}
-use Rattle.bounded_answer_terms.specs.Answers.{BoundedAnswer, IsBoundedAnswer, AreWeighed, value_claim, bounded_claim}
+use Rattle.bounded_answer_terms.specs.Answers.{BoundedAnswer, IsBoundedAnswer, HaveParameters, value_claim, bounded_claim}
 use Rattle.bounded_answer_terms.specs.Answers.{bounded_token_lines, bounded_backing, bounded_text}
 use Rattle.bounded_answer_terms.specs.Laws.{OwnBoundedDocumentsAreVerified, BoundedAnswersAreTrue, BoundedClaimsAreTold}
 use Rattle.bounded_answer_terms.proofs.Written.{HaveBoundedLines, bounded_filled, bounded_are_lines, bounded_written}
@@ -79,7 +79,7 @@ record ShowsValues (instance : PlainInstance) (a b : ℕ) (numbers : List ℕ) (
   most : b ≤ most_worth
   packing : AreTakenNumbers instance a numbers
   refutation : IsBoundedRefutation instance b tokens
-  weighed : AreWeighed tokens
+  parameters : HaveParameters tokens
 
 record AreValues (instance : PlainInstance) (a b : ℕ) (numbers : List ℕ) (tokens : List BoundedToken) : Type 0 where
   filled : AreFilled (bounded_backing instance numbers tokens)
@@ -90,7 +90,7 @@ values_backed : (instance : PlainInstance) (a b : ℕ) (numbers : List ℕ) (tok
 values_backed instance a b numbers tokens limits shown =
     let bounded : IsBounded instance = internal_bounded instance (written_internal instance limits) in
     let written : HaveBoundedLines (dims instance) tokens =
-    bounded_written instance bounded limits.boxes.count.1 b tokens shown.refutation shown.weighed in
+    bounded_written instance bounded limits.boxes.count.1 b tokens shown.refutation shown.parameters in
     let d = limits.dimensions.0 in
     let back : AreFilled ((codes "proof" ∷ []) ∷ bounded_token_lines tokens) =
     ((omega arith, refl, tt), refl, bounded_filled (dims instance) tokens written) in
@@ -161,7 +161,7 @@ module _ (instance : PlainInstance) (limits : IsInstance instance) (answer : Bou
     most = is.most;
     packing = is.packing;
     refutation = is.refutation;
-    weighed = is.weighed;
+    parameters = is.parameters;
   }
 
   next_shown : suc answer.placed ≡ answer.refuted

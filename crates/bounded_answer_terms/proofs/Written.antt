@@ -10,6 +10,7 @@ use Rattle.packing_terms.specs.Packing.{PlainInstance, dims, box_count}
 use Rattle.packing_terms.specs.Goals.{worth}
 use Rattle.packing_terms.specs.Limits.{most_boxes}
 use Rattle.packing_terms.specs.Tokens.{PlainToken}
+use Rattle.packing_terms.specs.Tokens.PlainToken.{ValueShort}
 use Rattle.packing_terms.specs.Tokens.PlainToken.{Scales}
 use Rattle.packing_terms.specs.OuterRefutation.{Choice, undecided, RefutesValue}
 use Rattle.packing_terms.specs.OuterRefutation as plain
@@ -18,8 +19,9 @@ use Rattle.text_terms.proofs.Spelled.{AreWords}
 use Rattle.text_terms.proofs.Back.{word_decimal}
 use Rattle.document_terms.specs.TokenLines.{function_words, IsWrittenTuple}
 use Rattle.document_terms.proofs.TokensPlain.{token_plain}
-use Rattle.bounded_terms.specs.BoundedRefutation.{BoundedToken, Plain, PricedOut, RefutesBounded, IsBoundedRefutation}
-use Rattle.bounded_terms.specs.BoundedRefutation.{none_left, by_value, by_price, by_set, by_box}
+use Rattle.bounded_terms.specs.BoundedRefutation.{BoundedToken, Plain, PricedOut, Exchange, RefutesBounded}
+use Rattle.bounded_terms.specs.BoundedRefutation.{IsBoundedRefutation, none_left, by_value, by_price, by_exchange}
+use Rattle.bounded_terms.specs.BoundedRefutation.{by_set, by_box}
 use Rattle.bounded_terms.specs.BoundedLines.{bounded_token_words, HasBoundedLine}
 use Rattle.bounded_terms.specs.BoundedPaths.{stands_for}
 use Rattle.bounded_terms.proofs.BoundedBack.{bounded_tokens_are_read_back}
@@ -27,7 +29,7 @@ use Rattle.verdict_terms.specs.Form.{AreBoundedLines}
 use Rattle.own_documents.proofs.Filled.{AreFilled}
 use Rattle.own_documents.proofs.Written.{HaveLines, IsBounded, tuple_written}
 use Rattle.own_documents.proofs.OuterWritten.{value_written}
-use Rattle.bounded_answer_terms.specs.Answers.{AreWeighed, bounded_token_lines}
+use Rattle.bounded_answer_terms.specs.Answers.{HaveParameters, bounded_token_lines}
 
 -- each token has a line with d dimensions
 abbrev pub HaveBoundedLines : ℕ → List BoundedToken → Type 0
@@ -55,6 +57,10 @@ bounded_token_plain d (PricedOut q p fs) h =
       ),
       refl,
     )
+bounded_token_plain d (Exchange u v) h =
+    let first = h.0 in
+    let second = h.1 in
+    ((omega arith, refl, word_decimal u (omega (arith, first)) (decimal v ∷ []) (word_decimal v (omega (arith, second)) [] tt)), refl)
 
 -- its line is filled, and read back as the token
 pub bounded_filled : (d : ℕ) (ts : List BoundedToken) → HaveBoundedLines d ts → AreFilled (bounded_token_lines ts)
@@ -73,6 +79,7 @@ abbrev HaveTuples : ℕ → List BoundedToken → Type 0
 HaveTuples d [] = Unit {0}
 HaveTuples d (Plain t ∷ ts) = HaveTuples d ts
 HaveTuples d (PricedOut q p fs ∷ ts) = IsWrittenTuple d fs × HaveTuples d ts
+HaveTuples d (Exchange u v ∷ ts) = HaveTuples d ts
 
 -- plain tokens in front have no tuples
 behind_plain : (d : ℕ) (xs : List PlainToken) (ys : List BoundedToken) → HaveTuples d ys
@@ -87,6 +94,7 @@ tuples_written instance goal bounded none_left = tt
 tuples_written instance goal bounded (by_value short rest) = tuples_written instance goal bounded rest
 tuples_written instance goal bounded (by_price {fs = fs} priced rest) =
     (tuple_written instance fs bounded priced.tuple, tuples_written instance goal bounded rest)
+tuples_written instance goal bounded (by_exchange open_exchange rest) = tuples_written instance goal bounded rest
 tuples_written instance goal bounded (by_set {x = x} {y = y} some refutes e rest) =
     subst (HaveTuples (dims instance)) (sym e)
     (behind_plain (dims instance) x y (tuples_written instance goal bounded rest))
@@ -109,22 +117,24 @@ record AreRefutedFrom (instance : PlainInstance) (nodes : List Choice) (tokens :
 abbrev above : PlainInstance → Choice → ℕ
 above instance c = suc (worth instance c.taken + worth instance (undecided instance c))
 
--- `least` is more than any leaf of either kind may be worth, so each is worth too little
+-- a leaf in front that is worth too little for a goal that is high enough
+short_from : (instance : PlainInstance) (c : Choice) {nodes : List Choice} (ts : List PlainToken)
+    → AreRefutedFrom instance nodes ts → AreRefutedFrom instance (c ∷ nodes) (ValueShort ∷ ts)
+short_from instance c ts from = record {
+  least = above instance c + from.least;
+  refute = λ n l. plain.by_value (omega (arith, l)) (from.refute n (omega (arith, l)));
+}
+
+-- `least` is more than any leaf of these kinds may be worth, so each is worth too little
 refuted_from : (instance : PlainInstance) (goal : ℕ) {nodes : List Choice} {z : List BoundedToken}
     → RefutesBounded instance goal nodes z → AreRefutedFrom instance nodes (map stands_for z)
 refuted_from instance goal none_left = record { least = 0; refute = λ n l. plain.none_left }
-refuted_from instance goal (by_value {c = c} short rest) =
-    let from = refuted_from instance goal rest in
-    record {
-      least = above instance c + from.least;
-      refute = λ n l. plain.by_value (omega (arith, l)) (from.refute n (omega (arith, l)));
-    }
-refuted_from instance goal (by_price {c = c} priced rest) =
-    let from = refuted_from instance goal rest in
-    record {
-      least = above instance c + from.least;
-      refute = λ n l. plain.by_value (omega (arith, l)) (from.refute n (omega (arith, l)));
-    }
+refuted_from instance goal (by_value {c = c} {z = z} short rest) =
+    short_from instance c (map stands_for z) (refuted_from instance goal rest)
+refuted_from instance goal (by_price {c = c} {z = z} priced rest) =
+    short_from instance c (map stands_for z) (refuted_from instance goal rest)
+refuted_from instance goal (by_exchange {c = c} {z = z} open_exchange rest) =
+    short_from instance c (map stands_for z) (refuted_from instance goal rest)
 refuted_from instance goal (by_set {x = x} {y = y} some refutes e rest) =
     let from = refuted_from instance goal rest in
     record {
@@ -137,20 +147,22 @@ refuted_from instance goal (by_box new rest) =
 
 -- ---- refutations
 
--- a priced leaf has a line if its weights are small and its tuple can be written
-lines_of_parts : (d : ℕ) (ts : List BoundedToken) → HaveLines d (map stands_for ts) → AreWeighed ts → HaveTuples d ts
+-- a further leaf has a line if its numbers are small and its tuple can be written
+lines_of_parts : (d : ℕ) (ts : List BoundedToken) → HaveLines d (map stands_for ts) → HaveParameters ts → HaveTuples d ts
     → HaveBoundedLines d ts
-lines_of_parts d [] lines weighed tuples = tt
-lines_of_parts d (Plain t ∷ ts) lines weighed tuples = (lines.0, lines_of_parts d ts lines.1 weighed tuples)
-lines_of_parts d (PricedOut q p fs ∷ ts) lines weighed tuples =
-    ((weighed.0, weighed.1, tuples.0), lines_of_parts d ts lines.1 weighed.2 tuples.1)
+lines_of_parts d [] lines parameters tuples = tt
+lines_of_parts d (Plain t ∷ ts) lines parameters tuples = (lines.0, lines_of_parts d ts lines.1 parameters tuples)
+lines_of_parts d (PricedOut q p fs ∷ ts) lines parameters tuples =
+    ((parameters.0, parameters.1, tuples.0), lines_of_parts d ts lines.1 parameters.2 tuples.1)
+lines_of_parts d (Exchange u v ∷ ts) lines parameters tuples =
+    ((parameters.0, parameters.1), lines_of_parts d ts lines.1 parameters.2 tuples)
 
 -- each token of a refutation for a value has a line
 pub bounded_written : (instance : PlainInstance) → IsBounded instance → box_count instance ≤ most_boxes → (goal : ℕ)
-    (z : List BoundedToken) → IsBoundedRefutation instance goal z → AreWeighed z
+    (z : List BoundedToken) → IsBoundedRefutation instance goal z → HaveParameters z
     → HaveBoundedLines (dims instance) z
-bounded_written instance bounded few goal z h weighed =
+bounded_written instance bounded few goal z h parameters =
     let from = refuted_from instance goal h in
     lines_of_parts (dims instance) z
     (value_written instance bounded few from.least (map stands_for z) (from.refute from.least (omega arith)))
-    weighed (tuples_written instance goal bounded h)
+    parameters (tuples_written instance goal bounded h)

@@ -1,4 +1,4 @@
--- The answer of `knapsack` with priced leaves, its status, and its text: a document in the one spelling.
+-- The answer of `knapsack` by bounded refutations, its status, and its text: a document in the one spelling.
 --
 --     bounded knapsack          instance lines          result ..          take lines, proof, tokens          end
 use Rattle.std.specs.Prelude.{ℕ, suc, ◌<◌, ◌≤◌, ◌==◌, cond, List, [], ◌∷◌, ◌++◌, map, codes}
@@ -10,7 +10,7 @@ use Rattle.document_terms.specs.declared.claim.Claim.TheVariants.{GreatestValue,
 use Rattle.document_terms.specs.Claims.{result_words, most_worth}
 use Rattle.document_terms.specs.TokenLines.{IsParameter}
 use Rattle.tree_terms.specs.OuterSearch.{AreTakenNumbers}
-use Rattle.bounded_terms.specs.BoundedRefutation.{BoundedToken, Plain, PricedOut, IsBoundedRefutation}
+use Rattle.bounded_terms.specs.BoundedRefutation.{BoundedToken, Plain, PricedOut, Exchange, IsBoundedRefutation}
 use Rattle.bounded_terms.specs.BoundedLines.{bounded_token_words}
 use Rattle.answer_terms.specs.Answers.{Lines, claim_status, document_lines, take_lines}
 
@@ -22,11 +22,12 @@ pub record BoundedAnswer : Type 0 where
   pub refuted : ℕ
   pub tokens : List BoundedToken
 
--- the weights of each priced leaf are at most 4,294,967,295
-abbrev pub AreWeighed : List BoundedToken → Type 0
-AreWeighed [] = Unit {0}
-AreWeighed (Plain t ∷ ts) = AreWeighed ts
-AreWeighed (PricedOut q p fs ∷ ts) = IsParameter q × IsParameter p × AreWeighed ts
+-- the weights of each priced leaf, and the numbers of each exchange, are at most 4,294,967,295
+abbrev pub HaveParameters : List BoundedToken → Type 0
+HaveParameters [] = Unit {0}
+HaveParameters (Plain t ∷ ts) = HaveParameters ts
+HaveParameters (PricedOut q p fs ∷ ts) = IsParameter q × IsParameter p × HaveParameters ts
+HaveParameters (Exchange u v ∷ ts) = IsParameter u × IsParameter v × HaveParameters ts
 
 -- The numbers reach the placed value, and the tokens refute the refuted value, which is the greater one.
 pub record IsBoundedAnswer (instance : PlainInstance) (answer : BoundedAnswer) : Type 0 where
@@ -34,7 +35,7 @@ pub record IsBoundedAnswer (instance : PlainInstance) (answer : BoundedAnswer) :
   pub most : answer.refuted ≤ most_worth
   pub packing : AreTakenNumbers instance answer.placed answer.numbers
   pub refutation : IsBoundedRefutation instance answer.refuted answer.tokens
-  pub weighed : AreWeighed answer.tokens
+  pub parameters : HaveParameters answer.tokens
 
 -- the claim: the placed value is the greatest if the refuted value is one more
 unfoldable pub value_claim : ℕ → ℕ → Claim

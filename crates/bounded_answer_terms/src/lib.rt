@@ -1,4 +1,4 @@
-//! The documents that answer `knapsack` with priced leaves, as definitions, and that they are
+//! The documents that answer `knapsack` by bounded refutations, as definitions, and that they are
 //! verified.
 #![tactic(auto)]
 

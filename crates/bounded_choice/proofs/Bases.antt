@@ -11,8 +11,9 @@ use Rattle.tree_terms.specs.Levels.{PlainReached, value_run, first_values}
 use Rattle.tree_terms.proofs.FirstLevels.{value_above, value_zero}
 use Rattle.tree_terms.proofs.SpentRuns.{value_end}
 use Rattle.bounded_terms.specs.BoundedRefutation.{BoundedToken as PlainBounded, Plain as PlainPlain, PricedOut as PlainPriced}
+use Rattle.bounded_terms.specs.BoundedRefutation.{Exchange as PlainExchange}
 use Rattle.bounded_terms.proofs.BoundedSound.{plain_is_bounded}
-use Rattle.bounded_answer_terms.specs.Answers.{BoundedAnswer, IsBoundedAnswer, AreWeighed}
+use Rattle.bounded_answer_terms.specs.Answers.{BoundedAnswer, IsBoundedAnswer, HaveParameters}
 use Rattle.bounded_tokens.specs.declared.token.BoundedToken.{BoundedToken}
 use Rattle.bounded_tokens.specs.Plain.{plain_bounded}
 use Rattle.bin_knapsack.specs.declared.choice.Choice.{Choice}
@@ -26,22 +27,23 @@ use Rattle.bounded_choice.specs.Levels.{IsOpenOnlyPast, plain_levels, reached_le
 
 -- ---- weights
 
-pub weighed_plain : (ts : List PlainToken) → AreWeighed (map (λ t. PlainPlain t) ts)
-weighed_plain [] = tt
-weighed_plain (t ∷ ts) = weighed_plain ts
+pub parameters_plain : (ts : List PlainToken) → HaveParameters (map (λ t. PlainPlain t) ts)
+parameters_plain [] = tt
+parameters_plain (t ∷ ts) = parameters_plain ts
 
-pub weighed_more : (ts : List PlainBounded) (t : PlainBounded) → AreWeighed ts → AreWeighed (t ∷ [])
-    → AreWeighed (ts ++ t ∷ [])
-weighed_more [] t h k = k
-weighed_more (PlainPlain s ∷ ts) t h k = weighed_more ts t h k
-weighed_more (PlainPriced q p fs ∷ ts) t h k = (h.0, h.1, weighed_more ts t h.2 k)
+pub parameters_more : (ts : List PlainBounded) (t : PlainBounded) → HaveParameters ts → HaveParameters (t ∷ [])
+    → HaveParameters (ts ++ t ∷ [])
+parameters_more [] t h k = k
+parameters_more (PlainPlain s ∷ ts) t h k = parameters_more ts t h k
+parameters_more (PlainPriced q p fs ∷ ts) t h k = (h.0, h.1, parameters_more ts t h.2 k)
+parameters_more (PlainExchange u v ∷ ts) t h k = (h.0, h.1, parameters_more ts t h.2 k)
 
--- the weights of a token more
-pub weighed_next : (tokens : List BoundedToken) (k : ℕ) (t : BoundedToken) → k < length tokens → t ≡ get_or tokens k t
-    → AreWeighed (map plain_bounded (take k tokens)) → AreWeighed (plain_bounded t ∷ [])
-    → AreWeighed (map plain_bounded (take (k + 1) tokens))
-weighed_next tokens k t l is h one =
-    subst AreWeighed (sym longer) (weighed_more (map plain_bounded (take k tokens)) (plain_bounded t) h one)
+-- the numbers of a token more
+pub parameters_next : (tokens : List BoundedToken) (k : ℕ) (t : BoundedToken) → k < length tokens → t ≡ get_or tokens k t
+    → HaveParameters (map plain_bounded (take k tokens)) → HaveParameters (plain_bounded t ∷ [])
+    → HaveParameters (map plain_bounded (take (k + 1) tokens))
+parameters_next tokens k t l is h one =
+    subst HaveParameters (sym longer) (parameters_more (map plain_bounded (take k tokens)) (plain_bounded t) h one)
   where
     longer : map plain_bounded (take (k + 1) tokens) ≡ map plain_bounded (take k tokens) ++ plain_bounded t ∷ []
     longer = ap (map plain_bounded) (take_more tokens k t l ∙ ap (λ (x : BoundedToken). take k tokens ++ x ∷ []) (sym is))
@@ -56,14 +58,14 @@ told_levels instance (Greatest value numbers tokens) is small = record {
   most = small;
   packing = is.packed;
   refutation = plain_is_bounded instance (suc value) is.refuted;
-  weighed = weighed_plain tokens;
+  parameters = parameters_plain tokens;
 }
 told_levels instance (Between placed numbers refuted tokens) is small = record {
   rising = is.order;
   most = small;
   packing = is.packed;
   refutation = plain_is_bounded instance refuted is.refutes;
-  weighed = weighed_plain tokens;
+  parameters = parameters_plain tokens;
 }
 
 -- those that need no search
@@ -76,7 +78,7 @@ first_levels instance limits =
       most = omega (arith, small);
       packing = value_zero instance limits;
       refutation = plain_is_bounded instance (first_values instance).refuted (value_above instance limits);
-      weighed = weighed_plain (first_values instance).tokens;
+      parameters = parameters_plain (first_values instance).tokens;
     }
 
 -- what the run refutes is at most one more than all boxes are worth

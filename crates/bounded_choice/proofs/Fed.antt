@@ -18,7 +18,7 @@ use Rattle.bounded_tokens.specs.declared.token.BoundedToken.{BoundedToken}
 use Rattle.bounded_tokens.specs.Plain.{plain_bounded}
 use Rattle.outer_check.specs.Outers.{PlainOuter, ForValue, fed_by, is_whole, left_open}
 use Rattle.outer_check.specs.Bounded.{bounded_fed, bounded_tree_refusal}
-use Rattle.outer_check.proofs.Priced.{bounded_opened}
+use Rattle.outer_check.proofs.FurtherLeaves.{bounded_opened}
 
 -- some tokens more
 abbrev pub fed_on : PlainOuter → List PlainBounded → PlainOuter

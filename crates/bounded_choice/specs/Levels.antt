@@ -8,7 +8,7 @@ use Rattle.tree_terms.specs.RunEnds.{HasLargeWorth}
 use Rattle.bounded_terms.specs.BoundedRefutation.{BoundedToken as PlainBounded, Plain as PlainPlain, IsBoundedRefutation}
 use Rattle.bounded_tokens.specs.declared.token.BoundedToken.{BoundedToken}
 use Rattle.bounded_tokens.specs.Plain.{plain_bounded_tokens}
-use Rattle.bounded_answer_terms.specs.Answers.{BoundedAnswer, IsBoundedAnswer, AreWeighed}
+use Rattle.bounded_answer_terms.specs.Answers.{BoundedAnswer, IsBoundedAnswer, HaveParameters}
 use Rattle.bin_knapsack.specs.declared.choice.Choice.{Choice}
 use Rattle.bin_knapsack.specs.declared.choice.Choice.TheVariants.{Greatest, Between}
 use Rattle.proposed_answers.specs.Shares.{level_share}
@@ -51,7 +51,7 @@ IsPlacedValue instance found = AreTakenNumbers instance found.worth found.number
 -- the tokens refute the value, with weights that a line can say
 pub record AreRefutedBy (instance : PlainInstance) (goal : ℕ) (tokens : List BoundedToken) : Type 0 where
   pub refutation : IsBoundedRefutation instance goal (plain_bounded_tokens tokens)
-  pub weighed : AreWeighed (plain_bounded_tokens tokens)
+  pub parameters : HaveParameters (plain_bounded_tokens tokens)
 
 abbrev pub IsGoalOutcome : PlainInstance → ℕ → GoalOutcome → Type 0
 IsGoalOutcome instance goal (Refuted tokens) = AreRefutedBy instance goal tokens.items
@@ -94,8 +94,9 @@ pub record IsOpenRun (instance : PlainInstance) (settings : Settings) (placed re
   pub lower : (value_run instance settings.budget settings.scales).placed ≤ placed
   pub upper : refuted ≤ (value_run instance settings.budget settings.scales).refuted
 
--- The run with proposals ends open: the two values lie within two others, and the choice trees of the value
--- above the lower one and of the value below the upper one have more branchings than the share of the budget.
+-- The two values lie within two others, such that the choice trees of the value above the lower one and of
+-- the value below the upper one have more branchings than the share of the budget. No definition names the
+-- run with proposals, so it isn't said that it ends with these.
 pub record IsOpenProposed (instance : PlainInstance) (settings : Settings) (placed refuted : ℕ) : Type 0 where
   pub low : ℕ
   pub high : ℕ

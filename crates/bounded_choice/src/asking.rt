@@ -6,14 +6,15 @@ ghost use Rattle.bounded_choice.specs.Levels.{AreLevels, IsWithin, IsGoalOutcome
 use crate::effort::{effort_of, step_limit};
 use crate::levels::ValueLevels;
 use crate::placed::{PlacedValue, tested_value};
-use crate::refuting::{is_bounded_refutation, tell_weights};
+use crate::refuting::{is_bounded_refutation, tell_parameters};
 use bounded_proposals::{ValueProposal, ValueRefuter};
 use bounded_tokens::BoundedToken;
 use box_instances::{Instance, NoMemory};
 use std::alloc::Global;
 
-// The value above the placed one has half of the steps that are left: it alone closes the gap.
-const BESIDE_PART: u64 = 2;
+// The value above the placed one has the steps that are left but for a third of them: it alone closes
+// the gap.
+const REST_PART: u64 = 3;
 
 // Any other goal has an eighth, and one of levels that are far apart a sixteenth.
 const GOAL_PART: u64 = 8;
@@ -46,7 +47,7 @@ fn tested(
 {
     match proposal {
         ValueProposal::Refuted(tokens) => {
-            tell_weights(&tokens);
+            tell_parameters(&tokens);
             if is_bounded_refutation(alloc, instance, goal, &tokens)? {
                 Ok(GoalOutcome::Refuted(tokens))
             } else {
@@ -127,7 +128,7 @@ impl GoalSearch {
                 return Ok(now);
             }
             let goal = now.placed + 1;
-            let steps = self.steps / BESIDE_PART;
+            let steps = self.steps - self.steps / REST_PART;
             now = self.ask(alloc, instance, now, goal, steps)?;
         }
         Ok(now)

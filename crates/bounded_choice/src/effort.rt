@@ -4,22 +4,25 @@ use bounded_proposals::BoundedEffort;
 use bounded_search::TreeLimits;
 
 // Steps of proposed trees for each branching of the budget: the default budget of 1,000,000 allows
-// 50,000,000 steps of 70 to 100 nanoseconds, some 5 s.
-const STEPS_PER_BRANCHING: u64 = 50;
+// 250,000,000 steps of 30 to 60 nanoseconds, some 10 s.
+const STEPS_PER_BRANCHING: u64 = 250;
 
 // The fewest steps, which take 2 ms, and the most.
 const MIN_STEPS: u64 = 20_000;
 
-const MAX_STEPS: u64 = 500_000_000;
+const MAX_STEPS: u64 = 2_000_000_000;
 
-// The most tokens of a tree. `audit` reads documents of up to 16 MiB, and a token takes up to 25
-// bytes in the mean.
+// The most tokens of a tree, a bound of its memory. Most are tokens of sets, of some 8 bytes; a
+// priced leaf takes up to 150 in four dimensions.
 const MAX_TOKENS: u64 = 660_000;
 
-// The most splits for a set that grew, and for one that is worth the goal.
+// The most splits for a set that grew.
 const GROWN_SPLITS: u64 = 60;
 
-const REACHED_SPLITS: u64 = 20_000;
+// The most splits for a set that is worth the goal. Such a set decides the goal, so the steps of the
+// goal alone bound them: with at most 20,000, five of 62 instances stay open that take 50,000 to
+// 300,000.
+const REACHED_SPLITS: u64 = 1_000_000;
 
 /// The steps of all proposed trees of a run.
 pub(crate) fn step_limit(budget: u64) -> u64 {

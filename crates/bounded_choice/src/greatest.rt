@@ -1,4 +1,4 @@
-//! The greatest value, with refutations whose leaves may be priced.
+//! The greatest value, with bounded refutations.
 ghost use Rattle.std.specs.Prelude.{false, true, IfOk};
 ghost use Rattle.bounded_choice.specs.Levels.{AreLevels, IsOpenOnlyPast};
 

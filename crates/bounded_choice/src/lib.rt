@@ -1,4 +1,4 @@
-//! The greatest value with refutations whose leaves may be priced: the levels of the run without
+//! The greatest value with bounded refutations: the levels of the run without
 //! them, narrowed by proposed trees and sets of boxes that pass their tests.
 #![tactic(auto)]
 

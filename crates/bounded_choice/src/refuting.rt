@@ -1,16 +1,16 @@
-//! The test of a proposed refutation with priced leaves.
+//! The test of a proposed bounded refutation.
 ghost use Rattle.std.specs.Prelude.{◌≡◌, ◌∷◌, [], IfOk, MatchBool};
 ghost use Rattle.bounded_terms.specs.BoundedRefutation.{IsBoundedRefutation};
 ghost use Rattle.bounded_tokens.specs.Plain.{plain_bounded, plain_bounded_tokens};
-ghost use Rattle.bounded_answer_terms.specs.Answers.{AreWeighed};
+ghost use Rattle.bounded_answer_terms.specs.Answers.{HaveParameters};
 
 use bounded_tokens::BoundedToken;
 use box_instances::{Instance, NoMemory};
 use outer_check::{Goal, OuterRefuter};
 use std::alloc::Global;
 
-/// Whether tokens, among them priced leaves, are a refutation of a value: no set of boxes that fits
-/// in the container is worth `goal` or more.
+/// Whether tokens are a bounded refutation of a value: no set of boxes that fits in the container is
+/// worth `goal` or more.
 pub fn is_bounded_refutation(
     alloc: Global,
     instance: &Instance,
@@ -28,9 +28,9 @@ pub fn is_bounded_refutation(
     Ok(refuter.whole())
 }
 
-// For the proof alone: tells the ranges of the weights of a token.
-fn tell_weight(token: &BoundedToken)
-    ensures { AreWeighed (plain_bounded token.now ∷ []) }
+// For the proof alone: tells the ranges of the numbers of a token.
+fn tell_parameter(token: &BoundedToken)
+    ensures { HaveParameters (plain_bounded token.now ∷ []) }
 {
     match token {
         BoundedToken::Plain(_) => {}
@@ -42,14 +42,18 @@ fn tell_weight(token: &BoundedToken)
             let _value_weight = *value_weight;
             let _share_weight = *share_weight;
         }
+        BoundedToken::Exchange { left_no, taken_no } => {
+            let _left_no = *left_no;
+            let _taken_no = *taken_no;
+        }
     }
 }
 
-/// For the proof alone: tells the ranges of the weights of tokens.
-pub(crate) fn tell_weights(tokens: &[BoundedToken])
-    ensures { AreWeighed (plain_bounded_tokens tokens.now) }
+/// For the proof alone: tells the ranges of the numbers of tokens.
+pub(crate) fn tell_parameters(tokens: &[BoundedToken])
+    ensures { HaveParameters (plain_bounded_tokens tokens.now) }
 {
     for k in 0..tokens.len() {
-        tell_weight(&tokens[k]);
+        tell_parameter(&tokens[k]);
     }
 }

@@ -12,8 +12,8 @@ use proof_tree::Token;
 use std::alloc::Global;
 
 /// What a proposal may use up: the limits of its tree, and the most splits for a set that grew, and
-/// for one that is worth the goal. With 0 splits such sets stay undecided. A split counts as 400
-/// steps of the tree.
+/// for one that is worth the goal. With 0 splits such sets stay undecided. A split counts as 40 steps of
+/// the tree for each box of its set.
 #[derive(Clone, Copy)]
 pub struct BoundedEffort {
     pub tree: TreeLimits,
@@ -58,9 +58,14 @@ const BOXES_BACK: usize = 3;
 
 const MORE_SPLITS: u64 = 100;
 
-// A split of the search that decides sets takes 10 to 45 microseconds for 10 to 26 boxes, a step of
-// the tree 70 to 100 nanoseconds.
-const STEPS_OF_A_SPLIT: u64 = 400;
+// A split of the search that decides sets takes some 2 microseconds for each box of the set (9 to 33
+// boxes), a step of the tree 50 nanoseconds.
+const STEPS_PER_BOX: u64 = 40;
+
+// The steps as which a split of a set counts.
+fn split_steps(boxes: usize) -> u64 {
+    STEPS_PER_BOX.saturating_mul(boxes.max(1) as u64)
+}
 
 /// The search for refutations of one value after another of an instance.
 #[derive(Drop)]
@@ -95,14 +100,16 @@ impl ValueRefuter {
         self.search.steps()
     }
 
-    // The splits that the steps that are left pay for.
-    fn splits_left(&self) -> u64 {
-        self.steps.saturating_sub(self.search.steps()) / STEPS_OF_A_SPLIT
+    // The splits of a set that the steps that are left pay for.
+    fn splits_left(&self, boxes: usize) -> u64 {
+        let steps = self.steps.saturating_sub(self.search.steps());
+        steps.checked_div(split_steps(boxes)).unwrap_or(0)
     }
 
-    // Counts splits as steps.
-    fn charge(&mut self, splits: u64) {
-        self.search.charge(splits.saturating_mul(STEPS_OF_A_SPLIT));
+    // Counts splits of a set as steps.
+    fn charge(&mut self, boxes: usize, splits: u64) {
+        self.search
+            .charge(splits.saturating_mul(split_steps(boxes)));
     }
 
     // Explores a set whose boxes are of these kinds.
@@ -117,21 +124,21 @@ impl ValueRefuter {
         let Some(set) = set_instance(alloc, instance, &taken)? else {
             return Ok(SetOutcome::Undecided);
         };
-        let splits = question.splits.min(self.splits_left());
+        let splits = question.splits.min(self.splits_left(question.count));
         match propose_refutation(alloc, &set, true, splits)? {
             Proposal::Tokens(tokens) => {
-                self.charge(tokens.len() as u64);
+                self.charge(question.count, tokens.len() as u64);
                 self.memory.remember(alloc, row, &tokens, splits)?;
                 Ok(SetOutcome::Refuted(tokens))
             }
             Proposal::Places(places) => {
-                self.charge(places.len() as u64);
+                self.charge(question.count, places.len() as u64);
                 self.search.keep_placed(question.count)?;
                 Ok(SetOutcome::Placed { taken, places })
             }
             Proposal::Nothing => {
                 let none = Vec::new(alloc);
-                self.charge(splits);
+                self.charge(question.count, splits);
                 self.memory.remember(alloc, row, &none, splits)?;
                 Ok(SetOutcome::Undecided)
             }
@@ -237,7 +244,7 @@ impl ValueRefuter {
 
     // What is proposed where the set at which the search stands is undecided.
     fn undecided(&self) -> ValueProposal {
-        if self.splits_left() == 0 {
+        if self.splits_left(self.search.set_size()) == 0 {
             return ValueProposal::Spent;
         }
         ValueProposal::Undecided {
