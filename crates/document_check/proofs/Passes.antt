@@ -20,7 +20,7 @@ use Rattle.document_lines.specs.declared.judge.ReadEnd.TheVariants.{End, Paused,
 use Rattle.document_lines.specs.declared.judge.ReadEnd.TheVariants.{TooLong as ReadTooLong, ReadFault as ReadFailed}
 use Rattle.document_lines.specs.declared.judge.ReadEnd.TheVariants.{NoMemory as ReadNoMemory}
 use Rattle.document_check.specs.declared.position.Position.{Position}
-use Rattle.document_check.specs.Checked.{most_document_bytes, CountsCheck, IsCheckedUnder}
+use Rattle.document_check.specs.Checked.{most_document_bytes, CountsCheck, IsCheckedUnder, IsCheckedBehind}
 use Rattle.document_lines.specs.Reading.{PlainJudge, IsAt, IsRead, IsReadBehind, ended_claim}
 use Rattle.document_check.specs.Passes.{end_of, IsCheckedFrom, IsReadOn, Goes}
 use Rattle.document_check.proofs.Beginnings.{at_behind}
@@ -49,17 +49,20 @@ module _ (old left : Option (List ℕ)) (before now : FaultCount) (at : Position
   abbrev pub Behind : ReadEnd → Type 0
   Behind end = IsReadBehind most_document_bytes old left before now at.lexer stage at.count next behind count end
 
-  ended : (heading : Heading) (first : Option (List ℕ)) (claim : Option Claim)
-      → IsRead heading most_document_bytes first left before now next behind count End → ended_claim behind ≡ claim
-      → IsCheckedUnder heading first left before now (end_of claim next.number)
-  ended heading first (Some claim) r e = record {
+  ended : (heading : Heading) (front : List ℕ) (first : Option (List ℕ)) (claim : Option Claim)
+      → IsRead heading front most_document_bytes first left before now next behind count End
+      → ended_claim behind ≡ claim
+      → IsCheckedBehind heading front first left before now (end_of claim next.number)
+  ended heading front first (Some claim) r e = record {
     taken = r.taken;
+    begins = r.begins;
     gives = r.gives;
     faults = r.faults;
     comes = (r.ends.2 ∙ (at_end_is behind next.number ∙ ap (λ c. verdict_of c next.number) e), r.ends.1, r.ends.0);
   }
-  ended heading first None r e = record {
+  ended heading front first None r e = record {
     taken = r.taken;
+    begins = r.begins;
     gives = r.gives;
     faults = r.faults;
     comes = (
@@ -71,40 +74,42 @@ module _ (old left : Option (List ℕ)) (before now : FaultCount) (at : Position
 
   pub end_from : Behind End → (claim : Option Claim) → ended_claim behind ≡ claim
       → IsCheckedFrom old left before now at stage (end_of claim next.number)
-  end_from read claim e heading first taking = ended heading first claim (read heading first taking) e
+  end_from read claim e heading front first taking =
+      ended heading front first claim (read heading front first taking) e
 
   pub refused_from : (reason : Reason) → Behind (ReadRefused reason)
       → IsCheckedFrom old left before now at stage (Refused next.number reason)
-  refused_from reason read heading first taking =
-      let r = read heading first taking in
-      record { taken = r.taken; gives = r.gives; faults = r.faults; comes = r.ends }
+  refused_from reason read heading front first taking =
+      let r = read heading front first taking in
+      record { taken = r.taken; begins = r.begins; gives = r.gives; faults = r.faults; comes = r.ends }
 
   pub long_from : Behind ReadTooLong → IsCheckedFrom old left before now at stage TooLong
-  long_from read heading first taking =
-      let r = read heading first taking in
-      record { taken = r.taken; gives = r.gives; faults = r.faults; comes = r.ends }
+  long_from read heading front first taking =
+      let r = read heading front first taking in
+      record { taken = r.taken; begins = r.begins; gives = r.gives; faults = r.faults; comes = r.ends }
 
   pub fault_from : Behind ReadFailed → IsCheckedFrom old left before now at stage ReadFault
-  fault_from read heading first taking =
-      let r = read heading first taking in
-      record { taken = r.taken; gives = r.gives; faults = r.faults; comes = r.ends }
+  fault_from read heading front first taking =
+      let r = read heading front first taking in
+      record { taken = r.taken; begins = r.begins; gives = r.gives; faults = r.faults; comes = r.ends }
 
   pub memory_from : Behind ReadNoMemory → IsCheckedFrom old left before now at stage NoMemory
-  memory_from read heading first taking =
-      let r = read heading first taking in
-      record { taken = r.taken; gives = r.gives; faults = r.faults; comes = r.ends }
+  memory_from read heading front first taking =
+      let r = read heading front first taking in
+      record { taken = r.taken; begins = r.begins; gives = r.gives; faults = r.faults; comes = r.ends }
 
   pub paused_from : Behind Paused
       → IsReadOn old left before now at stage (record { lexer = next; count = count }) behind
-  paused_from read heading first taking =
-      let r = read heading first taking in
-      (r.faults, record { taken = r.taken; gives = r.gives; counted = r.ends.0; so_far = r.ends.1 })
+  paused_from read heading front first taking =
+      let r = read heading front first taking in
+      (r.faults, record { taken = r.taken; begins = r.begins; gives = r.gives; counted = r.ends.0; so_far = r.ends.1 })
 
 -- memory was refused between two lines
 pub memory_here : (old : Option (List ℕ)) (faults : FaultCount) (at : Position) (stage : Stage)
     → at.count ≤ most_document_bytes → IsCheckedFrom old old faults faults at stage NoMemory
-memory_here old faults at stage few heading first taking = record {
+memory_here old faults at stage few heading front first taking = record {
   taken = taking.taken;
+  begins = taking.begins;
   gives = taking.gives;
   faults = stays_here faults;
   comes = (
@@ -128,11 +133,12 @@ module _ (old mid left : Option (List ℕ)) (before between now : FaultCount) (a
   pub then_from : IsReadOn old mid before between at stage next behind → (rest : Stage) → behind ≡ rest
       → IsCheckedFrom mid left between now next rest result
       → IsCheckedFrom old left before now at stage result
-  then_from on rest same more heading first taking =
-      let go = on heading first taking in
-      let after = subst (λ s. IsCheckedFrom mid left between now next s result) (sym same) more heading first go.1 in
+  then_from on rest same more heading front first taking =
+      let go = on heading front first taking in
+      let after = subst (λ s. IsCheckedFrom mid left between now next s result) (sym same) more heading front first go.1 in
       record {
         taken = after.taken;
+        begins = after.begins;
         gives = after.gives;
         faults = counts_after before between now result go.0 after.faults;
         comes = after.comes;
@@ -143,7 +149,14 @@ pub from_start : (heading : Heading) (old left : Option (List ℕ)) (before now 
     → IsCheckedFrom old left before now (record { lexer = new_lexer; count = 0 }) (Beginning heading) result
     → IsCheckedUnder heading old left before now result
 from_start heading old left before now result from =
-    from heading old (record { taken = []; gives = gives_none old; counted = refl; so_far = so_far_start heading })
+    let r = from heading [] old (record {
+      taken = [];
+      begins = ([], refl);
+      gives = gives_none old;
+      counted = refl;
+      so_far = so_far_start heading;
+    }) in
+    record { taken = r.taken; gives = r.gives; faults = r.faults; comes = r.comes }
 
 -- lines of a judge that tells where the document stands behind them
 pub goes_known : (old left : Option (List ℕ)) (before now : FaultCount) (at next : Position) (judge : PlainJudge)

@@ -7,7 +7,9 @@ use Rattle.verdict_terms.specs.declared.heading.Heading.{Heading}
 use Rattle.verdict_terms.specs.declared.heading.Heading.TheVariants.{Answer}
 use Rattle.verdict_terms.specs.Documents.{headed_verdict}
 use Rattle.verdict_terms.specs.Fed.{NoneRefusedUnder}
-use Rattle.document_lines.specs.Reading.{AreEnoughUnder, NoneBeforeUnder}
+use Rattle.text_terms.specs.Feeding.{Lexer}
+use Rattle.verdict_terms.specs.Stages.{Stage}
+use Rattle.document_lines.specs.Reading.{AreEnoughUnder, NoneBeforeUnder, Begins, IsTaking}
 use Rattle.document_check.specs.declared.check.CheckEnd.{CheckEnd}
 use Rattle.document_check.specs.declared.check.CheckEnd.TheVariants.{Verified, Refused, TooLong, ReadFault, NoMemory}
 
@@ -49,3 +51,20 @@ pub record IsCheckedUnder (heading : Heading) (old left : Option (List ℕ)) (be
 -- the same of an answer
 abbrev pub IsChecked : Option (List ℕ) → Option (List ℕ) → FaultCount → FaultCount → CheckEnd → Type 0
 IsChecked old left before now result = IsCheckedUnder Answer old left before now result
+
+-- the same of bytes that begin with these, which were taken before
+pub record IsCheckedBehind (heading : Heading) (front : List ℕ) (old left : Option (List ℕ)) (before now : FaultCount)
+    (result : CheckEnd) : Type 0 where
+  pub taken : List ℕ
+  pub begins : Begins front taken
+  pub gives : Gives old left taken
+  pub faults : CountsCheck before now result
+  pub comes : Comes heading left taken result
+
+-- What the rest of a document comes to under any heading, behind so many bytes that were taken before and left
+-- the document at a stage: `front` are the first of them, and `first` is what the source told before these.
+abbrev pub IsRestChecked : Option (List ℕ) → Option (List ℕ) → FaultCount → FaultCount → Lexer → Stage → ℕ → CheckEnd
+    → Type 0
+IsRestChecked old left before now s stage count result =
+    (heading : Heading) (front : List ℕ) (first : Option (List ℕ)) → IsTaking heading front first old s stage count
+    → IsCheckedBehind heading front first left before now result

@@ -6,12 +6,11 @@ use Rattle.document_terms.specs.declared.claim.Claim.{Claim}
 use Rattle.verdict_terms.specs.declared.reason.Reason.TheVariants.{TooShort}
 use Rattle.verdict_terms.specs.declared.heading.Heading.{Heading}
 use Rattle.verdict_terms.specs.Stages.{Stage, claimed}
-use Rattle.verdict_terms.specs.Stages.Stage.{Beginning}
 use Rattle.document_lines.specs.declared.head.Claimed.{Claimed}
 use Rattle.document_check.specs.declared.check.CheckEnd.{CheckEnd}
 use Rattle.document_check.specs.declared.check.CheckEnd.TheVariants.{Verified, Refused}
 use Rattle.document_check.specs.declared.position.Position.{Position}
-use Rattle.document_check.specs.Checked.{most_document_bytes, IsCheckedUnder}
+use Rattle.document_check.specs.Checked.{most_document_bytes, IsRestChecked}
 use Rattle.document_lines.specs.Reading.{IsTaking}
 
 -- no more lines ended than bytes were taken, and not too many of them
@@ -23,19 +22,19 @@ abbrev pub end_of : Option Claim → ℕ → CheckEnd
 end_of (Some claim) n = Verified claim
 end_of None n = Refused (n + 1) TooShort
 
--- what the rest of a document comes to under any heading: `first` is what the source told before the first byte
+-- what the rest of a document comes to behind the bytes that were taken
 abbrev pub IsCheckedFrom : Option (List ℕ) → Option (List ℕ) → FaultCount → FaultCount → Position → Stage → CheckEnd
     → Type 0
 IsCheckedFrom old left before now at stage result =
-    (heading : Heading) (first : Option (List ℕ)) → IsTaking heading first old at.lexer stage at.count
-    → IsCheckedUnder heading first left before now result
+    IsRestChecked old left before now at.lexer stage at.count result
 
 -- lines were taken without a fault, and the document goes on at another stage
 abbrev pub IsReadOn : Option (List ℕ) → Option (List ℕ) → FaultCount → FaultCount → Position → Stage → Position → Stage
     → Type 0
 IsReadOn old left before now at stage next behind =
-    (heading : Heading) (first : Option (List ℕ)) → IsTaking heading first old at.lexer stage at.count
-    → Stays before now × IsTaking heading first left next.lexer behind next.count
+    (heading : Heading) (front : List ℕ) (first : Option (List ℕ))
+    → IsTaking heading front first old at.lexer stage at.count
+    → Stays before now × IsTaking heading front first left next.lexer behind next.count
 
 abbrev pub Goes : Option (List ℕ) → Option (List ℕ) → FaultCount → FaultCount → Position → Stage → Position → Stage
     → Option CheckEnd → Type 0
@@ -43,9 +42,9 @@ Goes old left before now at stage next behind (Some result) = IsCheckedFrom old 
 Goes old left before now at stage next behind None = IsReadOn old left before now at stage next behind
 
 -- the same up to the result line, behind which the document goes on with its claim
-abbrev pub GoesBehind : Heading → Option (List ℕ) → Option (List ℕ) → FaultCount → FaultCount → Position → Position
+abbrev pub GoesBehind : Stage → Option (List ℕ) → Option (List ℕ) → FaultCount → FaultCount → Position → Position
     → Result Claimed CheckEnd → Type 0
-GoesBehind heading old left before now at next (Ok c) =
-    IsReadOn old left before now at (Beginning heading) next (claimed c.heading c.instance c.claim)
-GoesBehind heading old left before now at next (Err result) =
-    IsCheckedFrom old left before now at (Beginning heading) result
+GoesBehind stage old left before now at next (Ok c) =
+    IsReadOn old left before now at stage next (claimed c.heading c.instance c.claim)
+GoesBehind stage old left before now at next (Err result) =
+    IsCheckedFrom old left before now at stage result

@@ -1,7 +1,9 @@
 //! The check of a document.
-ghost use Rattle.std.specs.Prelude.{◌≡◌};
+ghost use Rattle.std.specs.Prelude.{◌≡◌, ◌≤◌, true};
+ghost use Rattle.text_terms.specs.Texts.{no_parts};
 ghost use Rattle.verdict_terms.specs.Stages.{claimed};
-ghost use Rattle.document_check.specs.Checked.{IsCheckedUnder};
+ghost use Rattle.verdict_terms.specs.Stages.Stage.{Reading};
+ghost use Rattle.document_check.specs.Checked.{IsCheckedUnder, IsRestChecked, most_document_bytes};
 ghost use Rattle.document_check.specs.Passes.{IsPosition, IsCheckedFrom};
 ghost use Rattle.document_lines.specs.Ranges.{IsRanged};
 
@@ -9,8 +11,9 @@ use crate::phases::{check_bins, check_exceeding, check_fitting, check_heights, c
 use crate::position::Position;
 use crate::showing::read_head;
 use crate::values::check_values;
-use document_lines::Claimed;
-use document_terms::Claim;
+use document_lines::{Claimed, HeadReader};
+use document_terms::{Claim, SolvingJob};
+use instance_text::LineLexer;
 use pack_streams::Source;
 use std::alloc::Global;
 use verdict_terms::{Heading, Reason};
@@ -71,6 +74,25 @@ fn check_claimed<S: Source>(
     }
 }
 
+// The rest of a document whose next line is for this reader of its head.
+fn check_from<S: Source>(
+    alloc: Global,
+    input: &mut S,
+    at: &mut Position,
+    head: HeadReader,
+) -> CheckEnd
+    requires at { IsPosition at.old }
+    requires takes { head.takes ≡ true }
+    ensures { IsCheckedFrom (S.left input.old) (S.left input.new) (S.faults input.old)
+        (S.faults input.new)
+        at.old head.stage result }
+{
+    match read_head(input, at, head) {
+        Ok(head) => check_claimed(alloc, input, at, &head),
+        Err(end) => end,
+    }
+}
+
 /// Reads a document that has to begin with this heading, to its end or to the line feed of its
 /// first refused line, and no further, in one pass.
 ///
@@ -83,8 +105,32 @@ pub fn check_document<S: Source>(alloc: Global, heading: Heading, input: &mut S)
         (S.faults input.new) result }
 {
     let mut at = Position::start();
-    match read_head(alloc, input, &mut at, heading) {
-        Ok(head) => check_claimed(alloc, input, &mut at, &head),
-        Err(end) => end,
-    }
+    check_from(alloc, input, &mut at, HeadReader::new(alloc, heading))
+}
+
+/// Reads the rest of a document whose heading names `job`. `count` bytes were taken before, up to the
+/// line feed of the heading, and `lexer` is what is held after them.
+///
+/// Like `check_document`, but behind these bytes: the limit is that of all bytes, and lines are
+/// counted from the first of all.
+pub fn check_rest<S: Source>(
+    alloc: Global,
+    heading: Heading,
+    job: SolvingJob,
+    lexer: LineLexer,
+    count: u64,
+    input: &mut S,
+) -> CheckEnd
+    requires number { lexer.number ≤ count }
+    requires few { count ≤ most_document_bytes }
+    ensures { IsRestChecked (S.left input.old) (S.left input.new) (S.faults input.old)
+        (S.faults input.new) lexer (Reading heading job no_parts) count result }
+{
+    let mut at = Position { lexer, count };
+    check_from(
+        alloc,
+        input,
+        &mut at,
+        HeadReader::behind_heading(alloc, heading, job),
+    )
 }

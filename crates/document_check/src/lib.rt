@@ -9,4 +9,4 @@ mod showing;
 mod values;
 
 pub use audit::{Audit, audit_document};
-pub use check::{CheckEnd, check_document};
+pub use check::{CheckEnd, check_document, check_rest};

@@ -29,7 +29,7 @@ use std::alloc::Global;
 use symmetry_list::facts;
 use verdict_terms::Heading;
 
-// `end`, behind places or behind the tree of an instance of so many dimensions.
+// `end`, after places, or after the tree of an instance of `tree_dims` dimensions.
 fn check_end<S: Source>(
     alloc: Global,
     input: &mut S,
@@ -54,7 +54,7 @@ fn check_end<S: Source>(
     }
 }
 
-// A tree that is being read, of an instance of so many dimensions, and `end`.
+// A tree that is being read, of an instance of `dims` dimensions, and `end`.
 fn check_tree<S: Source, C: TreeChecker + Drop>(
     alloc: Global,
     input: &mut S,
@@ -78,7 +78,7 @@ fn check_tree<S: Source, C: TreeChecker + Drop>(
     }
 }
 
-// `proof`, the tree of an instance of so many dimensions, and `end`.
+// `proof`, the tree of an instance of `dims` dimensions, and `end`.
 fn check_proof<S: Source, C: TreeChecker + Drop>(
     alloc: Global,
     input: &mut S,
@@ -101,7 +101,7 @@ fn check_proof<S: Source, C: TreeChecker + Drop>(
     check_tree(alloc, input, at, claim, dims, judge)
 }
 
-/// The tree of an instance of so many dimensions, and `end`.
+/// The tree of an instance of `dims` dimensions, and `end`.
 pub(crate) fn check_tokens<S: Source, C: TreeChecker + Drop>(
     alloc: Global,
     input: &mut S,
@@ -176,7 +176,7 @@ fn check_misfit<S: Source>(
     }
 }
 
-// `proof`, a tree that refutes that the instance fits in so many bins, and `end`.
+// `proof`, a tree that refutes that the instance fits in `refuted` bins, and `end`.
 fn check_few_bins<S: Source>(
     alloc: Global,
     input: &mut S,
@@ -299,7 +299,7 @@ pub(crate) fn check_heights<S: Source>(
     check_placed(alloc, input, at, head, &held, &lower)
 }
 
-/// One token that a box exceeds the container in one of the first so many dimensions, and `end`.
+/// One token that a box exceeds the container in one of the first `dim_count` dimensions, and `end`.
 pub(crate) fn check_exceeding<S: Source>(
     alloc: Global,
     input: &mut S,
@@ -320,8 +320,8 @@ pub(crate) fn check_exceeding<S: Source>(
     }
 }
 
-/// The places of all boxes in so many bins, `proof`, a tree that refutes another number of bins,
-/// and `end`.
+/// The places of all boxes in `bin_count` bins, `proof`, a tree that refutes `refuted` bins, and
+/// `end`.
 pub(crate) fn check_bins<S: Source>(
     alloc: Global,
     input: &mut S,

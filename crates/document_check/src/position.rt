@@ -31,7 +31,7 @@ impl Position {
     }
 }
 
-// What the end of the text comes to after so many lines.
+// What the end of the text comes to after `lines` lines.
 fn end_of(ended: Option<Claim>, lines: u64) -> CheckEnd
     requires { lines < 2 ^ 63 }
     ensures { result ≡ end_of ended lines }

@@ -1,5 +1,5 @@
 //! What shows that a claim is reached: places, bins, taken boxes, a box that exceeds the container.
-ghost use Rattle.std.specs.Prelude.{◌≡◌, ◌≤◌, None, Some, [], IfOk};
+ghost use Rattle.std.specs.Prelude.{◌≡◌, ◌≤◌, true, None, Some, [], IfOk};
 ghost use Rattle.packing_terms.specs.Packing.{dims};
 ghost use Rattle.verdict_terms.specs.declared.heading.Heading.TheVariants.{Answer};
 ghost use Rattle.verdict_terms.specs.Stages.{placed, to_refute, value_stage};
@@ -17,20 +17,20 @@ use pack_streams::Source;
 use std::alloc::Global;
 use verdict_terms::Heading;
 
-/// The lines up to the result line of a document that has to begin with this heading.
+/// The lines up to the result line, for a reader that wants the next one.
 pub(crate) fn read_head<S: Source>(
-    alloc: Global,
     input: &mut S,
     at: &mut Position,
-    heading: Heading,
+    head: HeadReader,
 ) -> Result<Claimed, CheckEnd>
-    requires { IsPosition at.old }
+    requires at { IsPosition at.old }
+    requires takes { head.takes ≡ true }
     ensures at { IfOk result (λ c. IsPosition at.new) }
     ensures ranged { IfOk result (λ c. IsRanged c.instance c.claim) }
-    ensures goes { GoesBehind heading (S.left input.old) (S.left input.new) (S.faults input.old)
-        (S.faults input.new) at.old at.new result }
+    ensures goes { GoesBehind head.stage (S.left input.old) (S.left input.new)
+        (S.faults input.old) (S.faults input.new) at.old at.new result }
 {
-    let mut head = HeadReader::new(alloc, heading);
+    let mut head = head;
     if let Some(end) = give_lines(input, at, &mut head) {
         return Err(end);
     }
@@ -62,7 +62,7 @@ pub(crate) fn read_places<S: Source>(
     give_lines(input, at, &mut judge)
 }
 
-/// The bins and places of all boxes. `None` tells that they are a packing of so many bins.
+/// The bins and places of all boxes. `None` tells that they are a packing of `bin_count` bins.
 pub(crate) fn read_shares<S: Source>(
     alloc: Global,
     input: &mut S,
@@ -105,8 +105,8 @@ pub(crate) fn read_taken<S: Source>(
     give_lines(input, at, &mut judge)
 }
 
-/// The token that a box exceeds the container in one of the first so many dimensions. `None` tells
-/// that it does.
+/// The token that a box exceeds the container in one of the first `dim_count` dimensions. `None`
+/// tells that it does.
 pub(crate) fn read_exceeding<S: Source>(
     alloc: Global,
     input: &mut S,

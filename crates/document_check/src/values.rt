@@ -45,8 +45,8 @@ fn check_plain_value<S: Source>(
     }
 }
 
-// The tokens of a tree with priced leaves, of an instance of so many dimensions. `None` tells that
-// it is whole.
+// The tokens of a bounded refutation, of an instance of `dim_count` dimensions. `None` tells that it
+// is whole.
 fn read_bounded<S: Source>(
     alloc: Global,
     input: &mut S,

@@ -11,7 +11,7 @@ use Rattle.bounded_terms.specs.BoundedJudging.{bounded_after}
 use Rattle.outer_check.specs.Outers.{PlainOuter, OuterTree, ForBins, ForValue, fed_by, answered, answered_by}
 use Rattle.outer_check.specs.Outers.{left_open, is_whole_view}
 use Rattle.outer_check.specs.Bounded.{bounded_fed, bounded_tree_refusal}
-use Rattle.outer_check.proofs.Priced.{bounded_opened}
+use Rattle.outer_check.proofs.FurtherLeaves.{bounded_opened}
 use Rattle.document_lines.specs.Checkers.{is_outer_open}
 use Rattle.document_lines.specs.Boundings.{value_of, choices_of, IsForValue, IsSame, FeedsNodes}
 

@@ -29,7 +29,7 @@ use Rattle.document_lines.specs.declared.judge.LineStop.{LineStop}
 use Rattle.document_lines.specs.declared.judge.LineStop.TheVariants.{Refused as LineRefused}
 use Rattle.document_lines.specs.declared.judge.ReadEnd.{ReadEnd}
 use Rattle.document_lines.specs.declared.judge.ReadEnd.TheVariants.{End, Paused, Refused, TooLong, ReadFault, NoMemory}
-use Rattle.document_lines.specs.Reading.{IsSoFar, IsTaking, TakesByte, TakesEnd, NoneBeforeUnder, IsRead}
+use Rattle.document_lines.specs.Reading.{IsSoFar, Begins, IsTaking, TakesByte, TakesEnd, NoneBeforeUnder, IsRead}
 
 -- ---- bytes of a source
 
@@ -207,7 +207,7 @@ none_before_one heading s stage taken b h =
 -- ---- how the reading ends
 
 -- one byte was read
-one_byte : (mid now : Option (List ℕ)) (k b : ℕ) → ReadsPiece mid now (Got k) (b ∷ []) → Gives mid now (b ∷ [])
+pub one_byte : (mid now : Option (List ℕ)) (k b : ℕ) → ReadsPiece mid now (Got k) (b ∷ []) → Gives mid now (b ∷ [])
 one_byte mid now k b reads = let one : k ≡ 1 = let l = reads.0 in let m = reads.1 in omega (arith, l, m) in
     subst (λ j. Gives mid now (take j (b ∷ []))) one reads.2
 
@@ -217,16 +217,21 @@ single [] e = absurd (omega (arith, e))
 single (x ∷ []) e = refl
 single (x ∷ y ∷ xs) e = absurd (omega (arith, e))
 
+-- bytes and one more
+begins_more : (front taken : List ℕ) (b : ℕ) → Begins front taken → Begins front (taken ++ b ∷ [])
+begins_more front taken b h = (h.0 ++ b ∷ [], ap (λ xs. xs ++ b ∷ []) h.1 ∙ append_assoc front h.0 (b ∷ []))
+
 -- so many bytes were taken, and then a read that didn't fail
-module _ (heading : Heading) (limit m : ℕ) (old mid now : Option (List ℕ)) (before after : FaultCount) (s : Lexer)
-    (stage : Stage) (n : ℕ) (so_far : IsTaking heading old mid s stage n)
+module _ (heading : Heading) (front : List ℕ) (limit m : ℕ) (old mid now : Option (List ℕ)) (before after : FaultCount)
+    (s : Lexer) (stage : Stage) (n : ℕ) (so_far : IsTaking heading front old mid s stage n)
     (stays : Stays before after) where
   -- the end of the source
   pub ends_here : (piece : List ℕ) (new : Lexer) (next : Stage) (result : ReadEnd) → n ≤ limit
       → ReadsPiece mid now SourceEnd piece → TakesEnd s stage new next result
-      → IsRead heading limit old now before after new next m result
+      → IsRead heading front limit old now before after new next m result
   ends_here piece new next End few reads ends = record {
     taken = so_far.taken;
+    begins = so_far.begins;
     gives = subst (λ x. Gives old x so_far.taken) (sym reads.1) so_far.gives;
     faults = stays;
     ends = (
@@ -238,6 +243,7 @@ module _ (heading : Heading) (limit m : ℕ) (old mid now : Option (List ℕ)) (
   }
   ends_here piece new next (Refused reason) few reads ends = record {
     taken = so_far.taken;
+    begins = so_far.begins;
     gives = subst (λ x. Gives old x so_far.taken) (sym reads.1) so_far.gives;
     faults = stays;
     ends = (
@@ -251,6 +257,7 @@ module _ (heading : Heading) (limit m : ℕ) (old mid now : Option (List ℕ)) (
   ends_here piece new next ReadFault few reads ends = absurd ends
   ends_here piece new next NoMemory few reads ends = record {
     taken = so_far.taken;
+    begins = so_far.begins;
     gives = subst (λ x. Gives old x so_far.taken) (sym reads.1) so_far.gives;
     faults = stays;
     ends = ((let c = so_far.counted in omega (arith, c, few)), none_before heading s stage so_far.taken so_far.so_far);
@@ -273,10 +280,11 @@ module _ (heading : Heading) (limit m : ℕ) (old mid now : Option (List ℕ)) (
   -- what is held behind it
   pub taking_more : (k : ℕ) (piece : List ℕ) (next : Stage) (new : Lexer) → length piece ≡ 1
       → ReadsPiece mid now (Got k) piece
-      → TakesByte s stage (get_or piece 0 0) new next (Ok tt) → IsTaking heading old now new next (n + 1)
+      → TakesByte s stage (get_or piece 0 0) new next (Ok tt) → IsTaking heading front old now new next (n + 1)
   taking_more k piece next new e reads step =
-      subst (λ x. IsTaking heading old now x next (n + 1)) (sym step.0) (record {
+      subst (λ x. IsTaking heading front old now x next (n + 1)) (sym step.0) (record {
         taken = so_far.taken ++ get_or piece 0 0 ∷ [];
+        begins = begins_more front so_far.taken (get_or piece 0 0) so_far.begins;
         gives = gives_one k piece e reads;
         counted = one_more_byte (get_or piece 0 0);
         so_far = so_far_more heading s stage next so_far.taken (get_or piece 0 0) so_far.so_far
@@ -288,7 +296,7 @@ module _ (heading : Heading) (limit m : ℕ) (old mid now : Option (List ℕ)) (
       → ReadsPiece mid now (Got k) piece
       → (code : LineStop) (reason : Reason) → code ≡ LineRefused reason
       → TakesByte s stage (get_or piece 0 0) new next (Err code)
-      → IsRead heading limit old now before after new next m (Refused reason)
+      → IsRead heading front limit old now before after new next m (Refused reason)
   refused_at k piece next new room e reads code reason is step =
       let b : ℕ = get_or piece 0 0 in
       let refused : TakesByte s stage b new next (Err (LineRefused reason)) =
@@ -297,6 +305,7 @@ module _ (heading : Heading) (limit m : ℕ) (old mid now : Option (List ℕ)) (
       (λ rest. refused.2 rest ∙ ap (λ (x : Lexer). Err (record { line = x.number; reason = reason })) refused.0) in
       let line : (feed b s).number ≡ new.number = ap (λ (x : Lexer). x.number) (sym refused.0) in record {
         taken = so_far.taken ++ b ∷ [];
+        begins = begins_more front so_far.taken b so_far.begins;
         gives = gives_one k piece e reads;
         faults = stays;
         ends = (
@@ -310,9 +319,10 @@ module _ (heading : Heading) (limit m : ℕ) (old mid now : Option (List ℕ)) (
   -- memory was refused for the line that it ends
   pub no_memory_at : (k : ℕ) (piece : List ℕ) (next : Stage) (new : Lexer) → n < limit → length piece ≡ 1
       → ReadsPiece mid now (Got k) piece
-      → IsRead heading limit old now before after new next m NoMemory
+      → IsRead heading front limit old now before after new next m NoMemory
   no_memory_at k piece next new room e reads = record {
     taken = so_far.taken ++ get_or piece 0 0 ∷ [];
+    begins = begins_more front so_far.taken (get_or piece 0 0) so_far.begins;
     gives = gives_one k piece e reads;
     faults = stays;
     ends = (
@@ -323,10 +333,11 @@ module _ (heading : Heading) (limit m : ℕ) (old mid now : Option (List ℕ)) (
 
   -- it is one byte too many
   pub long_here : (k : ℕ) (piece : List ℕ) → n ≡ limit → length piece ≡ 1 → ReadsPiece mid now (Got k) piece
-      → IsRead heading limit old now before after s stage m TooLong
+      → IsRead heading front limit old now before after s stage m TooLong
   long_here k piece full e reads =
       let b : ℕ = get_or piece 0 0 in record {
         taken = so_far.taken ++ b ∷ [];
+        begins = begins_more front so_far.taken b so_far.begins;
         gives = gives_one k piece e reads;
         faults = stays;
         ends = (
@@ -340,21 +351,23 @@ module _ (heading : Heading) (limit m : ℕ) (old mid now : Option (List ℕ)) (
   pub paused_at : (k : ℕ) (piece : List ℕ) (next : Stage) (new : Lexer) → length piece ≡ 1
       → ReadsPiece mid now (Got k) piece
       → TakesByte s stage (get_or piece 0 0) new next (Ok tt) → m ≡ n + 1
-      → IsRead heading limit old now before after new next m Paused
+      → IsRead heading front limit old now before after new next m Paused
   paused_at k piece next new e reads step counted =
       let l = taking_more k piece next new e reads step in record {
         taken = l.taken;
+        begins = l.begins;
         gives = l.gives;
         faults = stays;
         ends = (l.counted ∙ sym counted, l.so_far);
       }
 
 -- so many bytes were taken, and then a read failed
-pub fails_here : (heading : Heading) (limit m : ℕ) (old mid now : Option (List ℕ)) (before after : FaultCount)
-    (s : Lexer) (stage : Stage) (n : ℕ) → IsTaking heading old mid s stage n → FailedOnce before after
-    → n ≤ limit → now ≡ mid → IsRead heading limit old now before after s stage m ReadFault
-fails_here heading limit m old mid now before after s stage n so_far once few same = record {
+pub fails_here : (heading : Heading) (front : List ℕ) (limit m : ℕ) (old mid now : Option (List ℕ)) (before after : FaultCount)
+    (s : Lexer) (stage : Stage) (n : ℕ) → IsTaking heading front old mid s stage n → FailedOnce before after
+    → n ≤ limit → now ≡ mid → IsRead heading front limit old now before after s stage m ReadFault
+fails_here heading front limit m old mid now before after s stage n so_far once few same = record {
   taken = so_far.taken;
+  begins = so_far.begins;
   gives = subst (λ x. Gives old x so_far.taken) (sym same) so_far.gives;
   faults = once;
   ends = ((let c = so_far.counted in omega (arith, c, few)), none_refused heading s stage so_far.taken so_far.so_far);
@@ -365,8 +378,8 @@ fails_here heading limit m old mid now before after s stage n so_far once few sa
 -- what holds in the loop, behind any bytes that were taken before
 pub record IsReading (old now : Option (List ℕ)) (before after : FaultCount) (s0 : Lexer) (stage0 : Stage) (n0 : ℕ)
     (s : Lexer) (stage : Stage) (n : ℕ) (takes : Bool) (piece : List ℕ) : Type 0 where
-  pub taking : (heading : Heading) (first : Option (List ℕ)) → IsTaking heading first old s0 stage0 n0
-      → IsTaking heading first now s stage n
+  pub taking : (heading : Heading) (front : List ℕ) (first : Option (List ℕ))
+      → IsTaking heading front first old s0 stage0 n0 → IsTaking heading front first now s stage n
   pub one : length piece ≡ 1
   pub number : s.number ≤ n
   pub few : n ≤ 1099511627776

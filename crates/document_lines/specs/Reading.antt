@@ -42,10 +42,15 @@ pub record IsSoFar (heading : Heading) (s : Lexer) (stage : Stage) (taken : List
   pub goes : (rest : List ℕ) → fed_verdict s stage rest ≡ headed_verdict heading (taken ++ rest)
   pub number : s.number + 1 ≡ length (slice_split is_line_feed taken)
 
--- so many bytes were taken
-pub record IsTaking (heading : Heading) (old now : Option (List ℕ)) (s : Lexer) (stage : Stage) (count : ℕ) :
-    Type 0 where
+-- bytes that begin with these
+abbrev pub Begins : List ℕ → List ℕ → Type 0
+Begins front bytes = (rest : List ℕ) × (bytes ≡ front ++ rest)
+
+-- so many bytes were taken, of which these were the first
+pub record IsTaking (heading : Heading) (front : List ℕ) (old now : Option (List ℕ)) (s : Lexer) (stage : Stage)
+    (count : ℕ) : Type 0 where
   pub taken : List ℕ
+  pub begins : Begins front taken
   pub gives : Gives old now taken
   pub counted : length taken ≡ count
   pub so_far : IsSoFar heading s stage taken
@@ -90,20 +95,21 @@ CountsLines before now (Refused reason) = Stays before now
 CountsLines before now TooLong = Stays before now
 CountsLines before now NoMemory = Stays before now
 
-pub record IsRead (heading : Heading) (limit : ℕ) (old left : Option (List ℕ)) (before now : FaultCount) (s : Lexer)
-    (stage : Stage) (count : ℕ) (result : ReadEnd) : Type 0 where
+pub record IsRead (heading : Heading) (front : List ℕ) (limit : ℕ) (old left : Option (List ℕ))
+    (before now : FaultCount) (s : Lexer) (stage : Stage) (count : ℕ) (result : ReadEnd) : Type 0 where
   pub taken : List ℕ
+  pub begins : Begins front taken
   pub gives : Gives old left taken
   pub faults : CountsLines before now result
   pub ends : EndsAs heading limit left taken s stage count result
 
--- What a reading does under any heading, behind any bytes that were taken before: `first` is what
--- the source told before the first of them.
+-- What a reading does under any heading, behind any bytes that were taken before: `front` are the first of
+-- them, and `first` is what the source told before these.
 abbrev pub IsReadBehind : ℕ → Option (List ℕ) → Option (List ℕ) → FaultCount → FaultCount → Lexer → Stage → ℕ → Lexer
     → Stage → ℕ → ReadEnd → Type 0
 IsReadBehind limit old left before now s stage n new next count result =
-    (heading : Heading) (first : Option (List ℕ)) → IsTaking heading first old s stage n
-    → IsRead heading limit first left before now new next count result
+    (heading : Heading) (front : List ℕ) (first : Option (List ℕ)) → IsTaking heading front first old s stage n
+    → IsRead heading front limit first left before now new next count result
 
 -- a byte that was taken: whatever follows, the verdict goes on from what is held now; or the byte
 -- ends a line that is refused

@@ -1,4 +1,4 @@
-//! The tree with priced leaves of a document, and the line `end` behind it.
+//! The bounded refutation of a document, and the line `end` after it.
 ghost use Rattle.std.specs.Prelude.{◌≡◌, ◌≤◌, ℕ, not, true, false, None, Some, IsTrue, [], Err};
 ghost use Rattle.document_terms.specs.declared.claim.Claim.{Claim as PlainClaim};
 ghost use Rattle.packing_terms.specs.Packing.{dims};
@@ -61,7 +61,7 @@ fn take_token(
     }
 }
 
-/// What a reader of a tree with priced leaves wants next.
+/// What a reader of a bounded refutation wants next.
 #[derive(Clone, Copy, Debug, PartialEq, Eq)]
 pub(crate) enum BoundStep {
     /// The next token.
@@ -72,7 +72,7 @@ pub(crate) enum BoundStep {
     Stopped,
 }
 
-/// Takes the tokens of a tree with priced leaves up to the last one.
+/// Takes the tokens of a bounded refutation up to the last one.
 #[derive(Drop)]
 pub struct BoundReader<'a> {
     alloc: Global,
@@ -99,7 +99,7 @@ impl<'a> Model for BoundReader<'a> {
 }
 
 impl<'a> BoundReader<'a> {
-    /// The tree of a refuter for a value, of an instance of so many dimensions, is wanted.
+    /// The tree of a refuter for a value, of an instance of `dim_count` dimensions, is wanted.
     pub fn new(
         alloc: Global,
         claim: Claim,
@@ -180,7 +180,7 @@ impl<'a> LineJudge for BoundReader<'a> {
     }
 }
 
-/// Takes `end` behind a tree with priced leaves that refutes a value.
+/// Takes `end` after a bounded refutation of a value.
 ///
 /// It takes all lines that are left.
 #[derive(Drop)]

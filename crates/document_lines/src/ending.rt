@@ -16,7 +16,7 @@ use std::alloc::Global;
 use std::marker::Model;
 use verdict_terms::Reason;
 
-/// Takes `end`, behind places or behind the tree of an instance of so many dimensions.
+/// Takes `end`, after places, or after the tree of an instance of `tree_dims` dimensions.
 ///
 /// It takes all lines that are left.
 #[derive(Drop)]

@@ -22,7 +22,7 @@ use std::alloc::Global;
 use std::marker::Model;
 use verdict_terms::Reason;
 
-// Whether the box exceeds the container in the dimension, one of the first so many.
+// Whether the box exceeds the container in the dimension, one of the first `dim_count`.
 fn test_side(instance: &Instance, dim_count: u32, box_no: u32, dim: u32) -> Result<(), Reason>
     requires { dim_count ≤ dims instance.now }
     ensures { (claim : PlainClaim)
@@ -74,7 +74,7 @@ fn test_line(
     test_token(instance, dim_count, &token)
 }
 
-/// Takes the token that a box exceeds the container in one of the first so many dimensions.
+/// Takes the token that a box exceeds the container in one of the first `dim_count` dimensions.
 ///
 /// It takes lines up to the token.
 #[derive(Drop)]

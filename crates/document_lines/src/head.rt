@@ -191,6 +191,20 @@ impl HeadReader {
         }
     }
 
+    /// The heading was taken: it names this job, and no line of the instance text was taken.
+    pub fn behind_heading(alloc: Global, heading: Heading, job: SolvingJob) -> HeadReader
+        ensures { result
+            ≡ record { stage = Reading heading job no_parts; takes = true; behind = None } }
+    {
+        HeadReader {
+            alloc,
+            heading,
+            job: Some(job),
+            reader: InstanceReader::new(alloc),
+            claimed: None,
+        }
+    }
+
     /// What the result line claims, if it was read.
     pub fn into_claimed(self) -> Option<Claimed>
         ensures claimed { IsClaimedAs self.stage self.takes result }

@@ -9,7 +9,7 @@ use instance_text::LineLexer;
 use line_cursor::is_same;
 use verdict_terms::Reason;
 
-/// The numbers behind a first word, of which there have to be so many, at most five.
+/// The `count` numbers after a first word, at most five.
 pub(crate) fn read_numbers(
     line: &LineLexer,
     key: &[u8],

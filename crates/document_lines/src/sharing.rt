@@ -108,7 +108,7 @@ impl<'a> Model for ShareReader<'a> {
 }
 
 impl<'a> ShareReader<'a> {
-    /// No line was taken; the boxes are in so many bins.
+    /// No line was taken; the boxes are in `bin_count` bins.
     pub fn new(
         alloc: Global,
         instance: &'a Instance,

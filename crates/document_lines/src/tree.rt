@@ -103,7 +103,7 @@ impl<C: TreeChecker> Model for TreeReader<C> {
 }
 
 impl<C: TreeChecker> TreeReader<C> {
-    /// `proof` is wanted, and then a tree of an instance of so many dimensions.
+    /// `proof` is wanted, and then a tree of an instance of `dims` dimensions.
     pub fn at_proof(alloc: Global, claim: Claim, dims: u32, checker: C) -> TreeReader<C>
         requires least { 2 ≤ dims }
         requires most { dims ≤ 4 }
@@ -125,7 +125,7 @@ impl<C: TreeChecker> TreeReader<C> {
         }
     }
 
-    /// The tree of an instance of so many dimensions is wanted.
+    /// The tree of an instance of `dims` dimensions is wanted.
     pub fn at_tokens(alloc: Global, claim: Claim, dims: u32, checker: C) -> TreeReader<C>
         requires least { 2 ≤ dims }
         requires most { dims ≤ 4 }

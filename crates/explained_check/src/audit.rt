@@ -24,7 +24,7 @@ pub enum ExplainedAudit {
     NoMemory,
 }
 
-/// The end of the bytes behind so many lines, where a line is wanted.
+/// The end of the bytes after `lines` lines, where a line is wanted.
 pub(crate) fn short(lines: u64) -> ExplainedAudit
     requires { lines < 2 ^ 63 }
     ensures { result ≡ ExplainedAudit.Refused (lines + 1) TooShort }

@@ -10,8 +10,8 @@ use explained_documents::DocumentKind;
 use instance_text::LineLexer;
 use line_cursor::{Cursor, is_word};
 
-// The kind of a document with this first line.
-fn kind_of_line(line: &LineLexer) -> DocumentKind
+/// The kind of a document whose first line that isn't blank is this one.
+pub fn kind_of_line(line: &LineLexer) -> DocumentKind
     ensures { result ≡ kind_of_line (ended_line line.now.held) }
 {
     if line.bad_byte() {

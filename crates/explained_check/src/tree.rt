@@ -100,7 +100,7 @@ fn end_line(alloc: Global, dims: u32, line: &LineLexer) -> Result<(), ExplainedR
     }
 }
 
-/// Reads `end`, behind the tree of an instance of so many dimensions, and what is left behind it.
+/// Reads `end`, after the tree of an instance of `dims` dimensions, and what is left after it.
 pub(crate) fn read_end(alloc: Global, bytes: &[u8], at: &mut Cursor, dims: u32) -> ExplainedAudit
     requires at { IsAmong bytes.now at.old }
     requires least { 2 ≤ dims }

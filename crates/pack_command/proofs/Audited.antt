@@ -6,7 +6,8 @@ use Rattle.packing_terms.specs.Packing.{PlainInstance}
 use Rattle.document_terms.specs.declared.claim.Claim.{Claim}
 use Rattle.answer_terms.specs.declared.job.DocumentJob.{DocumentJob}
 use Rattle.text_terms.specs.declared.settings.Settings.{Settings}
-use Rattle.pack_streams.specs.Moves.{Gains}
+use Rattle.std.specs.Io.KnownBytes.{IsAtEnd}
+use Rattle.pack_streams.specs.Moves.{Gives, Gains}
 use Rattle.verdict_terms.specs.declared.heading.Heading.TheVariants.{Reduced, Bounded}
 use Rattle.verdict_terms.specs.Documents.{Refusal, reduced_verdict, reduced_verdict_line, bounded_verdict}
 use Rattle.verdict_terms.specs.Documents.{bounded_verdict_line}
@@ -36,18 +37,25 @@ use Rattle.answer_streams.specs.declared.audited_fronts.FrontAudited.TheVariants
 use Rattle.answer_streams.specs.declared.audited_fronts.FrontAudited.TheVariants.{Refused as RefusedFront}
 use Rattle.answer_streams.specs.Verdicts.{plain_verdict, verdict_status}
 use Rattle.answer_streams.specs.Audited.{ReducedVerdictOf, BoundedVerdictOf, ExplainedVerdictOf, FrontVerdictOf}
-use Rattle.answer_streams.specs.Audited.{verdict_of_kind, audit_verdict, audit_status, IsTrueVerdict}
+use Rattle.answer_streams.specs.Audited.{verdict_of_kind, audit_verdict, audit_status, audit_line, IsTrueVerdict}
 use Rattle.answer_streams.specs.Audited.{IsExplainedAs, IsFrontToldAs, IsToldAs}
 use Rattle.answer_streams.proofs.Lined.{front_line}
 use Rattle.pack_command.specs.Asked.{AsksToSolve, AsksTask, AsksNothing, IsLongReading}
 use Rattle.pack_command.specs.Audits.{IsAuditClaimed}
-use Rattle.pack_command.specs.Readings.{DocumentTask, Audits, ComesTo, IsReadingDone, IsWithoutReading, IsExactlyRead}
+use Rattle.pack_command.specs.Checks.{HasVerdictUnder}
+use Rattle.pack_command.specs.Inputs.{most_read_bytes}
+use Rattle.pack_command.specs.ByLines.{AreByLines, IsBoundedTaken}
+use Rattle.pack_command.specs.Readings.{DocumentTask, Audits, Explains, ComesTo, IsDocumentTaken, IsUntaken, AreFew}
+use Rattle.pack_command.specs.Readings.{ArePast, IsReadingDone, IsWithoutReading, IsExactlyRead}
 use Rattle.pack_command.specs.Ends.{IsDone, IsUndone}
 use Rattle.pack_command.specs.Run.{IsStopped}
 use Rattle.pack_command.specs.declared.stop.Stop.{Stop}
 use Rattle.pack_command.specs.declared.stop.Stop.TheVariants.{Words, TooLong, Text, Dimensions, ReadFault, WriteFault}
 use Rattle.pack_command.specs.declared.stop.Stop.TheVariants.{NoMemory}
-use Rattle.pack_command.proofs.Written.{taken_all}
+use Rattle.pack_command.proofs.Written.{taken_all, taken_within}
+use Rattle.pack_command.proofs.Checked.{told_rest, reached_under}
+use Rattle.pack_command.proofs.ByLines.{never_long, none_taken}
+use Rattle.document_openings.proofs.Telling.{lines_go_on}
 use Rattle.pack_command.proofs.Generating.{no_task, task_solves, task_checks, same_task}
 use Rattle.pack_command.proofs.OneJob.{front_tasks, proposed_tasks}
 
@@ -94,21 +102,60 @@ module _ (words : List (String Global)) (old new sunk_old sunk_new : Option (Lis
   reading_undone task stop asks (inr (inr (inr (inr (inr p))))) =
       absurd (proposed_tasks words p.0.0 p.0.1 task p.0.2 asks)
 
-  -- more bytes than are read have no text
-  pub long_read : (task : DocumentTask) (status : ℕ) → IsLongReading words old
-      → IsReadingDone task old new sunk_old sunk_new status → ⊥
-  long_read task status l a =
-      let same : a.bytes ≡ l.bytes = taken_all old new a.bytes l.bytes l.told (a.input).taken (a.input).ended in
-      let few = (a.input).within in
-      let past = l.past in
-      omega (arith, ap length same, few, past)
+-- ---- how much is read
+
+-- a document that isn't too long for the job isn't refused as such
+pub few_enough : (task : DocumentTask) (old new : Option (List ℕ)) (bytes : List ℕ) → old ≡ Some bytes
+    → AreFew task bytes → IsUntaken task old new TooLong → ⊥
+few_enough Audits old new bytes is few unread = never_long old new bytes is few unread
+few_enough Explains old new bytes is few (taken, gives, past, most) =
+    let l = taken_within old new taken bytes is gives in
+    omega (arith, l, past, few)
+
+-- more bytes than are read have no text
+pub past_taken : (task : DocumentTask) (old new : Option (List ℕ)) (bytes : List ℕ) → old ≡ Some bytes
+    → ArePast task bytes → (taken : List ℕ) → IsDocumentTaken task old new taken → ⊥
+past_taken Audits old new bytes is past taken input = none_taken old new bytes is past taken input
+past_taken Explains old new bytes is past taken input =
+    let same = taken_all old new taken bytes is input.taken input.ended in
+    let few = input.within in
+    omega (arith, ap length same, past, few)
+
+pub long_read : (words : List (String Global)) (old new sunk_old sunk_new : Option (List ℕ)) (status : ℕ)
+    → (l : IsLongReading words old) → IsReadingDone l.task old new sunk_old sunk_new status → ⊥
+long_read words old new sunk_old sunk_new status l a = past_taken l.task old new l.bytes l.told l.past a.bytes a.input
+
+-- ---- what all bytes come to
+
+-- the verdict on the bytes taken is that on all
+same_verdict : (old new : Option (List ℕ)) (bytes taken : List ℕ) → old ≡ Some bytes → IsBoundedTaken old new taken
+    → audit_verdict taken ≡ audit_verdict bytes
+same_verdict old new bytes taken is some =
+    let rest = told_rest old new taken bytes is some.taken in
+    let all : AreByLines bytes = subst AreByLines (sym rest.1) (lines_go_on most_read_bytes taken rest.0 some.lines) in
+    let same : bounded_verdict bytes ≡ bounded_verdict taken =
+    reached_under Bounded old new taken bytes (bounded_verdict taken) is some.taken some.enough in
+    ap (λ k. verdict_of_kind k taken) some.lines.kind ∙ ap BoundedVerdictOf (sym same)
+    ∙ ap (λ k. verdict_of_kind k bytes) (sym all.kind)
+
+same_text : (task : DocumentTask) (old new : Option (List ℕ)) (bytes taken : List ℕ) (status : ℕ) (text : List ℕ)
+    → old ≡ Some bytes → IsDocumentTaken task old new taken → ComesTo task taken status text
+    → ComesTo task bytes status text
+same_text Audits old new bytes taken status text is (inl (held, whole)) comes =
+    subst (λ b. ComesTo Audits b status text) (taken_all old new taken bytes is whole.taken whole.ended) comes
+same_text Audits old new bytes taken status text is (inr some) comes =
+    subst (λ v. (status ≡ audit_status v) × (text ≡ audit_line v)) (same_verdict old new bytes taken is some) comes
+same_text Explains old new bytes taken status text is whole comes =
+    subst (λ b. ComesTo Explains b status text) (taken_all old new taken bytes is whole.taken whole.ended) comes
 
 pub exactly_read : (task : DocumentTask) (old new sunk_old sunk_new : Option (List ℕ)) (status : ℕ) (bytes : List ℕ)
     → old ≡ Some bytes
     → IsReadingDone task old new sunk_old sunk_new status → IsExactlyRead task bytes sunk_old sunk_new status
-exactly_read task old new sunk_old sunk_new status bytes is a =
-    let same : a.bytes ≡ bytes = taken_all old new a.bytes bytes is (a.input).taken (a.input).ended in
-    record { text = a.text; comes = subst (λ b. ComesTo task b status a.text) same a.comes; written = a.written }
+exactly_read task old new sunk_old sunk_new status bytes is a = record {
+  text = a.text;
+  comes = same_text task old new bytes a.bytes status a.text is a.input a.comes;
+  written = a.written;
+}
 
 -- what is verified is true
 true_verdict : (bytes : List ℕ) (kind : DocumentKind) → audit_status (verdict_of_kind kind bytes) ≡ 0
@@ -147,15 +194,33 @@ true_verdict bytes OfFront zero = go (front_document_verdict bytes) refl zero
         record { verdict = is; document = fronts_have_form bytes r is; limits = t.0; plane = t.1; front = t.2 }
     go (Err refusal) is bad = absurd (cc (bad))
 
+-- what is verified was taken to its end
+taken_whole : (old new : Option (List ℕ)) (bytes : List ℕ) → audit_status (audit_verdict bytes) ≡ 0
+    → IsDocumentTaken Audits old new bytes → Gives old new bytes × IsAtEnd new
+taken_whole old new bytes zero (inl (held, whole)) = (whole.taken, whole.ended)
+taken_whole old new bytes zero (inr some) = (
+  some.taken,
+  go (bounded_verdict bytes) (ap (λ k. audit_status (verdict_of_kind k bytes)) (sym some.lines.kind) ∙ zero)
+      some.enough,
+)
+  where
+    go : (verdict : Result Claim Refusal) → verdict_status verdict ≡ 0 → HasVerdictUnder Bounded new bytes verdict
+        → IsAtEnd new
+    go (Ok claim) ok reached = reached.2
+    go (Err refusal) bad reached = absurd (cc (bad))
+
 pub audited_claimed : (old new sunk_old sunk_new : Option (List ℕ)) (status : ℕ) → status ≡ 0
     → IsReadingDone Audits old new sunk_old sunk_new status → IsAuditClaimed old new sunk_old sunk_new
-audited_claimed old new sunk_old sunk_new status zero a = record {
-  bytes = a.bytes;
-  taken = (a.input).taken;
-  ended = (a.input).ended;
-  holds = true_verdict a.bytes (document_kind a.bytes) (sym a.comes.0 ∙ zero);
-  line = subst (λ t. Gains sunk_old sunk_new t) a.comes.1 a.written;
-}
+audited_claimed old new sunk_old sunk_new status zero a =
+    let verified : audit_status (audit_verdict a.bytes) ≡ 0 = sym a.comes.0 ∙ zero in
+    let whole = taken_whole old new a.bytes verified a.input in
+    record {
+      bytes = a.bytes;
+      taken = whole.0;
+      ended = whole.1;
+      holds = true_verdict a.bytes (document_kind a.bytes) verified;
+      line = subst (λ t. Gains sunk_old sunk_new t) a.comes.1 a.written;
+    }
 
 -- ---- how a verdict is told
 

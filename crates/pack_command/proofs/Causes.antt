@@ -24,9 +24,8 @@ use Rattle.answer_streams.specs.Verdicts.{verdict_status}
 use Rattle.pack_command.proofs.Written.{taken_all, taken_within}
 use Rattle.pack_command.proofs.Stopped.{never_stops}
 use Rattle.pack_command.proofs.Checked.{one_job, solved_done, solved_undone, found_within}
-use Rattle.pack_command.specs.Readings.{DocumentTask, IsWholeDocument, IsWithoutReading}
-use Rattle.pack_command.specs.Inputs.{most_read_bytes}
-use Rattle.pack_command.proofs.Audited.{reading_done, reading_undone, long_read}
+use Rattle.pack_command.specs.Readings.{DocumentTask, IsWithoutReading}
+use Rattle.pack_command.proofs.Audited.{reading_done, reading_undone, few_enough, past_taken, long_read}
 use Rattle.pack_command.proofs.OneJob.{front_checks, proposed_checks}
 use Rattle.pack_command.proofs.Fronted.{fronted_done, fronted_undone, front_never_stops, long_fronted, faulty_fronted}
 use Rattle.pack_command.proofs.Fronted.{other_fronted, front_long_ends, front_faulty_ends, front_other_ends}
@@ -229,11 +228,7 @@ module _ (words : List (String Global)) (old new sunk_old sunk_new : Option (Lis
       go : (stop : Stop) → IsWithoutReading task old new sunk_old sunk_new stop ⊎ (stop ≡ NoMemory) → IsFault stop
       go stop (inr e) = subst IsFault (sym e) tt
       go Words (inl w) = absurd w
-      go TooLong (inl w) =
-          let (taken, gives, past, most) = w.0 in
-          let l = taken_within old new taken bytes s.told gives in
-          let few = s.within in
-          absurd (omega (arith, l, past, few))
+      go TooLong (inl w) = absurd (few_enough task old new bytes s.told s.within w.0)
       go (Text fault) (inl w) = absurd w
       go Dimensions (inl w) = absurd w
       go ReadFault (inl w) = tt
@@ -308,7 +303,7 @@ module _ (words : List (String Global)) (old new sunk_old sunk_new : Option (Lis
       long_fronted words old new sunk_old sunk_new status l
       (fronted_done words old new sunk_old sunk_new status l.settings l.asks done)
   refusable_done TooLong (inr (inr (inl l))) status done =
-      long_read words old new sunk_old sunk_new l.task status l
+      long_read words old new sunk_old sunk_new status l
       (reading_done words old new sunk_old sunk_new l.task status l.asks done)
   refusable_done TooLong (inr (inl l)) status (inl w) =
       one_job words w.answered.job w.answered.settings w.answered.asked l.asks
@@ -386,23 +381,17 @@ module _ (words : List (String Global)) (old new sunk_old sunk_new : Option (Lis
   long_document_ends l WriteFault (inl w) = absurd (found_within old new l.bytes l.told l.past l.none w.verdict w.found)
   long_document_ends l NoMemory (inl w) = inr (inr refl)
 
-  long_reading_ends : (task : DocumentTask) → IsLongReading words old → (end : Stop)
-      → IsWithoutReading task old new sunk_old sunk_new end ⊎ (end ≡ NoMemory) → EndsFor TooLong end
-  long_reading_ends task l end (inr e) = inr (inr e)
-  long_reading_ends task l Words (inl w) = absurd w
-  long_reading_ends task l TooLong (inl w) = inl refl
-  long_reading_ends task l (Text fault) (inl w) = absurd w
-  long_reading_ends task l Dimensions (inl w) = absurd w
-  long_reading_ends task l ReadFault (inl w) = inr (inl refl)
-  long_reading_ends task l WriteFault (inl w) = absurd (read_within l.bytes l.told l.past w.bytes w.input)
-    where
-      read_within : (told : List ℕ) → old ≡ Some told → most_read_bytes < length told → (bytes : List ℕ)
-          → IsWholeDocument old new bytes → ⊥
-      read_within told is past bytes input =
-          let same : bytes ≡ told = taken_all old new bytes told is input.taken input.ended in
-          let few = input.within in
-          omega (arith, ap length same, few, past)
-  long_reading_ends task l NoMemory (inl w) = inr (inr refl)
+  long_reading_ends : (l : IsLongReading words old) → (end : Stop)
+      → IsWithoutReading l.task old new sunk_old sunk_new end ⊎ (end ≡ NoMemory) → EndsFor TooLong end
+  long_reading_ends l end (inr e) = inr (inr e)
+  long_reading_ends l Words (inl w) = absurd w
+  long_reading_ends l TooLong (inl w) = inl refl
+  long_reading_ends l (Text fault) (inl w) = absurd w
+  long_reading_ends l Dimensions (inl w) = absurd w
+  long_reading_ends l ReadFault (inl w) = inr (inl refl)
+  long_reading_ends l WriteFault (inl w) =
+      absurd (past_taken l.task old new l.bytes l.told l.past w.bytes w.input)
+  long_reading_ends l NoMemory (inl w) = inr (inr refl)
 
   faulty_ends : (fault : TextFault) → IsFaultyText words old fault → (end : Stop)
       → IsStopped words old new sunk_old sunk_new end → EndsFor (Text fault) end
@@ -436,7 +425,7 @@ module _ (words : List (String Global)) (old new sunk_old sunk_new : Option (Lis
       front_long_ends words old new sunk_old sunk_new l end
       (fronted_undone words old new sunk_old sunk_new end l.settings l.asks undone)
   refusable_ends TooLong (inr (inr (inl l))) end undone =
-      long_reading_ends l.task l end (reading_undone words old new sunk_old sunk_new l.task end l.asks undone)
+      long_reading_ends l end (reading_undone words old new sunk_old sunk_new l.task end l.asks undone)
   refusable_ends (Text fault) (inr (inr l)) end undone =
       proposed_faulty_ends words old new sunk_old sunk_new fault l end
       (proposed_undone words old new sunk_old sunk_new end l.job l.settings l.asks undone)

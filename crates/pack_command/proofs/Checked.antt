@@ -9,18 +9,19 @@ use Rattle.pack_words.specs.declared.job.JobWords.{JobWords}
 use Rattle.pack_words.proofs.Walking.{some_inj}
 use Rattle.text_terms.specs.declared.settings.Settings.{Settings}
 use Rattle.verdict_terms.specs.declared.heading.Heading.TheVariants.{Answer}
-use Rattle.verdict_terms.specs.Documents.{Refusal, document_verdict, verdict_line}
+use Rattle.verdict_terms.specs.declared.heading.Heading.{Heading}
+use Rattle.verdict_terms.specs.Documents.{Refusal, headed_verdict, document_verdict, verdict_line}
 use Rattle.verdict_terms.specs.Form.{IsDocument}
 use Rattle.verdict_terms.proofs.Stays.{refusals_stay}
 use Rattle.verdict_terms.proofs.FormGiven.{documents_have_form}
 use Rattle.verdict_terms.proofs.True.{documents_are_true}
-use Rattle.verdict_terms.specs.Fed.{NoneRefused}
-use Rattle.document_lines.specs.Reading.{AreBytesEnough}
+use Rattle.verdict_terms.specs.Fed.{NoneRefused, NoneRefusedUnder}
+use Rattle.document_lines.specs.Reading.{AreEnoughUnder}
 use Rattle.document_check.specs.Checked.{most_document_bytes}
 use Rattle.pack_command.specs.declared.stop.Stop.{Stop}
 use Rattle.pack_command.specs.Asked.{document_job, AsksToSolve, AsksCheck}
 use Rattle.answer_streams.specs.Verdicts.{verdict_status}
-use Rattle.pack_command.specs.Checks.{HasVerdict, IsVerdictFound, IsVerdictWritten, IsExactly, IsClaimed}
+use Rattle.pack_command.specs.Checks.{HasVerdictUnder, IsVerdictFound, IsVerdictWritten, IsExactly, IsClaimed}
 use Rattle.pack_command.specs.Ends.{IsDone, IsUndone}
 use Rattle.pack_command.specs.Run.{IsWritten, IsStopped}
 use Rattle.pack_command.proofs.Written.{taken_all}
@@ -85,61 +86,67 @@ judged_done words old new sunk_old sunk_new status asks (inr (inr (inr (inr (inr
     absurd (proposed_checks words p.job p.settings p.answered.asked asks)
 
 -- what was taken, and the rest of the bytes
-told_rest : (old left : Option (List ℕ)) (taken bytes : List ℕ) → old ≡ Some bytes → Gives old left taken
+pub told_rest : (old left : Option (List ℕ)) (taken bytes : List ℕ) → old ≡ Some bytes → Gives old left taken
     → (rest : List ℕ) × (bytes ≡ taken ++ rest)
 told_rest old None taken bytes is gives = absurd (cc (is, gives))
 told_rest old (Some rest) taken bytes is gives = (rest, some_inj (sym is ∙ gives))
 
 -- the verdict that was reached is that of all bytes
-reached_verdict : (old left : Option (List ℕ)) (taken bytes : List ℕ) (verdict : Result Claim Refusal)
-    → old ≡ Some bytes → Gives old left taken
-    → HasVerdict left taken verdict → document_verdict bytes ≡ verdict
-reached_verdict old left taken bytes (Ok claim) is gives reached =
-    ap document_verdict (sym (taken_all old left taken bytes is gives reached.2)) ∙ reached.0
-reached_verdict old left taken bytes (Err refusal) is gives reached = by_enough reached.2
+pub reached_under : (heading : Heading) (old left : Option (List ℕ)) (taken bytes : List ℕ)
+    (verdict : Result Claim Refusal) → old ≡ Some bytes → Gives old left taken
+    → HasVerdictUnder heading left taken verdict → headed_verdict heading bytes ≡ verdict
+reached_under heading old left taken bytes (Ok claim) is gives reached =
+    ap (headed_verdict heading) (sym (taken_all old left taken bytes is gives reached.2)) ∙ reached.0
+reached_under heading old left taken bytes (Err refusal) is gives reached = by_enough reached.2
   where
-    by_enough : AreBytesEnough left taken refusal → document_verdict bytes ≡ Err refusal
+    by_enough : AreEnoughUnder heading left taken refusal → headed_verdict heading bytes ≡ Err refusal
     by_enough (inl ends) =
         let rest = told_rest old left taken bytes is gives in
-        ap document_verdict rest.1 ∙ refusals_stay Answer taken rest.0 refusal reached.0 ends
-    by_enough (inr whole) = ap document_verdict (sym (taken_all old left taken bytes is gives whole.0)) ∙ reached.0
+        ap (headed_verdict heading) rest.1 ∙ refusals_stay heading taken rest.0 refusal reached.0 ends
+    by_enough (inr whole) =
+        ap (headed_verdict heading) (sym (taken_all old left taken bytes is gives whole.0)) ∙ reached.0
 
 pub judged_exactly : (old new sunk_old sunk_new : Option (List ℕ)) (status : ℕ) (bytes : List ℕ) → old ≡ Some bytes
     → IsVerdictWritten old new sunk_old sunk_new status → IsExactly bytes sunk_old sunk_new status
 judged_exactly old new sunk_old sunk_new status bytes is judged =
     let found = judged.found in
     let same : document_verdict bytes ≡ judged.verdict =
-    reached_verdict old new found.taken bytes judged.verdict is found.gives found.reached in
+    reached_under Answer old new found.taken bytes judged.verdict is found.gives found.reached in
     record {
       status_is = judged.status_is ∙ ap verdict_status (sym same);
       line = subst (λ v. Gains sunk_old sunk_new (verdict_line v)) (sym same) judged.line;
     }
 
 -- no verdict is reached on more bytes than are read, where no whole line within these is refused
+pub found_under : (heading : Heading) (old new : Option (List ℕ)) (bytes : List ℕ) → old ≡ Some bytes
+    → most_document_bytes < length bytes → NoneRefusedUnder heading (take most_document_bytes bytes)
+    → (taken : List ℕ) → Gives old new taken
+    → (verdict : Result Claim Refusal) → HasVerdictUnder heading new taken verdict → ⊥
+found_under heading old new bytes is past none taken gives = go
+  where
+    whole : length taken ≤ most_document_bytes → taken ≡ bytes → ⊥
+    whole few same = omega (arith, few, past, ap length same)
+
+    go : (verdict : Result Claim Refusal) → HasVerdictUnder heading new taken verdict → ⊥
+    go (Ok claim) reached = whole reached.1 (taken_all old new taken bytes is gives reached.2)
+    go (Err refusal) reached = by_enough reached.2
+      where
+        by_enough : AreEnoughUnder heading new taken refusal → ⊥
+        by_enough (inr all) = whole reached.1 (taken_all old new taken bytes is gives all.0)
+        by_enough (inl ends) =
+            let rest = told_rest old new taken bytes is gives in
+            let few : length taken ≤ most_document_bytes = reached.1 in
+            let more : ℕ = most_document_bytes - length taken in
+            let split : most_document_bytes ≡ length taken + more = omega (arith, few) in
+            none taken (take more rest.0) refusal
+            (ap (take most_document_bytes) rest.1 ∙ ap (λ n. take n (taken ++ rest.0)) split
+            ∙ take-append-add taken rest.0 more) ends reached.0
+
 pub found_within : (old new : Option (List ℕ)) (bytes : List ℕ) → old ≡ Some bytes → most_document_bytes < length bytes
     → NoneRefused (take most_document_bytes bytes) → (verdict : Result Claim Refusal)
     → IsVerdictFound old new verdict → ⊥
-found_within old new bytes is past none = go
-  where
-    whole : (taken : List ℕ) → length taken ≤ most_document_bytes → taken ≡ bytes → ⊥
-    whole taken few same = omega (arith, few, past, ap length same)
-
-    go : (verdict : Result Claim Refusal) → IsVerdictFound old new verdict → ⊥
-    go (Ok claim) found = whole found.taken found.reached.1
-        (taken_all old new found.taken bytes is found.gives found.reached.2)
-    go (Err refusal) found = by_enough found.reached.2
-      where
-        by_enough : AreBytesEnough new found.taken refusal → ⊥
-        by_enough (inr all) = whole found.taken found.reached.1
-            (taken_all old new found.taken bytes is found.gives all.0)
-        by_enough (inl ends) =
-            let rest = told_rest old new found.taken bytes is found.gives in
-            let few : length found.taken ≤ most_document_bytes = found.reached.1 in
-            let more : ℕ = most_document_bytes - length found.taken in
-            let split : most_document_bytes ≡ length found.taken + more = omega (arith, few) in
-            none found.taken (take more rest.0) refusal
-            (ap (take most_document_bytes) rest.1 ∙ ap (λ n. take n (found.taken ++ rest.0)) split
-            ∙ take-append-add found.taken rest.0 more) ends found.reached.0
+found_within old new bytes is past none verdict found =
+    found_under Answer old new bytes is past none found.taken found.gives verdict found.reached
 
 -- a verified document shows its claim, and that is true
 pub judged_claimed : (old new sunk_old sunk_new : Option (List ℕ)) (status : ℕ) → status ≡ 0

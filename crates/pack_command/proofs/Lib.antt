@@ -11,7 +11,10 @@ pub mod Stopped
 pub mod OwnWritten
 pub mod Generating
 pub mod ReducedDecided
+pub mod ByLines
 pub mod Audited
+pub mod Ended
+pub mod BoundedRead
 pub mod ExplainedAs
 pub mod OneJob
 pub mod Fronted

@@ -20,8 +20,8 @@ use Rattle.text_terms.specs.declared.settings.Settings.{Settings}
 use Rattle.verdict_terms.specs.Fed.{NoneRefused}
 use Rattle.document_check.specs.Checked.{most_document_bytes}
 use Rattle.text_terms.specs.declared.fault.TextFault.{TextFault}
-use Rattle.pack_command.specs.Inputs.{most_instance_bytes, most_read_bytes}
-use Rattle.pack_command.specs.Readings.{DocumentTask, Audits, Explains}
+use Rattle.pack_command.specs.Inputs.{most_instance_bytes}
+use Rattle.pack_command.specs.Readings.{DocumentTask, Audits, Explains, AreFew, ArePast}
 use Rattle.pack_command.specs.declared.words.Asked.{Asked}
 use Rattle.pack_command.specs.declared.words.Asked.TheVariants.{Solving, Checking, Making, Auditing, Explaining}
 use Rattle.pack_command.specs.declared.words.Asked.TheVariants.{Fronting, Proposing, Bounding}
@@ -155,7 +155,7 @@ pub record IsReading (words : List (String Global)) (left : Option (List ℕ)) (
     Type 0 where
   pub asks : AsksTask words task
   pub told : left ≡ Some bytes
-  pub within : length bytes ≤ most_read_bytes
+  pub within : AreFew task bytes
 
 -- the words ask for `audit`, or for `explain`, and the input is these bytes
 abbrev pub IsAuditing : List (String Global) → Option (List ℕ) → List ℕ → Type 0
@@ -223,7 +223,7 @@ pub record IsLongReading (words : List (String Global)) (left : Option (List ℕ
   pub asks : AsksTask words task
   pub bytes : List ℕ
   pub told : left ≡ Some bytes
-  pub past : most_read_bytes < length bytes
+  pub past : ArePast task bytes
 
 -- the words ask for a solving job, and the input has this fault
 pub record IsFaultyText (words : List (String Global)) (left : Option (List ℕ)) (fault : TextFault) : Type 0 where

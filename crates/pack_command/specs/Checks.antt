@@ -6,10 +6,12 @@ use Rattle.document_terms.specs.declared.claim.Claim.{Claim}
 use Rattle.document_terms.specs.Claims.{IsTrueOf}
 use Rattle.pack_streams.specs.Moves.{Gives, Gains}
 use Rattle.pack_streams.specs.Writing.{GainsPart}
-use Rattle.verdict_terms.specs.Documents.{Refusal, document_verdict, verdict_line}
-use Rattle.verdict_terms.specs.Fed.{NoneRefused}
+use Rattle.verdict_terms.specs.declared.heading.Heading.{Heading}
+use Rattle.verdict_terms.specs.declared.heading.Heading.TheVariants.{Answer}
+use Rattle.verdict_terms.specs.Documents.{Refusal, headed_verdict, document_verdict, verdict_line}
+use Rattle.verdict_terms.specs.Fed.{NoneRefusedUnder}
 use Rattle.verdict_terms.specs.Form.{IsDocument}
-use Rattle.document_lines.specs.Reading.{AreBytesEnough, NoneRefusedBefore}
+use Rattle.document_lines.specs.Reading.{AreEnoughUnder, NoneBeforeUnder}
 use Rattle.document_check.specs.Checked.{most_document_bytes}
 use Rattle.pack_command.specs.declared.stop.Stop.{Stop}
 use Rattle.pack_command.specs.declared.stop.Stop.TheVariants.{Words, TooLong, Text, Dimensions, ReadFault, WriteFault}
@@ -17,12 +19,17 @@ use Rattle.pack_command.specs.declared.stop.Stop.TheVariants.{NoMemory}
 use Rattle.answer_streams.specs.declared.verdict.Verdict.{Verdict}
 use Rattle.answer_streams.specs.Verdicts.{plain_verdict, verdict_status}
 
--- the bytes taken have the verdict, and are enough for it
+-- the bytes taken have the verdict of a document with this heading, and are enough for it
+abbrev pub HasVerdictUnder : Heading → Option (List ℕ) → List ℕ → Result Claim Refusal → Type 0
+HasVerdictUnder heading left taken (Ok claim) =
+    (headed_verdict heading taken ≡ Ok claim) × (length taken ≤ most_document_bytes) × IsAtEnd left
+HasVerdictUnder heading left taken (Err refusal) =
+    (headed_verdict heading taken ≡ Err refusal) × (length taken ≤ most_document_bytes)
+    × AreEnoughUnder heading left taken refusal
+
+-- the same of an answer
 abbrev pub HasVerdict : Option (List ℕ) → List ℕ → Result Claim Refusal → Type 0
-HasVerdict left taken (Ok claim) = (document_verdict taken ≡ Ok claim) × (length taken ≤ most_document_bytes)
-    × IsAtEnd left
-HasVerdict left taken (Err refusal) = (document_verdict taken ≡ Err refusal) × (length taken ≤ most_document_bytes)
-    × AreBytesEnough left taken refusal
+HasVerdict left taken verdict = HasVerdictUnder Answer left taken verdict
 
 -- a verdict was reached
 pub record IsVerdictFound (old new : Option (List ℕ)) (verdict : Result Claim Refusal) : Type 0 where
@@ -31,25 +38,35 @@ pub record IsVerdictFound (old new : Option (List ℕ)) (verdict : Result Claim 
   pub reached : HasVerdict new taken verdict
 
 -- one byte more came than is read, and no line that was whole before it is refused
-pub record IsPastLimit (old new : Option (List ℕ)) : Type 0 where
+pub record IsPastLimitUnder (heading : Heading) (old new : Option (List ℕ)) : Type 0 where
   pub taken : List ℕ
   pub gives : Gives old new taken
   pub past : length taken ≡ most_document_bytes + 1
-  pub none : NoneRefused (take most_document_bytes taken)
+  pub none : NoneRefusedUnder heading (take most_document_bytes taken)
 
 -- the input broke off, and no line that was whole before is refused
-pub record IsBrokenOff (old new : Option (List ℕ)) : Type 0 where
+pub record IsBrokenOffUnder (heading : Heading) (old new : Option (List ℕ)) : Type 0 where
   pub taken : List ℕ
   pub gives : Gives old new taken
   pub within : length taken ≤ most_document_bytes
-  pub none : NoneRefused taken
+  pub none : NoneRefusedUnder heading taken
 
 -- memory was refused, and no line that was whole before is refused
-pub record IsGivenUp (old new : Option (List ℕ)) : Type 0 where
+pub record IsGivenUpUnder (heading : Heading) (old new : Option (List ℕ)) : Type 0 where
   pub taken : List ℕ
   pub gives : Gives old new taken
   pub within : length taken ≤ most_document_bytes
-  pub none : NoneRefusedBefore taken
+  pub none : NoneBeforeUnder heading taken
+
+-- the same of an answer
+abbrev pub IsPastLimit : Option (List ℕ) → Option (List ℕ) → Type 0
+IsPastLimit old new = IsPastLimitUnder Answer old new
+
+abbrev pub IsBrokenOff : Option (List ℕ) → Option (List ℕ) → Type 0
+IsBrokenOff old new = IsBrokenOffUnder Answer old new
+
+abbrev pub IsGivenUp : Option (List ℕ) → Option (List ℕ) → Type 0
+IsGivenUp old new = IsGivenUpUnder Answer old new
 
 -- the verdict, or why there is none
 abbrev pub IsVerdict : Option (List ℕ) → Option (List ℕ) → Result Verdict Stop → Type 0

@@ -16,6 +16,7 @@ pub mod Generated
 pub mod Ends
 pub mod Own
 pub mod Reductions
+pub mod ByLines
 pub mod Audits
 pub mod Explanations
 pub mod Readings

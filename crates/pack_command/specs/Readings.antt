@@ -1,12 +1,15 @@
--- What a job promises that reads a whole document, of at most 2 ^ 24 bytes: `audit` and `explain`.
-use Rattle.std.specs.Prelude.{ℕ, ◌≡◌, ◌+◌, ◌<◌, ◌≤◌, List, length, Result, Ok, Err, Vec}
+-- What a job promises that reads a document other than an answer: `audit` and `explain`. They hold it whole, with at
+-- most 2 ^ 24 bytes, but for a bounded document, which `audit` reads line by line.
+use Rattle.std.specs.Prelude.{ℕ, ◌≡◌, ◌+◌, ◌<◌, ◌≤◌, ◌⊎◌, List, length, Result, Ok, Err, Vec}
 use Rattle.std.specs.declared.option.Option.{Option}
 use Rattle.std.specs.declared.alloc.Global.{Global}
 use Rattle.std.specs.Io.KnownBytes.{IsAtEnd}
 use Rattle.pack_streams.specs.Moves.{Gives, Gains}
 use Rattle.pack_streams.specs.Reading.{block}
 use Rattle.pack_streams.specs.Writing.{GainsPart}
-use Rattle.answer_streams.specs.Audited.{audit_verdict, audit_line, audit_status}
+use Rattle.answer_streams.specs.Audited.{audit_verdict, audit_line, audit_status, IsToldAs}
+use Rattle.answer_streams.specs.declared.audited.AuditedVerdict.{AuditedVerdict}
+use Rattle.pack_command.specs.ByLines.{AreHeld, IsBoundedTaken, IsUnaudited, AreAuditable, AreTooMany}
 use Rattle.pack_command.specs.Explanations.{IsExplainedTo}
 use Rattle.pack_command.specs.Inputs.{most_read_bytes}
 use Rattle.pack_command.specs.declared.stop.Stop.{Stop}
@@ -43,18 +46,39 @@ IsDocumentRead old new (Err (Text fault)) = ⊥
 IsDocumentRead old new (Err Dimensions) = ⊥
 IsDocumentRead old new (Err WriteFault) = ⊥
 
--- the whole input was taken, and the text that it comes to was written whole
+-- These bytes were taken, and are enough: all that the source had to give; or, of a bounded document that `audit`
+-- reads line by line, those that its verdict rests on.
+abbrev pub IsDocumentTaken : DocumentTask → Option (List ℕ) → Option (List ℕ) → List ℕ → Type 0
+IsDocumentTaken Audits old new bytes = (AreHeld bytes × IsWholeDocument old new bytes) ⊎ IsBoundedTaken old new bytes
+IsDocumentTaken Explains old new bytes = IsWholeDocument old new bytes
+
+-- why they weren't
+abbrev pub IsUntaken : DocumentTask → Option (List ℕ) → Option (List ℕ) → Stop → Type 0
+IsUntaken Audits old new stop = IsUnaudited old new stop
+IsUntaken Explains old new stop = IsDocumentRead old new (Err stop)
+
+-- not more bytes than the job reads
+abbrev pub AreFew : DocumentTask → List ℕ → Type 0
+AreFew Audits bytes = AreAuditable bytes
+AreFew Explains bytes = length bytes ≤ most_read_bytes
+
+-- more bytes than the job reads
+abbrev pub ArePast : DocumentTask → List ℕ → Type 0
+ArePast Audits bytes = AreTooMany bytes
+ArePast Explains bytes = most_read_bytes < length bytes
+
+-- enough of the input was taken, and the text that it comes to was written whole
 pub record IsReadingDone (task : DocumentTask) (old new sunk_old sunk_new : Option (List ℕ)) (status : ℕ) : Type 0 where
   pub bytes : List ℕ
-  pub input : IsWholeDocument old new bytes
+  pub input : IsDocumentTaken task old new bytes
   pub text : List ℕ
   pub comes : ComesTo task bytes status text
   pub written : Gains sunk_old sunk_new text
 
--- the whole input was taken, and a part at the front of the text was written
+-- enough of the input was taken, and a part at the front of the text was written
 pub record IsReadingCut (task : DocumentTask) (old new sunk_old sunk_new : Option (List ℕ)) : Type 0 where
   pub bytes : List ℕ
-  pub input : IsWholeDocument old new bytes
+  pub input : IsDocumentTaken task old new bytes
   pub status : ℕ
   pub text : List ℕ
   pub comes : ComesTo task bytes status text
@@ -62,10 +86,9 @@ pub record IsReadingCut (task : DocumentTask) (old new sunk_old sunk_new : Optio
 
 -- why the job ended without its text
 abbrev pub IsWithoutReading : DocumentTask → (old new sunk_old sunk_new : Option (List ℕ)) → Stop → Type 0
-IsWithoutReading task old new sunk_old sunk_new TooLong = IsDocumentRead old new (Err TooLong) × (sunk_new ≡ sunk_old)
-IsWithoutReading task old new sunk_old sunk_new ReadFault =
-    IsDocumentRead old new (Err ReadFault) × (sunk_new ≡ sunk_old)
-IsWithoutReading task old new sunk_old sunk_new NoMemory = IsDocumentRead old new (Err NoMemory) × (sunk_new ≡ sunk_old)
+IsWithoutReading task old new sunk_old sunk_new TooLong = IsUntaken task old new TooLong × (sunk_new ≡ sunk_old)
+IsWithoutReading task old new sunk_old sunk_new ReadFault = IsUntaken task old new ReadFault × (sunk_new ≡ sunk_old)
+IsWithoutReading task old new sunk_old sunk_new NoMemory = IsUntaken task old new NoMemory × (sunk_new ≡ sunk_old)
 IsWithoutReading task old new sunk_old sunk_new WriteFault = IsReadingCut task old new sunk_old sunk_new
 IsWithoutReading task old new sunk_old sunk_new Words = ⊥
 IsWithoutReading task old new sunk_old sunk_new (Text fault) = ⊥
@@ -77,3 +100,9 @@ pub record IsExactlyRead (task : DocumentTask) (bytes : List ℕ) (sunk_old sunk
   pub text : List ℕ
   pub comes : ComesTo task bytes status text
   pub written : Gains sunk_old sunk_new text
+
+-- the verdict of an audit, or why there is none
+abbrev pub IsAuditRead : Option (List ℕ) → Option (List ℕ) → Result AuditedVerdict Stop → Type 0
+IsAuditRead old new (Ok verdict) =
+    (bytes : List ℕ) × IsDocumentTaken Audits old new bytes × IsToldAs (audit_verdict bytes) verdict
+IsAuditRead old new (Err stop) = IsUnaudited old new stop

@@ -7,17 +7,21 @@ ghost use Rattle.front_verdict_terms.specs.Verdicts.{front_document_verdict};
 ghost use Rattle.answer_streams.specs.Audited.{IsExplainedAs, IsFrontToldAs, IsToldAs, audit_verdict};
 ghost use Rattle.pack_command.specs.Counts.{CountsReads, CountsWrites};
 ghost use Rattle.pack_command.specs.Inputs.{most_read_bytes};
-ghost use Rattle.pack_command.specs.Readings.{Audits, IsReadingDone, IsWithoutReading};
+ghost use Rattle.pack_command.specs.ByLines.{IsRestRead};
+ghost use Rattle.pack_command.specs.Readings.{Audits, IsAuditRead, IsReadingDone, IsWithoutReading};
 
-use crate::input::read_document;
+use crate::input::DOCUMENT_LIMIT;
 use crate::stop::Stop;
 use answer_streams::{AuditedVerdict, ExplainedVerdict, FrontAudited, Verdict, stream};
 use box_instances::NoMemory;
-use document_check::{Audit, audit_document};
+use document_check::{Audit, CheckEnd, audit_document, check_rest};
+use document_openings::{Opened, open_document};
+use document_terms::SolvingJob;
 use explained_check::{ExplainedAudit, audit_explained, document_kind};
 use explained_documents::DocumentKind;
 use front_documents::{FrontAudit, audit_front_document};
-use pack_streams::{Sink, Source};
+use instance_text::LineLexer;
+use pack_streams::{ReadStop, Sink, Source};
 use std::alloc::Global;
 use verdict_terms::Heading;
 
@@ -94,7 +98,57 @@ fn verdict_on(alloc: Global, bytes: &[u8]) -> Result<AuditedVerdict, NoMemory>
     }
 }
 
-/// Reads a document whole and writes the line of its verdict. It answers the verdict's status, or
+// The verdict on a bounded document, of which `count` bytes were taken, up to the line feed of its
+// heading. The rest is read line by line.
+fn read_bounded<S: Source>(
+    alloc: Global,
+    lexer: LineLexer,
+    count: u64,
+    input: &mut S,
+) -> Result<Verdict, Stop>
+    requires number { lexer.number ≤ count }
+    requires few { count ≤ most_read_bytes }
+    ensures { IsRestRead (S.left input.old) (S.left input.new) (S.faults input.old)
+        (S.faults input.new) lexer count result }
+{
+    match check_rest(
+        alloc,
+        Heading::Bounded,
+        SolvingJob::Knapsack,
+        lexer,
+        count,
+        input,
+    ) {
+        CheckEnd::Verified(claim) => Ok(Verdict::Verified(claim)),
+        CheckEnd::Refused { line, reason } => Ok(Verdict::Refused { line, reason }),
+        CheckEnd::TooLong => Err(Stop::TooLong),
+        CheckEnd::ReadFault => Err(Stop::ReadFault),
+        CheckEnd::NoMemory => Err(Stop::NoMemory),
+    }
+}
+
+// The verdict on the document that a source gives.
+fn read_verdict<S: Source>(alloc: Global, input: &mut S) -> Result<AuditedVerdict, Stop>
+    ensures is { IsAuditRead (S.left input.old) (S.left input.new) result }
+    ensures reads { CountsReads (S.faults input.old) (S.faults input.new) result }
+{
+    match open_document(alloc, input, DOCUMENT_LIMIT) {
+        Ok(Opened::Whole(bytes)) => match verdict_on(alloc, bytes.as_slice()) {
+            Ok(verdict) => Ok(verdict),
+            Err(_) => Err(Stop::NoMemory),
+        },
+        Ok(Opened::Begun { lexer, count }) => match read_bounded(alloc, lexer, count, input) {
+            Ok(verdict) => Ok(AuditedVerdict::Bounded(verdict)),
+            Err(stop) => Err(stop),
+        },
+        Err(ReadStop::TooLong) => Err(Stop::TooLong),
+        Err(ReadStop::ReadFault) => Err(Stop::ReadFault),
+        Err(ReadStop::NoMemory) => Err(Stop::NoMemory),
+    }
+}
+
+/// Reads a document and writes the line of its verdict: a bounded one line by line, and no byte
+/// behind the line feed of a refused line; another one whole. It answers the verdict's status, or
 /// why there is no whole line.
 pub(crate) fn audit<S: Source, K: Sink>(
     alloc: Global,
@@ -111,9 +165,9 @@ pub(crate) fn audit<S: Source, K: Sink>(
     ensures reads { CountsReads (S.faults input.old) (S.faults input.new) result }
     ensures writes { CountsWrites (K.faults out.old) (K.faults out.new) result }
 {
-    let bytes = read_document(alloc, input)?;
-    let Ok(verdict) = verdict_on(alloc, bytes.as_slice()) else {
-        return Err(Stop::NoMemory);
+    let verdict = match read_verdict(alloc, input) {
+        Ok(verdict) => verdict,
+        Err(stop) => return Err(stop),
     };
     match stream(out, &verdict) {
         Ok(()) => Ok(verdict.status()),

@@ -14,8 +14,8 @@ use std::alloc::Global;
 // The most bytes that the text of an instance may have.
 const LIMIT: usize = 1_048_576;
 
-// The most bytes that a document may have which is read whole.
-const DOCUMENT_LIMIT: usize = 16_777_216;
+/// The most bytes that a document may have which is read whole.
+pub(crate) const DOCUMENT_LIMIT: usize = 16_777_216;
 
 /// Reads the whole source as the text of an instance.
 pub(crate) fn read_input<S: Source>(alloc: Global, input: &mut S) -> Result<Instance, Stop>

@@ -12,7 +12,8 @@ pub enum Stop {
     /// The words are no job.
     Words,
     /// The input is longer than the job takes: 1,048,576 bytes of an instance text, 16,777,216 of a
-    /// document for `explain` or `audit`, and 1,099,511,627,776 of one for `check`.
+    /// document for `explain` or `audit`, and 1,099,511,627,776 of one for `check`, or of a bounded
+    /// one for `audit`.
     TooLong,
     /// The input is no instance text.
     Text(TextFault),

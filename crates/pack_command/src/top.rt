@@ -114,7 +114,8 @@ pub fn run<R: Threads + Wait + Sync, S: Source, K: Sink, E: Sink, G: Gate + Sync
     // reduced, bounded, explained or of a front, with its status, and what it verifies is true: the
     // claim of a reduced or bounded document of the instance in it, that the instance of an
     // explained one has no packing, and that the points of a front are all least sizes of its
-    // instance, or all up to the last of them, and as many as the line says.
+    // instance, or all up to the last of them, and as many as the line says. A bounded document may
+    // have as many bytes as one that `check` reads.
     ensures audits { (bytes : List ℕ) → IsAuditing words.now (S.left input.old) bytes
         → IsAnswerStatus result
         → IsExactlyRead Audits bytes (K.written out.old) (K.written out.new) result }
@@ -227,8 +228,9 @@ pub fn run<R: Threads + Wait + Sync, S: Source, K: Sink, E: Sink, G: Gate + Sync
         → ((result ≡ 2) × IsTold (E.written err.old) (E.written err.new) (E.faults err.old)
         (E.faults err.new) (message_of stop)) ⊎ ((result ≡ 4) ⊎ (result ≡ 6)) }
 
-    // With an answer the whole input was taken and the whole document was written. `check` takes
-    // the whole input or no byte behind the refused line, and writes its whole line.
+    // With an answer the whole input was taken and the whole document was written. `check`, and
+    // `audit` of a bounded document, take the whole input or no byte behind the refused line, and
+    // write their whole line.
     ensures answered { IsAnswerStatus result
         → IsDone words.now (S.left input.old) (S.left input.new) (K.written out.old)
         (K.written out.new) result

@@ -1,7 +1,9 @@
 //! `knapsack` with priced leaves, each document whole.
 use program_runs::{
     SACK, Solved, UNIT, ends, is_refused, is_solved, stops_reading, stops_writing, tells,
+    told_read_to,
 };
+use std::alloc::Global;
 use std::test::Fail;
 
 const SQUARES: &[u8] =
@@ -67,6 +69,76 @@ fn audit_verifies_the_document_and_check_refuses_it(rt: HostRuntime) -> Result<(
     let line = "verified bounded knapsack greatest 8\n";
     assert!(rt; tells(&rt, &["audit"], DOCUMENT, 0, line)?);
     assert!(rt; tells(&rt, &["check"], DOCUMENT, 1, "refused 1 form\n")?);
+    Ok(())
+}
+
+// The most bytes of a document that `audit` holds.
+const MOST_HELD: usize = 16_777_216;
+
+// `before`, a comment of `count` bytes, and `behind`.
+fn with_comment(
+    alloc: Global,
+    before: &[u8],
+    count: usize,
+    behind: &[u8],
+) -> Result<Vec<u8>, Fail> {
+    let mut bytes = Vec::new(alloc);
+    bytes.extend_from_slice(before)?;
+    bytes.push(b'#')?;
+    for _ in 0..count {
+        bytes.push(b'a')?;
+    }
+    bytes.push(b'\n')?;
+    bytes.extend_from_slice(behind)?;
+    Ok(bytes)
+}
+
+const AUDIT: &[&str] = &["audit"];
+
+const TOO_LONG: &str = "pack: input too long\n";
+
+#[test]
+fn audit_verifies_a_bounded_document_of_any_length(rt: HostRuntime) -> Result<(), Fail> {
+    let bytes = with_comment(rt.alloc(), DOCUMENT, MOST_HELD, b"")?;
+    assert!(rt;
+        tells(
+            &rt,
+            AUDIT,
+            &bytes,
+            0,
+            "verified bounded knapsack greatest 8\n"
+        )?
+    );
+    Ok(())
+}
+
+#[test]
+fn audit_refuses_another_document_past_its_limit(rt: HostRuntime) -> Result<(), Fail> {
+    let bytes = with_comment(rt.alloc(), b"reduced fit\n", MOST_HELD, b"")?;
+    assert!(rt; is_refused(&rt, AUDIT, &bytes, TOO_LONG)?);
+    Ok(())
+}
+
+#[test]
+fn audit_refuses_a_heading_past_its_limit(rt: HostRuntime) -> Result<(), Fail> {
+    let bytes = with_comment(rt.alloc(), b"", MOST_HELD, DOCUMENT)?;
+    assert!(rt; is_refused(&rt, AUDIT, &bytes, TOO_LONG)?);
+    Ok(())
+}
+
+// The third line has one number too many, and what stands behind it would be too long.
+const DAMAGED: &[u8] = b"bounded knapsack\nformat 1\ncontainer 10 10 10 10 10\nbox 6 6 value 5\n";
+
+#[test]
+fn audit_reads_no_byte_behind_a_refused_line_of_a_bounded_document(
+    rt: HostRuntime,
+) -> Result<(), Fail> {
+    let refused = "refused 3 text 2\n";
+    assert!(rt; tells(&rt, AUDIT, DAMAGED, 1, refused)?);
+    assert!(rt; told_read_to(&rt, AUDIT, DAMAGED, 51)?.is_line(1, refused));
+    for count in 0..51 {
+        assert!(rt; stops_reading(&rt, AUDIT, DAMAGED, count)?, "{count}");
+    }
     Ok(())
 }
 
