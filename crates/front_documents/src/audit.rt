@@ -14,8 +14,8 @@ use verdict_terms::Reason;
 /// What the audit of a document of a front came to.
 #[derive(Clone, Copy, Debug, PartialEq, Eq)]
 pub enum FrontAudit {
-    /// The bytes are such a document: it has so many points, and they are the front of the instance
-    /// in it where `complete` says so, else all of it up to the last of them.
+    /// The bytes are such a document with `points` points: the front of the instance in it if
+    /// `complete`, else all of it up to the last of them.
     Verified { complete: bool, points: u32 },
     /// The first refused line, counted from 1, and why.
     Refused { line: u64, reason: Reason },
@@ -23,7 +23,7 @@ pub enum FrontAudit {
     NoMemory,
 }
 
-/// The end of the bytes behind so many lines, where a line is wanted.
+/// The end of the bytes after `lines` lines, where a line is wanted.
 pub(crate) fn short(lines: u64) -> FrontAudit
     requires { lines < 2 ^ 63 }
     ensures { result ≡ FrontAudit.Refused (lines + 1) TooShort }

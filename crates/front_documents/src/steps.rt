@@ -71,7 +71,7 @@ fn read_part(
     }
 }
 
-/// Reads the lines behind the result line, which announces so many points.
+/// Reads the lines after the result line, which announces `points` points.
 pub(crate) fn read_front(
     alloc: Global,
     bytes: &[u8],

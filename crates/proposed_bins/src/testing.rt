@@ -41,14 +41,14 @@ fn places_in(alloc: Global, instance: &Instance, numbers: &[u32]) -> Result<Vec<
     Ok(places)
 }
 
-// Whether each box is in one of so many bins.
+// Whether each box is in one of `count` bins.
 fn are_below(bins: &[u32], count: u32) -> bool
     ensures { MatchBool result (All (λ b. b < count) bins.now) (¬ All (λ b. b < count) bins.now) }
 {
     bins.iter().all(|bin| *bin < count)
 }
 
-/// Whether numbers give each box one of so many bins and coordinates, such that the boxes of each
+/// Whether numbers give each box one of `count` bins and coordinates, such that the boxes of each
 /// bin are a packing. They are, of each box in order, its bin, counted from 0, and its coordinates.
 pub fn are_bin_numbers(
     alloc: Global,

@@ -139,14 +139,14 @@ pub record AreRefuting (refuted : Refuted) (lines : List (List (List ℕ))) : Ty
   pub are_lines : AreTokenLines (refuted_dims refuted) lines tokens
   pub refute : AreRefutation refuted tokens
 
--- lines of tokens with priced leaves
+-- lines of tokens of bounded refutations
 abbrev pub AreBoundedLines : ℕ → List (List (List ℕ)) → List BoundedToken → Type 0
 AreBoundedLines d [] [] = Unit {0}
 AreBoundedLines d [] (t ∷ ts) = ⊥
 AreBoundedLines d (words ∷ lines) [] = ⊥
 AreBoundedLines d (words ∷ lines) (t ∷ ts) = (bounded_token_of d words ≡ Some t) × AreBoundedLines d lines ts
 
--- lines of a refutation with priced leaves, for a value
+-- lines of a bounded refutation, for a value
 pub record AreBounding (instance : PlainInstance) (value : ℕ) (lines : List (List (List ℕ))) : Type 0 where
   pub tokens : List BoundedToken
   pub are_lines : AreBoundedLines (dims instance) lines tokens

@@ -8,7 +8,7 @@
 -- is to be refuted behind them
 --     proof             Proving: `proof` is wanted
 --     d 1 1 2           Refuting: the open nodes of the tree; Exceeding: the `t` line of `none` is wanted;
---                       Bounding: the open nodes of a tree with priced leaves, and `end` behind them
+--                       Bounding: the open nodes of a bounded refutation, and `end` behind them
 --     end               Ending: `end` is wanted, behind a tree (of so many dimensions) or behind places
 --                       Ended
 use Rattle.std.specs.Prelude.{ℕ, pred, suc, ◌*◌, ◌-◌, ◌&&◌, ◌==◌, not, cond, Bool, true, false, List, [], ◌∷◌, ◌++◌}
@@ -279,7 +279,7 @@ tree_line claim tree words =
     tree_token (is_word (codes "end") words) (token_of (tree_dims tree) words) >>= λ t. coded (tree_after tree t)
     >>= λ more. Ok (grown_tree claim more)
 
--- `end` behind a tree with priced leaves: it comes too early where a node is open
+-- `end` behind a bounded refutation: it comes too early where a node is open
 abbrev pub bounding_end : Claim → List (OpenNode BoxChoice) → Result Stage Reason
 bounding_end claim [] = Ok (Ended claim)
 bounding_end claim (n ∷ nodes) = Err TooShort

@@ -7,6 +7,6 @@ pub enum Heading {
     Answer,
     /// `reduced`, and `fit` or `strip`: the tree of an instance begins with its symmetry facts.
     Reduced,
-    /// `bounded`, and `knapsack`: leaves of the tree for a value may be priced out.
+    /// `bounded`, and `knapsack`: leaves of the tree for a value may be priced out, or exchanges.
     Bounded,
 }
