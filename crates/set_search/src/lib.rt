@@ -8,6 +8,7 @@ mod insert;
 mod kept;
 mod key;
 mod memory;
+mod pool;
 mod search;
 
 pub use answer::push_coordinates;

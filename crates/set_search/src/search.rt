@@ -13,6 +13,7 @@ ghost use Rattle.class_search.specs.Right.{IsRight};
 
 use crate::key::SetKey;
 use crate::memory::SetMemory;
+use crate::pool::{IdleSearch, SearchPool};
 use box_instances::{BoxSet, Instance, NoMemory};
 use class_search::decide_in;
 use edge_state::EdgeState;
@@ -33,6 +34,9 @@ pub const MOST_BUDGET: u64 = 10_000_000;
 /// come again and again, in one tree for bins, and in the trees of many values: what was found of a
 /// set is kept, and told again without a search, at most 65,536 sets with at most 4,194,304 numbers
 /// and tokens. Sets for which there is no memory aren't kept.
+///
+/// Of several workers, each takes a search for a task (`take`) and gives it back (`give`). It waits
+/// in the pool of this search, which outlives the task.
 #[derive(Drop)]
 pub struct SetSearch<'a> {
     whole: &'a Instance,
@@ -43,6 +47,8 @@ pub struct SetSearch<'a> {
     memory: SetMemory,
     // Room for a set with one box more, which goes out with a set that fits.
     spare: Vec<u32>,
+    // The searches of tasks that are done.
+    pool: SearchPool<'a>,
 }
 
 impl<'a> Model for SetSearch<'a> {
@@ -98,7 +104,54 @@ impl<'a> SetSearch<'a> {
             closers: Vec::new(alloc),
             memory: SetMemory::new(alloc),
             spare: Vec::new(alloc),
+            pool: SearchPool::new(alloc),
         })
+    }
+
+    // A search that goes on with these parts. Its own pool is empty.
+    fn of_idle(alloc: Global, idle: IdleSearch<'a>) -> SetSearch<'a>
+        ensures { result ≡ idle.entry }
+    {
+        SetSearch {
+            whole: idle.whole,
+            scales: idle.scales,
+            set: idle.set,
+            state: idle.state,
+            closers: idle.closers,
+            memory: idle.memory,
+            spare: idle.spare,
+            pool: SearchPool::new(alloc),
+        }
+    }
+
+    // The parts of a search whose task is done.
+    fn into_idle(self) -> IdleSearch<'a> {
+        IdleSearch {
+            whole: self.whole,
+            scales: self.scales,
+            set: self.set,
+            state: self.state,
+            closers: self.closers,
+            memory: self.memory,
+            spare: self.spare,
+        }
+    }
+
+    /// Returns a search of the same sets for a task: one of the pool, with what it has decided, or
+    /// else a new one.
+    pub fn take(&self, alloc: Global) -> Result<SetSearch<'a>, NoMemory>
+        ensures { IfOk result (λ s. s ≡ self.now) }
+    {
+        match self.pool.take(self.whole, self.scales) {
+            Some(idle) => Ok(SetSearch::of_idle(alloc, idle)),
+            None => SetSearch::new(alloc, self.whole, self.scales),
+        }
+    }
+
+    /// Puts the search of a task into the pool, where at most 64 of them wait. It is dropped instead
+    /// if the pool is full or in use, or out of memory. Nothing is promised of what the pool holds.
+    pub fn give(&self, search: SetSearch<'a>) {
+        self.pool.put(search.into_idle());
     }
 
     // Room for a set, which holds anything.
