@@ -5,6 +5,7 @@
 mod node;
 mod numbers;
 mod path;
+mod shared;
 mod tree;
 mod walk;
 

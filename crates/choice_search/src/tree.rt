@@ -104,16 +104,18 @@ impl<'a> ChoiceTree<'a> {
         )
     }
 
-    // What the tree gives under a cap.
-    fn explore_root(&self, alloc: Global, cap: u64) -> Result<Outcome, NoMemory>
-        ensures { IfOk result (λ r. plain_outcome r ≡ told cap (outcome (shape self.now))) }
-    {
-        let mut search = SetSearch::new(alloc, self.instance, self.scales)?;
-        self.explore_with(alloc, &mut search, cap)
-    }
-
     // What the tree below the child at the end of a path gives under a cap.
-    fn explore_child(&self, alloc: Global, path: &[u32], cap: u64) -> Result<Outcome, NoMemory>
+    fn explore_child(
+        &self,
+        alloc: Global,
+        search: &mut SetSearch<'_>,
+        path: &[u32],
+        cap: u64,
+    ) -> Result<Outcome, NoMemory>
+        requires search { search.old ≡ record {
+          instance = self.now.instance;
+          scales = self.now.scales;
+        } }
         requires path { 1 ≤ length path.now }
         requires reached { IsReachable (shape self.now) path.now }
         ensures { IfOk result (λ r. IfSome (node_at (Some (shape self.now)) path.now)
@@ -124,40 +126,33 @@ impl<'a> ChoiceTree<'a> {
         let last = path.len() - 1;
         let order = self.order.as_slice();
         let above = come_to(alloc, order, &path[..last])?;
-        let mut search = SetSearch::new(alloc, self.instance, self.scales)?;
         if path[last] == 0 {
-            explore_first(
-                alloc,
-                &mut search,
-                self.instance,
-                order,
-                self.value,
-                above,
-                cap,
-            )
+            explore_first(alloc, search, self.instance, order, self.value, above, cap)
         } else {
-            explore_second(
-                alloc,
-                &mut search,
-                self.instance,
-                order,
-                self.value,
-                above,
-                cap,
-            )
+            explore_second(alloc, search, self.instance, order, self.value, above, cap)
         }
     }
 
     // What the tree below the node at a path gives under a cap.
-    fn explore_node(&self, alloc: Global, path: &[u32], cap: u64) -> Result<Outcome, NoMemory>
-        requires { IsReachable (shape self.now) path.now }
+    pub(crate) fn explore_node(
+        &self,
+        alloc: Global,
+        search: &mut SetSearch<'_>,
+        path: &[u32],
+        cap: u64,
+    ) -> Result<Outcome, NoMemory>
+        requires search { search.old ≡ record {
+          instance = self.now.instance;
+          scales = self.now.scales;
+        } }
+        requires reached { IsReachable (shape self.now) path.now }
         ensures { IfOk result (λ r. IfSome (node_at (Some (shape self.now)) path.now)
             (λ node. plain_outcome r ≡ told cap (outcome node))) }
     {
         if path.is_empty() {
-            self.explore_root(alloc, cap)
+            self.explore_with(alloc, search, cap)
         } else {
-            self.explore_child(alloc, path, cap)
+            self.explore_child(alloc, search, path, cap)
         }
     }
 
@@ -173,7 +168,16 @@ impl<'a> ChoiceTree<'a> {
     }
 
     // What is told of the child at the end of a path.
-    fn tell_child(&self, alloc: Global, path: &[u32]) -> Result<Node, NoMemory>
+    fn tell_child(
+        &self,
+        alloc: Global,
+        search: &mut SetSearch<'_>,
+        path: &[u32],
+    ) -> Result<Node, NoMemory>
+        requires search { search.old ≡ record {
+          instance = self.now.instance;
+          scales = self.now.scales;
+        } }
         requires path { 1 ≤ length path.now }
         requires reached { IsReachable (shape self.now) path.now }
         ensures { IfOk result (λ r. IfSome (node_at (Some (shape self.now)) path.now)
@@ -185,10 +189,31 @@ impl<'a> ChoiceTree<'a> {
         let order = self.order.as_slice();
         let above = come_to(alloc, order, &path[..last])?;
         if path[last] == 0 {
-            let mut search = SetSearch::new(alloc, self.instance, self.scales)?;
-            tell_first(alloc, &mut search, self.instance, order, self.value, above)
+            tell_first(alloc, search, self.instance, order, self.value, above)
         } else {
             Ok(tell_second(self.instance, order, self.value, above))
+        }
+    }
+
+    // What is told of the node at a path.
+    pub(crate) fn tell_node(
+        &self,
+        alloc: Global,
+        search: &mut SetSearch<'_>,
+        path: &[u32],
+    ) -> Result<Node, NoMemory>
+        requires search { search.old ≡ record {
+          instance = self.now.instance;
+          scales = self.now.scales;
+        } }
+        requires reached { IsReachable (shape self.now) path.now }
+        ensures { IfOk result (λ r. IfSome (node_at (Some (shape self.now)) path.now)
+            (λ node. plain_node r ≡ node_told node)) }
+    {
+        if path.is_empty() {
+            Ok(self.tell_root())
+        } else {
+            self.tell_child(alloc, search, path)
         }
     }
 }
@@ -220,7 +245,8 @@ impl<'a> Tree for ChoiceTree<'a> {
     {
         // For the proof alone: tells the limits of the instance.
         let _limits = self.instance.len();
-        self.explore_node(alloc, path, cap)
+        let mut search = SetSearch::new(alloc, self.instance, self.scales)?;
+        self.explore_node(alloc, &mut search, path, cap)
     }
 
     /// Whether the node at a path is a split, with its token, its own count and its 2 children; or
@@ -230,11 +256,8 @@ impl<'a> Tree for ChoiceTree<'a> {
         ensures { IfOk result (λ r. IfSome (node_at (Some (shape self.now)) path.now)
             (λ node. plain_node r ≡ node_told node)) }
     {
-        if path.is_empty() {
-            Ok(self.tell_root())
-        } else {
-            self.tell_child(alloc, path)
-        }
+        let mut search = SetSearch::new(alloc, self.instance, self.scales)?;
+        self.tell_node(alloc, &mut search, path)
     }
 
     /// Whether both trees have the same instance, the same value and the same choice of scales.

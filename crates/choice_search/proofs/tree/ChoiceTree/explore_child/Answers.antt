@@ -24,6 +24,7 @@ come_to-requires c =
 pub explore_first-requires-clause-above : goal.explore_first-requires-clause-above
 explore_first-requires-clause-above c =
     let e = c.self.view_is in
+    let s = rw (← e) at c.requires.search in
     let t : PlainChoiceTree = record {
       instance = c.self.inside.instance.now;
       goal = c.self.inside.value;
@@ -34,11 +35,12 @@ explore_first-requires-clause-above c =
     let k = c.in_ok-above.ensures.taken
     ∙ ap (λ us. taken_along [] us (take (length c.args.path.now - 1) c.args.path.now))
     (c.as_slice-order.ensures.value ∙ c.self.invariant) in
-    rw (c.in_ok-search.ensures, c.in_ok-above.ensures.decided, k) h.above
+    rw (s, c.in_ok-above.ensures.decided, k) h.above
 
 pub returns-then-path-last-eq0 : goal.returns-then-path-last-eq0
 returns-then-path-last-eq0 c =
     let e = c.self.view_is in
+    let s = rw (← e) at c.requires.search in
     let t : PlainChoiceTree = record {
       instance = c.self.inside.instance.now;
       goal = c.self.inside.value;
@@ -49,7 +51,7 @@ returns-then-path-last-eq0 c =
     let k = c.in_ok-above.ensures.taken
     ∙ ap (λ us. taken_along [] us (take (length c.args.path.now - 1) c.args.path.now))
     (c.as_slice-order.ensures.value ∙ c.self.invariant) in
-    let q = rw (c.in_ok-search.ensures, c.in_ok-above.ensures.decided, k) at c.explore_first.ensures in
+    let q = rw (s, c.in_ok-above.ensures.decided, k) at c.explore_first.ensures in
     let n = at_first t c.len-limits.ensures.limits (length (take (length c.args.path.now - 1) c.args.path.now))
     (taken_along [] (ranked t.instance) (take (length c.args.path.now - 1) c.args.path.now))
     (get_or c.args.path.now (length c.args.path.now - 1) 0) (node_at (Some (shape t)) c.args.path.now) h
@@ -61,6 +63,7 @@ returns-then-path-last-eq0 c =
 pub explore_second-requires-clause-above : goal.explore_second-requires-clause-above
 explore_second-requires-clause-above c =
     let e = c.self.view_is in
+    let s = rw (← e) at c.requires.search in
     let t : PlainChoiceTree = record {
       instance = c.self.inside.instance.now;
       goal = c.self.inside.value;
@@ -71,11 +74,12 @@ explore_second-requires-clause-above c =
     let k = c.in_ok-above.ensures.taken
     ∙ ap (λ us. taken_along [] us (take (length c.args.path.now - 1) c.args.path.now))
     (c.as_slice-order.ensures.value ∙ c.self.invariant) in
-    rw (c.in_ok-search.ensures, c.in_ok-above.ensures.decided, k) h.above
+    rw (s, c.in_ok-above.ensures.decided, k) h.above
 
-pub returns : goal.returns
-returns c =
+pub returns-else-path-last-eq0 : goal.returns-else-path-last-eq0
+returns-else-path-last-eq0 c =
     let e = c.self.view_is in
+    let s = rw (← e) at c.requires.search in
     let t : PlainChoiceTree = record {
       instance = c.self.inside.instance.now;
       goal = c.self.inside.value;
@@ -86,7 +90,7 @@ returns c =
     let k = c.in_ok-above.ensures.taken
     ∙ ap (λ us. taken_along [] us (take (length c.args.path.now - 1) c.args.path.now))
     (c.as_slice-order.ensures.value ∙ c.self.invariant) in
-    let q = rw (c.in_ok-search.ensures, c.in_ok-above.ensures.decided, k) at c.explore_second.ensures in
+    let q = rw (s, c.in_ok-above.ensures.decided, k) at c.explore_second.ensures in
     let n = at_second t c.len-limits.ensures.limits (length (take (length c.args.path.now - 1) c.args.path.now))
     (taken_along [] (ranked t.instance) (take (length c.args.path.now - 1) c.args.path.now))
     (get_or c.args.path.now (length c.args.path.now - 1) 0) (node_at (Some (shape t)) c.args.path.now) h

@@ -26,6 +26,7 @@ come_to-requires c =
 pub tell_first-requires-clause-above : goal.tell_first-requires-clause-above
 tell_first-requires-clause-above c =
     let e = c.self.view_is in
+    let s = rw (← e) at c.requires.search in
     let t : PlainChoiceTree = record {
       instance = c.self.inside.instance.now;
       goal = c.self.inside.value;
@@ -36,7 +37,7 @@ tell_first-requires-clause-above c =
     let k = c.in_ok-above.ensures.taken
     ∙ ap (λ us. taken_along [] us (take (length c.args.path.now - 1) c.args.path.now))
     (c.as_slice-order.ensures.value ∙ c.self.invariant) in
-    rw (c.in_ok-search.ensures, c.in_ok-above.ensures.decided, k) h.above
+    rw (s, c.in_ok-above.ensures.decided, k) h.above
 
 pub tell_second-requires-clause-there : goal.tell_second-requires-clause-there
 tell_second-requires-clause-there c =
@@ -79,9 +80,10 @@ tell_second-requires-clause-taken c =
     (c.as_slice-order.ensures.value ∙ c.self.invariant) in
     rw k h.above.chosen.boxes
 
-pub returns-in_ok-search : goal.returns-in_ok-search
-returns-in_ok-search c =
+pub returns-then-path-last-eq0 : goal.returns-then-path-last-eq0
+returns-then-path-last-eq0 c =
     let e = c.self.view_is in
+    let s = rw (← e) at c.requires.search in
     let t : PlainChoiceTree = record {
       instance = c.self.inside.instance.now;
       goal = c.self.inside.value;
@@ -92,7 +94,7 @@ returns-in_ok-search c =
     let k = c.in_ok-above.ensures.taken
     ∙ ap (λ us. taken_along [] us (take (length c.args.path.now - 1) c.args.path.now))
     (c.as_slice-order.ensures.value ∙ c.self.invariant) in
-    let q = rw (c.in_ok-search.ensures, c.in_ok-above.ensures.decided, k) at c.tell_first.ensures in
+    let q = rw (s, c.in_ok-above.ensures.decided, k) at c.tell_first.ensures in
     let n = at_first t c.len-limits.ensures.limits (length (take (length c.args.path.now - 1) c.args.path.now))
     (taken_along [] (ranked t.instance) (take (length c.args.path.now - 1) c.args.path.now))
     (get_or c.args.path.now (length c.args.path.now - 1) 0) (node_at (Some (shape t)) c.args.path.now) h
