@@ -7,6 +7,7 @@ mod node;
 mod numbers;
 mod path;
 mod root;
+mod shared;
 mod tree;
 mod walk;
 

@@ -106,14 +106,6 @@ impl<'a> BinTree<'a> {
         enter(alloc, search, self.instance, order, self.bins, root, 0, cap)
     }
 
-    // What the tree gives under a cap.
-    fn explore_root(&self, alloc: Global, cap: u64) -> Result<Outcome, NoMemory>
-        ensures { IfOk result (λ r. plain_outcome r ≡ told cap (outcome (shape self.now))) }
-    {
-        let mut search = SetSearch::new(alloc, self.instance, self.scales)?;
-        self.explore_with(alloc, &mut search, cap)
-    }
-
     // The last step of a path that isn't empty.
     fn step_to(&self, alloc: Global, path: &[u32]) -> Result<Step, NoMemory>
         requires path { 1 ≤ length path.now }
@@ -127,7 +119,17 @@ impl<'a> BinTree<'a> {
     }
 
     // What the tree below the child at the end of a path gives under a cap.
-    fn explore_child(&self, alloc: Global, path: &[u32], cap: u64) -> Result<Outcome, NoMemory>
+    fn explore_child(
+        &self,
+        alloc: Global,
+        search: &mut SetSearch<'_>,
+        path: &[u32],
+        cap: u64,
+    ) -> Result<Outcome, NoMemory>
+        requires search { search.old ≡ record {
+          instance = self.now.instance;
+          scales = self.now.scales;
+        } }
         requires path { 1 ≤ length path.now }
         requires reached { IsReachable (shape self.now) path.now }
         ensures { IfOk result (λ r. IfSome (node_at (Some (shape self.now)) path.now)
@@ -136,29 +138,30 @@ impl<'a> BinTree<'a> {
         // For the proof alone: tells the limits of the instance.
         let _limits = self.instance.len();
         let step = self.step_to(alloc, path)?;
-        let mut search = SetSearch::new(alloc, self.instance, self.scales)?;
         let order = self.order.as_slice();
-        explore_step(
-            alloc,
-            &mut search,
-            self.instance,
-            order,
-            self.bins,
-            step,
-            cap,
-        )
+        explore_step(alloc, search, self.instance, order, self.bins, step, cap)
     }
 
     // What the tree below the node at a path gives under a cap.
-    fn explore_node(&self, alloc: Global, path: &[u32], cap: u64) -> Result<Outcome, NoMemory>
-        requires { IsReachable (shape self.now) path.now }
+    pub(crate) fn explore_node(
+        &self,
+        alloc: Global,
+        search: &mut SetSearch<'_>,
+        path: &[u32],
+        cap: u64,
+    ) -> Result<Outcome, NoMemory>
+        requires search { search.old ≡ record {
+          instance = self.now.instance;
+          scales = self.now.scales;
+        } }
+        requires reached { IsReachable (shape self.now) path.now }
         ensures { IfOk result (λ r. IfSome (node_at (Some (shape self.now)) path.now)
             (λ node. plain_outcome r ≡ told cap (outcome node))) }
     {
         if path.is_empty() {
-            self.explore_root(alloc, cap)
+            self.explore_with(alloc, search, cap)
         } else {
-            self.explore_child(alloc, path, cap)
+            self.explore_child(alloc, search, path, cap)
         }
     }
 
@@ -178,7 +181,16 @@ impl<'a> BinTree<'a> {
     }
 
     // What is told of the child at the end of a path.
-    fn tell_child(&self, alloc: Global, path: &[u32]) -> Result<Node, NoMemory>
+    fn tell_child(
+        &self,
+        alloc: Global,
+        search: &mut SetSearch<'_>,
+        path: &[u32],
+    ) -> Result<Node, NoMemory>
+        requires search { search.old ≡ record {
+          instance = self.now.instance;
+          scales = self.now.scales;
+        } }
         requires path { 1 ≤ length path.now }
         requires reached { IsReachable (shape self.now) path.now }
         ensures { IfOk result (λ r. IfSome (node_at (Some (shape self.now)) path.now)
@@ -187,9 +199,30 @@ impl<'a> BinTree<'a> {
         // For the proof alone: tells the limits of the instance.
         let _limits = self.instance.len();
         let step = self.step_to(alloc, path)?;
-        let mut search = SetSearch::new(alloc, self.instance, self.scales)?;
         let order = self.order.as_slice();
-        tell_step(alloc, &mut search, self.instance, order, self.bins, step)
+        tell_step(alloc, search, self.instance, order, self.bins, step)
+    }
+
+    // What is told of the node at a path.
+    pub(crate) fn tell_node(
+        &self,
+        alloc: Global,
+        search: &mut SetSearch<'_>,
+        path: &[u32],
+    ) -> Result<Node, NoMemory>
+        requires search { search.old ≡ record {
+          instance = self.now.instance;
+          scales = self.now.scales;
+        } }
+        requires reached { IsReachable (shape self.now) path.now }
+        ensures { IfOk result (λ r. IfSome (node_at (Some (shape self.now)) path.now)
+            (λ node. plain_node r ≡ node_told node)) }
+    {
+        if path.is_empty() {
+            Ok(self.tell_root(alloc))
+        } else {
+            self.tell_child(alloc, search, path)
+        }
     }
 }
 
@@ -220,7 +253,8 @@ impl<'a> Tree for BinTree<'a> {
     {
         // For the proof alone: tells the limits of the instance.
         let _limits = self.instance.len();
-        self.explore_node(alloc, path, cap)
+        let mut search = SetSearch::new(alloc, self.instance, self.scales)?;
+        self.explore_node(alloc, &mut search, path, cap)
     }
 
     /// Whether the node at a path is a split, with its token, its own count and the number of its
@@ -230,11 +264,8 @@ impl<'a> Tree for BinTree<'a> {
         ensures { IfOk result (λ r. IfSome (node_at (Some (shape self.now)) path.now)
             (λ node. plain_node r ≡ node_told node)) }
     {
-        if path.is_empty() {
-            Ok(self.tell_root(alloc))
-        } else {
-            self.tell_child(alloc, path)
-        }
+        let mut search = SetSearch::new(alloc, self.instance, self.scales)?;
+        self.tell_node(alloc, &mut search, path)
     }
 
     /// Whether both trees have the same instance, as many bins and the same choice of scales.

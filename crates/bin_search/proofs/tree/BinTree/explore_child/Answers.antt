@@ -8,7 +8,8 @@ pub returns : goal.returns
 returns c =
     let e = c.self.view_is in
     let h = rw (← e) at c.in_ok-step.ensures in
-    let q = rw c.in_ok-search.ensures at c.explore_step.ensures in
+    let s = rw (← e) at c.requires.search in
+    let q = rw s at c.explore_step.ensures in
     rw (← e) (IfOk-weaker c.explore_step.result _ _
     (λ r g. subst (λ (x : Option SearchTree). IfSome x (λ node. plain_outcome r ≡ told c.args.cap (outcome node)))
     (sym h.is) g) q)

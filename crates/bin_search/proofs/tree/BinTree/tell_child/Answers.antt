@@ -9,6 +9,7 @@ pub returns : goal.returns
 returns c =
     let e = c.self.view_is in
     let h = rw (← e) at c.in_ok-step.ensures in
-    let q = rw c.in_ok-search.ensures at c.tell_step.ensures in
+    let s = rw (← e) at c.requires.search in
+    let q = rw s at c.tell_step.ensures in
     rw (← e) (IfOk-weaker c.tell_step.result _ _
     (λ r g. subst (λ (x : Option SearchTree). IfSome x (λ node. plain_node r ≡ node_told node)) (sym h.is) g) q)
