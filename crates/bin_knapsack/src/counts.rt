@@ -2,42 +2,17 @@
 ghost use Rattle.std.specs.Prelude.{◌≡◌, ◌≤◌, IfOk};
 ghost use Rattle.packing_terms.specs.Packing.{box_count};
 ghost use Rattle.packing_terms.specs.Scales.{SidesFit};
-ghost use Rattle.tree_terms.specs.Trees.{outcome, told};
 ghost use Rattle.tree_terms.specs.RunEnds.{bin_answer};
-ghost use Rattle.work_share.specs.Outcomes.{plain_outcome};
 ghost use Rattle.level_search.specs.Runs.{plain_level};
-ghost use Rattle.bin_search.specs.Trees.{shape};
 
 use bin_search::BinTree;
 use box_instances::{Instance, NoMemory};
 use level_search::{Level, level_of};
-use proof_tree::Outcome;
 use set_search::SetSearch;
 use std::alloc::Global;
 use std::sync::Wait;
 use std::thread::Threads;
-use work_share::{Gate, Settings, solve_shared};
-
-// What a tree gives under the budget. One worker decides sets with what is kept from number to
-// number.
-fn explore<R: Threads + Wait + Sync, G: Gate + Sync>(
-    rt: &R,
-    alloc: Global,
-    search: &mut SetSearch<'_>,
-    tree: &BinTree<'_>,
-    settings: &Settings,
-    gate: &G,
-) -> Result<Outcome, NoMemory>
-    requires { search.old ≡ record { instance = tree.now.instance; scales = tree.now.scales } }
-    ensures same { search.new ≡ search.old }
-    ensures outcome { IfOk result
-        (λ r. plain_outcome r ≡ told settings.now.budget (outcome (shape tree.now))) }
-{
-    if settings.workers <= 1 {
-        return tree.explore_with(alloc, search, settings.budget);
-    }
-    solve_shared(rt, alloc, tree, settings, gate)
-}
+use work_share::{Gate, Settings};
 
 /// The answer for a number of bins of an instance none of whose boxes is longer than the container.
 pub fn decide_bins<R: Threads + Wait + Sync, G: Gate + Sync>(
@@ -60,6 +35,6 @@ pub fn decide_bins<R: Threads + Wait + Sync, G: Gate + Sync>(
     // For the proof alone: tells the limits of the instance.
     let _limits = instance.len();
     let tree = BinTree::new(alloc, instance, bins, settings.scales)?;
-    let outcome = explore(rt, alloc, search, &tree, settings, gate)?;
+    let outcome = tree.solve_with(rt, alloc, search, settings, gate)?;
     Ok(level_of(outcome))
 }
