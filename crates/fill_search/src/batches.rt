@@ -1,52 +1,62 @@
-//! Batches of rounds of swaps that know nothing of one another.
+//! Batches of rounds of swaps that know nothing of one another, so that several threads can make
+//! them.
 //!
 //! Each round has its own start and its own drawn numbers, those of its number. Behind a batch the
 //! best packing, of equal ones that of the round with the least number, is where the even rounds of
-//! the next batch begin.
+//! the next batch begin. So what is found doesn't depend on the number of threads.
 
-use crate::orders::{Draws, start_orders};
-use crate::slots::side;
-use crate::swaps::{Aim, Incumbent, Style, Swaps};
-use crate::turned::{Turned, all_turns_of};
+use crate::orders::start_orders;
+use crate::rounds::{Goal, Plan, ROUNDS, Round, WIDE};
+use crate::swaps::Incumbent;
+use crate::turned::Turned;
 use box_instances::{Instance, NoMemory};
-use loose_lists::at;
 use std::alloc::Global;
-
-// The number of rounds of a batch.
-const ROUNDS: u64 = 8;
-
-// A window that all boxes stand in, and a narrow one.
-const WIDE: u32 = 1_000;
-
-const NARROW: u32 = 3;
+use std::thread;
+use std::thread::Threads;
 
 /// The memory of a search by batches.
 #[derive(Drop)]
 pub struct Batches {
-    turns: Vec<Turned>,
-    swaps: Swaps,
+    // One for each round that is made at once.
+    rounds: Vec<Round>,
     starts: Vec<Vec<u32>>,
-    // Where the rounds of a batch begin, and the best of them so far.
+    // Where the rounds of a batch begin.
     from: Incumbent,
     /// The best packing of all batches.
     pub best: Incumbent,
-    // What a round writes.
-    found: Incumbent,
+}
+
+// A copy of the weights.
+fn copy_of(alloc: Global, weights: &[u64]) -> Result<Vec<u64>, NoMemory> {
+    let mut copy = Vec::new(alloc);
+    match copy.extend_from_slice(weights) {
+        Ok(()) => Ok(copy),
+        Err(_) => Err(NoMemory),
+    }
 }
 
 impl Batches {
-    /// Memory for a search with one weight for each box, or `NoMemory`.
-    pub fn new(alloc: Global, instance: &Instance, weights: Vec<u64>) -> Result<Batches, NoMemory> {
+    /// Memory for a search with one weight for each box by up to `workers` threads, or `NoMemory`.
+    pub fn new(
+        alloc: Global,
+        instance: &Instance,
+        weights: &[u64],
+        workers: u32,
+    ) -> Result<Batches, NoMemory> {
         let (dims, count) = (instance.dims(), instance.len());
-        let turns = all_turns_of(alloc, instance)?;
         let upright = Turned::new(alloc, instance, dims - 1, false)?;
+        let mut rounds = Vec::new(alloc);
+        for _ in 0..workers.clamp(1, ROUNDS as u32) {
+            let round = Round::new(alloc, instance, copy_of(alloc, weights)?)?;
+            let Ok(()) = rounds.push(round) else {
+                return Err(NoMemory);
+            };
+        }
         Ok(Batches {
-            turns,
-            swaps: Swaps::new(alloc, dims, weights)?,
+            rounds,
             starts: start_orders(alloc, &upright)?,
             from: Incumbent::new(alloc, dims, count)?,
             best: Incumbent::new(alloc, dims, count)?,
-            found: Incumbent::new(alloc, dims, count)?,
         })
     }
 
@@ -58,133 +68,102 @@ impl Batches {
         Ok(())
     }
 
-    // Begins a round: an even one behind the first batch at the best packing before it, changed a
-    // little, any other at an order by sizes, changed more behind the first batch.
-    fn begin(&mut self, batch: u64, kind: u64) {
-        let number = batch.saturating_mul(ROUNDS).saturating_add(kind);
-        self.swaps.draws = Draws::numbered(number);
-        let count = self.from.order.len().min(128) as u32;
-        if batch > 0 && kind % 2 == 0 {
-            self.swaps.begin(&self.from.order, count / 12 + 1);
-            return;
-        }
-        let starts = self.starts.len() as u64;
-        let index = (batch.saturating_mul(4).saturating_add(kind) % starts.max(1)) as usize;
-        if index < self.starts.len() {
-            let swaps = if batch > 0 { count / 4 } else { 0 };
-            self.swaps.begin(&self.starts[index], swaps);
+    // Takes the packing that a round found for the best one if it costs less.
+    fn compare(&mut self, index: usize) {
+        if index < self.rounds.len() && self.rounds[index].found.cost < self.best.cost {
+            self.best.copy(&self.rounds[index].found);
         }
     }
 
-    // Swaps in a direction until the found packing costs no more than `enough`. It answers how many
-    // fills are left.
-    fn swap(&mut self, direction: usize, style: Style, fills: u64, enough: u64) -> u64 {
-        if direction >= self.turns.len() {
+    // Makes the rounds of a batch from the first one on, as many as there is memory for, each in a
+    // thread of its own. Answers how many.
+    fn run_rounds<R: Threads + Sync>(
+        &mut self,
+        rt: &R,
+        instance: &Instance,
+        plan: Plan,
+        first: usize,
+    ) -> usize {
+        let count = self.rounds.len().min(ROUNDS.saturating_sub(first));
+        if count == 0 {
             return 0;
         }
-        let turned = &self.turns[direction];
-        self.swaps
-            .run(turned, style, fills, enough, &mut self.found)
+        let (from, starts) = (&self.from, self.starts.as_slice());
+        thread::for_each_mut(
+            rt,
+            &mut self.rounds[..count],
+            count,
+            &|k, round| { round.run(instance, from, starts, plan, first.saturating_add(k) as u64) },
+        );
+        count
     }
 
-    // How high the found packing reaches in the last dimension.
-    fn reach(&self, instance: &Instance) -> u64 {
-        let (dims, up) = (instance.dims() as usize, instance.dims() - 1);
-        let mut reach = 0u64;
-        for v in 0..instance.len() {
-            let index = (v as usize)
-                .saturating_mul(dims)
-                .saturating_add(up as usize);
-            let start = u64::from(at(&self.found.places, index));
-            let end = start.saturating_add(u64::from(side(instance, v, up)));
-            reach = reach.max(end);
-        }
-        reach
-    }
-
-    // Takes the found packing for the best one if it costs less.
-    fn compare(&mut self) {
-        if self.found.cost < self.best.cost {
-            self.best.copy(&self.found);
+    // Runs a batch. It ends once the best packing costs no more than enough.
+    fn run<R: Threads + Sync>(&mut self, rt: &R, instance: &Instance, plan: Plan) {
+        self.from.copy(&self.best);
+        let mut first = 0usize;
+        for _ in 0..ROUNDS {
+            if self.best.cost <= plan.enough {
+                return;
+            }
+            let count = self.run_rounds(rt, instance, plan, first);
+            for k in 0..count {
+                if self.best.cost <= plan.enough {
+                    return;
+                }
+                self.compare(k);
+            }
+            first = first.saturating_add(count);
         }
     }
 
     /// Runs batch number `batch`: rounds of `fills` fills each that make the weight small that is
     /// left out. It ends once the best packing costs no more than `enough`. `are_volumes` says that
     /// the weights are volumes.
-    pub fn leave_out(&mut self, batch: u64, are_volumes: bool, fills: u64, enough: u64) {
-        self.from.copy(&self.best);
-        let turns = (self.turns.len() as u64).max(1);
-        for kind in 0..ROUNDS {
-            if self.best.cost <= enough {
-                return;
-            }
-            self.begin(batch, kind);
-            self.found.copy(&self.from);
-            let style = Style {
-                aim: Aim::Weight,
-                window: if kind % 4 == 3 { NARROW } else { WIDE },
-                are_volumes,
-            };
-            let direction = (batch.saturating_mul(4).saturating_add(kind) / 2 % turns) as usize;
-            self.swap(direction, style, fills, enough);
-            self.compare();
-        }
-    }
-
-    // A round that fills the container below the found height, as often as that becomes less.
-    fn lower(
+    pub fn leave_out<R: Threads + Sync>(
         &mut self,
+        rt: &R,
         instance: &Instance,
-        direction: usize,
-        window: u32,
+        batch: u64,
+        are_volumes: bool,
         fills: u64,
         enough: u64,
     ) {
-        let up = instance.dims() - 1;
-        let style = Style {
-            aim: Aim::Weight,
-            window,
-            are_volumes: true,
+        let plan = Plan {
+            batch,
+            fills,
+            enough,
+            goal: Goal::Weight { are_volumes },
         };
-        let mut height = self.found.cost;
-        let mut left = fills;
-        for _ in 0..fills {
-            if left == 0 || height <= enough {
-                break;
-            }
-            if direction < self.turns.len() {
-                let side = height.saturating_sub(1).min(u64::from(u32::MAX)) as u32;
-                self.turns[direction].limit(up, side);
-            }
-            self.found.cost = 1;
-            left = self.swap(direction, style, left, 0);
-            if self.found.cost > 0 {
-                break;
-            }
-            height = self.reach(instance);
-        }
-        self.found.cost = height;
+        self.run(rt, instance, plan);
     }
 
-    // Begins at the start with an index as it is.
-    fn begin_at(&mut self, index: usize) {
-        if index < self.starts.len() {
-            self.swaps.begin(&self.starts[index], 0);
-        }
+    /// Runs batch number `batch`: rounds of `fills` fills each that make the height small. It ends
+    /// once that is no more than `enough`.
+    pub fn make_low<R: Threads + Sync>(
+        &mut self,
+        rt: &R,
+        instance: &Instance,
+        batch: u64,
+        fills: u64,
+        enough: u64,
+    ) {
+        let plan = Plan {
+            batch,
+            fills,
+            enough,
+            goal: Goal::Height,
+        };
+        self.run(rt, instance, plan);
     }
 
     // The packing of one fill from a start, without regard to the last side.
     fn fill_once(&mut self, index: usize, direction: usize, window: u32) {
-        let style = Style {
-            aim: Aim::Height,
-            window,
-            are_volumes: false,
-        };
-        self.begin_at(index);
-        self.found.copy(&self.best);
-        self.swap(direction, style, 1, 0);
-        self.compare();
+        if index < self.starts.len() && !self.rounds.is_empty() {
+            let order = self.starts[index].as_slice();
+            self.rounds[0].fill_once(&self.best, order, direction, window);
+            self.compare(0);
+        }
     }
 
     /// Makes a plain fill from each start, in several ways, without regard to the last side.
@@ -198,34 +177,6 @@ impl Batches {
             } else {
                 self.fill_once(index, 1, WIDE);
             }
-        }
-    }
-
-    /// Runs batch number `batch`: rounds of `fills` fills each that make the height small. It ends
-    /// once that is no more than `enough`.
-    pub fn make_low(&mut self, instance: &Instance, batch: u64, fills: u64, enough: u64) {
-        self.from.copy(&self.best);
-        let is_flat = instance.dims() == 2;
-        let turns = (self.turns.len() as u64).max(1);
-        for kind in 0..ROUNDS {
-            if self.best.cost <= enough {
-                return;
-            }
-            self.begin(batch, kind);
-            self.found.copy(&self.from);
-            if is_flat && kind < 4 {
-                let style = Style {
-                    aim: Aim::Height,
-                    window: WIDE,
-                    are_volumes: false,
-                };
-                self.swap(0, style, fills, enough);
-            } else {
-                let window = if kind == 5 || kind == 6 { NARROW } else { WIDE };
-                let direction = (batch.saturating_mul(4).saturating_add(kind / 2) % turns) as usize;
-                self.lower(instance, direction, window, fills, enough);
-            }
-            self.compare();
         }
     }
 }

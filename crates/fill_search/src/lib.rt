@@ -7,6 +7,7 @@ mod batches;
 mod corner_fill;
 mod fills;
 mod orders;
+mod rounds;
 mod skyline;
 mod skyline_fill;
 mod slots;

@@ -30,10 +30,11 @@ pub fn segment_at(line: &[Segment], index: usize) -> Segment {
 
 /// The index of the lowest segment, of several the leftmost; 0 if there is none.
 pub fn lowest(line: &[Segment]) -> usize {
-    let mut best = 0;
-    for k in 1..line.len() {
-        if line[k].height < segment_at(line, best).height {
+    let (mut best, mut height) = (0, u32::MAX);
+    for (k, here) in line.iter().enumerate() {
+        if here.height < height {
             best = k;
+            height = here.height;
         }
     }
     best
@@ -165,21 +166,20 @@ impl Skyline {
 
     // Removes a segment.
     fn remove(&mut self, index: usize) {
-        for k in index..self.count {
-            let next = self.at(k.saturating_add(1));
-            self.set(k, next);
+        let count = self.count.min(self.segments.len());
+        if index < count {
+            self.segments.copy_within(index + 1..count, index);
+            self.count = count - 1;
         }
-        self.count = self.count.saturating_sub(1);
     }
 
     // Inserts a segment before the one at an index.
     fn insert(&mut self, index: usize, segment: Segment) {
-        let mut moved = segment;
-        self.count = self.count.saturating_add(1);
-        for k in index..self.count {
-            let here = self.at(k);
-            self.set(k, moved);
-            moved = here;
+        let count = self.count;
+        if index <= count && count < self.segments.len() {
+            self.segments.copy_within(index..count, index + 1);
+            self.segments[index] = segment;
+            self.count = count + 1;
         }
     }
 

@@ -138,8 +138,8 @@ impl SkylineFill {
         let mut best = None;
         let mut best_score = 0;
         let mut seen = 0u32;
-        for k in 0..self.count {
-            let next = self.waiting_at(k);
+        let count = self.count.min(self.waiting.len());
+        for (k, next) in self.waiting[..count].iter().enumerate() {
             if next.width > gap.width || next.height > room {
                 continue;
             }

@@ -34,6 +34,14 @@ pub struct Style {
     pub are_volumes: bool,
 }
 
+impl Style {
+    // Whether boxes that are left out move forward. In three and four dimensions swaps alone place
+    // all boxes of three strips 1 % lower.
+    fn moves_forward(self, turned: &Turned) -> bool {
+        self.aim == Aim::Weight && (turned.dims == 2 || !self.are_volumes)
+    }
+}
+
 /// The best packing found so far, the order that it comes from, and its cost.
 #[derive(Drop)]
 pub struct Incumbent {
@@ -179,12 +187,12 @@ impl Swaps {
         position
     }
 
-    // Changes the order: two times of three where boxes are left out one of them moves forward,
-    // else two boxes swap their positions.
-    fn change(&mut self, is_out: bool) -> Change {
+    // Changes the order: two boxes swap their positions; or, two times of three where boxes may move
+    // forward, one that was left out does.
+    fn change(&mut self, is_forward: bool) -> Change {
         let count = self.order.len().min(128) as u32;
         let second = self.draw(count);
-        if is_out && self.draw(3) > 0 {
+        if is_forward && self.draw(3) > 0 {
             let first = self.drawn_position(count);
             let (to, from) = (second.min(first) as usize, second.max(first) as usize);
             self.move_forward(to, from);
@@ -242,6 +250,7 @@ impl Swaps {
         best: &mut Incumbent,
     ) -> u64 {
         let lost = Lost::new(turned, style);
+        let is_forward = style.moves_forward(turned);
         let mut cost = u64::MAX;
         for done in 0..fills {
             if best.cost <= enough {
@@ -250,7 +259,7 @@ impl Swaps {
             let change = if cost == u64::MAX {
                 Change::Nothing
             } else {
-                self.change(style.aim == Aim::Weight)
+                self.change(is_forward)
             };
             let next = self.cost(turned, style, lost.most(cost));
             if next < best.cost {
