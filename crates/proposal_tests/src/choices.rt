@@ -145,7 +145,7 @@ fn is_worth_nothing<R: Threads + Wait + Sync>(
     alloc: Global,
     instance: &Instance,
 ) -> Result<bool, Fail> {
-    let is_none = propose_choice(alloc, instance, 1)?.is_none();
+    let is_none = propose_choice(rt, alloc, instance, 1, 1)?.is_none();
     let ample = settings(1, 100_000);
     Ok(is_none && proposes(rt, alloc, instance, &ample, Told::Greatest(0))?)
 }
@@ -158,8 +158,8 @@ fn where_no_box_fits_nothing_is_worth_more(rt: HostRuntime) -> Result<(), Fail> 
 }
 
 // Whether what is proposed for the four boxes, three of them and six coordinates, is a choice.
-fn passes(alloc: Global, instance: &Instance) -> Result<bool, Fail> {
-    let Some(choice) = propose_choice(alloc, instance, 1)? else {
+fn passes<R: Threads + Sync>(rt: &R, alloc: Global, instance: &Instance) -> Result<bool, Fail> {
+    let Some(choice) = propose_choice(rt, alloc, instance, 1, 1)? else {
         return Ok(false);
     };
     if choice.taken.len() != 3 || choice.places.len() != 6 {
@@ -193,7 +193,7 @@ fn each_is_told(alloc: Global, instance: &Instance) -> Result<bool, Fail> {
 #[test]
 fn a_proposed_choice_passes_its_test(rt: HostRuntime) -> Result<(), Fail> {
     let instance = four_in_ten(rt.alloc())?;
-    assert!(rt; passes(rt.alloc(), &instance)?);
+    assert!(rt; passes(&rt, rt.alloc(), &instance)?);
     Ok(())
 }
 

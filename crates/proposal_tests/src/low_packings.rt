@@ -4,18 +4,29 @@ use box_instances::Instance;
 use proposals::{propose_height, propose_packing};
 use std::alloc::Global;
 use std::test::Fail;
+use std::thread::Threads;
 
-// Whether a packing is proposed.
-fn is_placed(alloc: Global, instance: &Instance) -> Result<bool, Fail> {
-    match propose_packing(alloc, instance, 2)? {
-        Some(places) => Ok(is_packing(instance, &places)),
-        None => Ok(false),
+// Whether a packing is proposed, and the same by one worker and by two.
+fn is_placed<R: Threads + Sync>(rt: &R, alloc: Global, instance: &Instance) -> Result<bool, Fail> {
+    let alone = propose_packing(rt, alloc, instance, 2, 1)?;
+    let together = propose_packing(rt, alloc, instance, 2, 2)?;
+    match (alone, together) {
+        (Some(places), Some(same)) => {
+            Ok(is_packing(instance, &places) && places.as_slice() == same.as_slice())
+        }
+        _ => Ok(false),
     }
 }
 
 // Whether this height is proposed, from 1 to 1,000, with a packing.
-fn is_low(alloc: Global, instance: &Instance, batches: u64, height: u32) -> Result<bool, Fail> {
-    let Some(proposed) = propose_height(alloc, instance, batches, height)? else {
+fn is_low<R: Threads + Sync>(
+    rt: &R,
+    alloc: Global,
+    instance: &Instance,
+    batches: u64,
+    height: u32,
+) -> Result<bool, Fail> {
+    let Some(proposed) = propose_height(rt, alloc, instance, batches, height, 2)? else {
         return Ok(false);
     };
     if proposed.height != height || height == 0 || height > 1000 {
@@ -29,7 +40,7 @@ fn is_low(alloc: Global, instance: &Instance, batches: u64, height: u32) -> Resu
 fn swaps_pack_a_square(rt: HostRuntime) -> Result<(), Fail> {
     let boxes: &[&[u32]] = &[&[5, 2], &[2, 3], &[2, 1], &[3, 2], &[1, 1]];
     let instance = instance_of(rt.alloc(), &[5, 5], boxes)?;
-    assert!(rt; is_placed(rt.alloc(), &instance)?);
+    assert!(rt; is_placed(&rt, rt.alloc(), &instance)?);
     Ok(())
 }
 
@@ -37,7 +48,7 @@ fn swaps_pack_a_square(rt: HostRuntime) -> Result<(), Fail> {
 fn swaps_pack_blocks(rt: HostRuntime) -> Result<(), Fail> {
     let boxes: &[&[u32]] = &[&[2, 1, 1], &[2, 2, 1], &[1, 1, 1], &[1, 1, 1]];
     let instance = instance_of(rt.alloc(), &[2, 2, 2], boxes)?;
-    assert!(rt; is_placed(rt.alloc(), &instance)?);
+    assert!(rt; is_placed(&rt, rt.alloc(), &instance)?);
     Ok(())
 }
 
@@ -45,7 +56,7 @@ fn swaps_pack_blocks(rt: HostRuntime) -> Result<(), Fail> {
 #[test]
 fn boxes_with_too_much_volume_have_no_packing(rt: HostRuntime) -> Result<(), Fail> {
     let instance = instance_of(rt.alloc(), &[2, 2], &[&[2, 2], &[1, 1]])?;
-    assert!(rt; !is_placed(rt.alloc(), &instance)?);
+    assert!(rt; !is_placed(&rt, rt.alloc(), &instance)?);
     Ok(())
 }
 
@@ -54,7 +65,7 @@ fn boxes_with_too_much_volume_have_no_packing(rt: HostRuntime) -> Result<(), Fai
 fn a_pinwheel_is_packed_as_low_as_its_area(rt: HostRuntime) -> Result<(), Fail> {
     let boxes: &[&[u32]] = &[&[1, 1], &[3, 2], &[2, 3], &[3, 2], &[2, 3]];
     let instance = instance_of(rt.alloc(), &[5, 1], boxes)?;
-    assert!(rt; is_low(rt.alloc(), &instance, 2, 5)?);
+    assert!(rt; is_low(&rt, rt.alloc(), &instance, 2, 5)?);
     Ok(())
 }
 
@@ -63,6 +74,6 @@ fn a_pinwheel_is_packed_as_low_as_its_area(rt: HostRuntime) -> Result<(), Fail> 
 fn plain_fills_stack_rows(rt: HostRuntime) -> Result<(), Fail> {
     let boxes: &[&[u32]] = &[&[3, 6], &[3, 6], &[3, 6], &[3, 6]];
     let instance = instance_of(rt.alloc(), &[10, 1], boxes)?;
-    assert!(rt; is_low(rt.alloc(), &instance, 0, 12)?);
+    assert!(rt; is_low(&rt, rt.alloc(), &instance, 0, 12)?);
     Ok(())
 }
