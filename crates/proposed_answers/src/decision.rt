@@ -133,6 +133,45 @@ fn decide_open<R: Threads + Wait + Sync, G: Gate + Sync>(
 // Decides an instance by places, by the tree on a part of the budget, by a refutation, and by the
 // tree, in this order. The tree on a part of the budget is fast where it decides, and the search for
 // a refutation takes seconds where it finds none.
+fn decide_packed<R: Threads + Wait + Sync, G: Gate + Sync>(
+    rt: &R,
+    alloc: Global,
+    instance: &Instance,
+    settings: &Settings,
+    gate: &G,
+) -> Result<Outcome, NoMemory>
+    ensures right { IfOk result (λ r. IsRight instance.now [] (plain_outcome r)) }
+    ensures past { IfOk result (λ r. plain_outcome r ≡ PlainPast
+        → settings.now.budget < tree_count instance.now settings.now.scales) }
+    ensures plain { settings.now.scales ≡ false
+        → IfOk result (λ r. IsWithoutScales (plain_outcome r)) }
+{
+    // For the proof alone: tells the limits of the instance.
+    let _limits = instance.len();
+    let places = propose_packed(rt, alloc, instance, settings)?;
+    let places = wanted(instance, places, settings.scales);
+    let early = early_settings(instance, settings);
+    match decide_behind(rt, alloc, instance, places, &early, gate)? {
+        Outcome::Yes { numbers, count } => Ok(Outcome::Yes { numbers, count }),
+        Outcome::No { tokens, count } => Ok(Outcome::No { tokens, count }),
+        Outcome::Past => decide_open(rt, alloc, instance, early.budget, settings, gate),
+    }
+}
+
+// The settings of a decision by the root of the tree alone.
+fn root_settings(settings: &Settings) -> Settings
+    ensures { result.scales ≡ settings.now.scales }
+{
+    Settings {
+        workers: 1,
+        budget: 0,
+        scales: settings.scales,
+    }
+}
+
+// Decides an instance by the root of its tree, and else by proposals and the tree. The scale
+// functions refute many instances at the root, in a millisecond, where a search for places takes up
+// to seconds and finds none.
 fn decide_in_order<R: Threads + Wait + Sync, G: Gate + Sync>(
     rt: &R,
     alloc: Global,
@@ -148,18 +187,17 @@ fn decide_in_order<R: Threads + Wait + Sync, G: Gate + Sync>(
 {
     // For the proof alone: tells the limits of the instance.
     let _limits = instance.len();
-    let places = propose_packed(alloc, instance, settings.budget)?;
-    let places = wanted(instance, places, settings.scales);
-    let early = early_settings(instance, settings);
-    match decide_behind(rt, alloc, instance, places, &early, gate)? {
+    let root = root_settings(settings);
+    match decide_behind(rt, alloc, instance, Proposal::Nothing, &root, gate)? {
         Outcome::Yes { numbers, count } => Ok(Outcome::Yes { numbers, count }),
         Outcome::No { tokens, count } => Ok(Outcome::No { tokens, count }),
-        Outcome::Past => decide_open(rt, alloc, instance, early.budget, settings, gate),
+        Outcome::Past => decide_packed(rt, alloc, instance, settings, gate),
     }
 }
 
-/// Whether an instance fits, by proposals and by the class tree under the budget: by proposed
-/// places, by the tree on a part of the budget, by a proposed refutation, and by the tree.
+/// Whether an instance fits, by proposals and by the class tree under the budget: by the root of the
+/// tree, by proposed places, by the tree on a part of the budget, by a proposed refutation, and by
+/// the tree.
 ///
 /// A yes comes only with a packing, and a no only with a refutation of the instance, which has no
 /// `v` line if the settings want no scales. `Past` comes only where the class tree has more

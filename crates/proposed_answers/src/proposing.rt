@@ -2,11 +2,13 @@
 ghost use Rattle.std.specs.Prelude.{IfOk};
 ghost use Rattle.conflict_search.specs.Sizes.{IsSized};
 
-use crate::steps::{splits_within, swap_batches, tree_steps};
+use crate::steps::{packing_batches, paid_splits};
 use box_instances::{Instance, NoMemory};
 use conflict_search::{Proposal, propose_refutation};
 use proposals::{propose_packing, propose_places};
 use std::alloc::Global;
+use std::thread::Threads;
+use work_share::Settings;
 
 // The steps of the search for places in each direction: some milliseconds, and nearly all that ten
 // times as many find.
@@ -43,16 +45,18 @@ pub fn propose_within(
     propose_refutation(alloc, instance, scales, splits)
 }
 
-/// Places for an instance under a budget, by rounds of swaps or by filling gaps, or nothing.
-pub(crate) fn propose_packed(
+/// Places for an instance under the budget of the settings, by rounds of swaps or by filling gaps,
+/// or nothing.
+pub(crate) fn propose_packed<R: Threads + Sync>(
+    rt: &R,
     alloc: Global,
     instance: &Instance,
-    budget: u64,
+    settings: &Settings,
 ) -> Result<Proposal, NoMemory>
     ensures { IfOk result (IsSized instance.now) }
 {
-    let batches = swap_batches(instance, budget);
-    if let Some(places) = propose_packing(alloc, instance, batches)? {
+    let batches = packing_batches(instance, settings.budget);
+    if let Some(places) = propose_packing(rt, alloc, instance, batches, settings.workers)? {
         return Ok(Proposal::Places(places));
     }
     match propose_places(alloc, instance, PLACE_STEPS)? {
@@ -62,7 +66,7 @@ pub(crate) fn propose_packed(
 }
 
 /// A refutation of an instance under a budget, by a search with as many splits as the budget pays
-/// for, at most `most_splits`, or nothing. The search may come upon places too.
+/// for, at most `most_splits`, or nothing. The search may find places too.
 pub(crate) fn propose_refuted(
     alloc: Global,
     instance: &Instance,
@@ -71,6 +75,6 @@ pub(crate) fn propose_refuted(
 ) -> Result<Proposal, NoMemory>
     ensures { IfOk result (IsSized instance.now) }
 {
-    let paid = splits_within(instance, tree_steps(budget));
-    propose_refutation(alloc, instance, scales, paid.min(most_splits(instance)))
+    let splits = paid_splits(instance, budget).min(most_splits(instance));
+    propose_refutation(alloc, instance, scales, splits)
 }

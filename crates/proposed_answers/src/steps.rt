@@ -4,13 +4,13 @@
 use box_instances::Instance;
 
 // A branching of n boxes takes n^2 pair steps, a split of the search for a refutation seven times
-// as many, and a batch of rounds of swaps (4,000 fills in two dimensions) 1,200 times as many, in
-// three and four dimensions 4,500 times.
+// as many, and a batch of rounds of swaps (4,000 fills in two dimensions) 1,000 times as many, in
+// three and four dimensions (1,200 fills) 2,200 times.
 const SPLIT_COST: u64 = 7;
 
-const FLAT_BATCH_COST: u64 = 1_200;
+const FLAT_BATCH_COST: u64 = 1_000;
 
-const DEEP_BATCH_COST: u64 = 4_500;
+const DEEP_BATCH_COST: u64 = 2_200;
 
 // The steps in any case, for each branching of a small budget, and for each of a larger one: trees
 // and proposals of a run take 0.01 s for a budget of 0, 0.4 s for 10,000, and 12 s for 1,000,000.
@@ -37,12 +37,25 @@ const SWAP_STEPS_OF_MORE: u64 = 200;
 
 const MOST_BATCHES: u64 = 64;
 
+// In three and four dimensions packings are lower the longer swaps go on (60 boxes: 1,102 behind
+// 19,200 fills in a row, 1,083 behind 76,800), and little else narrows the gap.
+const DEEP_SWAP_STEPS_OF_MORE: u64 = 400;
+
+const MOST_DEEP_BATCHES: u64 = 128;
+
 // A batch for values takes 800 n^2 steps in any dimension, since not all boxes are placed. Over 19
 // texts of 20 to 100 boxes 40 batches place at most 2 % more than 12, and 12 at most 3 % more than
 // 4.
 const VALUE_BATCH_COST: u64 = 800;
 
 const MOST_VALUE_BATCHES: u64 = 40;
+
+// Trees and refutation searches decide hardly any question of more boxes than these (9 texts of 30
+// to 80 boxes), and packings are found the more often the longer they are searched. So `fit` then
+// has an eighth of the steps for a refutation, and those of a small budget more for swaps.
+const FEW_BOXES: u32 = 24;
+
+const PART_OF_MANY: u64 = 8;
 
 // The steps of the branchings of a budget: the first ones cost `small` steps each, each further one
 // `more`.
@@ -74,9 +87,9 @@ pub fn splits_within(instance: &Instance, steps: u64) -> u64 {
     steps / SPLIT_COST / branching_steps(instance).max(1)
 }
 
-// The steps that swaps may take under a budget.
-fn swap_steps(budget: u64) -> u64 {
-    steps_of(budget, SWAP_STEPS_OF_SMALL, SWAP_STEPS_OF_MORE).saturating_add(SWAP_STEPS)
+// The steps that swaps may take under a budget, of which each further branching pays for `more`.
+fn swap_steps(budget: u64, more: u64) -> u64 {
+    steps_of(budget, SWAP_STEPS_OF_SMALL, more).saturating_add(SWAP_STEPS)
 }
 
 // As many batches as the steps hold, each of which takes `cost` steps for the square of the boxes.
@@ -84,18 +97,52 @@ fn batches_within(instance: &Instance, steps: u64, cost: u64) -> u64 {
     steps / cost.saturating_mul(branching_steps(instance)).max(1)
 }
 
-/// The batches of rounds of swaps for a packing of all boxes under a budget, at most 64. There is
-/// none if the steps of the budget don't pay for one.
-pub fn swap_batches(instance: &Instance, budget: u64) -> u64 {
-    let cost = if instance.dims() == 2 {
-        FLAT_BATCH_COST
+// The steps that a batch of rounds of swaps takes for the square of the boxes, and those of swaps
+// under a budget.
+fn packing_steps(instance: &Instance, budget: u64) -> (u64, u64) {
+    if instance.dims() == 2 {
+        (FLAT_BATCH_COST, swap_steps(budget, SWAP_STEPS_OF_MORE))
     } else {
-        DEEP_BATCH_COST
+        (DEEP_BATCH_COST, swap_steps(budget, DEEP_SWAP_STEPS_OF_MORE))
+    }
+}
+
+/// The batches of rounds of swaps for a low packing under a budget, at most 64 in two dimensions
+/// and 128 in more. There is none if the steps of the budget don't pay for one.
+pub fn swap_batches(instance: &Instance, budget: u64) -> u64 {
+    let (cost, steps) = packing_steps(instance, budget);
+    let most = if instance.dims() == 2 {
+        MOST_BATCHES
+    } else {
+        MOST_DEEP_BATCHES
     };
-    batches_within(instance, swap_steps(budget), cost).min(MOST_BATCHES)
+    batches_within(instance, steps, cost).min(most)
+}
+
+/// The batches of rounds of swaps for a packing in the container under a budget, at most 64.
+pub(crate) fn packing_batches(instance: &Instance, budget: u64) -> u64 {
+    let (cost, steps) = packing_steps(instance, budget);
+    let more = if instance.len() > FEW_BOXES {
+        tree_steps(budget.min(SMALL_BUDGET))
+    } else {
+        0
+    };
+    batches_within(instance, steps.saturating_add(more), cost).min(MOST_BATCHES)
+}
+
+/// The splits of a search for a refutation that a budget pays for.
+pub(crate) fn paid_splits(instance: &Instance, budget: u64) -> u64 {
+    let steps = tree_steps(budget);
+    let part = if instance.len() > FEW_BOXES {
+        steps / PART_OF_MANY
+    } else {
+        steps
+    };
+    splits_within(instance, part)
 }
 
 /// The batches of rounds of swaps for a set of boxes that is worth much under a budget, at most 40.
 pub fn value_batches(instance: &Instance, budget: u64) -> u64 {
-    batches_within(instance, swap_steps(budget), VALUE_BATCH_COST).min(MOST_VALUE_BATCHES)
+    let steps = swap_steps(budget, SWAP_STEPS_OF_MORE);
+    batches_within(instance, steps, VALUE_BATCH_COST).min(MOST_VALUE_BATCHES)
 }

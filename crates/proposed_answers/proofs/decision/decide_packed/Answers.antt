@@ -5,7 +5,7 @@ use Rattle.class_search.specs.Right.{IsRight}
 use Rattle.proposed_answers.specs.Behind.{plain_proposal, IsWithoutScales}
 use Rattle.proposed_answers.proofs.Behind.{proposal_counted, outcome_right}
 use Rattle.proposed_answers.proofs.Plain.{outcome_without}
-use Rattle.proposed_answers.proofs.decision.decide_in_order.Goals as goal
+use Rattle.proposed_answers.proofs.decision.decide_packed.Goals as goal
 
 pub returns-in-Yes-clause-right : goal.returns-in-Yes-clause-right
 returns-in-Yes-clause-right g c =
