@@ -20,8 +20,8 @@ const MAX_TOKENS: u64 = 660_000;
 const GROWN_SPLITS: u64 = 60;
 
 // The most splits for a set that is worth the goal. Such a set decides the goal, so the steps of the
-// goal alone bound them: with at most 20,000, five of 62 instances stay open that take 50,000 to
-// 300,000.
+// goal alone bound them: with at most 20,000, five of 62 instances stay open whose trees have 50,000
+// to 300,000 tokens.
 const REACHED_SPLITS: u64 = 1_000_000;
 
 /// The steps of all proposed trees of a run.

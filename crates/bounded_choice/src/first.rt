@@ -11,6 +11,8 @@ use level_search::Reached;
 use proposals::propose_choice;
 use proposed_answers::value_batches;
 use std::alloc::Global;
+use std::thread::Threads;
+use work_share::Settings;
 
 // The levels of a run that begins.
 fn levels_of(first: Reached) -> ValueLevels
@@ -35,16 +37,17 @@ fn widest(alloc: Global, instance: &Instance) -> Result<ValueLevels, NoMemory>
 }
 
 /// The widest levels, with the proposed boxes if these pass their test.
-pub(crate) fn placed_first(
+pub(crate) fn placed_first<R: Threads + Sync>(
+    rt: &R,
     alloc: Global,
     instance: &Instance,
-    budget: u64,
+    settings: &Settings,
 ) -> Result<ValueLevels, NoMemory>
     ensures { IfOk result (λ l. AreLevels instance.now l) }
 {
     let widest = widest(alloc, instance)?;
-    let batches = value_batches(instance, budget);
-    let Some(proposed) = propose_choice(alloc, instance, batches)? else {
+    let batches = value_batches(instance, settings.budget);
+    let Some(proposed) = propose_choice(rt, alloc, instance, batches, settings.workers)? else {
         return Ok(widest);
     };
     match tested_value(alloc, instance, &proposed.taken, &proposed.places)? {

@@ -49,7 +49,7 @@ fn behind_proposals<R: Threads + Wait + Sync, G: Gate + Sync>(
         return proposed_base(rt, alloc, instance, settings, gate);
     }
     let mut search = GoalSearch::new(alloc, instance, settings.budget)?;
-    let first = placed_first(alloc, instance, settings.budget)?;
+    let first = placed_first(rt, alloc, instance, settings)?;
     let near = search.ask_beside(alloc, instance, first)?;
     if near.are_closed() {
         return Ok(near);

@@ -48,12 +48,13 @@ fn told(instance: &Instance, top: u64, bounds: Bounds) -> Choice
 
 // The bounds with proposed boxes, where these are worth more than the placed value and pass their
 // test.
-fn improved(
+fn improved<R: Threads + Sync>(
+    rt: &R,
     alloc: Global,
     instance: &Instance,
     top: u64,
     bounds: Bounds,
-    batches: u64,
+    settings: &Settings,
 ) -> Result<Bounds, NoMemory>
     requires top { top ≡ top_value instance.now }
     requires bounds { AreFirstBounds instance.now (plain_bounds bounds) }
@@ -62,7 +63,8 @@ fn improved(
     if bounds.next_level().is_none() {
         return Ok(bounds);
     }
-    let Some(proposed) = propose_choice(alloc, instance, batches)? else {
+    let batches = value_batches(instance, settings.budget);
+    let Some(proposed) = propose_choice(rt, alloc, instance, batches, settings.workers)? else {
         return Ok(bounds);
     };
     if !is_choice(alloc, instance, &proposed.taken, &proposed.places)? {
@@ -154,8 +156,7 @@ pub fn greatest_value_proposed<R: Threads + Wait + Sync, G: Gate + Sync>(
         settings,
         gate,
     )?;
-    let batches = value_batches(instance, settings.budget);
-    let better = improved(alloc, instance, top, near.afresh(), batches)?;
+    let better = improved(rt, alloc, instance, top, near.afresh(), settings)?;
     let nearer = lowered(alloc, instance, top, better, settings)?;
     let bounds = closed(
         rt,

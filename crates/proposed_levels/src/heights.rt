@@ -141,7 +141,8 @@ fn test_height(
 
 /// The bounds with a proposed packing, where it is lower than the placed height and passes its
 /// test.
-pub(crate) fn lowered(
+pub(crate) fn lowered<R: Threads + Sync>(
+    rt: &R,
     alloc: Global,
     instance: &Instance,
     bounds: Bounds,
@@ -153,7 +154,8 @@ pub(crate) fn lowered(
         (λ b. AreHeightBounds instance.now settings.now Effort.Root (plain_bounds b)) }
 {
     let enough = bounds.refuted.saturating_add(1).min(u64::from(u32::MAX)) as u32;
-    let Some(proposed) = propose_height(alloc, instance, batches, enough)? else {
+    let workers = settings.workers;
+    let Some(proposed) = propose_height(rt, alloc, instance, batches, enough, workers)? else {
         return Ok(bounds);
     };
     let level = u64::from(proposed.height);

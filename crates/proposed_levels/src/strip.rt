@@ -54,7 +54,7 @@ fn both_ends<R: Threads + Wait + Sync, G: Gate + Sync>(
     ensures { IfOk result
         (λ b. AreHeightBounds instance.now settings.now Effort.Root (plain_bounds b)) }
 {
-    let placed = lowered(alloc, instance, first, 0, settings)?;
+    let placed = lowered(rt, alloc, instance, first, 0, settings)?;
     let start = placed.afresh();
     let effort = Effort::Root;
     let mut purse = Purse::new(instance, settings);
@@ -63,7 +63,7 @@ fn both_ends<R: Threads + Wait + Sync, G: Gate + Sync>(
     )?;
     let ends = refuted.afresh();
     let batches = swap_batches(instance, settings.budget);
-    lowered(alloc, instance, ends, batches, settings)
+    lowered(rt, alloc, instance, ends, batches, settings)
 }
 
 // The answer from first bounds on: both ends stand, and then they are narrowed in rounds.
