@@ -141,3 +141,11 @@ module _ (instance : PlainInstance) (limits : IsInternalInstance instance) (sett
         subst (λ (k : ℕ). settings.budget < bins_count instance settings.scales (pred k)) (sym t.bins_are) p.1,
       )
   bounds_past (NoneFits v i) t = absurd t
+
+-- trees with more branchings than a budget have more than a smaller one
+pub past_within : (instance : PlainInstance) (budget more : ℕ) (scales : Bool) → budget ≤ more → (s : Bins)
+    → IsPastBeside instance more scales s → IsPastBeside instance budget scales s
+past_within instance budget more scales h (Least bins numbers tokens) p = tt
+past_within instance budget more scales h (Between refuted tokens bins numbers) p =
+    let (low, high) = p in (omega (arith, h, low), omega (arith, h, high))
+past_within instance budget more scales h (NoneFits v i) p = tt

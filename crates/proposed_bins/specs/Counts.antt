@@ -18,7 +18,7 @@ use Rattle.bin_knapsack.specs.declared.bins.Bins.TheVariants.{Least, Between, No
 abbrev pub bins_count : PlainInstance → Bool → ℕ → ℕ
 bins_count instance scales k = count_of (outcome (bin_tree instance k scales))
 
--- what is known of a number of bins that was decided in vain: that its tree has more branchings than
+-- what is known of a number of bins that was left undecided: that its tree has more branchings than
 -- the budget
 abbrev pub IsPastCount : PlainInstance → Settings → ℕ → Type 0
 IsPastCount instance settings k = settings.budget < bins_count instance settings.scales k
@@ -33,7 +33,7 @@ abbrev pub AreBinBounds : PlainInstance → Settings → PlainBounds → Type 0
 AreBinBounds instance settings =
     AreBounds (AreBinNumbers instance) (IsBinRefutation instance) (IsPastCount instance settings) (box_count instance)
 
--- the like where nothing is known of what was decided in vain
+-- the like where nothing is known of what was left undecided
 abbrev pub AreFirstBounds : PlainInstance → PlainBounds → Type 0
 AreFirstBounds instance = AreBounds (AreBinNumbers instance) (IsBinRefutation instance) (λ k. Unit {0})
     (box_count instance)

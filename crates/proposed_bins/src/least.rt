@@ -12,7 +12,7 @@ use bin_knapsack::{Bins, least_bins};
 use box_instances::{Instance, NoMemory};
 use level_bounds::{Bounds, Level};
 use proposals::propose_bins;
-use set_search::SetSearch;
+use set_search::{MOST_BUDGET, SetSearch};
 use std::alloc::Global;
 use std::sync::Wait;
 use std::thread::Threads;
@@ -29,6 +29,25 @@ fn rough(settings: &Settings) -> Settings
     Settings {
         workers: 1,
         budget: settings.budget.min(FEW_BRANCHINGS),
+        scales: settings.scales,
+    }
+}
+
+// The trees of numbers of bins may have so many times the branchings of the budget, at most the
+// greatest budget: most of their branchings are sets that come again, at some 2 microseconds each.
+// Of 8 texts that were left open one is decided (40 boxes in three dimensions, least 9), and the
+// longest of 34 takes 11 s for 2 s.
+const BIN_PART: u64 = 6;
+
+// The settings of the last decisions.
+fn ample(settings: &Settings) -> Settings
+    ensures budget { settings.now.budget ≤ result.budget }
+    ensures scales { result.scales ≡ settings.now.scales }
+{
+    let budget = settings.budget.saturating_mul(BIN_PART).min(MOST_BUDGET);
+    Settings {
+        workers: settings.workers,
+        budget: budget.max(settings.budget),
         scales: settings.scales,
     }
 }
@@ -98,7 +117,8 @@ fn narrowed<R: Threads + Wait + Sync, G: Gate + Sync>(
     let start = first.afresh();
     let near = narrow_bins(rt, alloc, &mut search, instance, start, &few, gate)?;
     let from = near.afresh();
-    let bounds = narrow_bins(rt, alloc, &mut search, instance, from, settings, gate)?;
+    let ample = ample(settings);
+    let bounds = narrow_bins(rt, alloc, &mut search, instance, from, &ample, gate)?;
     Ok(told(bounds))
 }
 
@@ -106,9 +126,9 @@ fn narrowed<R: Threads + Wait + Sync, G: Gate + Sync>(
 ///
 /// It begins at bounds that the first branchings of the bin trees give, whose roots the scale
 /// functions refute, and at proposed bins that pass their test. Each number of bins between is
-/// decided by its bin tree under the budget, from both ends on. `Between` comes only where the
-/// trees of both numbers beside the two have more branchings than the budget: the one above the
-/// refuted number and the one below the placed number. `NoneFits` comes exactly where a box is
+/// decided by its bin tree, from both ends on, with up to six times the branchings of the budget.
+/// `Between` comes only where the trees of both numbers beside the two have more branchings than the
+/// budget: the one above the refuted number and the one below the placed number. `NoneFits` comes exactly where a box is
 /// longer than the container, and names the first. Which packing, which refutation and how many
 /// numbers are decided isn't promised.
 pub fn least_bins_proposed<R: Threads + Wait + Sync, G: Gate + Sync>(
