@@ -121,7 +121,7 @@ fn passes_with(
     count: u32,
     faults: &[(usize, u32)],
 ) -> Result<Option<bool>, Fail> {
-    let Some(mut bins) = propose_bins(alloc, instance, 1)? else {
+    let Some(mut bins) = propose_bins(alloc, instance, 1, 10_000)? else {
         return Ok(None);
     };
     if bins.count != 2 || bins.numbers.len() != 12 || instance.len() != 4 || instance.dims() != 2 {

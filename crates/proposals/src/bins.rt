@@ -7,8 +7,10 @@ use box_instances::{Instance, NoMemory};
 use std::alloc::Global;
 
 // How often bins are filled again: some hundredths of a second, half a second for 100 large boxes.
-// With three times as many no other of 63 texts takes a bin less.
-const REFILLS: u64 = 16_000;
+// With three times as many no other of 63 texts takes a bin less. A small budget pays for fewer.
+const MOST_REFILLS: u64 = 16_000;
+
+const LEAST_REFILLS: u64 = 2_000;
 
 /// A number of bins, and of each box in order its bin, counted from 0, and its coordinates.
 #[derive(Drop)]
@@ -17,7 +19,8 @@ pub struct ProposedBins {
     pub numbers: Vec<u32>,
 }
 
-/// Bins for all boxes, or none. The search ends once there are no more than `enough`.
+/// Bins for all boxes, or none. The search ends once there are no more than `enough`. It fills bins
+/// again twice as often as `budget` has branchings, but at least 2,000 times and at most 16,000.
 ///
 /// Nothing is promised of them but that there are a bin and one coordinate in each dimension for
 /// each box: the caller tests them.
@@ -25,6 +28,7 @@ pub fn propose_bins(
     alloc: Global,
     instance: &Instance,
     enough: u32,
+    budget: u64,
 ) -> Result<Option<ProposedBins>, NoMemory>
     ensures { IfOk result (λ found. IfSome found
         (λ b. length b.numbers.items ≡ box_count instance.now * (dims instance.now + 1))) }
@@ -33,7 +37,8 @@ pub fn propose_bins(
     let Ok(mut numbers) = vec![in alloc; 0u32; numbers_of_all] else {
         return Err(NoMemory);
     };
-    let count = few_bins(alloc, instance, enough, REFILLS, &mut numbers)?;
+    let refills = budget.saturating_mul(2).clamp(LEAST_REFILLS, MOST_REFILLS);
+    let count = few_bins(alloc, instance, enough, refills, &mut numbers)?;
     if count == 0 {
         return Ok(None);
     }

@@ -43,10 +43,11 @@ const DEEP_SWAP_STEPS_OF_MORE: u64 = 400;
 
 const MOST_DEEP_BATCHES: u64 = 128;
 
-// A batch for values takes 800 n^2 steps in any dimension, since not all boxes are placed. Over 19
-// texts of 20 to 100 boxes 40 batches place at most 2 % more than 12, and 12 at most 3 % more than
-// 4.
-const VALUE_BATCH_COST: u64 = 800;
+// A batch for values takes fewer steps, since not all boxes are placed. Over 19 texts of 20 to 100
+// boxes 40 batches place at most 2 % more than 12, and 12 at most 3 % more than 4.
+const FLAT_VALUE_BATCH_COST: u64 = 800;
+
+const DEEP_VALUE_BATCH_COST: u64 = 1_600;
 
 const MOST_VALUE_BATCHES: u64 = 40;
 
@@ -143,6 +144,11 @@ pub(crate) fn paid_splits(instance: &Instance, budget: u64) -> u64 {
 
 /// The batches of rounds of swaps for a set of boxes that is worth much under a budget, at most 40.
 pub fn value_batches(instance: &Instance, budget: u64) -> u64 {
+    let cost = if instance.dims() == 2 {
+        FLAT_VALUE_BATCH_COST
+    } else {
+        DEEP_VALUE_BATCH_COST
+    };
     let steps = swap_steps(budget, SWAP_STEPS_OF_MORE);
-    batches_within(instance, steps, VALUE_BATCH_COST).min(MOST_VALUE_BATCHES)
+    batches_within(instance, steps, cost).min(MOST_VALUE_BATCHES)
 }

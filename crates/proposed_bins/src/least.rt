@@ -74,12 +74,17 @@ fn told(bounds: Bounds) -> Bins
 }
 
 // The bounds with proposed bins, where these are fewer than the placed ones and pass their test.
-fn improved(alloc: Global, instance: &Instance, bounds: Bounds) -> Result<Bounds, NoMemory>
+fn improved(
+    alloc: Global,
+    instance: &Instance,
+    bounds: Bounds,
+    budget: u64,
+) -> Result<Bounds, NoMemory>
     requires { AreFirstBounds instance.now (plain_bounds bounds) }
     ensures { IfOk result (λ b. AreFirstBounds instance.now (plain_bounds b)) }
 {
     let enough = bounds.refuted.saturating_add(1).min(u64::from(u32::MAX)) as u32;
-    let Some(proposed) = propose_bins(alloc, instance, enough)? else {
+    let Some(proposed) = propose_bins(alloc, instance, enough, budget)? else {
         return Ok(bounds);
     };
     let count = u64::from(proposed.count);
@@ -155,7 +160,7 @@ pub fn least_bins_proposed<R: Threads + Wait + Sync, G: Gate + Sync>(
             numbers,
         } => {
             let first = Bounds::new(u64::from(refuted), tokens, u64::from(bins), numbers);
-            let better = improved(alloc, instance, first)?;
+            let better = improved(alloc, instance, first, settings.budget)?;
             narrowed(rt, alloc, instance, better, settings, gate)
         }
         Bins::Least {

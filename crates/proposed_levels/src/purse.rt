@@ -23,6 +23,9 @@ const FEW_DEEP_BOXES: u32 = 30;
 
 const PART_OF_MANY: u64 = 8;
 
+// A proposal with fewer splits isn't worth its search for places, some 10 ms.
+const LEAST_SPLITS: u64 = 200;
+
 // From round to round a tree has four times the branchings.
 const RISE: u64 = 4;
 
@@ -91,9 +94,9 @@ impl Purse {
         }
     }
 
-    /// The splits of a proposal, where the purse holds them, and else none.
+    /// The splits of a proposal, where the purse holds them and they are not too few, and else none.
     pub(crate) fn splits(&self, instance: &Instance) -> u64 {
-        if steps_of_splits(instance, self.splits) <= self.left {
+        if self.splits >= LEAST_SPLITS && steps_of_splits(instance, self.splits) <= self.left {
             self.splits
         } else {
             0
