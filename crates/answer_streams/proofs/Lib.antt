@@ -9,3 +9,5 @@ pub mod Lined
 mod Blocks
 pub mod SummaryTexts
 pub mod ExplainedTexts
+pub mod FrontPieces
+pub mod FrontDocumentTexts

@@ -6,3 +6,4 @@ pub mod Lines
 pub mod Headed
 pub mod Explanations
 pub mod Audited
+pub mod FrontTexts

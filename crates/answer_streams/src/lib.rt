@@ -1,5 +1,5 @@
-//! What the program writes: the documents of answers, the line of a check or an audit and the
-//! summary of `make`, each streamed to a sink through one block.
+//! What the program writes: the documents of answers and of fronts, the line of a check or an audit
+//! and the summary of `make`, each streamed to a sink through one block.
 #![tactic(auto)]
 
 mod audited;
@@ -9,6 +9,9 @@ mod bounded_documents;
 mod documents;
 mod explained;
 mod front;
+mod front_document;
+mod front_lines;
+mod front_steps;
 mod knapsack_documents;
 mod numbered;
 mod results;
@@ -24,6 +27,7 @@ pub use audited_fronts::FrontAudited;
 pub use bounded_documents::{BoundedDocument, bounded_status};
 pub use documents::Written;
 pub use explained::Explanation;
+pub use front_document::{FrontDocument, front_status};
 pub use solution::{Solution, fit_status};
 pub use streaming::{AnswerDocument, Streamed, stream};
 pub use summary::Made;

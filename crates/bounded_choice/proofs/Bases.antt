@@ -19,8 +19,8 @@ use Rattle.bounded_tokens.specs.Plain.{plain_bounded}
 use Rattle.bin_knapsack.specs.declared.choice.Choice.{Choice}
 use Rattle.bin_knapsack.specs.declared.choice.Choice.TheVariants.{Greatest, Between}
 use Rattle.bin_knapsack.specs.Choices.{IsAnswer, IsTrueChoice, IsSpentExactly}
-use Rattle.proposed_choice.specs.Values.{IsLimitedChoice, IsPastBeside}
-use Rattle.proposed_choice.proofs.Tops.{top_small}
+use Rattle.proposed_answers.specs.Values.{IsLimitedChoice, IsPastBeside}
+use Rattle.proposed_answers.proofs.Tops.{top_small}
 use Rattle.bounded_choice.specs.declared.levels.ValueLevels.{ValueLevels}
 use Rattle.bounded_choice.specs.Levels.{levels_told, refuted_by, IsWithin, IsOpenWithout}
 use Rattle.bounded_choice.specs.Levels.{IsOpenOnlyPast, plain_levels, reached_levels}

@@ -4,7 +4,7 @@ use Rattle.packing_terms.specs.Packing.{PlainInstance}
 use Rattle.packing_terms.specs.Goals.{worth}
 use Rattle.tree_terms.specs.OuterTrees.{choice_numbers}
 use Rattle.tree_terms.specs.OuterSearch.{AreTakenNumbers}
-use Rattle.proposed_choice.specs.Values.{IsChoice}
+use Rattle.proposed_answers.specs.Values.{IsChoice}
 
 -- the numbers of boxes that pass their test are those of boxes that fit
 pub choice_taken : (instance : PlainInstance) (taken places numbers : List ℕ) (value : ℕ)

@@ -12,7 +12,7 @@ use Rattle.bounded_answer_terms.specs.Answers.{BoundedAnswer, IsBoundedAnswer, H
 use Rattle.bin_knapsack.specs.declared.choice.Choice.{Choice}
 use Rattle.bin_knapsack.specs.declared.choice.Choice.TheVariants.{Greatest, Between}
 use Rattle.proposed_answers.specs.Shares.{level_share}
-use Rattle.proposed_choice.specs.Values.{value_count}
+use Rattle.proposed_answers.specs.Values.{value_count}
 use Rattle.bounded_choice.specs.declared.asking.GoalOutcome.{GoalOutcome}
 use Rattle.bounded_choice.specs.declared.asking.GoalOutcome.TheVariants.{Refuted, Placed, Open}
 use Rattle.bounded_choice.specs.declared.levels.ValueLevels.{ValueLevels}

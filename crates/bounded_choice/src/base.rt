@@ -6,7 +6,7 @@ ghost use Rattle.bounded_choice.specs.Levels.{plain_levels, levels_told, refuted
 use crate::levels::{ValueLevels, ValueProof};
 use bin_knapsack::{Choice, greatest_value};
 use box_instances::{Instance, NoMemory};
-use proposed_choice::greatest_value_proposed;
+use proposed_answers::greatest_value_proposed;
 use std::alloc::Global;
 use std::sync::Wait;
 use std::thread::Threads;

@@ -4,7 +4,7 @@ ghost use Rattle.bounded_choice.specs.Levels.{IsPlacedValue};
 
 use box_instances::{Instance, NoMemory};
 use choice_search::choice_numbers;
-use proposed_choice::{is_choice, worth_of};
+use proposed_answers::{is_choice, worth_of};
 use std::alloc::Global;
 
 /// What a set of boxes is worth that fits, with its numbers in an answer.

@@ -11,7 +11,7 @@ use Rattle.front_answer_terms.specs.Texts.{front_status, front_text}
 use Rattle.size_front.specs.declared.front.Front.{Front}
 use Rattle.size_front.specs.declared.front.Point.{Point}
 use Rattle.size_front.specs.Plain.{plain_front, plain_point}
-use Rattle.front_streams.specs.Texts.{AreAllPlaced}
+use Rattle.answer_streams.specs.FrontTexts.{AreAllPlaced}
 use Rattle.pack_streams.specs.Moves.{Gains}
 use Rattle.pack_streams.specs.Writing.{GainsPart}
 use Rattle.pack_command.specs.Asked.{AsksFront}

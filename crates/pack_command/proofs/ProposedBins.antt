@@ -18,7 +18,7 @@ use Rattle.answer_streams.specs.Solutions.{bins_found, ArePlacedBins}
 use Rattle.bin_knapsack.specs.declared.bins.Bins.{Bins as FoundBins}
 use Rattle.bin_knapsack.specs.declared.bins.Bins.TheVariants.{Least, Between, NoneFits}
 use Rattle.bin_knapsack.specs.BinAnswers.{AreTrueBins}
-use Rattle.proposed_bins.specs.Counts.{bins_count, AreNamedBins, AreLimitedBins, IsPastBeside}
+use Rattle.proposed_answers.specs.Counts.{bins_count, AreNamedBins, AreLimitedBins, IsPastBeside}
 use Rattle.pack_streams.specs.Moves.{Gains}
 use Rattle.pack_command.specs.Proposed.{AreProposedBins, IsProposedSolution, AreProposedBinsDecided}
 use Rattle.pack_command.proofs.ProposedOwn.{IsOwnAnswer}

@@ -16,8 +16,8 @@ use Rattle.bin_knapsack.specs.declared.choice.Choice.{Choice as FoundChoice}
 use Rattle.bin_knapsack.specs.declared.choice.Choice.TheVariants.{Greatest, Between}
 use Rattle.bin_knapsack.specs.Choices.{IsTrueChoice}
 use Rattle.proposed_answers.specs.Shares.{level_share}
-use Rattle.proposed_choice.specs.Values.{value_count, IsLimitedChoice, IsPastBeside}
-use Rattle.proposed_choice.proofs.Tops.{top_small}
+use Rattle.proposed_answers.specs.Values.{value_count, IsLimitedChoice, IsPastBeside}
+use Rattle.proposed_answers.proofs.Tops.{top_small}
 use Rattle.pack_streams.specs.Moves.{Gains}
 use Rattle.pack_command.specs.Proposed.{IsProposedChoice, IsProposedSolution, IsProposedValueDecided}
 use Rattle.pack_command.proofs.ProposedOwn.{IsOwnAnswer}

@@ -20,7 +20,7 @@ use Rattle.strip_solver.specs.declared.strip.Strip.{Strip as FoundStrip}
 use Rattle.strip_solver.specs.declared.strip.Strip.TheVariants.{Least, Between, NoneFits}
 use Rattle.strip_solver.specs.Strips.{IsTrueStrip}
 use Rattle.proposed_answers.specs.Shares.{level_share}
-use Rattle.proposed_levels.specs.Heights.{height_count, IsNamedStrip, IsLimitedStrip, IsPastBeside}
+use Rattle.proposed_answers.specs.Heights.{height_count, IsNamedStrip, IsLimitedStrip, IsPastBeside}
 use Rattle.pack_streams.specs.Moves.{Gains}
 use Rattle.pack_command.specs.Proposed.{IsProposedStrip, IsProposedSolution, IsProposedStripDecided}
 use Rattle.pack_command.proofs.ProposedOwn.{IsOwnAnswer}

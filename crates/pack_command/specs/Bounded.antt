@@ -13,7 +13,7 @@ use Rattle.bounded_answer_terms.specs.Answers.{BoundedAnswer, IsBoundedAnswer, b
 use Rattle.bounded_answer_terms.specs.Laws.{IsBoundedFor}
 use Rattle.bounded_choice.specs.Levels.{IsOpenWithout}
 use Rattle.proposed_answers.specs.Shares.{level_share}
-use Rattle.proposed_choice.specs.Values.{value_count}
+use Rattle.proposed_answers.specs.Values.{value_count}
 use Rattle.answer_streams.specs.Audited.{audit_verdict, BoundedVerdictOf}
 use Rattle.pack_streams.specs.Moves.{Gains}
 

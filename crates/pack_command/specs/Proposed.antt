@@ -33,9 +33,9 @@ use Rattle.bin_knapsack.specs.Choices.{IsTrueChoice}
 use Rattle.class_search.specs.Right.{IsRight}
 use Rattle.proposed_answers.specs.Behind.{has_scale_line, IsWithoutScales}
 use Rattle.proposed_answers.specs.Shares.{level_share}
-use Rattle.proposed_levels.specs.Heights.{height_count, IsNamedStrip, IsLimitedStrip, IsPastBeside}
-use Rattle.proposed_bins.specs.Counts.{bins_count, AreNamedBins, AreLimitedBins, IsPastBeside as IsPastBins}
-use Rattle.proposed_choice.specs.Values.{value_count, IsLimitedChoice, IsPastBeside as IsPastChoice}
+use Rattle.proposed_answers.specs.Heights.{height_count, IsNamedStrip, IsLimitedStrip, IsPastBeside}
+use Rattle.proposed_answers.specs.Counts.{bins_count, AreNamedBins, AreLimitedBins, IsPastBeside as IsPastBins}
+use Rattle.proposed_answers.specs.Values.{value_count, IsLimitedChoice, IsPastBeside as IsPastChoice}
 use Rattle.pack_streams.specs.Moves.{Gains}
 use Rattle.pack_streams.specs.Writing.{GainsPart}
 use Rattle.pack_command.specs.Answered.{branchings}

@@ -13,10 +13,9 @@ use answer_streams::{AnswerDocument, Solution, stream};
 use box_instances::{Instance, NoMemory};
 use document_terms::SolvingJob;
 use pack_streams::{Sink, Source};
-use proposed_answers::decide_proposed;
-use proposed_bins::least_bins_proposed;
-use proposed_choice::greatest_value_proposed;
-use proposed_levels::least_height_proposed;
+use proposed_answers::{
+    decide_proposed, greatest_value_proposed, least_bins_proposed, least_height_proposed,
+};
 use std::alloc::Global;
 use std::sync::Wait;
 use std::thread::Threads;

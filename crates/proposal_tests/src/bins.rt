@@ -3,7 +3,7 @@ use crate::instances::{at_roots, instance_of, settings};
 use bin_knapsack::least_bins;
 use box_instances::Instance;
 use proposals::propose_bins;
-use proposed_bins::{Bins, are_bin_numbers, least_bins_proposed};
+use proposed_answers::{Bins, are_bin_numbers, least_bins_proposed};
 use std::alloc::Global;
 use std::sync::Wait;
 use std::test::Fail;

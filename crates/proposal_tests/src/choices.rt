@@ -3,7 +3,7 @@ use crate::instances::{at_roots, instance_of, settings};
 use bin_knapsack::greatest_value;
 use box_instances::Instance;
 use proposals::propose_choice;
-use proposed_choice::{Choice, greatest_value_proposed, is_choice};
+use proposed_answers::{Choice, greatest_value_proposed, is_choice};
 use std::alloc::Global;
 use std::sync::Wait;
 use std::test::Fail;

@@ -1,8 +1,7 @@
 //! Optima by proposals first.
 use crate::instances::{at_roots, instance_of, is_packing, pinwheel};
 use box_instances::Instance;
-use proposed_answers::is_refutation;
-use proposed_levels::{Strip, least_height_proposed};
+use proposed_answers::{Strip, is_refutation, least_height_proposed};
 use std::alloc::Global;
 use std::sync::Wait;
 use std::test::Fail;

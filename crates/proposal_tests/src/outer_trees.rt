@@ -2,7 +2,7 @@
 use box_instances::{BoxItem, Instance, Sides};
 use outer_proposals::propose_value_refutation;
 use proof_tree::Token;
-use proposed_choice::is_value_refutation;
+use proposed_answers::is_value_refutation;
 use std::alloc::Global;
 use std::test::Fail;
 

@@ -1,3 +1,11 @@
 pub mod Behind
+pub mod BinNumbers
+pub mod BinsAnswered
+pub mod ChoiceAnswered
+pub mod ChoiceFed
+pub mod Choices
 pub mod Fed
 pub mod Plain
+pub mod Strips
+pub mod Tops
+pub mod Trees

@@ -23,7 +23,7 @@ const MOST_SPLITS: u64 = 700_000;
 const PAIR_VISITS: u64 = 140_000_000;
 
 /// The most splits of the search for a refutation of an instance.
-pub fn most_splits(instance: &Instance) -> u64 {
+pub(crate) fn most_splits(instance: &Instance) -> u64 {
     let count = u64::from(instance.len());
     let splits = PAIR_VISITS / (count * count).max(1);
     splits.min(MOST_SPLITS)
@@ -31,7 +31,7 @@ pub fn most_splits(instance: &Instance) -> u64 {
 
 /// A proposal for an instance: places, a refutation by a search with at most `splits` splits, or
 /// nothing. One worker makes it, whatever the number of workers of the run.
-pub fn propose_within(
+pub(crate) fn propose_within(
     alloc: Global,
     instance: &Instance,
     scales: bool,

@@ -66,25 +66,25 @@ fn steps_of(budget: u64, small: u64, more: u64) -> u64 {
 }
 
 /// The pair steps of one branching: the square of the number of boxes.
-pub fn branching_steps(instance: &Instance) -> u64 {
+pub(crate) fn branching_steps(instance: &Instance) -> u64 {
     let count = u64::from(instance.len());
     (count * count).max(1)
 }
 
 /// The pair steps that the trees and the refutation searches of a run may take under a budget.
-pub fn tree_steps(budget: u64) -> u64 {
+pub(crate) fn tree_steps(budget: u64) -> u64 {
     steps_of(budget, TREE_STEPS_OF_SMALL, TREE_STEPS_OF_MORE).saturating_add(TREE_STEPS)
 }
 
 /// The pair steps of a search for a refutation with at most `splits` splits.
-pub fn steps_of_splits(instance: &Instance, splits: u64) -> u64 {
+pub(crate) fn steps_of_splits(instance: &Instance, splits: u64) -> u64 {
     splits
         .saturating_mul(SPLIT_COST)
         .saturating_mul(branching_steps(instance))
 }
 
 /// The splits of a search for a refutation that takes at most `steps` pair steps.
-pub fn splits_within(instance: &Instance, steps: u64) -> u64 {
+pub(crate) fn splits_within(instance: &Instance, steps: u64) -> u64 {
     steps / SPLIT_COST / branching_steps(instance).max(1)
 }
 
@@ -110,7 +110,7 @@ fn packing_steps(instance: &Instance, budget: u64) -> (u64, u64) {
 
 /// The batches of rounds of swaps for a low packing under a budget, at most 64 in two dimensions
 /// and 128 in more. There is none if the steps of the budget don't pay for one.
-pub fn swap_batches(instance: &Instance, budget: u64) -> u64 {
+pub(crate) fn swap_batches(instance: &Instance, budget: u64) -> u64 {
     let (cost, steps) = packing_steps(instance, budget);
     let most = if instance.dims() == 2 {
         MOST_BATCHES

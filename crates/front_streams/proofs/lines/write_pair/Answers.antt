@@ -1,9 +1,0 @@
-use Rattle.pack_streams.proofs.Writers.{more}
-use Rattle.front_streams.proofs.lines.write_pair.Goals as goal
-
-pub returns : goal.returns
-returns g c =
-    more _ _ _ _ _ _ _ _ _ _ _ c.write_on-named.ensures.goes_on
-    (more _ _ _ _ _ _ _ _ _ _ _ c.write_number-opened.ensures.goes_on
-    (more _ _ _ _ _ _ _ _ _ _ _ c.write_on-spaced.ensures.goes_on
-    (more _ _ _ _ _ _ _ _ _ _ _ c.write_number-closed.ensures.goes_on c.write_on.ensures.goes_on)))
