@@ -16,8 +16,8 @@ use Rattle.bounded_tokens.specs.declared.token.BoundedToken.{BoundedToken}
 use Rattle.bounded_tokens.specs.Plain.{plain_bounded, plain_bounded_tokens}
 use Rattle.proof_tree.specs.Lines.{token_line, token_text}
 use Rattle.answer_terms.specs.Answers.{Lines, take_lines, claim_status}
-use Rattle.bounded_answer_terms.specs.Answers.{BoundedAnswer, bounded_claim, bounded_status, bounded_backing, bounded_text}
-use Rattle.bounded_answer_terms.proofs.Own.{bounded_claims_told}
+use Rattle.answer_terms.specs.BoundedAnswers.{BoundedAnswer, bounded_claim, bounded_status, bounded_backing, bounded_text}
+use Rattle.answer_terms.proofs.BoundedOwn.{bounded_claims_told}
 use Rattle.answer_streams.proofs.ResultTexts.{whole}
 
 -- ---- tokens

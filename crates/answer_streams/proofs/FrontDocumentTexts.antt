@@ -8,8 +8,8 @@ use Rattle.text_terms.specs.Spelling.{lines_text, instance_words, instance_text}
 use Rattle.answer_streams.proofs.Joined.{parts}
 use Rattle.size_front.specs.declared.front.Front.{Front}
 use Rattle.size_front.specs.Plain.{plain_front, plain_point}
-use Rattle.front_walks.specs.WalkLines.{front_lines}
-use Rattle.front_answer_terms.specs.Texts.{line_words, front_result, front_text}
+use Rattle.answer_terms.specs.WalkLines.{front_lines}
+use Rattle.answer_terms.specs.FrontTexts.{line_words, front_result, front_text}
 use Rattle.answer_streams.specs.FrontTexts.{text_of, result_key}
 
 last_word : (word : List ℕ) → ((word ++ []) ++ 10 ∷ []) ++ [] ≡ word ++ 10 ∷ []

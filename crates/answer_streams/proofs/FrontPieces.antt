@@ -10,9 +10,9 @@ use Rattle.packing_terms.specs.Tokens.{PlainToken}
 use Rattle.text_terms.specs.Spelling.{spaced}
 use Rattle.proof_tree.specs.Lines.{token_line, token_text}
 use Rattle.front_terms.specs.Lines.{PlainLine, CornerAt, PointAt, PlaceAt, TreeToken}
-use Rattle.front_walks.specs.Walks.{PlainCorner, PlainPoint}
-use Rattle.front_walks.specs.WalkLines.{corner_lines, point_lines, place_lines, step_lines, lines_of}
-use Rattle.front_answer_terms.specs.Texts.{line_words}
+use Rattle.answer_terms.specs.Walks.{PlainCorner, PlainPoint}
+use Rattle.answer_terms.specs.WalkLines.{corner_lines, point_lines, place_lines, step_lines, lines_of}
+use Rattle.answer_terms.specs.FrontTexts.{line_words}
 use Rattle.size_front.specs.declared.front.Corner.{Corner}
 use Rattle.size_front.specs.declared.front.Point.{Point}
 use Rattle.size_front.specs.Plain.{plain_corner, plain_point}

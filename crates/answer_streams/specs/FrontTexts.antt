@@ -4,9 +4,9 @@ use Rattle.std.specs.List.{AllByRecursion}
 use Rattle.std.specs.Fmt.{decimal}
 use Rattle.text_terms.specs.Spelling.{lines_text}
 use Rattle.front_terms.specs.Lines.{PlainLine}
-use Rattle.front_walks.specs.Walks.{PlainCorner, PlainPoint}
-use Rattle.front_walks.specs.WalkLines.{corner_lines, point_lines}
-use Rattle.front_answer_terms.specs.Texts.{line_words, front_word}
+use Rattle.answer_terms.specs.Walks.{PlainCorner, PlainPoint}
+use Rattle.answer_terms.specs.WalkLines.{corner_lines, point_lines}
+use Rattle.answer_terms.specs.FrontTexts.{line_words, front_word}
 use Rattle.size_front.specs.declared.front.Point.{Point}
 
 -- a line feed after each line

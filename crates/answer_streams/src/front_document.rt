@@ -5,7 +5,7 @@ ghost use Rattle.pack_streams.specs.Writing.{Continues, Writes};
 ghost use Rattle.packing_terms.specs.Limits.{IsInstance};
 ghost use Rattle.packing_terms.specs.Packing.{box_count};
 ghost use Rattle.text_terms.specs.Spelling.{instance_text, lines_text};
-ghost use Rattle.front_answer_terms.specs.Texts.{front_text, front_result, front_status};
+ghost use Rattle.answer_terms.specs.FrontTexts.{front_text, front_result, front_status};
 ghost use Rattle.size_front.specs.Plain.{plain_front};
 ghost use Rattle.answer_streams.specs.FrontTexts.{AreAllPlaced, result_key};
 

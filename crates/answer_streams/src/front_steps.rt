@@ -2,7 +2,7 @@
 ghost use Rattle.std.specs.Prelude.{◌≡◌, ◌<◌, ◌*◌, map, length};
 ghost use Rattle.std.specs.List.{AllByRecursion};
 ghost use Rattle.pack_streams.specs.Writing.{Continues};
-ghost use Rattle.front_walks.specs.WalkLines.{step_lines, front_lines};
+ghost use Rattle.answer_terms.specs.WalkLines.{step_lines, front_lines};
 ghost use Rattle.size_front.specs.Plain.{plain_corner, plain_point, plain_front};
 ghost use Rattle.answer_streams.specs.FrontTexts.{text_of, corner_at, point_at, AreAllPlaced};
 

@@ -13,7 +13,7 @@ use Rattle.tree_terms.proofs.SpentRuns.{value_end}
 use Rattle.bounded_terms.specs.BoundedRefutation.{BoundedToken as PlainBounded, Plain as PlainPlain, PricedOut as PlainPriced}
 use Rattle.bounded_terms.specs.BoundedRefutation.{Exchange as PlainExchange}
 use Rattle.bounded_terms.proofs.BoundedSound.{plain_is_bounded}
-use Rattle.bounded_answer_terms.specs.Answers.{BoundedAnswer, IsBoundedAnswer, HaveParameters}
+use Rattle.answer_terms.specs.BoundedAnswers.{BoundedAnswer, IsBoundedAnswer, HaveParameters}
 use Rattle.bounded_tokens.specs.declared.token.BoundedToken.{BoundedToken}
 use Rattle.bounded_tokens.specs.Plain.{plain_bounded}
 use Rattle.bin_knapsack.specs.declared.choice.Choice.{Choice}

@@ -2,7 +2,7 @@
 ghost use Rattle.std.specs.Prelude.{◌≡◌, ◌∷◌, [], IfOk, MatchBool};
 ghost use Rattle.bounded_terms.specs.BoundedRefutation.{IsBoundedRefutation};
 ghost use Rattle.bounded_tokens.specs.Plain.{plain_bounded, plain_bounded_tokens};
-ghost use Rattle.bounded_answer_terms.specs.Answers.{HaveParameters};
+ghost use Rattle.answer_terms.specs.BoundedAnswers.{HaveParameters};
 
 use bounded_tokens::BoundedToken;
 use box_instances::{Instance, NoMemory};

@@ -9,8 +9,8 @@ use Rattle.text_terms.specs.declared.settings.Settings.{Settings}
 use Rattle.answer_terms.specs.Answers.{claim_status}
 use Rattle.answer_streams.specs.Audited.{verdict_of_kind, BoundedVerdictOf}
 use Rattle.bounded_terms.specs.BoundedRefutation.{IsBoundedRefutation}
-use Rattle.bounded_answer_terms.specs.Answers.{BoundedAnswer, bounded_claim, bounded_text}
-use Rattle.bounded_answer_terms.proofs.Own.{own_bounded_verified, bounded_answers_true, bounded_claims_told}
+use Rattle.answer_terms.specs.BoundedAnswers.{BoundedAnswer, bounded_claim, bounded_text}
+use Rattle.answer_terms.proofs.BoundedOwn.{own_bounded_verified, bounded_answers_true, bounded_claims_told}
 use Rattle.pack_streams.specs.Moves.{Gains}
 use Rattle.pack_command.specs.Asked.{Bounds, IsProposing}
 use Rattle.pack_command.specs.Bounded.{IsBoundedFound, IsBoundedDecided, IsBoundsAmple, IsOwnBounded}

@@ -19,7 +19,7 @@ use Rattle.explained_terms.specs.Steps.{PlainStep, tokens_among}
 use Rattle.explained_terms.specs.Explaining.{Explains}
 use Rattle.answer_terms.specs.Explained.{explained_text}
 use Rattle.answer_streams.specs.Audited.{ExplainedVerdictOf, verdict_of_kind, audit_verdict}
-use Rattle.own_documents.proofs.Explained.{own_explained}
+use Rattle.answer_terms.proofs.OwnExplained.{own_explained}
 use Rattle.document_refutations.specs.Refutations.{IsRefutationIn, result_number}
 use Rattle.pack_command.specs.Explanations.{is_no, IsExplanation, IsWrittenFor, unexplained}
 

@@ -6,8 +6,8 @@ use Rattle.std.proofs.lemmas.List.{length-map}
 use Rattle.packing_terms.specs.Packing.{PlainInstance, dims, box_count}
 use Rattle.packing_terms.specs.Limits.{IsInstance}
 use Rattle.text_terms.specs.declared.settings.Settings.{Settings}
-use Rattle.front_walks.specs.Walks.{PlainFront, front_walk}
-use Rattle.front_answer_terms.specs.Texts.{front_status, front_text}
+use Rattle.answer_terms.specs.Walks.{PlainFront, front_walk}
+use Rattle.answer_terms.specs.FrontTexts.{front_status, front_text}
 use Rattle.size_front.specs.declared.front.Front.{Front}
 use Rattle.size_front.specs.declared.front.Point.{Point}
 use Rattle.size_front.specs.Plain.{plain_front, plain_point}

@@ -16,9 +16,9 @@ use Rattle.answer_terms.specs.declared.job.ReducedJob.{ReducedJob}
 use Rattle.answer_terms.specs.Answers.{Answer, answer_text, status_of}
 use Rattle.answer_terms.specs.Answers.Answer.{Undecided, Claimed}
 use Rattle.answer_terms.specs.Solved.{solved}
-use Rattle.own_documents.proofs.Accepted.{own_verified}
-use Rattle.own_documents.proofs.Undecided.{only_fit, undecided_refused, only_reduced_fit, reduced_undecided_refused}
-use Rattle.own_documents.proofs.Reduced.{own_reduced}
+use Rattle.answer_terms.proofs.OwnAccepted.{own_verified}
+use Rattle.answer_terms.proofs.Undecided.{only_fit, undecided_refused, only_reduced_fit, reduced_undecided_refused}
+use Rattle.answer_terms.proofs.OwnReduced.{own_reduced}
 use Rattle.answer_terms.specs.Reduced.{reduced_solved, reduced_text}
 use Rattle.pack_command.specs.Decides.{AsksWhetherFits}
 use Rattle.text_terms.specs.declared.settings.Settings.{Settings}

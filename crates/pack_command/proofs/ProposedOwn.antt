@@ -9,8 +9,8 @@ use Rattle.answer_terms.specs.declared.job.DocumentJob.TheVariants.{Solving as S
 use Rattle.answer_terms.specs.Answers.{Answer, answer_text, status_of}
 use Rattle.answer_terms.specs.Answers.Answer.{Undecided, Claimed}
 use Rattle.answer_terms.specs.Shown.{Shows}
-use Rattle.own_documents.proofs.Accepted.{shown_documents}
-use Rattle.own_documents.proofs.Undecided.{undecided_refused}
+use Rattle.answer_terms.proofs.OwnAccepted.{shown_documents}
+use Rattle.answer_terms.proofs.Undecided.{undecided_refused}
 use Rattle.verdict_terms.specs.declared.heading.Heading.TheVariants.{Answer as AnswerHeading}
 use Rattle.verdict_terms.proofs.FormGiven.{documents_have_form}
 use Rattle.pack_streams.specs.Moves.{Gains}

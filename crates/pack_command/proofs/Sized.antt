@@ -11,12 +11,12 @@ use Rattle.packing_terms.specs.Limits.{IsInstance, IsInternalInstance}
 use Rattle.packing_terms.proofs.Internal.{written_internal}
 use Rattle.text_terms.specs.declared.settings.Settings.{Settings}
 use Rattle.front_terms.specs.Fronts.{IsLeastSize, IsFront, IsClaimed}
-use Rattle.front_walks.specs.Walks.{PlainCorner, PlainPoint, sizes, front_walk, size_answer}
-use Rattle.front_walks.proofs.Decided.{right_sizes, walks_are_fronts}
-use Rattle.front_walks.proofs.Spent.{spent_exactly, enough}
-use Rattle.front_answer_terms.specs.Texts.{front_status}
-use Rattle.front_answer_terms.proofs.Backed.{IsBackedCorner, IsBackedPoint, front_backed}
-use Rattle.front_answer_terms.proofs.Own.{own_fronts_are_verified, own_fronts_are_fronts}
+use Rattle.answer_terms.specs.Walks.{PlainCorner, PlainPoint, sizes, front_walk, size_answer}
+use Rattle.answer_terms.proofs.Decided.{right_sizes, walks_are_fronts}
+use Rattle.answer_terms.proofs.Spent.{spent_exactly, enough}
+use Rattle.answer_terms.specs.FrontTexts.{front_status}
+use Rattle.answer_terms.proofs.FrontBacked.{IsBackedCorner, IsBackedPoint, front_backed}
+use Rattle.answer_terms.proofs.FrontOwn.{own_fronts_are_verified, own_fronts_are_fronts}
 use Rattle.answer_streams.specs.Audited.{FrontVerdictOf, verdict_of_kind}
 use Rattle.pack_streams.specs.Moves.{Gains}
 use Rattle.pack_command.specs.Answered.{class_bound}

@@ -9,8 +9,8 @@ use Rattle.document_terms.specs.Claims.{IsValueBetween}
 use Rattle.document_terms.specs.declared.claim.Claim.{Claim}
 use Rattle.answer_terms.specs.Answers.{claim_status}
 use Rattle.bounded_terms.specs.BoundedRefutation.{BoundedToken, IsBoundedRefutation}
-use Rattle.bounded_answer_terms.specs.Answers.{BoundedAnswer, IsBoundedAnswer, bounded_status, bounded_text}
-use Rattle.bounded_answer_terms.specs.Laws.{IsBoundedFor}
+use Rattle.answer_terms.specs.BoundedAnswers.{BoundedAnswer, IsBoundedAnswer, bounded_status, bounded_text}
+use Rattle.answer_terms.specs.BoundedLaws.{IsBoundedFor}
 use Rattle.bounded_choice.specs.Levels.{IsOpenWithout}
 use Rattle.proposed_answers.specs.Shares.{level_share}
 use Rattle.proposed_answers.specs.Values.{value_count}

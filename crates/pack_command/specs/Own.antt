@@ -7,7 +7,7 @@ use Rattle.answer_terms.specs.declared.job.DocumentJob.{DocumentJob}
 use Rattle.answer_terms.specs.declared.job.DocumentJob.TheVariants.{Solving as Solves, Reduced as Reduces}
 use Rattle.answer_terms.specs.declared.job.ReducedJob.{ReducedJob}
 use Rattle.verdict_terms.specs.Documents.{Refusal, document_verdict}
-use Rattle.own_documents.specs.Own.{IsVerifiedFor, IsReducedFor}
+use Rattle.answer_terms.specs.Own.{IsVerifiedFor, IsReducedFor}
 use Rattle.answer_terms.specs.Answers.{claim_status}
 use Rattle.pack_streams.specs.Moves.{Gains}
 use Rattle.answer_streams.specs.Audited.{audit_verdict, ReducedVerdictOf}

@@ -3,7 +3,7 @@ ghost use Rattle.std.specs.Prelude.{◌≡◌, ◌≢◌, List, String, IfOk, If
 ghost use Rattle.std.specs.declared.alloc.Global.{Global as PlainGlobal};
 ghost use Rattle.packing_terms.specs.Limits.{IsInstance};
 ghost use Rattle.packing_terms.specs.Packing.{dims, box_count};
-ghost use Rattle.front_walks.specs.Walks.{front_walk};
+ghost use Rattle.answer_terms.specs.Walks.{front_walk};
 ghost use Rattle.size_front.specs.Plain.{plain_front};
 ghost use Rattle.answer_streams.specs.FrontTexts.{AreAllPlaced};
 ghost use Rattle.pack_command.specs.Answered.{IsAnswerStatus};

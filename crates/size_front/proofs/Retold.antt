@@ -8,9 +8,9 @@ use Rattle.tree_terms.specs.Levels.{PlainLevel, PlacedBy, RefutedBy, SpentAt, Pl
 use Rattle.tree_terms.specs.Levels.{is_run_over, run_on, IsLevelBetween}
 use Rattle.tree_terms.proofs.Runs.{not_over, halfway_between}
 use Rattle.tree_terms.proofs.LevelOrder.{rising_end}
-use Rattle.front_walks.specs.Walks.{PlainFront, levels_from, spent_front, whole_front, front_after, corner_unless_empty}
-use Rattle.front_walks.specs.Walks.{width_run, height_run, rest_by, round_found, round_by_heights, round_by_widths}
-use Rattle.front_walks.specs.Walks.{round_by}
+use Rattle.answer_terms.specs.Walks.{PlainFront, levels_from, spent_front, whole_front, front_after, corner_unless_empty}
+use Rattle.answer_terms.specs.Walks.{width_run, height_run, rest_by, round_found, round_by_heights, round_by_widths}
+use Rattle.answer_terms.specs.Walks.{round_by}
 
 -- the tokens of a level that is told again
 abbrev pub retold : ℕ → List PlainToken → PlainReached → PlainReached

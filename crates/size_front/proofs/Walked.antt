@@ -7,11 +7,11 @@ use Rattle.packing_terms.specs.Packing.{PlainInstance, dims, box_count, written_
 use Rattle.packing_terms.specs.Limits.{IsInternalInstance}
 use Rattle.packing_terms.specs.Tokens.{PlainToken}
 use Rattle.front_terms.specs.Fronts.{IsClaimed}
-use Rattle.front_walks.specs.Walks.{PlainCorner, PlainPoint, PlainFront, front_after, whole_front, sizes, walk_on}
-use Rattle.front_walks.specs.Walks.{size_answer, front_walk}
-use Rattle.front_walks.specs.Asked.{HasLargeSize}
-use Rattle.front_walks.proofs.Decided.{walks_are_fronts}
-use Rattle.front_walks.proofs.Spent.{spent_exactly, enough}
+use Rattle.answer_terms.specs.Walks.{PlainCorner, PlainPoint, PlainFront, front_after, whole_front, sizes, walk_on}
+use Rattle.answer_terms.specs.Walks.{size_answer, front_walk}
+use Rattle.answer_terms.specs.Asked.{HasLargeSize}
+use Rattle.answer_terms.proofs.Decided.{walks_are_fronts}
+use Rattle.answer_terms.proofs.Spent.{spent_exactly, enough}
 use Rattle.size_front.specs.declared.front.Front.{Front}
 use Rattle.size_front.specs.declared.rounds.Stand.{Stand}
 use Rattle.size_front.specs.Plain.{plain_front, plain_corner, plain_point, IsRound, IsUnderWay}

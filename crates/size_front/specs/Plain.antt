@@ -2,8 +2,8 @@
 use Rattle.std.specs.Prelude.{ℕ, suc, ◌<◌, ◌≤◌, ◌≡◌, Bool, false, List, [], map, Option, Some, None}
 use Rattle.packing_terms.specs.Packing.{PlainInstance, written_container}
 use Rattle.tree_terms.specs.Levels.{PlacedBy, PlainReached}
-use Rattle.front_walks.specs.Walks.{PlainCorner, PlainPoint, PlainFront, front_after, walk_on, width_run, size_answer}
-use Rattle.front_walks.specs.Walks.{front_walk}
+use Rattle.answer_terms.specs.Walks.{PlainCorner, PlainPoint, PlainFront, front_after, walk_on, width_run, size_answer}
+use Rattle.answer_terms.specs.Walks.{front_walk}
 use Rattle.size_front.specs.declared.front.Corner.{Corner}
 use Rattle.size_front.specs.declared.front.Point.{Point}
 use Rattle.size_front.specs.declared.front.Front.{Front}

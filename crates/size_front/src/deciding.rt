@@ -6,7 +6,7 @@ ghost use Rattle.tree_terms.specs.ClassTree.{class_tree};
 ghost use Rattle.work_share.specs.Outcomes.{plain_outcome};
 ghost use Rattle.level_search.specs.Runs.{plain_level};
 ghost use Rattle.class_search.specs.Deciders.{decider_of};
-ghost use Rattle.front_walks.specs.Walks.{size_answer};
+ghost use Rattle.answer_terms.specs.Walks.{size_answer};
 
 use box_instances::{Instance, NoMemory};
 use class_search::{Decider, decide};

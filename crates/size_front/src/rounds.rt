@@ -3,7 +3,7 @@ ghost use Rattle.std.specs.Prelude.{◌≡◌, ◌<◌, ◌≤◌, ◌++◌, ◌
 ghost use Rattle.packing_terms.specs.Packing.{dims, written_container};
 ghost use Rattle.level_search.specs.Runs.{plain_reached};
 ghost use Rattle.class_search.specs.Deciders.{decider_of};
-ghost use Rattle.front_walks.specs.Walks.{corner_unless_empty, spent_front, closed_front, width_run, size_answer};
+ghost use Rattle.answer_terms.specs.Walks.{corner_unless_empty, spent_front, closed_front, width_run, size_answer};
 ghost use Rattle.tree_terms.specs.Levels.{PlacedBy};
 ghost use Rattle.size_front.specs.Plain.{plain_corner, plain_point, plain_front, joined, IsRound, IsUnspentRun};
 

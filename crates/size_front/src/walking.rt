@@ -2,8 +2,8 @@
 ghost use Rattle.std.specs.Prelude.{◌≡◌, ◌≤◌, ◌+◌, ◌-◌, ◌*◌, ◌/◌, ◌^◌, ◌↔◌, false, true, map, IfOk};
 ghost use Rattle.packing_terms.specs.Packing.{dims, box_count};
 ghost use Rattle.front_terms.specs.Fronts.{IsClaimed};
-ghost use Rattle.front_walks.specs.Walks.{sizes, front_walk};
-ghost use Rattle.front_walks.specs.Asked.{HasLargeSize};
+ghost use Rattle.answer_terms.specs.Walks.{sizes, front_walk};
+ghost use Rattle.answer_terms.specs.Asked.{HasLargeSize};
 ghost use Rattle.size_front.specs.Plain.{plain_front, plain_point};
 
 use crate::Front;

@@ -3,7 +3,7 @@ ghost use Rattle.std.specs.Prelude.{◌≡◌, ◌<◌, ◌≤◌, IfOk, IfSome,
 ghost use Rattle.packing_terms.specs.Packing.{dims, written_container};
 ghost use Rattle.level_search.specs.Runs.{plain_reached};
 ghost use Rattle.class_search.specs.Deciders.{decider_of};
-ghost use Rattle.front_walks.specs.Walks.{size_answer, width_run};
+ghost use Rattle.answer_terms.specs.Walks.{size_answer, width_run};
 
 use crate::deciding::decide_size;
 use box_instances::{Instance, NoMemory};

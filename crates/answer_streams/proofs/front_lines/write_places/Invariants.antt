@@ -1,6 +1,6 @@
 use Rattle.std.proofs.Common.{◌*◌, take}
 use Rattle.pack_streams.specs.Writing.{Continues}
-use Rattle.front_walks.specs.WalkLines.{place_lines}
+use Rattle.answer_terms.specs.WalkLines.{place_lines}
 use Rattle.answer_streams.specs.FrontTexts.{text_of}
 use Rattle.answer_streams.proofs.front_lines.write_places.Given as goal
 

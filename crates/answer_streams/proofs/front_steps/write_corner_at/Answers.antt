@@ -1,7 +1,7 @@
 use Rattle.std.proofs.Common.{sym, ap, ◌∙◌, arith}
 use Rattle.pack_streams.proofs.Writers.{none, same}
 use Rattle.size_front.specs.Plain.{plain_corner}
-use Rattle.front_walks.specs.WalkLines.{corner_lines}
+use Rattle.answer_terms.specs.WalkLines.{corner_lines}
 use Rattle.answer_streams.specs.FrontTexts.{text_of}
 use Rattle.answer_streams.proofs.FrontPieces.{corner_here, corner_none}
 use Rattle.answer_streams.proofs.front_steps.write_corner_at.Goals as goal

@@ -3,7 +3,7 @@ use Rattle.pack_streams.proofs.Writers.{more, same}
 use Rattle.size_front.specs.declared.front.Corner.{Corner}
 use Rattle.size_front.specs.declared.front.Point.{Point}
 use Rattle.size_front.specs.Plain.{plain_corner, plain_point}
-use Rattle.front_walks.specs.WalkLines.{lines_of}
+use Rattle.answer_terms.specs.WalkLines.{lines_of}
 use Rattle.answer_streams.specs.FrontTexts.{text_of}
 use Rattle.answer_streams.proofs.FrontPieces.{first_point}
 use Rattle.answer_streams.proofs.front_steps.write_front_lines.Goals as goal

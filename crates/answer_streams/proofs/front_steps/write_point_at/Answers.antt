@@ -1,7 +1,7 @@
 use Rattle.std.proofs.Common.{sym, ap, ◌∙◌, arith}
 use Rattle.pack_streams.proofs.Writers.{none, same}
 use Rattle.size_front.specs.Plain.{plain_point}
-use Rattle.front_walks.specs.WalkLines.{point_lines}
+use Rattle.answer_terms.specs.WalkLines.{point_lines}
 use Rattle.answer_streams.specs.FrontTexts.{text_of}
 use Rattle.answer_streams.proofs.FrontPieces.{point_here, point_none}
 use Rattle.answer_streams.proofs.front_steps.write_point_at.Goals as goal

@@ -1,6 +1,6 @@
 use Rattle.std.proofs.Common.{map}
 use Rattle.pack_streams.specs.Writing.{Continues}
-use Rattle.front_walks.specs.WalkLines.{step_lines}
+use Rattle.answer_terms.specs.WalkLines.{step_lines}
 use Rattle.size_front.specs.Plain.{plain_corner, plain_point}
 use Rattle.answer_streams.specs.FrontTexts.{text_of}
 use Rattle.answer_streams.proofs.FrontPieces.{first}

@@ -1,6 +1,6 @@
 use Rattle.std.proofs.Common.{◌∙◌, sym, ap, subst}
 use Rattle.tree_terms.specs.Levels.{PlainReached}
-use Rattle.bounded_answer_terms.specs.Answers.{BoundedAnswer, IsBoundedAnswer}
+use Rattle.answer_terms.specs.BoundedAnswers.{BoundedAnswer, IsBoundedAnswer}
 use Rattle.bounded_choice.specs.Levels.{reached_levels}
 use Rattle.bounded_choice.proofs.Bases.{first_levels}
 use Rattle.bounded_choice.proofs.first.widest.Goals as goal

@@ -1,6 +1,6 @@
 use Rattle.std.proofs.Common.{map, take}
 use Rattle.bounded_tokens.specs.Plain.{plain_bounded}
-use Rattle.bounded_answer_terms.specs.Answers.{HaveParameters}
+use Rattle.answer_terms.specs.BoundedAnswers.{HaveParameters}
 use Rattle.bounded_choice.proofs.refuting.tell_parameters.Given as goal
 
 abbrev pub invariant-loop-k : goal.invariant-loop-k

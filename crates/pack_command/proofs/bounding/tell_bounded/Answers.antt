@@ -1,5 +1,5 @@
 use Rattle.std.proofs.Common.{refl}
-use Rattle.bounded_answer_terms.specs.Answers.{bounded_status, bounded_text}
+use Rattle.answer_terms.specs.BoundedAnswers.{bounded_status, bounded_text}
 use Rattle.bounded_choice.specs.Levels.{plain_levels}
 use Rattle.pack_command.specs.Asked.{Bounds}
 use Rattle.pack_command.proofs.ProposedFound.{proposed_cut}

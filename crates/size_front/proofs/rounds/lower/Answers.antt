@@ -2,7 +2,7 @@ use Rattle.std.proofs.Common.{◌∙◌, sym, ap, map, List, [], ◌∷◌, ◌+
 use Rattle.packing_terms.specs.Tokens.{PlainToken}
 use Rattle.packing_terms.specs.Packing.{written_container}
 use Rattle.level_search.specs.Runs.{plain_reached}
-use Rattle.front_walks.specs.Walks.{PlainFront, corner_unless_empty, size_answer, walk_on}
+use Rattle.answer_terms.specs.Walks.{PlainFront, corner_unless_empty, size_answer, walk_on}
 use Rattle.size_front.specs.Plain.{plain_corner, plain_point, joined}
 use Rattle.size_front.proofs.Retold.{spent_heights, found_heights, found_end, found_next, lower_end}
 use Rattle.size_front.proofs.Walked.{joined_end, joined_next}

@@ -1,7 +1,7 @@
 use Rattle.std.proofs.Common.{◌∙◌, sym, ap}
 use Rattle.packing_terms.specs.Packing.{written_container}
 use Rattle.level_search.specs.Runs.{plain_reached}
-use Rattle.front_walks.specs.Walks.{PlainFront, size_answer, walk_on}
+use Rattle.answer_terms.specs.Walks.{PlainFront, size_answer, walk_on}
 use Rattle.size_front.specs.Plain.{joined}
 use Rattle.size_front.proofs.Retold.{spent_widths}
 use Rattle.size_front.proofs.rounds.narrow.Goals as goal

@@ -2,7 +2,7 @@ use Rattle.std.proofs.Common.{ℕ, ◌∙◌, sym, ap}
 use Rattle.packing_terms.specs.Packing.{written_container}
 use Rattle.tree_terms.specs.Levels.{PlainLevel}
 use Rattle.level_search.specs.Runs.{plain_level}
-use Rattle.front_walks.specs.Walks.{closed_front, size_answer, round_by, walk_on}
+use Rattle.answer_terms.specs.Walks.{closed_front, size_answer, round_by, walk_on}
 use Rattle.size_front.specs.Plain.{joined}
 use Rattle.size_front.proofs.rounds.one_round.Goals as goal
 

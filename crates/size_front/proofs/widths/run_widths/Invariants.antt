@@ -3,7 +3,7 @@ use Rattle.packing_terms.specs.Packing.{written_container}
 use Rattle.level_search.specs.Runs.{plain_reached}
 use Rattle.level_search.proofs.OnRun.{IsOnRun, decisions_left}
 use Rattle.class_search.specs.Deciders.{decider_of}
-use Rattle.front_walks.specs.Walks.{size_answer, levels_from}
+use Rattle.answer_terms.specs.Walks.{size_answer, levels_from}
 use Rattle.size_front.proofs.widths.run_widths.Given as goal
 
 abbrev pub invariant-loop-level : goal.invariant-loop-level

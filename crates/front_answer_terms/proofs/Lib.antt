@@ -1,3 +1,0 @@
-pub mod Backed
-pub mod Written
-pub mod Own

@@ -1,4 +1,0 @@
-pub mod Walks
-pub mod WalkLines
-pub mod Asked
-pub mod Laws
