@@ -11,4 +11,6 @@ mod choices;
 #[cfg(test)]
 mod paths;
 #[cfg(test)]
+mod pools;
+#[cfg(test)]
 mod trees;
