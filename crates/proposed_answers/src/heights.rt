@@ -16,6 +16,7 @@ use crate::proposing::propose_within;
 use crate::purse::Purse;
 use box_instances::{Instance, NoMemory};
 use class_search::decide;
+use conflict_search::Proposal;
 use level_bounds::{Bounds, vain_behind};
 use level_search::{Level, level_of};
 use proof_tree::Outcome;
