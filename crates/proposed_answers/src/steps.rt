@@ -4,13 +4,13 @@
 use box_instances::Instance;
 
 // A branching of n boxes takes n^2 pair steps, a split of the search for a refutation seven times
-// as many, and a batch of rounds of swaps (4,000 fills in two dimensions) 1,000 times as many, in
-// three and four dimensions (1,200 fills) 2,200 times.
+// as many, and a batch of rounds of swaps (4,000 fills in two dimensions) 1,000 times as many. In
+// three and four dimensions a batch (1,200 fills) takes 60 n^3 steps.
 const SPLIT_COST: u64 = 7;
 
 const FLAT_BATCH_COST: u64 = 1_000;
 
-const DEEP_BATCH_COST: u64 = 2_200;
+const DEEP_BATCH_COST: u64 = 60;
 
 // The steps in any case, for each branching of a small budget, and for each of a larger one: trees
 // and proposals of a run take 0.01 s for a budget of 0, 0.4 s for 10,000, and 12 s for 1,000,000.
@@ -25,23 +25,25 @@ const TREE_STEPS_OF_SMALL: u64 = 2_000;
 const TREE_STEPS_OF_MORE: u64 = 960;
 
 // The steps of swaps: as many in any case, and for each branching. With 60 boxes in two dimensions
-// these are 1 batch for a budget of 0, 9 for 10,000 (0.5 s) and 63 for 1,000,000 (3 s). Over 32
+// these are 1 batch for a budget of 0, 11 for 10,000 (0.5 s) and 76 for 1,000,000 (3 s). Over 32
 // strips of 17 to 100 boxes the mean gap to what scales refute is 2.1 % behind one batch, 1.7 %
-// behind 8, and 1.6 % behind 32. Of 14 texts that fit by construction 9 are packed behind 8, and 11
-// behind 32.
+// behind 8, and 1.6 % behind 32. Of 14 texts that fit by construction 11 are packed under a budget
+// of 10,000.
 const SWAP_STEPS: u64 = 4_500_000;
 
 const SWAP_STEPS_OF_SMALL: u64 = 3_500;
 
 const SWAP_STEPS_OF_MORE: u64 = 200;
 
-const MOST_BATCHES: u64 = 64;
+const MOST_BATCHES: u64 = 96;
 
 // In three and four dimensions packings are lower the longer swaps go on (60 boxes: 1,102 behind
 // 19,200 fills in a row, 1,083 behind 76,800), and little else narrows the gap.
-const DEEP_SWAP_STEPS_OF_MORE: u64 = 400;
+const DEEP_SWAP_STEPS_OF_MORE: u64 = 700;
 
 const MOST_DEEP_BATCHES: u64 = 128;
+
+const MOST_PACKING_BATCHES: u64 = 64;
 
 // A batch for values takes fewer steps, since not all boxes are placed. Over 19 texts of 20 to 100
 // boxes 40 batches place at most 2 % more than 12, and 12 at most 3 % more than 4.
@@ -53,7 +55,7 @@ const MOST_VALUE_BATCHES: u64 = 40;
 
 // Trees and refutation searches decide hardly any question of more boxes than these (9 texts of 30
 // to 80 boxes), and packings are found the more often the longer they are searched. So `fit` then
-// has an eighth of the steps for a refutation, and those of a small budget more for swaps.
+// has an eighth of the steps for a refutation, and half of those of a small budget more for swaps.
 const FEW_BOXES: u32 = 24;
 
 const PART_OF_MANY: u64 = 8;
@@ -98,37 +100,38 @@ fn batches_within(instance: &Instance, steps: u64, cost: u64) -> u64 {
     steps / cost.saturating_mul(branching_steps(instance)).max(1)
 }
 
-// The steps that a batch of rounds of swaps takes for the square of the boxes, and those of swaps
-// under a budget.
-fn packing_steps(instance: &Instance, budget: u64) -> (u64, u64) {
+// The steps that a batch of rounds of swaps takes.
+fn batch_steps(instance: &Instance) -> u64 {
+    let square = branching_steps(instance);
     if instance.dims() == 2 {
-        (FLAT_BATCH_COST, swap_steps(budget, SWAP_STEPS_OF_MORE))
+        square.saturating_mul(FLAT_BATCH_COST)
     } else {
-        (DEEP_BATCH_COST, swap_steps(budget, DEEP_SWAP_STEPS_OF_MORE))
+        square
+            .saturating_mul(DEEP_BATCH_COST)
+            .saturating_mul(u64::from(instance.len()))
     }
 }
 
-/// The batches of rounds of swaps for a low packing under a budget, at most 64 in two dimensions
+/// The batches of rounds of swaps for a low packing under a budget, at most 96 in two dimensions
 /// and 128 in more. There is none if the steps of the budget don't pay for one.
 pub(crate) fn swap_batches(instance: &Instance, budget: u64) -> u64 {
-    let (cost, steps) = packing_steps(instance, budget);
-    let most = if instance.dims() == 2 {
-        MOST_BATCHES
+    let (more, most) = if instance.dims() == 2 {
+        (SWAP_STEPS_OF_MORE, MOST_BATCHES)
     } else {
-        MOST_DEEP_BATCHES
+        (DEEP_SWAP_STEPS_OF_MORE, MOST_DEEP_BATCHES)
     };
-    batches_within(instance, steps, cost).min(most)
+    (swap_steps(budget, more) / batch_steps(instance).max(1)).min(most)
 }
 
 /// The batches of rounds of swaps for a packing in the container under a budget, at most 64.
 pub(crate) fn packing_batches(instance: &Instance, budget: u64) -> u64 {
-    let (cost, steps) = packing_steps(instance, budget);
     let more = if instance.len() > FEW_BOXES {
-        tree_steps(budget.min(SMALL_BUDGET))
+        tree_steps(budget.min(SMALL_BUDGET)) / 2
     } else {
         0
     };
-    batches_within(instance, steps.saturating_add(more), cost).min(MOST_BATCHES)
+    let steps = swap_steps(budget, SWAP_STEPS_OF_MORE).saturating_add(more);
+    (steps / batch_steps(instance).max(1)).min(MOST_PACKING_BATCHES)
 }
 
 /// The splits of a search for a refutation that a budget pays for.
