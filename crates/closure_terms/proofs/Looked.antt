@@ -16,7 +16,7 @@ use Rattle.edge_state.specs.Edges.{PlainEdges, oldest}
 use Rattle.edge_state.specs.Answers.{IsChangeAfter}
 use Rattle.edge_state.proofs.RowBits.{members_fewer}
 use Rattle.closure_terms.specs.States.{HasRelationLeft}
-use Rattle.closure_terms.specs.Work.{IsChainIn, IsAppliedAt, IsWorked, IsChained, IsUnordered, IsBehind}
+use Rattle.closure_terms.specs.Work.{IsChainIn, IsDue, IsWorked, IsChained, IsUnordered, IsBehind}
 use Rattle.closure_terms.proofs.Chained.{chained_grown}
 use Rattle.closure_terms.proofs.Settled.{settled_step, chained_step, settled_after, chained_after}
 use Rattle.closure_terms.specs.Work.{IsLookedThrough}
@@ -43,19 +43,20 @@ unordered es e m o b a has ho hb ha off = record {
     tested false true true h f (inr g) = true≢false g
 
 -- the changes at one edge are looked through
-pub looked_step : (instance : PlainInstance) (s t : PlainEdges) (e : Exclusion) (mark next : ℕ) (dirty more : List ℕ)
+pub looked_step : (instance : PlainInstance) (s t : PlainEdges) (e : Exclusion) (fresh : Rel → Bool) (mark next : ℕ)
+    (dirty more : List ℕ)
     → IsEdge instance e.dim e.u e.v
     → HasRelationLeft instance (excludes s.trail) e.dim e.u e.v
-    → IsWorked instance s t false (λ rule. IsAppliedAt e.dim e.u e.v rule ⊎ IsAppliedAt e.dim e.v e.u rule)
-    → IsChangeAfter s.trail mark e (mark + 1) → IsBehind s.trail mark e next
+    → IsWorked instance s t false (IsDue fresh e.dim e.u e.v)
+    → IsChangeAfter s.trail mark e (mark + 1) → IsBehind s.trail mark e fresh next
     → ((i : ℕ) → row_has more i ≡ false → row_has dirty i ≡ false)
     → ((i : ℕ) → row_has more i ≡ false → e.dim ≡ i → IsUnordered (excludes s.trail) e)
     → ((i : ℕ) → row_has more i ≡ true → (i ≡ e.dim) ⊎ (row_has dirty i ≡ true))
     → IsLookedThrough instance (oldest mark s.trail) s.trail dirty
     → IsLookedThrough instance (oldest next t.trail) t.trail more
-looked_step instance s t e mark next dirty more edge left work change behind clean free within looked = record {
-  settled = settled_step instance s t e edge left work mark next looked.settled change behind;
-  chained = λ i h off. chained_step instance s t e edge left work i mark next (free i off)
+looked_step instance s t e fresh mark next dirty more edge left work change behind clean free within looked = record {
+  settled = settled_step instance s t e edge left fresh work mark next looked.settled change behind;
+  chained = λ i h off. chained_step instance s t e edge left fresh work i mark next (free i off)
       (looked.chained i h (clean i off)) change behind;
   within = λ i on. there i (within i on);
 }

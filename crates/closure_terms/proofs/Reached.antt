@@ -1,5 +1,6 @@
 -- Instances that add the same, and what is settled after one exclusion more.
-use Rattle.std.proofs.Common.{◌≡◌, ◌≢◌, ℕ, ◌⊎◌, inl, inr, refl, sym, ap, subst, ◌∙◌, arith, true, false, List, [], ◌∷◌}
+use Rattle.std.proofs.Common.{◌≡◌, ◌≢◌, ℕ, ◌⊎◌, inl, inr, refl, sym, ap, subst, ◌∙◌, arith, Bool, true, false, List}
+use Rattle.std.proofs.Common.{[], ◌∷◌}
 use Rattle.packing_terms.specs.declared.Rel.{Rel}
 use Rattle.packing_terms.specs.declared.Rel.TheVariants.{Overlap, Before, After}
 use Rattle.packing_terms.specs.declared.Exclusion.{Exclusion}
@@ -12,7 +13,7 @@ use Rattle.rule_terms.specs.Applied.{Adds, added, mirror_added}
 use Rattle.packing_terms.proofs.Sets.{excludes_symmetric, mirror_twice}
 use Rattle.packing_terms.proofs.Monotone.{open_less}
 use Rattle.rule_terms.proofs.Steps.{open_mirrored}
-use Rattle.closure_terms.specs.Work.{IsLocal, ReadsEdge, IsAppliedAt, IsCovered, IsUpToDate}
+use Rattle.closure_terms.specs.Work.{IsLocal, ReadsEdge, IsAppliedAt, IsDueAt, IsDue, IsCovered, IsUpToDate}
 use Rattle.closure_terms.proofs.Touched.{IsTouched, IsAt, decide_at, touched_or_old, adds_more, still_open}
 
 not_overlap : (r : Rel) → r ≢ Overlap → mirror r ≢ Overlap
@@ -145,67 +146,101 @@ module _ (instance : PlainInstance) (es : List Exclusion) where
       (joined_turned i d a p.3, joined_turned i c d p.2, joined_turned i b c p.1, joined_turned i a b p.0, p.4)
       (not_overlap r k)
 
-  -- an instance that is applied for the edge and adds no less
-  abbrev pub HasReached : ℕ → ℕ → ℕ → Rule → Type 0
-  HasReached j p q rule = (other : Rule) × (IsAppliedAt j p q other ⊎ IsAppliedAt j q p other)
+  -- an instance that is due for the edge and adds no less
+  abbrev pub HasReached : (fresh : Rel → Bool) → ℕ → ℕ → ℕ → Rule → Type 0
+  HasReached fresh j p q rule = (other : Rule) × IsDue fresh j p q other
       × ((k a b : ℕ) (r : Rel) → Adds instance (excludes es) rule k a b r → Adds instance (excludes es) other k a b r)
 
-  pub reached : (j p q : ℕ) (rule : Rule) → ReadsEdge rule j p q → HasReached j p q rule
-  reached j p q (Pair i u v) h = absurd h
-  reached j p q (Chain i before u v after) h = absurd h
-  reached j p q (Apart i u v) h = (Apart i u v, inl h, λ k a b r x. x)
-  reached j p q (Triple i u v x) (d, inl h) = (Triple i u v x, inl (d, h.0, h.1), λ k a b r y. y)
-  reached j p q (Triple i u v x) (d, inr h) = (Triple i v u x, inl (d, h.0, h.1), triple_turned i u v x)
-  reached j p q (Compose i u v x) (d, inl h) = (Compose i u v x, inl (d, h.0, h.1), λ k a b r y. y)
-  reached j p q (Compose i u v x) (d, inr h) = (Compose i x v u, inr (d, h.1, h.0), compose_turned i u v x)
-  reached j p q (Cycle i a b c d) (e, inl h) = (Cycle i a b c d, inl (e, inl h), λ k x y r z. z)
-  reached j p q (Cycle i a b c d) (e, inr (inl h)) = (Cycle i c b a d, inr (e, inl (h.1, h.0)), cycle_ac i a b c d)
-  reached j p q (Cycle i a b c d) (e, inr (inr (inl h))) =
+  pub reached : (fresh : Rel → Bool) (j p q : ℕ) (rule : Rule) → ReadsEdge fresh rule j p q
+      → HasReached fresh j p q rule
+  reached fresh j p q (Pair i u v) h = absurd h
+  reached fresh j p q (Chain i before u v after) h = absurd h
+  reached fresh j p q (Apart i u v) h = (Apart i u v, inl h, λ k a b r x. x)
+  reached fresh j p q (Triple i u v x) ((d, inl h), new) = (Triple i u v x, inl ((d, h.0, h.1), new), λ k a b r y. y)
+  reached fresh j p q (Triple i u v x) ((d, inr h), new) =
+      (Triple i v u x, inl ((d, h.0, h.1), new), triple_turned i u v x)
+  reached fresh j p q (Compose i u v x) (d, inl h) = (Compose i u v x, inl (d, h.0, h.1), λ k a b r y. y)
+  reached fresh j p q (Compose i u v x) (d, inr h) = (Compose i x v u, inr (d, h.1, h.0), compose_turned i u v x)
+  reached fresh j p q (Cycle i a b c d) (e, inl h) = (Cycle i a b c d, inl (e, inl h), λ k x y r z. z)
+  reached fresh j p q (Cycle i a b c d) (e, inr (inl h)) =
+      (Cycle i c b a d, inr (e, inl (h.1, h.0)), cycle_ac i a b c d)
+  reached fresh j p q (Cycle i a b c d) (e, inr (inr (inl h))) =
       (Cycle i c d a b, inl (e, inl h), λ k x y r z. cycle_bd i c b a d k x y r (cycle_ac i a b c d k x y r z))
-  reached j p q (Cycle i a b c d) (e, inr (inr (inr (inl h)))) =
+  reached fresh j p q (Cycle i a b c d) (e, inr (inr (inr (inl h)))) =
       (Cycle i a d c b, inr (e, inl (h.1, h.0)), cycle_bd i a b c d)
-  reached j p q (Cycle i a b c d) (e, inr (inr (inr (inr h)))) = (Cycle i a b c d, inl (e, inr h), λ k x y r z. z)
-  reached j p q (Order i a b c d) h = (Order i a b c d, inl h, λ k x y r z. z)
+  reached fresh j p q (Cycle i a b c d) (e, inr (inr (inr (inr h)))) = (Cycle i a b c d, inl (e, inr h), λ k x y r z. z)
+  reached fresh j p q (Order i a b c d) h = (Order i a b c d, inl h, λ k x y r z. z)
 
-swap_sum : {A B : Type 0} → A ⊎ B → B ⊎ A
-swap_sum (inl a) = inr a
-swap_sum (inr b) = inl b
+-- an instance that is due among some relations is so among others that are the same
+due_same : (f g : Rel → Bool) → ((r : Rel) → f r ≡ true → g r ≡ true) → (j p q : ℕ) (rule : Rule)
+    → IsDueAt f j p q rule → IsDueAt g j p q rule
+due_same f g same j p q (Pair i u v) h = h
+due_same f g same j p q (Chain i before u v after) h = h
+due_same f g same j p q (Apart i u v) h = h
+due_same f g same j p q (Triple i u v x) (h, new) = (h, same Overlap new)
+due_same f g same j p q (Compose i u v x) h = h
+due_same f g same j p q (Cycle i a b c d) (e, inl h) = (e, inl h)
+due_same f g same j p q (Cycle i a b c d) (e, inr (h, new)) = (e, inr (h, same Overlap new))
+due_same f g same j p q (Order i a b c d) (e, inl h) = (e, inl h)
+due_same f g same j p q (Order i a b c d) (e, inr (inl h)) = (e, inr (inl h))
+due_same f g same j p q (Order i a b c d) (e, inr (inr (h, new))) = (e, inr (inr (h, same Before new)))
 
--- The step of the worklist's invariant: where all instances that are applied for the edge of the
--- oldest exclusion that wasn't looked through yet cover
--- what they add, that exclusion is looked through.
-pub settled_next : (instance : PlainInstance) (e : Exclusion) (seen old new : List Exclusion)
-    → IsSubset (excludes (e ∷ seen)) (excludes old)
+-- turned round twice, they are the same
+due_swapped : (fresh : Rel → Bool) (j p q : ℕ) (rule : Rule) → IsDue (λ r. fresh (mirror r)) j q p rule
+    → IsDue fresh j p q rule
+due_swapped fresh j p q rule (inl h) = inr h
+due_swapped fresh j p q rule (inr h) =
+    inl (due_same (λ r. fresh (mirror (mirror r))) fresh
+    (λ r k. subst (λ (s : Rel). fresh s ≡ true) (mirror_twice r) k) j p q rule h)
+
+due_applied : (fresh : Rel → Bool) (j p q : ℕ) (rule : Rule) → IsDueAt fresh j p q rule → IsAppliedAt j p q rule
+due_applied fresh j p q (Pair i u v) h = h
+due_applied fresh j p q (Chain i before u v after) h = h
+due_applied fresh j p q (Apart i u v) h = h
+due_applied fresh j p q (Triple i u v x) h = h.0
+due_applied fresh j p q (Compose i u v x) h = h
+due_applied fresh j p q (Cycle i a b c d) (e, inl h) = (e, inl h)
+due_applied fresh j p q (Cycle i a b c d) (e, inr h) = (e, inr h.0)
+due_applied fresh j p q (Order i a b c d) (e, inl h) = (e, inl h)
+due_applied fresh j p q (Order i a b c d) (e, inr (inl h)) = (e, inr (inl h))
+due_applied fresh j p q (Order i a b c d) (e, inr (inr h)) = (e, inr (inr h.0))
+
+-- The step of the worklist's invariant: where all instances that are due for the edge of the oldest
+-- exclusion that wasn't looked through yet cover what they add, that exclusion is looked through.
+-- Its relation is among the fresh ones. An instance that asks there for another relation alone
+-- adds no more than before.
+pub settled_due : (instance : PlainInstance) (fresh : Rel → Bool) (e : Exclusion) (seen old new : List Exclusion)
+    → fresh e.rel ≡ true → IsSubset (excludes (e ∷ seen)) (excludes old)
     → IsUpToDate instance seen new → ((r : Rel) × (excludes old e.dim e.u e.v r ≡ false))
-    → ((rule : Rule) → IsAppliedAt e.dim e.u e.v rule ⊎ IsAppliedAt e.dim e.v e.u rule
-    → IsCovered instance (excludes old) new rule)
+    → ((rule : Rule) → IsDue fresh e.dim e.u e.v rule → IsCovered instance (excludes old) new rule)
     → IsUpToDate instance (e ∷ seen) new
-settled_next instance e seen old new within settled left done = record {
+settled_due instance fresh e seen old new first within settled left done = record {
   covered = λ rule local. record {
     holds = λ i u v r add. go rule local i u v r add
-        (touched_or_old instance e seen rule local);
+        (touched_or_old instance fresh e seen rule first local);
   };
   full = λ i u v edge. still i u v edge (decide_at e i u v);
 }
   where
-    by_reached : (rule : Rule) (p q : ℕ) → HasReached instance (e ∷ seen) e.dim p q rule
-        → ((other : Rule) → IsAppliedAt e.dim p q other ⊎ IsAppliedAt e.dim q p other
-        → IsCovered instance (excludes old) new other)
+    by_reached : (rule : Rule) (other : Rule) → IsCovered instance (excludes old) new other
+        → ((j p q : ℕ) (s : Rel) → Adds instance (excludes (e ∷ seen)) rule j p q s
+        → Adds instance (excludes (e ∷ seen)) other j p q s)
         → (i u v : ℕ) (r : Rel) → Adds instance (excludes (e ∷ seen)) rule i u v r → excludes new i u v r ≡ true
-    by_reached rule p q h covers i u v r add =
-        (covers h.0 h.1).holds i u v r
-        (adds_more instance (excludes (e ∷ seen)) (excludes old) within h.0 i u v r (h.2 i u v r add))
+    by_reached rule other covers less i u v r add =
+        covers.holds i u v r
+        (adds_more instance (excludes (e ∷ seen)) (excludes old) within other i u v r (less i u v r add))
 
     go : (rule : Rule) → IsLocal rule → (i u v : ℕ) (r : Rel) → Adds instance (excludes (e ∷ seen)) rule i u v r
-        → IsTouched e rule ⊎ ((j a b : ℕ) (s : Rel) → Adds instance (excludes (e ∷ seen)) rule j a b s
+        → IsTouched fresh e rule ⊎ ((j a b : ℕ) (s : Rel) → Adds instance (excludes (e ∷ seen)) rule j a b s
         → Adds instance (excludes seen) rule j a b s)
         → excludes new i u v r ≡ true
     go rule local i u v r add (inr less) = (settled.covered rule local).holds i u v r (less i u v r add)
     go rule local i u v r add (inl (inl t)) =
-        by_reached rule e.u e.v (reached instance (e ∷ seen) e.dim e.u e.v rule t) done i u v r add
+        let h = reached instance (e ∷ seen) fresh e.dim e.u e.v rule t in
+        by_reached rule h.0 (done h.0 h.1) h.2 i u v r add
     go rule local i u v r add (inl (inr t)) =
-        by_reached rule e.v e.u (reached instance (e ∷ seen) e.dim e.v e.u rule t)
-        (λ other s. done other (swap_sum s)) i u v r add
+        let h = reached instance (e ∷ seen) (λ s. fresh (mirror s)) e.dim e.v e.u rule t in
+        by_reached rule h.0 (done h.0 (due_swapped fresh e.dim e.u e.v h.0 h.1)) h.2 i u v r add
 
     still : (i u v : ℕ) → IsEdge instance i u v → IsAt e i u v ⊎ (IsAt e i u v → ⊥)
         → (r : Rel) × (excludes (e ∷ seen) i u v r ≡ false)
@@ -225,3 +260,17 @@ settled_next instance e seen old new within settled left done = record {
           (subst (λ (b : ℕ). excludes old e.dim e.v b (mirror left.0) ≡ false) h.0
           (open_mirrored old e.dim e.u e.v left.0 left.1)))),
     )
+
+-- the same where all instances that are applied for the edge cover what they add
+pub settled_next : (instance : PlainInstance) (e : Exclusion) (seen old new : List Exclusion)
+    → IsSubset (excludes (e ∷ seen)) (excludes old)
+    → IsUpToDate instance seen new → ((r : Rel) × (excludes old e.dim e.u e.v r ≡ false))
+    → ((rule : Rule) → IsAppliedAt e.dim e.u e.v rule ⊎ IsAppliedAt e.dim e.v e.u rule
+    → IsCovered instance (excludes old) new rule)
+    → IsUpToDate instance (e ∷ seen) new
+settled_next instance e seen old new within settled left done =
+    settled_due instance (λ r. true) e seen old new refl within settled left (λ rule h. go rule h)
+  where
+    go : (rule : Rule) → IsDue (λ r. true) e.dim e.u e.v rule → IsCovered instance (excludes old) new rule
+    go rule (inl h) = done rule (inl (due_applied (λ r. true) e.dim e.u e.v rule h))
+    go rule (inr h) = done rule (inr (due_applied (λ r. true) e.dim e.v e.u rule h))

@@ -1,6 +1,6 @@
 -- The worklist's invariant from one exclusion to the next, from the first to the last.
 use Rattle.std.proofs.Common.{◌≡◌, ℕ, zero, suc, ◌+◌, ◌-◌, ◌*◌, ◌/◌, ◌<◌, ◌≤◌, ◌⊎◌, inl, inr, refl, sym, subst, ◌∙◌}
-use Rattle.std.proofs.Common.{arith, true, false, List, [], ◌∷◌, length, drop}
+use Rattle.std.proofs.Common.{arith, Bool, true, false, List, [], ◌∷◌, length, drop}
 use Rattle.std.proofs.lemmas.Bool.{true≢false, cases_lt, or_right}
 use Rattle.std.proofs.lemmas.List.{length-append}
 use Rattle.packing_terms.specs.declared.Rel.{Rel}
@@ -20,11 +20,11 @@ use Rattle.rule_terms.proofs.Steps.{trail_room, few_open}
 use Rattle.edge_state.specs.Edges.{PlainEdges, oldest}
 use Rattle.edge_state.specs.Answers.{IsChangeAfter}
 use Rattle.closure_terms.specs.States.{HasRelationLeft}
-use Rattle.closure_terms.specs.Work.{IsLocal, IsAppliedAt, IsCovered, IsExhausted, IsWorked, IsUpToDate, IsChained}
+use Rattle.closure_terms.specs.Work.{IsLocal, IsDue, IsCovered, IsExhausted, IsWorked, IsUpToDate, IsChained}
 use Rattle.closure_terms.specs.Work.{IsUnordered, IsBehind, behind_one, behind_two}
 use Rattle.closure_terms.proofs.Touched.{adds_more}
 use Rattle.closure_terms.proofs.Worked.{covered_not}
-use Rattle.closure_terms.proofs.Reached.{settled_next, pair_turned}
+use Rattle.closure_terms.proofs.Reached.{settled_due, pair_turned}
 use Rattle.closure_terms.proofs.Chained.{chained_next, chained_grown, chained_first}
 use Rattle.edge_state.proofs.Oldest.{oldest_grown, oldest_all, oldest_none}
 
@@ -60,7 +60,7 @@ settled_grown instance seen old new more h = record {
 
 module _ (instance : PlainInstance) (s t : PlainEdges) (e : Exclusion) (edge : IsEdge instance e.dim e.u e.v)
     (left : HasRelationLeft instance (excludes s.trail) e.dim e.u e.v)
-    (work : IsWorked instance s t false (λ rule. IsAppliedAt e.dim e.u e.v rule ⊎ IsAppliedAt e.dim e.v e.u rule)) where
+    (fresh : Rel → Bool) (work : IsWorked instance s t false (IsDue fresh e.dim e.u e.v)) where
   -- what was looked through after one change more
   seen_next : (mark next : ℕ) (f : Exclusion) → IsChangeAfter s.trail mark f next
       → oldest next t.trail ≡ f ∷ oldest mark s.trail
@@ -79,11 +79,11 @@ module _ (instance : PlainInstance) (s t : PlainEdges) (e : Exclusion) (edge : I
 
   -- one change more at the edge
   settled_one : (mark next : ℕ) (f : Exclusion) → IsChangeAfter s.trail mark f next → f.dim ≡ e.dim
-      → f.u ≡ e.u → f.v ≡ e.v
+      → f.u ≡ e.u → f.v ≡ e.v → fresh f.rel ≡ true
       → IsUpToDate instance (oldest mark s.trail) t.trail → IsUpToDate instance (oldest next t.trail) t.trail
-  settled_one mark next f change d u v settled =
+  settled_one mark next f change d u v new settled =
       subst (λ (l : List Exclusion). IsUpToDate instance l t.trail) (sym (seen_next mark next f change))
-      (settled_next instance f (oldest mark s.trail) s.trail t.trail (seen_within mark next f change) settled
+      (settled_due instance fresh f (oldest mark s.trail) s.trail t.trail new (seen_within mark next f change) settled
       (rw (d, u, v) (left.some edge)) (rw (d, u, v) (work.done refl)))
 
   chained_one : (i mark next : ℕ) (f : Exclusion) → IsChangeAfter s.trail mark f next → f.dim ≡ e.dim
@@ -98,23 +98,23 @@ module _ (instance : PlainInstance) (s t : PlainEdges) (e : Exclusion) (edge : I
   -- all changes at the edge that stand together
   pub settled_step : (mark next : ℕ) → IsUpToDate instance (oldest mark s.trail) s.trail
       → IsChangeAfter s.trail mark e (mark + 1)
-      → IsBehind s.trail mark e next → IsUpToDate instance (oldest next t.trail) t.trail
+      → IsBehind s.trail mark e fresh next → IsUpToDate instance (oldest next t.trail) t.trail
   settled_step mark next settled change behind = go behind
     where
-      one : IsUpToDate instance (oldest (mark + 1) t.trail) t.trail
-      one = settled_one mark (mark + 1) e change refl refl refl
+      one : fresh e.rel ≡ true → IsUpToDate instance (oldest (mark + 1) t.trail) t.trail
+      one new = settled_one mark (mark + 1) e change refl refl refl new
           (settled_grown instance (oldest mark s.trail) s.trail t.trail work.extends.kept settled)
 
-      go : IsBehind s.trail mark e next → IsUpToDate instance (oldest next t.trail) t.trail
-      go (behind_one is) = rw is one
-      go (behind_two f more d u v) =
-          settled_one (mark + 1) next f more d u v
+      go : IsBehind s.trail mark e fresh next → IsUpToDate instance (oldest next t.trail) t.trail
+      go (behind_one is new) = rw is (one new)
+      go (behind_two f more d u v new also) =
+          settled_one (mark + 1) next f more d u v also
           (subst (λ (l : List Exclusion). IsUpToDate instance l t.trail)
-          (seen_before (mark + 1) (let h = change.before_last in omega arith)) one)
+          (seen_before (mark + 1) (let h = change.before_last in omega arith)) (one new))
 
   pub chained_step : (i mark next : ℕ) → (e.dim ≡ i → IsUnordered (excludes s.trail) e)
       → IsChained instance i (oldest mark s.trail) s.trail
-      → IsChangeAfter s.trail mark e (mark + 1) → IsBehind s.trail mark e next
+      → IsChangeAfter s.trail mark e (mark + 1) → IsBehind s.trail mark e fresh next
       → IsChained instance i (oldest next t.trail) t.trail
   chained_step i mark next free chained change behind = go behind
     where
@@ -122,9 +122,9 @@ module _ (instance : PlainInstance) (s t : PlainEdges) (e : Exclusion) (edge : I
       one = chained_one i mark (mark + 1) e change refl refl refl free
           (chained_grown instance i (oldest mark s.trail) s.trail t.trail work.extends.kept chained)
 
-      go : IsBehind s.trail mark e next → IsChained instance i (oldest next t.trail) t.trail
-      go (behind_one is) = rw is one
-      go (behind_two f more d u v) =
+      go : IsBehind s.trail mark e fresh next → IsChained instance i (oldest next t.trail) t.trail
+      go (behind_one is new) = rw is one
+      go (behind_two f more d u v new also) =
           chained_one i (mark + 1) next f more d u v free
           (subst (λ (l : List Exclusion). IsChained instance i l t.trail)
           (seen_before (mark + 1) (let h = change.before_last in omega arith)) one)
@@ -294,20 +294,20 @@ chained_pairs instance i old new k e pairs =
     (chained_first instance i new (pairs_first instance old new pairs))
 
 -- the position behind is in the list, and later
-pub behind_within : (es : List Exclusion) (mark next : ℕ) (e : Exclusion) → mark < length es → IsBehind es mark e next
-    → (mark < next) × (next ≤ length es)
-behind_within es mark next e h (behind_one is) = (omega (arith, is), omega (arith, h, is))
-behind_within es mark next e h (behind_two f change d u v) =
+pub behind_within : (es : List Exclusion) (mark next : ℕ) (e : Exclusion) (fresh : Rel → Bool) → mark < length es
+    → IsBehind es mark e fresh next → (mark < next) × (next ≤ length es)
+behind_within es mark next e fresh h (behind_one is new) = (omega (arith, is), omega (arith, h, is))
+behind_within es mark next e fresh h (behind_two f change d u v new also) =
     let before_last : mark + 1 < length es = change.before_last in
     let counted : next ≡ mark + 1 + 1 = change.counted in
     (omega (arith, counted), omega (arith, before_last, counted))
 
 pub grown_past : (instance : PlainInstance) (old new : List Exclusion) (mark next : ℕ) (e : Exclusion)
-    → Extends instance old new → mark < length old
-    → IsBehind old mark e next → next ≤ length new
-grown_past instance old new mark next e extends h behind =
+    (fresh : Rel → Bool) → Extends instance old new → mark < length old
+    → IsBehind old mark e fresh next → next ≤ length new
+grown_past instance old new mark next e fresh extends h behind =
     let grown : length new ≡ length extends.more + length old = rw extends.grown (length-append extends.more old) in
-    let within = behind_within old mark next e h behind in
+    let within = behind_within old mark next e fresh h behind in
     omega (arith, grown, within.1)
 
 -- the last position is reached: all was looked through

@@ -1,5 +1,7 @@
 -- The instances of the rules that are applied for one edge, in one order of its boxes.
-use Rattle.std.specs.Prelude.{◌≡◌, ◌≢◌, ℕ, ◌<◌, ◌⊎◌}
+use Rattle.std.specs.Prelude.{◌≡◌, ◌≢◌, ℕ, ◌<◌, ◌⊎◌, Bool, true}
+use Rattle.packing_terms.specs.declared.Rel.{Rel}
+use Rattle.packing_terms.specs.declared.Rel.TheVariants.{Overlap, Before}
 use Rattle.packing_terms.specs.Packing.{PlainInstance, dims, box_count}
 use Rattle.packing_terms.specs.Rules.{Rule, Apart, Triple, Compose, Cycle, Order}
 
@@ -28,9 +30,12 @@ module _ (instance : PlainInstance) (j p q : ℕ) (rule : Rule) where
   abbrev pub OrdersCrossed : Type 0
   OrdersCrossed = (b : ℕ) × (b < box_count instance) × ((c : ℕ) × (c < box_count instance) × (rule ≡ Order j p b c q))
 
--- all of them, in the order in which they are applied
-abbrev pub AppliedAll : PlainInstance → ℕ → ℕ → ℕ → Rule → Type 0
-AppliedAll instance j p q rule =
-    (((Composes instance j p q rule ⊎ (Triples instance j p q rule ⊎ Chords instance j p q rule))
+-- all that are due where these relations of the edge are newly excluded, in the order in which they
+-- are applied
+abbrev pub DueAll : PlainInstance → (fresh : Rel → Bool) → ℕ → ℕ → ℕ → Rule → Type 0
+DueAll instance fresh j p q rule =
+    (((Composes instance j p q rule
+    ⊎ ((fresh Overlap ≡ true) × (Triples instance j p q rule ⊎ Chords instance j p q rule)))
     ⊎ (Aparts instance j p q rule ⊎ Cycles instance j p q rule))
-    ⊎ (OrdersFirst instance j p q rule ⊎ OrdersSecond instance j p q rule)) ⊎ OrdersCrossed instance j p q rule
+    ⊎ (OrdersFirst instance j p q rule ⊎ OrdersSecond instance j p q rule))
+    ⊎ ((fresh Before ≡ true) × OrdersCrossed instance j p q rule)

@@ -7,9 +7,10 @@
 -- adds anything. CHAIN can add something in a dimension only where a pair of it became ordered.
 use Rattle.std.specs.Prelude.{ℕ, ◌≡◌, ◌≢◌, ◌⊎◌, ◌+◌, ◌<◌, List, Bool, true, false, IsTrue}
 use Rattle.packing_terms.specs.declared.Rel.{Rel}
-use Rattle.packing_terms.specs.declared.Rel.TheVariants.{Overlap, After}
+use Rattle.packing_terms.specs.declared.Rel.TheVariants.{Overlap, Before, After}
 use Rattle.packing_terms.specs.declared.Exclusion.{Exclusion}
 use Rattle.packing_terms.specs.Packing.{PlainInstance, dims}
+use Rattle.packing_terms.specs.Relations.{mirror}
 use Rattle.packing_terms.specs.Exclusions.{Exclusions, excludes}
 use Rattle.packing_terms.specs.Rules.{Rule, Pair, Apart, Triple, Chain, Compose, Cycle, Order}
 use Rattle.rule_terms.specs.Applied.{Adds, Extends}
@@ -29,17 +30,23 @@ abbrev pub IsChainIn : ℕ → Rule → Type 0
 IsChainIn i (Chain j before u v after) = j ≡ i
 IsChainIn i _ = ⊥
 
--- the instance of the rule reads the mask of the edge, in this order of the boxes
-abbrev pub ReadsEdge : Rule → ℕ → ℕ → ℕ → Type 0
-ReadsEdge (Pair i u v) j p q = ⊥
-ReadsEdge (Apart i u v) j p q = (j ≢ i) × (u ≡ p) × (v ≡ q)
-ReadsEdge (Triple i u v x) j p q = (i ≡ j) × (((u ≡ p) × (x ≡ q)) ⊎ ((v ≡ p) × (x ≡ q)))
-ReadsEdge (Chain i before u v after) j p q = ⊥
-ReadsEdge (Compose i u v x) j p q = (i ≡ j) × (((u ≡ p) × (v ≡ q)) ⊎ ((v ≡ p) × (x ≡ q)))
-ReadsEdge (Cycle i a b c d) j p q =
+-- The instance of the rule reads the mask of the edge, in this order of the boxes, where these
+-- relations of the edge are newly excluded: if it asks there that one relation alone is excluded,
+-- that one is new.
+abbrev pub ReadsEdge : (fresh : Rel → Bool) → Rule → ℕ → ℕ → ℕ → Type 0
+ReadsEdge fresh (Pair i u v) j p q = ⊥
+ReadsEdge fresh (Apart i u v) j p q = (j ≢ i) × (u ≡ p) × (v ≡ q)
+ReadsEdge fresh (Triple i u v x) j p q =
+    ((i ≡ j) × (((u ≡ p) × (x ≡ q)) ⊎ ((v ≡ p) × (x ≡ q)))) × (fresh Overlap ≡ true)
+ReadsEdge fresh (Chain i before u v after) j p q = ⊥
+ReadsEdge fresh (Compose i u v x) j p q = (i ≡ j) × (((u ≡ p) × (v ≡ q)) ⊎ ((v ≡ p) × (x ≡ q)))
+ReadsEdge fresh (Cycle i a b c d) j p q =
     (i ≡ j) × (((a ≡ p) × (b ≡ q))
-    ⊎ (((b ≡ p) × (c ≡ q)) ⊎ (((c ≡ p) × (d ≡ q)) ⊎ (((d ≡ p) × (a ≡ q)) ⊎ ((a ≡ p) × (c ≡ q))))))
-ReadsEdge (Order i a b c d) j p q = (i ≡ j) × (((a ≡ p) × (b ≡ q)) ⊎ (((c ≡ p) × (d ≡ q)) ⊎ ((a ≡ p) × (d ≡ q))))
+    ⊎ (((b ≡ p) × (c ≡ q)) ⊎ (((c ≡ p) × (d ≡ q)) ⊎ (((d ≡ p) × (a ≡ q))
+    ⊎ (((a ≡ p) × (c ≡ q)) × (fresh Overlap ≡ true))))))
+ReadsEdge fresh (Order i a b c d) j p q =
+    (i ≡ j) × (((a ≡ p) × (b ≡ q))
+    ⊎ (((c ≡ p) × (d ≡ q)) ⊎ (((a ≡ p) × (d ≡ q)) × (fresh Before ≡ true))))
 
 -- The instance is one of those that are to be applied for the edge, in this order of the boxes. The
 -- others that read it add the same as one of these do.
@@ -51,6 +58,24 @@ IsAppliedAt j p q (Chain i before u v after) = ⊥
 IsAppliedAt j p q (Compose i u v x) = (i ≡ j) × (u ≡ p) × (v ≡ q)
 IsAppliedAt j p q (Cycle i a b c d) = (i ≡ j) × (((a ≡ p) × (b ≡ q)) ⊎ ((a ≡ p) × (c ≡ q)))
 IsAppliedAt j p q (Order i a b c d) = (i ≡ j) × (((a ≡ p) × (b ≡ q)) ⊎ (((c ≡ p) × (d ≡ q)) ⊎ ((a ≡ p) × (d ≡ q))))
+
+-- Like `IsAppliedAt`, where these relations of the edge are newly excluded: an instance that asks
+-- there that one relation alone is excluded is due only if that one is new.
+abbrev pub IsDueAt : (fresh : Rel → Bool) → ℕ → ℕ → ℕ → Rule → Type 0
+IsDueAt fresh j p q (Pair i u v) = ⊥
+IsDueAt fresh j p q (Apart i u v) = (j ≢ i) × (u ≡ p) × (v ≡ q)
+IsDueAt fresh j p q (Triple i u v x) = ((i ≡ j) × (u ≡ p) × (x ≡ q)) × (fresh Overlap ≡ true)
+IsDueAt fresh j p q (Chain i before u v after) = ⊥
+IsDueAt fresh j p q (Compose i u v x) = (i ≡ j) × (u ≡ p) × (v ≡ q)
+IsDueAt fresh j p q (Cycle i a b c d) =
+    (i ≡ j) × (((a ≡ p) × (b ≡ q)) ⊎ (((a ≡ p) × (c ≡ q)) × (fresh Overlap ≡ true)))
+IsDueAt fresh j p q (Order i a b c d) =
+    (i ≡ j) × (((a ≡ p) × (b ≡ q))
+    ⊎ (((c ≡ p) × (d ≡ q)) ⊎ (((a ≡ p) × (d ≡ q)) × (fresh Before ≡ true))))
+
+-- the same in both orders of the boxes
+abbrev pub IsDue : (fresh : Rel → Bool) → ℕ → ℕ → ℕ → Rule → Type 0
+IsDue fresh j p q rule = IsDueAt fresh j p q rule ⊎ IsDueAt (λ r. fresh (mirror r)) j q p rule
 
 -- what the instance adds by the exclusions that were looked at is excluded
 pub record IsCovered (instance : PlainInstance) (seen : Exclusions) (es : List Exclusion) (rule : Rule) : Type 0 where
@@ -87,11 +112,12 @@ pub record IsUnordered (X : Exclusions) (e : Exclusion) : Type 0 where
   pub back : IsTrue (X e.dim e.v e.u Overlap) → IsTrue (X e.dim e.v e.u After) → ⊥
 
 -- The position behind the next exclusion of the list, or behind two that stand together and are at
--- one edge.
-pub data IsBehind (es : List Exclusion) (mark : ℕ) (e : Exclusion) (next : ℕ) : Type 0 where
-  behind_one : next ≡ mark + 1 → IsBehind es mark e next
+-- one edge; each of them is of a fresh relation.
+pub data IsBehind (es : List Exclusion) (mark : ℕ) (e : Exclusion) (fresh : Rel → Bool) (next : ℕ) :
+    Type 0 where
+  behind_one : next ≡ mark + 1 → fresh e.rel ≡ true → IsBehind es mark e fresh next
   behind_two : (f : Exclusion) → IsChangeAfter es (mark + 1) f next → f.dim ≡ e.dim → f.u ≡ e.u → f.v ≡ e.v
-      → IsBehind es mark e next
+      → fresh e.rel ≡ true → fresh f.rel ≡ true → IsBehind es mark e fresh next
 
 -- What was looked through of a list: no rule adds anything by it but CHAIN in the dimensions of a
 -- row.

@@ -1,13 +1,15 @@
 -- Instances that are left out, since the edge doesn't have what they ask for.
 use Rattle.std.proofs.Common.{◌≡◌, ℕ, ◌<◌, ◌⊎◌, inl, inr, sym, subst, refl, ◌∙◌, Bool, true, false, not}
 use Rattle.std.proofs.lemmas.Bool.{true≢false, cases_Bool}
+use Rattle.packing_terms.specs.declared.Rel.{Rel}
 use Rattle.packing_terms.specs.declared.Rel.TheVariants.{Overlap, Before, After}
 use Rattle.packing_terms.specs.Packing.{PlainInstance, dims}
+use Rattle.packing_terms.specs.Relations.{mirror}
 use Rattle.packing_terms.specs.Exclusions.{Exclusions, excludes}
 use Rattle.packing_terms.specs.Rules.{Rule, IsRuleInstance, Premises}
 use Rattle.edge_state.specs.Edges.{PlainEdges}
-use Rattle.closure_terms.specs.Work.{IsWorked, IsCovered, IsAppliedAt}
-use Rattle.closure_terms.specs.Instances.{AppliedAll, Composes, OrdersCrossed}
+use Rattle.closure_terms.specs.Work.{IsWorked, IsCovered, IsDueAt, IsDue}
+use Rattle.closure_terms.specs.Instances.{DueAll, Composes, OrdersCrossed}
 use Rattle.closure_terms.proofs.Instances.{worked_reached}
 use Rattle.closure_terms.proofs.Members.{covered_named}
 use Rattle.closure_terms.proofs.Worked.{covered_if, covered_not, worked_as, worked_none}
@@ -59,15 +61,22 @@ pub shut_off : (b x : Bool) → b ≡ not x → b ≡ false → x ≡ true
 shut_off b true e h = refl
 shut_off b false e h = absurd (true≢false (sym e ∙ h))
 
--- the instances of an edge, each group where what it asks for isn't told off by what is left there
-abbrev Guarded : PlainInstance → ℕ → ℕ → ℕ → Bool → Bool → Bool → Rule → Type 0
-Guarded instance j p q o b a rule =
-    (((Composes instance j p q rule ⊎ ((o ≡ false) × IsReachedApart instance j p q rule))
+-- the instances of an edge, each group where what it asks for doesn't contradict what is left there,
+-- and where that isn't stale
+abbrev Guarded : PlainInstance → ℕ → ℕ → ℕ → (stale : Rel → Bool) → Bool → Bool → Bool → Rule → Type 0
+Guarded instance j p q stale o b a rule =
+    (((Composes instance j p q rule ⊎ (((o ≡ false) × (stale Overlap ≡ false)) × IsReachedApart instance j p q rule))
     ⊎ (((b ≡ false) × (a ≡ false)) × IsReachedJoined instance j p q rule))
     ⊎ (((o ≡ false) × (a ≡ false)) × IsReachedOrdered instance j p q rule))
-    ⊎ ((b ≡ false) × OrdersCrossed instance j p q rule)
+    ⊎ (((b ≡ false) × (stale Before ≡ false)) × OrdersCrossed instance j p q rule)
 
-module _ (instance : PlainInstance) (X : Exclusions) (j p q : ℕ) (o b a : Bool) (there : j < dims instance)
+-- what is fresh isn't stale
+not_stale : (b : Bool) → not b ≡ true → b ≡ false
+not_stale true h = absurd (true≢false (sym h))
+not_stale false h = refl
+
+module _ (instance : PlainInstance) (X : Exclusions) (j p q : ℕ) (stale : Rel → Bool) (o b a : Bool)
+    (there : j < dims instance)
     (left_o : o ≡ not (X j p q Overlap)) (left_b : b ≡ not (X j p q Before)) (left_a : a ≡ not (X j p q After)) where
   abbrev Fails : Rule → Type 0
   Fails rule = IsRuleInstance instance rule → Premises instance X rule → ⊥
@@ -89,64 +98,73 @@ module _ (instance : PlainInstance) (X : Exclusions) (j p q : ℕ) (o b a : Bool
   crossed_fails : b ≡ true → (rule : Rule) → OrdersCrossed instance j p q rule → Fails rule
   crossed_fails h rule (x, l, (c, m, e)) = subst Fails (sym e) (λ is k. clash b _ left_b h k.2)
 
-  sorted : (rule : Rule) → AppliedAll instance j p q rule → Guarded instance j p q o b a rule ⊎ Fails rule
+  sorted : (rule : Rule) → DueAll instance (λ r. not (stale r)) j p q rule
+      → Guarded instance j p q stale o b a rule ⊎ Fails rule
   sorted rule (inl (inl (inl (inl r)))) = inl (inl (inl (inl (inl r))))
-  sorted rule (inl (inl (inl (inr r)))) = go (cases_Bool o)
+  sorted rule (inl (inl (inl (inr (new, r))))) = go (cases_Bool o)
     where
-      go : (o ≡ true) ⊎ (o ≡ false) → Guarded instance j p q o b a rule ⊎ Fails rule
+      go : (o ≡ true) ⊎ (o ≡ false) → Guarded instance j p q stale o b a rule ⊎ Fails rule
       go (inl h) = inr (apart_fails h rule r)
-      go (inr h) = inl (inl (inl (inl (inr (h, r)))))
+      go (inr h) = inl (inl (inl (inl (inr ((h, not_stale (stale Overlap) new), r)))))
   sorted rule (inl (inl (inr r))) = go (cases_Bool b) (cases_Bool a)
     where
-      go : (b ≡ true) ⊎ (b ≡ false) → (a ≡ true) ⊎ (a ≡ false) → Guarded instance j p q o b a rule ⊎ Fails rule
+      go : (b ≡ true) ⊎ (b ≡ false) → (a ≡ true) ⊎ (a ≡ false) → Guarded instance j p q stale o b a rule ⊎ Fails rule
       go (inl h) k = inr (joined_fails (λ f. clash b _ left_b h f.0) rule r)
       go (inr h) (inl k) = inr (joined_fails (λ f. clash a _ left_a k f.1) rule r)
       go (inr h) (inr k) = inl (inl (inl (inr ((h, k), r))))
   sorted rule (inl (inr r)) = go (cases_Bool o) (cases_Bool a)
     where
-      go : (o ≡ true) ⊎ (o ≡ false) → (a ≡ true) ⊎ (a ≡ false) → Guarded instance j p q o b a rule ⊎ Fails rule
+      go : (o ≡ true) ⊎ (o ≡ false) → (a ≡ true) ⊎ (a ≡ false) → Guarded instance j p q stale o b a rule ⊎ Fails rule
       go (inl h) k = inr (ordered_fails (λ f. clash o _ left_o h f.0) rule r)
       go (inr h) (inl k) = inr (ordered_fails (λ f. clash a _ left_a k f.1) rule r)
       go (inr h) (inr k) = inl (inl (inr ((h, k), r)))
-  sorted rule (inr r) = go (cases_Bool b)
+  sorted rule (inr (new, r)) = go (cases_Bool b)
     where
-      go : (b ≡ true) ⊎ (b ≡ false) → Guarded instance j p q o b a rule ⊎ Fails rule
+      go : (b ≡ true) ⊎ (b ≡ false) → Guarded instance j p q stale o b a rule ⊎ Fails rule
       go (inl h) = inr (crossed_fails h rule r)
-      go (inr h) = inl (inr (h, r))
+      go (inr h) = inl (inr ((h, not_stale (stale Before) new), r))
 
 -- the instances of an edge in both orders of its boxes, in the order in which they are applied
-abbrev pub GuardedBoth : PlainInstance → ℕ → ℕ → ℕ → (o b a o2 b2 a2 : Bool) → Rule → Type 0
-GuardedBoth instance j u v o b a o2 b2 a2 rule =
+abbrev pub GuardedBoth : PlainInstance → ℕ → ℕ → ℕ → (stale : Rel → Bool) → (o b a o2 b2 a2 : Bool) → Rule → Type 0
+GuardedBoth instance j u v stale o b a o2 b2 a2 rule =
     (((Composes instance j u v rule ⊎ Composes instance j v u rule)
-    ⊎ ((o ≡ false) × (IsReachedApart instance j u v rule ⊎ IsReachedApart instance j v u rule)))
-    ⊎ IsReachedFrom instance j u v o b a rule) ⊎ IsReachedFrom instance j v u o2 b2 a2 rule
+    ⊎ (((o ≡ false) × (stale Overlap ≡ false))
+    × (IsReachedApart instance j u v rule ⊎ IsReachedApart instance j v u rule)))
+    ⊎ IsReachedFrom instance j u v o b a (stale Before) rule) ⊎ IsReachedFrom instance j v u o2 b2 a2 (stale After) rule
 
-module _ (instance : PlainInstance) (j u v : ℕ) (o b a o2 b2 a2 : Bool) where
-  there : (rule : Rule) → Guarded instance j u v o b a rule → GuardedBoth instance j u v o b a o2 b2 a2 rule
+module _ (instance : PlainInstance) (j u v : ℕ) (stale : Rel → Bool) (o b a o2 b2 a2 : Bool) where
+  there : (rule : Rule) → Guarded instance j u v stale o b a rule
+      → GuardedBoth instance j u v stale o b a o2 b2 a2 rule
   there rule (inl (inl (inl (inl r)))) = inl (inl (inl (inl r)))
   there rule (inl (inl (inl (inr (h, r))))) = inl (inl (inr (h, inl r)))
   there rule (inl (inl (inr r))) = inl (inr (inl (inl r)))
   there rule (inl (inr r)) = inl (inr (inl (inr r)))
   there rule (inr r) = inl (inr (inr r))
 
-  back : o2 ≡ o → (rule : Rule) → Guarded instance j v u o2 b2 a2 rule → GuardedBoth instance j u v o b a o2 b2 a2 rule
+  back : o2 ≡ o → (rule : Rule) → Guarded instance j v u (λ r. stale (mirror r)) o2 b2 a2 rule
+      → GuardedBoth instance j u v stale o b a o2 b2 a2 rule
   back e rule (inl (inl (inl (inl r)))) = inl (inl (inl (inr r)))
-  back e rule (inl (inl (inl (inr (h, r))))) = inl (inl (inr (sym e ∙ h, inr r)))
+  back e rule (inl (inl (inl (inr (h, r))))) = inl (inl (inr ((sym e ∙ h.0, h.1), inr r)))
   back e rule (inl (inl (inr r))) = inr (inl (inl r))
   back e rule (inl (inr r)) = inr (inl (inr r))
   back e rule (inr r) = inr (inr r)
 
--- the instances that are applied for the edge are those that it reaches, in both orders
-worked_applied_both : (instance : PlainInstance) (s t : PlainEdges) (lost : Bool) (j u v : ℕ)
-    → IsWorked instance s t lost (λ rule. AppliedAll instance j u v rule ⊎ AppliedAll instance j v u rule)
-    → IsWorked instance s t lost (λ rule. IsAppliedAt j u v rule ⊎ IsAppliedAt j v u rule)
-worked_applied_both instance s t lost j u v h =
-    let one = worked_reached instance s t lost j u v
-    (worked_as instance s t lost (λ rule. AppliedAll instance j u v rule ⊎ AppliedAll instance j v u rule)
-    (AppliedAll instance j u v) (λ rule r. inl r) h) in
-    let two = worked_reached instance s t lost j v u
-    (worked_as instance s t lost (λ rule. AppliedAll instance j u v rule ⊎ AppliedAll instance j v u rule)
-    (AppliedAll instance j v u) (λ rule r. inr r) h) in
+-- the instances that are due for an edge, in both orders of its boxes
+abbrev DueBoth : PlainInstance → (fresh : Rel → Bool) → ℕ → ℕ → ℕ → Rule → Type 0
+DueBoth instance fresh j u v rule =
+    DueAll instance fresh j u v rule ⊎ DueAll instance (λ r. fresh (mirror r)) j v u rule
+
+-- the instances that are due for the edge are those that it reaches, in both orders
+worked_due_both : (instance : PlainInstance) (s t : PlainEdges) (lost : Bool) (fresh : Rel → Bool) (j u v : ℕ)
+    → IsWorked instance s t lost (DueBoth instance fresh j u v)
+    → IsWorked instance s t lost (IsDue fresh j u v)
+worked_due_both instance s t lost fresh j u v h =
+    let one = worked_reached instance s t lost fresh j u v
+    (worked_as instance s t lost (DueBoth instance fresh j u v)
+    (DueAll instance fresh j u v) (λ rule r. inl r) h) in
+    let two = worked_reached instance s t lost (λ r. fresh (mirror r)) j v u
+    (worked_as instance s t lost (DueBoth instance fresh j u v)
+    (DueAll instance (λ r. fresh (mirror r)) j v u) (λ rule r. inr r) h) in
     record {
       same_dims = h.same_dims;
       same_boxes = h.same_boxes;
@@ -156,46 +174,48 @@ worked_applied_both instance s t lost j u v h =
       done = λ e rule r. go (one.done e) (two.done e) rule r;
     }
   where
-    go : ((rule : Rule) → IsAppliedAt j u v rule → IsCovered instance (excludes s.trail) t.trail rule)
-        → ((rule : Rule) → IsAppliedAt j v u rule → IsCovered instance (excludes s.trail) t.trail rule)
-        → (rule : Rule) → IsAppliedAt j u v rule ⊎ IsAppliedAt j v u rule
+    go : ((rule : Rule) → IsDueAt fresh j u v rule → IsCovered instance (excludes s.trail) t.trail rule)
+        → ((rule : Rule) → IsDueAt (λ r. fresh (mirror r)) j v u rule
+        → IsCovered instance (excludes s.trail) t.trail rule)
+        → (rule : Rule) → IsDue fresh j u v rule
         → IsCovered instance (excludes s.trail) t.trail rule
     go f k rule (inl r) = f rule r
     go f k rule (inr r) = k rule r
 
 -- each instance of an edge is among them, or has no premises
-pub worked_guarded : (instance : PlainInstance) (s t : PlainEdges) (lost : Bool) (j u v : ℕ) (o b a o2 b2 a2 : Bool)
-    → j < dims instance
+pub worked_guarded : (instance : PlainInstance) (s t : PlainEdges) (lost : Bool) (j u v : ℕ) (stale : Rel → Bool)
+    (o b a o2 b2 a2 : Bool) → j < dims instance
     → o ≡ not (excludes s.trail j u v Overlap) → b ≡ not (excludes s.trail j u v Before)
     → a ≡ not (excludes s.trail j u v After)
     → o2 ≡ not (excludes s.trail j v u Overlap) → b2 ≡ not (excludes s.trail j v u Before)
     → a2 ≡ not (excludes s.trail j v u After) → o2 ≡ o
-    → IsWorked instance s t lost (GuardedBoth instance j u v o b a o2 b2 a2)
-    → IsWorked instance s t lost (λ rule. IsAppliedAt j u v rule ⊎ IsAppliedAt j v u rule)
-worked_guarded instance s t lost j u v o b a o2 b2 a2 at ho hb ha ho2 hb2 ha2 e h =
-    worked_applied_both instance s t lost j u v
-    (worked_unless instance s t lost (GuardedBoth instance j u v o b a o2 b2 a2)
-    (λ rule. AppliedAll instance j u v rule ⊎ AppliedAll instance j v u rule) (λ rule r. go rule r) h)
+    → IsWorked instance s t lost (GuardedBoth instance j u v stale o b a o2 b2 a2)
+    → IsWorked instance s t lost (IsDue (λ r. not (stale r)) j u v)
+worked_guarded instance s t lost j u v stale o b a o2 b2 a2 at ho hb ha ho2 hb2 ha2 e h =
+    worked_due_both instance s t lost (λ r. not (stale r)) j u v
+    (worked_unless instance s t lost (GuardedBoth instance j u v stale o b a o2 b2 a2)
+    (DueBoth instance (λ r. not (stale r)) j u v) (λ rule r. go rule r) h)
   where
-    first : (rule : Rule) → Guarded instance j u v o b a rule
+    first : (rule : Rule) → Guarded instance j u v stale o b a rule
         ⊎ (IsRuleInstance instance rule → Premises instance (excludes s.trail) rule → ⊥)
-        → GuardedBoth instance j u v o b a o2 b2 a2 rule
+        → GuardedBoth instance j u v stale o b a o2 b2 a2 rule
         ⊎ (IsRuleInstance instance rule → Premises instance (excludes s.trail) rule → ⊥)
-    first rule (inl r) = inl (there instance j u v o b a o2 b2 a2 rule r)
+    first rule (inl r) = inl (there instance j u v stale o b a o2 b2 a2 rule r)
     first rule (inr f) = inr f
 
-    second : (rule : Rule) → Guarded instance j v u o2 b2 a2 rule
+    second : (rule : Rule) → Guarded instance j v u (λ r. stale (mirror r)) o2 b2 a2 rule
         ⊎ (IsRuleInstance instance rule → Premises instance (excludes s.trail) rule → ⊥)
-        → GuardedBoth instance j u v o b a o2 b2 a2 rule
+        → GuardedBoth instance j u v stale o b a o2 b2 a2 rule
         ⊎ (IsRuleInstance instance rule → Premises instance (excludes s.trail) rule → ⊥)
-    second rule (inl r) = inl (back instance j u v o b a o2 b2 a2 e rule r)
+    second rule (inl r) = inl (back instance j u v stale o b a o2 b2 a2 e rule r)
     second rule (inr f) = inr f
 
-    go : (rule : Rule) → AppliedAll instance j u v rule ⊎ AppliedAll instance j v u rule
-        → GuardedBoth instance j u v o b a o2 b2 a2 rule
+    go : (rule : Rule) → DueBoth instance (λ r. not (stale r)) j u v rule
+        → GuardedBoth instance j u v stale o b a o2 b2 a2 rule
         ⊎ (IsRuleInstance instance rule → Premises instance (excludes s.trail) rule → ⊥)
-    go rule (inl r) = first rule (sorted instance (excludes s.trail) j u v o b a at ho hb ha rule r)
-    go rule (inr r) = second rule (sorted instance (excludes s.trail) j v u o2 b2 a2 at ho2 hb2 ha2 rule r)
+    go rule (inl r) = first rule (sorted instance (excludes s.trail) j u v stale o b a at ho hb ha rule r)
+    go rule (inr r) = second rule
+        (sorted instance (excludes s.trail) j v u (λ r. stale (mirror r)) o2 b2 a2 at ho2 hb2 ha2 rule r)
 
 -- rules of each box of a row, and of those of another
 abbrev pub Among : ℕ → (ℕ → Bool) → (ℕ → Rule) → Rule → Type 0

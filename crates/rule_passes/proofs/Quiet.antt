@@ -18,7 +18,7 @@ use Rattle.edge_state.specs.Edges.{PlainEdges}
 use Rattle.edge_state.proofs.Tables.{excludes_mirror}
 use Rattle.closure_terms.specs.Instances.{Composes, Cycles, OrdersCrossed}
 use Rattle.closure_terms.specs.States.{HasEmptyMask}
-use Rattle.closure_terms.specs.Work.{IsWorked, IsCovered, IsAppliedAt}
+use Rattle.closure_terms.specs.Work.{IsWorked, IsCovered, IsDue}
 use Rattle.closure_terms.proofs.Worked.{worked_none, worked_applied}
 use Rattle.orientation_rules.proofs.Keeps.{rest_drops, rest_only}
 use Rattle.rule_passes.specs.Reached.{IsReachedOrdered, IsReachedBoth, IsReachedLater}
@@ -91,21 +91,23 @@ worked_emptied instance a b true R P h w = record {
 worked_emptied instance a b false R P h w = w
 
 -- nothing is to be done for joined, ordered and not before
-pub none_both : (instance : PlainInstance) (s : PlainEdges) (j u v : ℕ) (left turned : Rel → Bool)
+pub none_both : (instance : PlainInstance) (s : PlainEdges) (j u v : ℕ) (left turned stale : Rel → Bool)
     → ((r : Rel) → turned r ≡ left (mirror r))
     → IsWorked instance s s false (λ rule. ((left Before ≡ false) × (left After ≡ false))
     × (Cycles instance j u v rule ⊎ Cycles instance j v u rule))
     → IsWorked instance s s false (λ rule. ((left Overlap ≡ false) × (left After ≡ false))
     × IsReachedOrdered instance j u v rule)
-    → IsWorked instance s s false (λ rule. (left Before ≡ false) × OrdersCrossed instance j u v rule)
+    → IsWorked instance s s false (λ rule. ((left Before ≡ false) × (stale Before ≡ false))
+    × OrdersCrossed instance j u v rule)
     → IsWorked instance s s false (λ rule. ((turned Overlap ≡ false) × (turned After ≡ false))
     × IsReachedOrdered instance j v u rule)
-    → IsWorked instance s s false (λ rule. (turned Before ≡ false) × OrdersCrossed instance j v u rule)
-    → IsWorked instance s s false (IsReachedBoth instance j u v left turned)
-none_both instance s j u v left turned e joined first crossed second back =
-    worked_none instance s (IsReachedBoth instance j u v left turned) (λ rule r. go rule r)
+    → IsWorked instance s s false (λ rule. ((turned Before ≡ false) × (stale After ≡ false))
+    × OrdersCrossed instance j v u rule)
+    → IsWorked instance s s false (IsReachedBoth instance j u v left turned stale)
+none_both instance s j u v left turned stale e joined first crossed second back =
+    worked_none instance s (IsReachedBoth instance j u v left turned stale) (λ rule r. go rule r)
   where
-    go : (rule : Rule) → IsReachedBoth instance j u v left turned rule
+    go : (rule : Rule) → IsReachedBoth instance j u v left turned stale rule
         → IsCovered instance (excludes s.trail) s.trail rule
     go rule (inl (inl (inl (g, r)))) = joined.done refl rule (g, inl r)
     go rule (inl (inl (inr r))) = first.done refl rule r
@@ -115,15 +117,16 @@ none_both instance s j u v left turned e joined first crossed second back =
     go rule (inr (inr r)) = back.done refl rule r
 
 -- COMPOSE and what comes after it is all that is to be done at an edge
-pub worked_pieces : (instance : PlainInstance) (s t : PlainEdges) (lost : Bool) (j u v : ℕ) (left turned : Rel → Bool)
-    → j < dims instance → ((r : Rel) → left r ≡ not (excludes s.trail j u v r))
+pub worked_pieces : (instance : PlainInstance) (s t : PlainEdges) (lost : Bool) (j u v : ℕ)
+    (left turned stale : Rel → Bool) → j < dims instance → ((r : Rel) → left r ≡ not (excludes s.trail j u v r))
     → ((r : Rel) → turned r ≡ left (mirror r))
     → IsWorked instance s t lost (λ rule. (Composes instance j u v rule ⊎ Composes instance j v u rule)
-    ⊎ IsReachedLater instance j u v left turned rule)
-    → IsWorked instance s t lost (λ rule. IsAppliedAt j u v rule ⊎ IsAppliedAt j v u rule)
-worked_pieces instance s t lost j u v left turned there hl ht h =
-    worked_guarded instance s t lost j u v (left Overlap) (left Before) (left After) (turned Overlap) (turned Before)
-    (turned After) there (hl Overlap) (hl Before) (hl After) (back Overlap) (back Before) (back After) (ht Overlap)
+    ⊎ IsReachedLater instance j u v left turned stale rule)
+    → IsWorked instance s t lost (IsDue (λ r. not (stale r)) j u v)
+worked_pieces instance s t lost j u v left turned stale there hl ht h =
+    worked_guarded instance s t lost j u v stale (left Overlap) (left Before) (left After) (turned Overlap)
+    (turned Before) (turned After) there (hl Overlap) (hl Before) (hl After) (back Overlap) (back Before) (back After)
+    (ht Overlap)
     (record {
       same_dims = h.same_dims;
       same_boxes = h.same_boxes;
@@ -137,8 +140,8 @@ worked_pieces instance s t lost j u v left turned there hl ht h =
     back r = ht r ∙ (hl (mirror r) ∙ ap not (excludes_mirror s.trail j u v r))
 
     go : ((rule : Rule) → (Composes instance j u v rule ⊎ Composes instance j v u rule)
-        ⊎ IsReachedLater instance j u v left turned rule → IsCovered instance (excludes s.trail) t.trail rule)
-        → (rule : Rule) → GuardedBoth instance j u v (left Overlap) (left Before) (left After) (turned Overlap)
+        ⊎ IsReachedLater instance j u v left turned stale rule → IsCovered instance (excludes s.trail) t.trail rule)
+        → (rule : Rule) → GuardedBoth instance j u v stale (left Overlap) (left Before) (left After) (turned Overlap)
         (turned Before) (turned After) rule → IsCovered instance (excludes s.trail) t.trail rule
     go done rule (inl (inl (inl r))) = done rule (inl r)
     go done rule (inl (inl (inr (g, inl (inl r))))) = done rule (inr (inl (g, inl r)))

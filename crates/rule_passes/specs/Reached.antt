@@ -48,40 +48,42 @@ IsReachedOrdered instance j p q rule =
     ((d : ℕ) × (d < box_count instance) × ((c : ℕ) × (c < box_count instance) × (rule ≡ Order j p q c d)))
     ⊎ ((a : ℕ) × (a < box_count instance) × ((b : ℕ) × (b < box_count instance) × (rule ≡ Order j a b p q)))
 
--- those that ask for joined, for ordered or for not before, each group where what is left of the edge
--- doesn't tell it off
-abbrev pub IsReachedFrom : PlainInstance → ℕ → ℕ → ℕ → (overlap before after : Bool) → Rule → Type 0
-IsReachedFrom instance j p q overlap before after rule =
+-- Those that ask for joined, for ordered or for not before, each group where no relation is left of
+-- the edge that contradicts what it asks for. Those that ask for not before are due only if the
+-- exclusion of before isn't stale: it is new.
+abbrev pub IsReachedFrom : PlainInstance → ℕ → ℕ → ℕ → (overlap before after stale : Bool) → Rule → Type 0
+IsReachedFrom instance j p q overlap before after stale rule =
     ((((before ≡ false) × (after ≡ false)) × IsReachedJoined instance j p q rule)
     ⊎ (((overlap ≡ false) × (after ≡ false)) × IsReachedOrdered instance j p q rule))
-    ⊎ ((before ≡ false) × OrdersCrossed instance j p q rule)
+    ⊎ (((before ≡ false) × (stale ≡ false)) × OrdersCrossed instance j p q rule)
 
 -- the same without APART
-abbrev pub IsReachedRest : PlainInstance → ℕ → ℕ → ℕ → (left : Rel → Bool) → Rule → Type 0
-IsReachedRest instance j p q left rule =
+abbrev pub IsReachedRest : PlainInstance → ℕ → ℕ → ℕ → (left : Rel → Bool) → (stale : Bool) → Rule → Type 0
+IsReachedRest instance j p q left stale rule =
     ((((left Before ≡ false) × (left After ≡ false)) × Cycles instance j p q rule)
     ⊎ (((left Overlap ≡ false) × (left After ≡ false)) × IsReachedOrdered instance j p q rule))
-    ⊎ ((left Before ≡ false) × OrdersCrossed instance j p q rule)
+    ⊎ (((left Before ≡ false) × (stale ≡ false)) × OrdersCrossed instance j p q rule)
 
--- the same in both orders of the boxes, where the mask is left, and turned round
-abbrev pub IsReachedBoth : PlainInstance → ℕ → ℕ → ℕ → (left turned : Rel → Bool) → Rule → Type 0
-IsReachedBoth instance j u v left turned rule =
-    IsReachedRest instance j u v left rule ⊎ IsReachedRest instance j v u turned rule
+-- the same in both orders of the boxes, where the mask is left, and turned round; some relations
+-- are stale
+abbrev pub IsReachedBoth : PlainInstance → ℕ → ℕ → ℕ → (left turned stale : Rel → Bool) → Rule → Type 0
+IsReachedBoth instance j u v left turned stale rule =
+    IsReachedRest instance j u v left (stale Before) rule ⊎ IsReachedRest instance j v u turned (stale After) rule
 
 -- those with APART in one order, which adds the same in both
-abbrev pub IsReachedNear : PlainInstance → ℕ → ℕ → ℕ → (left turned : Rel → Bool) → Rule → Type 0
-IsReachedNear instance j u v left turned rule =
+abbrev pub IsReachedNear : PlainInstance → ℕ → ℕ → ℕ → (left turned stale : Rel → Bool) → Rule → Type 0
+IsReachedNear instance j u v left turned stale rule =
     (((left Before ≡ false) × (left After ≡ false)) × Aparts instance j u v rule)
-    ⊎ IsReachedBoth instance j u v left turned rule
+    ⊎ IsReachedBoth instance j u v left turned stale rule
 
 -- those of CYCLE that ask for apart, and these
-abbrev pub IsReachedChorded : PlainInstance → ℕ → ℕ → ℕ → (left turned : Rel → Bool) → Rule → Type 0
-IsReachedChorded instance j u v left turned rule =
-    ((left Overlap ≡ false) × (Chords instance j u v rule ⊎ Chords instance j v u rule))
-    ⊎ IsReachedNear instance j u v left turned rule
+abbrev pub IsReachedChorded : PlainInstance → ℕ → ℕ → ℕ → (left turned stale : Rel → Bool) → Rule → Type 0
+IsReachedChorded instance j u v left turned stale rule =
+    (((left Overlap ≡ false) × (stale Overlap ≡ false)) × (Chords instance j u v rule ⊎ Chords instance j v u rule))
+    ⊎ IsReachedNear instance j u v left turned stale rule
 
 -- all that ask for apart, and these
-abbrev pub IsReachedLater : PlainInstance → ℕ → ℕ → ℕ → (left turned : Rel → Bool) → Rule → Type 0
-IsReachedLater instance j u v left turned rule =
-    ((left Overlap ≡ false) × (Triples instance j u v rule ⊎ Triples instance j v u rule))
-    ⊎ IsReachedChorded instance j u v left turned rule
+abbrev pub IsReachedLater : PlainInstance → ℕ → ℕ → ℕ → (left turned stale : Rel → Bool) → Rule → Type 0
+IsReachedLater instance j u v left turned stale rule =
+    (((left Overlap ≡ false) × (stale Overlap ≡ false)) × (Triples instance j u v rule ⊎ Triples instance j v u rule))
+    ⊎ IsReachedChorded instance j u v left turned stale rule

@@ -54,8 +54,8 @@ pub(crate) fn may_compose<const K: usize>(
     true
 }
 
-/// Whether TRIPLE may exclude something with two boxes that are apart: nothing where the mask has
-/// overlap.
+/// Whether TRIPLE may exclude something with two boxes that are apart: nothing if the mask has
+/// overlap, or if the exclusion of overlap is stale.
 #[inline(always)]
 pub(crate) fn may_spread_apart<const K: usize>(
     instance: &Instance,
@@ -64,6 +64,7 @@ pub(crate) fn may_spread_apart<const K: usize>(
     u: u32,
     v: u32,
     left: Mask,
+    stale: Mask,
     most: u32,
 ) -> bool
     requires words { HoldsBoxes K (box_count instance.now) }
@@ -73,17 +74,18 @@ pub(crate) fn may_spread_apart<const K: usize>(
     requires distinct { u ≡ v → ⊥ }
     requires most { HasNoLonger instance.now dim most }
     ensures { result ≡ false → IsWorked instance.now state.now state.now false (λ rule.
-        (mask_has left Overlap ≡ false) × (Triples instance.now dim u v rule
+        ((mask_has left Overlap ≡ false) × (mask_has stale Overlap ≡ false))
+        × (Triples instance.now dim u v rule
         ⊎ Triples instance.now dim v u rule)) }
 {
-    if left.has(Rel::Overlap) {
+    if left.has(Rel::Overlap) || stale.has(Rel::Overlap) {
         return false;
     }
     may_triple::<K>(instance, state, dim, u, v, most)
 }
 
-/// Whether CYCLE may exclude something with two boxes that are apart: nothing where the mask has
-/// overlap.
+/// Whether CYCLE may exclude something with two boxes that are apart: nothing if the mask has
+/// overlap, or if the exclusion of overlap is stale.
 #[inline(always)]
 pub(crate) fn may_spread_chords<const K: usize>(
     instance: &Instance,
@@ -93,6 +95,7 @@ pub(crate) fn may_spread_chords<const K: usize>(
     u: u32,
     v: u32,
     left: Mask,
+    stale: Mask,
 ) -> bool
     requires words { HoldsBoxes K (box_count instance.now) }
     requires sizes { IsSized instance.now state.now dim }
@@ -101,10 +104,11 @@ pub(crate) fn may_spread_chords<const K: usize>(
     requires distinct { u ≡ v → ⊥ }
     requires all { (x : ℕ) → row_has all x ≡ nat_lt x (box_count instance.now) }
     ensures { result ≡ false → IsWorked instance.now state.now state.now false (λ rule.
-        (mask_has left Overlap ≡ false) × (Chords instance.now dim u v rule
+        ((mask_has left Overlap ≡ false) × (mask_has stale Overlap ≡ false))
+        × (Chords instance.now dim u v rule
         ⊎ Chords instance.now dim v u rule)) }
 {
-    if left.has(Rel::Overlap) {
+    if left.has(Rel::Overlap) || stale.has(Rel::Overlap) {
         return false;
     }
     may_chord(instance, state, all, dim, u, v)
@@ -172,7 +176,8 @@ fn may_spread_ordered<const K: usize>(
     may_order_second(instance, state, all, dim, p, q)
 }
 
-// Whether something follows for a box that isn't before another: nothing where the mask has before.
+// Whether something follows for a box that isn't before another: nothing if the mask has before, or
+// if the exclusion of before is stale.
 #[inline(always)]
 fn may_spread_crossed<const K: usize>(
     instance: &Instance,
@@ -182,6 +187,7 @@ fn may_spread_crossed<const K: usize>(
     p: u32,
     q: u32,
     left: Mask,
+    is_stale: bool,
 ) -> bool
     requires words { HoldsBoxes K (box_count instance.now) }
     requires sizes { IsSized instance.now state.now dim }
@@ -190,9 +196,10 @@ fn may_spread_crossed<const K: usize>(
     requires distinct { p ≡ q → ⊥ }
     requires all { (x : ℕ) → row_has all x ≡ nat_lt x (box_count instance.now) }
     ensures { result ≡ false → IsWorked instance.now state.now state.now false
-        (λ rule. (mask_has left Before ≡ false) × OrdersCrossed instance.now dim p q rule) }
+        (λ rule. ((mask_has left Before ≡ false) × (is_stale ≡ false))
+        × OrdersCrossed instance.now dim p q rule) }
 {
-    if left.has(Rel::Before) {
+    if left.has(Rel::Before) || is_stale {
         return false;
     }
     may_order_crossed(instance, state, all, dim, p, q)
@@ -210,6 +217,7 @@ pub(crate) fn may_spread_both<const K: usize>(
     v: u32,
     left: Mask,
     turned: Mask,
+    stale: Mask,
 ) -> bool
     requires words { HoldsBoxes K (box_count instance.now) }
     requires sizes { IsSized instance.now state.now dim }
@@ -219,7 +227,7 @@ pub(crate) fn may_spread_both<const K: usize>(
     requires all { (x : ℕ) → row_has all x ≡ nat_lt x (box_count instance.now) }
     requires turned { (r : PlainRel) → mask_has turned r ≡ mask_has left (mirror r) }
     ensures { result ≡ false → IsWorked instance.now state.now state.now false
-        (IsReachedBoth instance.now dim u v (mask_has left) (mask_has turned)) }
+        (IsReachedBoth instance.now dim u v (mask_has left) (mask_has turned) (mask_has stale)) }
 {
     if may_spread_joined(instance, state, all, dim, u, v, left) {
         return true;
@@ -227,11 +235,13 @@ pub(crate) fn may_spread_both<const K: usize>(
     if may_spread_ordered(instance, state, all, dim, u, v, left) {
         return true;
     }
-    if may_spread_crossed(instance, state, all, dim, u, v, left) {
+    let forth = stale.has(Rel::Before);
+    if may_spread_crossed(instance, state, all, dim, u, v, left, forth) {
         return true;
     }
     if may_spread_ordered(instance, state, all, dim, v, u, turned) {
         return true;
     }
-    may_spread_crossed(instance, state, all, dim, v, u, turned)
+    let back = stale.has(Rel::After);
+    may_spread_crossed(instance, state, all, dim, v, u, turned, back)
 }

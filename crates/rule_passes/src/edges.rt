@@ -24,7 +24,8 @@ use crate::triples::triples;
 use box_instances::Instance;
 use edge_state::{BitRow, EdgeState, Mask, Rel};
 
-/// TRIPLE with two boxes that are apart: none where the mask has overlap.
+/// TRIPLE with two boxes that are apart: none if the mask has overlap, or if the exclusion
+/// of overlap is stale.
 #[inline(always)]
 pub(crate) fn spread_apart<const K: usize>(
     instance: &Instance,
@@ -33,6 +34,7 @@ pub(crate) fn spread_apart<const K: usize>(
     u: u32,
     v: u32,
     left: Mask,
+    stale: Mask,
     most: u32,
 ) -> bool
     requires words { HoldsBoxes K (box_count instance.now) }
@@ -42,16 +44,18 @@ pub(crate) fn spread_apart<const K: usize>(
     requires distinct { u ≡ v → ⊥ }
     requires most { HasNoLonger instance.now dim most }
     ensures { IsWorked instance.now state.old state.new result (λ rule.
-        (mask_has left Overlap ≡ false) × (Triples instance.now dim u v rule
+        ((mask_has left Overlap ≡ false) × (mask_has stale Overlap ≡ false))
+        × (Triples instance.now dim u v rule
         ⊎ Triples instance.now dim v u rule)) }
 {
-    if left.has(Rel::Overlap) {
+    if left.has(Rel::Overlap) || stale.has(Rel::Overlap) {
         return false;
     }
     triples::<K>(instance, state, dim, u, v, most)
 }
 
-/// CYCLE with two boxes that are apart: none where the mask has overlap.
+/// CYCLE with two boxes that are apart: none if the mask has overlap, or if the exclusion
+/// of overlap is stale.
 #[inline(always)]
 pub(crate) fn spread_chords<const K: usize>(
     instance: &Instance,
@@ -61,6 +65,7 @@ pub(crate) fn spread_chords<const K: usize>(
     u: u32,
     v: u32,
     left: Mask,
+    stale: Mask,
 ) -> bool
     requires words { HoldsBoxes K (box_count instance.now) }
     requires sizes { IsSized instance.now state.old dim }
@@ -69,10 +74,11 @@ pub(crate) fn spread_chords<const K: usize>(
     requires distinct { u ≡ v → ⊥ }
     requires all { (x : ℕ) → row_has all x ≡ nat_lt x (box_count instance.now) }
     ensures { IsWorked instance.now state.old state.new result (λ rule.
-        (mask_has left Overlap ≡ false) × (Chords instance.now dim u v rule
+        ((mask_has left Overlap ≡ false) × (mask_has stale Overlap ≡ false))
+        × (Chords instance.now dim u v rule
         ⊎ Chords instance.now dim v u rule)) }
 {
-    if left.has(Rel::Overlap) {
+    if left.has(Rel::Overlap) || stale.has(Rel::Overlap) {
         return false;
     }
     chords(instance, state, all, dim, u, v)
@@ -161,7 +167,8 @@ fn spread_ordered<const K: usize>(
     orders_second(instance, state, all, dim, p, q)
 }
 
-// The instances that ask that a box isn't before another: none where the mask has before.
+// The instances that ask that a box isn't before another: none if the mask has before, or if the
+// exclusion of before is stale.
 #[inline(always)]
 fn spread_crossed<const K: usize>(
     instance: &Instance,
@@ -171,6 +178,7 @@ fn spread_crossed<const K: usize>(
     p: u32,
     q: u32,
     left: Mask,
+    is_stale: bool,
 ) -> bool
     requires words { HoldsBoxes K (box_count instance.now) }
     requires sizes { IsSized instance.now state.old dim }
@@ -179,9 +187,10 @@ fn spread_crossed<const K: usize>(
     requires distinct { p ≡ q → ⊥ }
     requires all { (x : ℕ) → row_has all x ≡ nat_lt x (box_count instance.now) }
     ensures { IsWorked instance.now state.old state.new result
-        (λ rule. (mask_has left Before ≡ false) × OrdersCrossed instance.now dim p q rule) }
+        (λ rule. ((mask_has left Before ≡ false) × (is_stale ≡ false))
+        × OrdersCrossed instance.now dim p q rule) }
 {
-    if left.has(Rel::Before) {
+    if left.has(Rel::Before) || is_stale {
         return false;
     }
     orders_crossed(instance, state, all, dim, p, q)
@@ -198,6 +207,7 @@ pub(crate) fn spread_from<const K: usize>(
     p: u32,
     q: u32,
     left: Mask,
+    is_stale: bool,
 ) -> bool
     requires words { HoldsBoxes K (box_count instance.now) }
     requires sizes { IsSized instance.now state.old dim }
@@ -206,7 +216,7 @@ pub(crate) fn spread_from<const K: usize>(
     requires distinct { p ≡ q → ⊥ }
     requires all { (x : ℕ) → row_has all x ≡ nat_lt x (box_count instance.now) }
     ensures { IsWorked instance.now state.old state.new result
-        (IsReachedRest instance.now dim p q (mask_has left)) }
+        (IsReachedRest instance.now dim p q (mask_has left) is_stale) }
 {
     if spread_joined(instance, state, all, dim, p, q, left) {
         return true;
@@ -214,5 +224,5 @@ pub(crate) fn spread_from<const K: usize>(
     if spread_ordered(instance, state, all, dim, p, q, left) {
         return true;
     }
-    spread_crossed(instance, state, all, dim, p, q, left)
+    spread_crossed(instance, state, all, dim, p, q, left, is_stale)
 }

@@ -11,7 +11,7 @@ ghost use Rattle.packing_terms.specs.Exclusions.{is_same_rel, excludes};
 ghost use Rattle.relation_table.specs.Masks.{mask_has};
 ghost use Rattle.edge_state.specs.BitRows.{HoldsBoxes, row_has};
 ghost use Rattle.closure_terms.specs.States.{IsSized};
-ghost use Rattle.closure_terms.specs.Work.{IsWorked, IsAppliedAt};
+ghost use Rattle.closure_terms.specs.Work.{IsWorked, IsDue};
 ghost use Rattle.rule_passes.specs.Reached.{HasNoLonger, IsReachedBoth, IsReachedChorded, IsReachedLater};
 
 use crate::chances::{may_compose, may_spread_apart, may_spread_both, may_spread_chords};
@@ -32,6 +32,7 @@ fn spread_both<const K: usize>(
     v: u32,
     left: Mask,
     turned: Mask,
+    stale: Mask,
 ) -> bool
     requires words { HoldsBoxes K (box_count instance.now) }
     requires sizes { IsSized instance.now state.old dim }
@@ -40,12 +41,15 @@ fn spread_both<const K: usize>(
     requires distinct { u ≡ v → ⊥ }
     requires all { (x : ℕ) → row_has all x ≡ nat_lt x (box_count instance.now) }
     ensures { IsWorked instance.now state.old state.new result
-        (IsReachedBoth instance.now dim u v (mask_has left) (mask_has turned)) }
+        (IsReachedBoth instance.now dim u v (mask_has left) (mask_has turned)
+        (mask_has stale)) }
 {
-    if spread_from(instance, state, all, dim, u, v, left) {
+    let forth = stale.has(Rel::Before);
+    if spread_from(instance, state, all, dim, u, v, left, forth) {
         return true;
     }
-    spread_from(instance, state, all, dim, v, u, turned)
+    let back = stale.has(Rel::After);
+    spread_from(instance, state, all, dim, v, u, turned, back)
 }
 
 // The same with APART, which adds the same in both orders, and with the instances of CYCLE that ask
@@ -60,6 +64,7 @@ fn spread_chorded<const K: usize>(
     v: u32,
     left: Mask,
     turned: Mask,
+    stale: Mask,
 ) -> bool
     requires words { HoldsBoxes K (box_count instance.now) }
     requires sizes { IsSized instance.now state.old dim }
@@ -68,15 +73,16 @@ fn spread_chorded<const K: usize>(
     requires distinct { u ≡ v → ⊥ }
     requires all { (x : ℕ) → row_has all x ≡ nat_lt x (box_count instance.now) }
     ensures { IsWorked instance.now state.old state.new result
-        (IsReachedChorded instance.now dim u v (mask_has left) (mask_has turned)) }
+        (IsReachedChorded instance.now dim u v (mask_has left) (mask_has turned)
+        (mask_has stale)) }
 {
-    if spread_chords(instance, state, all, dim, u, v, left) {
+    if spread_chords(instance, state, all, dim, u, v, left, stale) {
         return true;
     }
     if spread_near::<K>(instance, state, dim, u, v, left) {
         return true;
     }
-    spread_both(instance, state, all, dim, u, v, left, turned)
+    spread_both(instance, state, all, dim, u, v, left, turned, stale)
 }
 
 // The instances other than those of COMPOSE and TRIPLE. Mostly nothing follows: what may follow stands
@@ -91,6 +97,7 @@ fn spread_tested<const K: usize>(
     v: u32,
     left: Mask,
     turned: Mask,
+    stale: Mask,
 ) -> bool
     requires words { HoldsBoxes K (box_count instance.now) }
     requires sizes { IsSized instance.now state.old dim }
@@ -100,16 +107,17 @@ fn spread_tested<const K: usize>(
     requires all { (x : ℕ) → row_has all x ≡ nat_lt x (box_count instance.now) }
     requires turned { (r : PlainRel) → mask_has turned r ≡ mask_has left (mirror r) }
     ensures { IsWorked instance.now state.old state.new result
-        (IsReachedChorded instance.now dim u v (mask_has left) (mask_has turned)) }
+        (IsReachedChorded instance.now dim u v (mask_has left) (mask_has turned)
+        (mask_has stale)) }
 {
-    if may_spread_chords(instance, state, all, dim, u, v, left) {
-        return spread_chorded(instance, state, all, dim, u, v, left, turned);
+    if may_spread_chords(instance, state, all, dim, u, v, left, stale) {
+        return spread_chorded(instance, state, all, dim, u, v, left, turned, stale);
     }
     if spread_near::<K>(instance, state, dim, u, v, left) {
         return true;
     }
-    if may_spread_both(instance, state, all, dim, u, v, left, turned) {
-        return spread_both(instance, state, all, dim, u, v, left, turned);
+    if may_spread_both(instance, state, all, dim, u, v, left, turned, stale) {
+        return spread_both(instance, state, all, dim, u, v, left, turned, stale);
     }
     false
 }
@@ -125,6 +133,7 @@ fn spread_later<const K: usize>(
     v: u32,
     left: Mask,
     turned: Mask,
+    stale: Mask,
     most: u32,
 ) -> bool
     requires words { HoldsBoxes K (box_count instance.now) }
@@ -136,12 +145,13 @@ fn spread_later<const K: usize>(
     requires turned { (r : PlainRel) → mask_has turned r ≡ mask_has left (mirror r) }
     requires most { HasNoLonger instance.now dim most }
     ensures { IsWorked instance.now state.old state.new result
-        (IsReachedLater instance.now dim u v (mask_has left) (mask_has turned)) }
+        (IsReachedLater instance.now dim u v (mask_has left) (mask_has turned)
+        (mask_has stale)) }
 {
-    if spread_apart::<K>(instance, state, dim, u, v, left, most) {
+    if spread_apart::<K>(instance, state, dim, u, v, left, stale, most) {
         return true;
     }
-    spread_tested(instance, state, all, dim, u, v, left, turned)
+    spread_tested(instance, state, all, dim, u, v, left, turned, stale)
 }
 
 // All instances that read the mask of an edge, up to those that add the same.
@@ -154,6 +164,7 @@ fn spread_all<const K: usize>(
     u: u32,
     v: u32,
     left: Mask,
+    stale: Mask,
     most: u32,
 ) -> bool
     requires words { HoldsBoxes K (box_count instance.now) }
@@ -165,12 +176,23 @@ fn spread_all<const K: usize>(
     requires left { (r : PlainRel) → mask_has left r ≡ not (excludes state.old.trail dim u v r) }
     requires most { HasNoLonger instance.now dim most }
     ensures { IsWorked instance.now state.old state.new result
-        (λ rule. IsAppliedAt dim u v rule ⊎ IsAppliedAt dim v u rule) }
+        (IsDue (λ r. not (mask_has stale r)) dim u v) }
 {
     if spread_composed(instance, state, all, dim, u, v, left) {
         return true;
     }
-    spread_later(instance, state, all, dim, u, v, left, flip(left), most)
+    spread_later(
+        instance,
+        state,
+        all,
+        dim,
+        u,
+        v,
+        left,
+        flip(left),
+        stale,
+        most,
+    )
 }
 
 // All instances that read the mask of an edge, where mostly nothing follows.
@@ -183,6 +205,7 @@ fn spread_left<const K: usize>(
     u: u32,
     v: u32,
     left: Mask,
+    stale: Mask,
     most: u32,
 ) -> bool
     requires words { HoldsBoxes K (box_count instance.now) }
@@ -194,16 +217,16 @@ fn spread_left<const K: usize>(
     requires left { (r : PlainRel) → mask_has left r ≡ not (excludes state.old.trail dim u v r) }
     requires most { HasNoLonger instance.now dim most }
     ensures { IsWorked instance.now state.old state.new result
-        (λ rule. IsAppliedAt dim u v rule ⊎ IsAppliedAt dim v u rule) }
+        (IsDue (λ r. not (mask_has stale r)) dim u v) }
 {
     if may_compose(instance, state, all, dim, u, v, left) {
-        return spread_all(instance, state, all, dim, u, v, left, most);
+        return spread_all(instance, state, all, dim, u, v, left, stale, most);
     }
     let turned = flip(left);
-    if may_spread_apart::<K>(instance, state, dim, u, v, left, most) {
-        return spread_later(instance, state, all, dim, u, v, left, turned, most);
+    if may_spread_apart::<K>(instance, state, dim, u, v, left, stale, most) {
+        return spread_later(instance, state, all, dim, u, v, left, turned, stale, most);
     }
-    spread_tested(instance, state, all, dim, u, v, left, turned)
+    spread_tested(instance, state, all, dim, u, v, left, turned, stale)
 }
 
 // The mask of one relation.
@@ -239,6 +262,7 @@ pub(crate) fn spread<const K: usize>(
     u: u32,
     v: u32,
     left: Mask,
+    stale: Mask,
     most: u32,
 ) -> bool
     requires words { HoldsBoxes K (box_count instance.now) }
@@ -250,15 +274,75 @@ pub(crate) fn spread<const K: usize>(
     requires left { (r : PlainRel) → mask_has left r ≡ not (excludes state.old.trail dim u v r) }
     requires most { HasNoLonger instance.now dim most }
     ensures { IsWorked instance.now state.old state.new result
-        (λ rule. IsAppliedAt dim u v rule ⊎ IsAppliedAt dim v u rule) }
+        (IsDue (λ r. not (mask_has stale r)) dim u v) }
 {
     match left.bits() {
-        1 => spread_left(instance, state, all, dim, u, v, only(Rel::Overlap), most),
-        2 => spread_left(instance, state, all, dim, u, v, only(Rel::Before), most),
-        3 => spread_left(instance, state, all, dim, u, v, but(Rel::After), most),
-        4 => spread_left(instance, state, all, dim, u, v, only(Rel::After), most),
-        5 => spread_left(instance, state, all, dim, u, v, but(Rel::Before), most),
-        6 => spread_left(instance, state, all, dim, u, v, but(Rel::Overlap), most),
-        _ => spread_all(instance, state, all, dim, u, v, left, most),
+        1 => spread_left(
+            instance,
+            state,
+            all,
+            dim,
+            u,
+            v,
+            only(Rel::Overlap),
+            stale,
+            most,
+        ),
+        2 => spread_left(
+            instance,
+            state,
+            all,
+            dim,
+            u,
+            v,
+            only(Rel::Before),
+            stale,
+            most,
+        ),
+        3 => spread_left(
+            instance,
+            state,
+            all,
+            dim,
+            u,
+            v,
+            but(Rel::After),
+            stale,
+            most,
+        ),
+        4 => spread_left(
+            instance,
+            state,
+            all,
+            dim,
+            u,
+            v,
+            only(Rel::After),
+            stale,
+            most,
+        ),
+        5 => spread_left(
+            instance,
+            state,
+            all,
+            dim,
+            u,
+            v,
+            but(Rel::Before),
+            stale,
+            most,
+        ),
+        6 => spread_left(
+            instance,
+            state,
+            all,
+            dim,
+            u,
+            v,
+            but(Rel::Overlap),
+            stale,
+            most,
+        ),
+        _ => spread_all(instance, state, all, dim, u, v, left, stale, most),
     }
 }

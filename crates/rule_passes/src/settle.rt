@@ -18,20 +18,22 @@ use box_instances::Instance;
 use early_chains::{Guess, shut_pair};
 use edge_state::{BitRow, EdgeState, Exclusion, Mark, Mask, Rel};
 
-// The position of the list behind a change, and behind the next one too where that is at the same
+// The position of the list behind a change, and behind the next one too if that is at the same
 // edge: a rule that leaves one relation makes two changes, which are looked through together.
-fn behind(state: &EdgeState, mark: Mark, change: Exclusion) -> Mark
+// Beside it the relations whose exclusion is stale: those that neither change excludes.
+fn behind(state: &EdgeState, mark: Mark, change: Exclusion) -> (Mark, Mask)
     requires { IsChangeAfter state.now.trail mark change (mark + 1) }
-    ensures { IsBehind state.now.trail mark change result }
+    ensures { IsBehind state.now.trail mark change (λ r. not (mask_has result.1 r)) result.0 }
 {
     let after = state.mark_after(mark);
+    let stale = Mask::all().without(change.rel);
     let Some(next) = state.change_after(after) else {
-        return after;
+        return (after, stale);
     };
     if next.dim != change.dim || next.u != change.u || next.v != change.v {
-        return after;
+        return (after, stale);
     }
-    state.mark_after(after)
+    (state.mark_after(after), stale.without(next.rel))
 }
 
 // Whether one of the two boxes of a change, whose mask is given, is surely before the other now.
@@ -102,11 +104,11 @@ pub(crate) fn settle<const K: usize>(
             shut_pair(instance, state, dim, a, b);
             return None;
         }
-        let after = behind(state, next, change);
+        let (after, stale) = behind(state, next, change);
         let more = dirtied(state, chains, change, left);
         let most = instance.longest_side(change.dim);
         if spread(
-            instance, state, all, change.dim, change.u, change.v, left, most,
+            instance, state, all, change.dim, change.u, change.v, left, stale, most,
         ) {
             return None;
         }

@@ -5,7 +5,8 @@ use Rattle.rule_passes.proofs.chances.may_spread_both.Goals as goal
 pub returns : goal.returns
 returns g c h =
     none_both c.args.instance.now _ c.args.dim c.args.u c.args.v (mask_has c.args.left) (mask_has c.args.turned)
-    c.requires.turned (c.may_spread_joined.ensures c.if-may_spread_joined.false)
+    (mask_has c.args.stale) c.requires.turned (c.may_spread_joined.ensures c.if-may_spread_joined.false)
     (c.may_spread_ordered.ensures c.if-may_spread_ordered.false)
-    (c.may_spread_crossed.ensures c.if-may_spread_crossed.false)
-    (c.may_spread_ordered-2.ensures c.if-may_spread_ordered-2.false) (c.may_spread_crossed-2.ensures h)
+    (rw c.has-forth.ensures at (c.may_spread_crossed.ensures c.if-may_spread_crossed.false))
+    (c.may_spread_ordered-2.ensures c.if-may_spread_ordered-2.false)
+    (rw c.has-back.ensures at (c.may_spread_crossed-2.ensures h))

@@ -27,7 +27,7 @@ returns g c =
     × Cycles instance c.args.dim c.args.p c.args.q rule in
     let ordered : Rule → Type 0 = λ rule. ((left Overlap ≡ false) × (left After ≡ false))
     × IsReachedOrdered instance c.args.dim c.args.p c.args.q rule in
-    let crossed : Rule → Type 0 = λ rule. (left Before ≡ false)
+    let crossed : Rule → Type 0 = λ rule. ((left Before ≡ false) × (c.args.is_stale ≡ false))
     × OrdersCrossed instance c.args.dim c.args.p c.args.q rule in
     worked_then instance _ _ _ _ (λ (rule : Rule). joined rule ⊎ ordered rule) crossed
     (worked_then instance _ _ _ _ joined ordered

@@ -16,8 +16,9 @@ returns g c =
     let composed : Rule → Type 0 = λ rule. Composes instance c.args.dim c.args.u c.args.v rule
     ⊎ Composes instance c.args.dim c.args.v c.args.u rule in
     let later : Rule → Type 0 = IsReachedLater instance c.args.dim c.args.u c.args.v (mask_has c.args.left)
-    (mask_has c.flip.result) in
+    (mask_has c.flip.result) (mask_has c.args.stale) in
     worked_pieces instance _ _ _ c.args.dim c.args.u c.args.v (mask_has c.args.left) (mask_has c.flip.result)
+    (mask_has c.args.stale)
     c.requires.sizes.there c.requires.left c.flip.ensures.exact
     (worked_then instance _ _ _ _ composed later
     (worked_kept instance _ _ _ composed c.if-spread_composed.false c.spread_composed.ensures)

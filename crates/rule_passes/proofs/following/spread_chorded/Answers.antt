@@ -13,7 +13,8 @@ returns-then-spread_chords g c = worked_lost_first _ _ _ _ _ _ c.if-spread_chord
 pub returns-then-spread_near : goal.returns-then-spread_near
 returns-then-spread_near g c =
     let instance = c.args.instance.now in
-    let chorded : Rule → Type 0 = λ rule. (mask_has c.args.left Overlap ≡ false)
+    let chorded : Rule → Type 0 = λ rule. ((mask_has c.args.left Overlap ≡ false)
+    × (mask_has c.args.stale Overlap ≡ false))
     × (Chords instance c.args.dim c.args.u c.args.v rule ⊎ Chords instance c.args.dim c.args.v c.args.u rule) in
     worked_lost instance _ _ _ _ chorded _ _ c.if-spread_near.true
     (worked_kept instance _ _ _ chorded c.if-spread_chords.false c.spread_chords.ensures) c.spread_near.ensures
@@ -21,14 +22,15 @@ returns-then-spread_near g c =
 pub returns : goal.returns
 returns g c =
     let instance = c.args.instance.now in
-    let chorded : Rule → Type 0 = λ rule. (mask_has c.args.left Overlap ≡ false)
+    let chorded : Rule → Type 0 = λ rule. ((mask_has c.args.left Overlap ≡ false)
+    × (mask_has c.args.stale Overlap ≡ false))
     × (Chords instance c.args.dim c.args.u c.args.v rule ⊎ Chords instance c.args.dim c.args.v c.args.u rule) in
     let beside : Rule → Type 0 = λ rule. ((mask_has c.args.left Before ≡ false) × (mask_has c.args.left After ≡ false))
     × Aparts instance c.args.dim c.args.u c.args.v rule in
     let both : Rule → Type 0 = IsReachedBoth instance c.args.dim c.args.u c.args.v (mask_has c.args.left)
-    (mask_has c.args.turned) in
+    (mask_has c.args.turned) (mask_has c.args.stale) in
     let rest : Rule → Type 0 = IsReachedNear instance c.args.dim c.args.u c.args.v (mask_has c.args.left)
-    (mask_has c.args.turned) in
+    (mask_has c.args.turned) (mask_has c.args.stale) in
     worked_then instance _ _ _ _ chorded rest
     (worked_kept instance _ _ _ chorded c.if-spread_chords.false c.spread_chords.ensures)
     (worked_then instance _ _ _ _ beside both

@@ -13,9 +13,10 @@ returns-then-spread_apart g c = worked_lost_first _ _ _ _ _ _ c.if-spread_apart.
 pub returns : goal.returns
 returns g c =
     let instance = c.args.instance.now in
-    let apart : Rule → Type 0 = λ rule. (mask_has c.args.left Overlap ≡ false)
+    let apart : Rule → Type 0 = λ rule. ((mask_has c.args.left Overlap ≡ false)
+    × (mask_has c.args.stale Overlap ≡ false))
     × (Triples instance c.args.dim c.args.u c.args.v rule ⊎ Triples instance c.args.dim c.args.v c.args.u rule) in
     let more : Rule → Type 0 = IsReachedChorded instance c.args.dim c.args.u c.args.v (mask_has c.args.left)
-    (mask_has c.args.turned) in
+    (mask_has c.args.turned) (mask_has c.args.stale) in
     worked_then instance _ _ _ _ apart more
     (worked_kept instance _ _ _ apart c.if-spread_apart.false c.spread_apart.ensures) c.spread_tested.ensures

@@ -13,14 +13,15 @@ returns-then-spread_near g c = worked_lost_first _ _ _ _ _ _ c.if-spread_near.tr
 pub returns-then-may_spread_both : goal.returns-then-may_spread_both
 returns-then-may_spread_both g c =
     let instance = c.args.instance.now in
-    let chorded : Rule → Type 0 = λ rule. (mask_has c.args.left Overlap ≡ false)
+    let chorded : Rule → Type 0 = λ rule. ((mask_has c.args.left Overlap ≡ false)
+    × (mask_has c.args.stale Overlap ≡ false))
     × (Chords instance c.args.dim c.args.u c.args.v rule ⊎ Chords instance c.args.dim c.args.v c.args.u rule) in
     let beside : Rule → Type 0 = λ rule. ((mask_has c.args.left Before ≡ false) × (mask_has c.args.left After ≡ false))
     × Aparts instance c.args.dim c.args.u c.args.v rule in
     let both : Rule → Type 0 = IsReachedBoth instance c.args.dim c.args.u c.args.v (mask_has c.args.left)
-    (mask_has c.args.turned) in
+    (mask_has c.args.turned) (mask_has c.args.stale) in
     let rest : Rule → Type 0 = IsReachedNear instance c.args.dim c.args.u c.args.v (mask_has c.args.left)
-    (mask_has c.args.turned) in
+    (mask_has c.args.turned) (mask_has c.args.stale) in
     worked_then instance _ _ _ _ chorded rest (c.may_spread_chords.ensures c.if-may_spread_chords.false)
     (worked_then instance _ _ _ _ beside both
     (worked_kept instance _ _ _ beside c.if-spread_near.false c.spread_near.ensures)
@@ -29,14 +30,15 @@ returns-then-may_spread_both g c =
 pub returns : goal.returns
 returns g c =
     let instance = c.args.instance.now in
-    let chorded : Rule → Type 0 = λ rule. (mask_has c.args.left Overlap ≡ false)
+    let chorded : Rule → Type 0 = λ rule. ((mask_has c.args.left Overlap ≡ false)
+    × (mask_has c.args.stale Overlap ≡ false))
     × (Chords instance c.args.dim c.args.u c.args.v rule ⊎ Chords instance c.args.dim c.args.v c.args.u rule) in
     let beside : Rule → Type 0 = λ rule. ((mask_has c.args.left Before ≡ false) × (mask_has c.args.left After ≡ false))
     × Aparts instance c.args.dim c.args.u c.args.v rule in
     let both : Rule → Type 0 = IsReachedBoth instance c.args.dim c.args.u c.args.v (mask_has c.args.left)
-    (mask_has c.args.turned) in
+    (mask_has c.args.turned) (mask_has c.args.stale) in
     let rest : Rule → Type 0 = IsReachedNear instance c.args.dim c.args.u c.args.v (mask_has c.args.left)
-    (mask_has c.args.turned) in
+    (mask_has c.args.turned) (mask_has c.args.stale) in
     worked_then instance _ _ _ _ chorded rest (c.may_spread_chords.ensures c.if-may_spread_chords.false)
     (worked_then instance _ _ _ _ beside both
     (worked_kept instance _ _ _ beside c.if-spread_near.false c.spread_near.ensures)

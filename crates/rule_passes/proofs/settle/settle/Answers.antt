@@ -111,7 +111,7 @@ loop-change-smaller g c =
     (trail_short s.dims s.boxes s.trail c.dims-sizes.ensures.limits.trail) in
     let change = c.in-Some.ensures in
     let before_last : c.loop-change.next < length s.trail = change.before_last in
-    let past = behind_within s.trail c.loop-change.next c.behind-after.result c.in-Some.change before_last
+    let past = behind_within s.trail c.loop-change.next _ c.in-Some.change _ before_last
     c.behind-after.ensures in
     omega (arith, short, before_last, past.0)
 
@@ -122,7 +122,7 @@ loop-change-preserved g c =
     let edge = change_edge s.dims s.boxes s.trail c.loop-change.next _ c.in-Some.change
     c.dims-sizes.ensures.limits.trail change in
     let work = worked_kept _ _ _ _ _ c.if-spread.false c.spread.ensures in
-    let past = behind_within s.trail c.loop-change.next c.behind-after.result c.in-Some.change change.before_last
+    let past = behind_within s.trail c.loop-change.next _ c.in-Some.change _ change.before_last
     c.behind-after.ensures in
     let here : IsEdge c.args.instance.now c.in-Some.change.dim c.in-Some.change.u c.in-Some.change.v
     = record {
@@ -138,8 +138,9 @@ loop-change-preserved g c =
       same_room = work.same_room ∙ c.loop-change.invariant.same_room;
       extends = extends_trans _ _ _ _ c.loop-change.invariant.extends work.extends;
       later = omega (arith, c.loop-change.invariant.later, past.0);
-      within = grown_past c.args.instance.now _ _ _ _ _ work.extends change.before_last c.behind-after.ensures;
-      looked = looked_step c.args.instance.now _ _ c.in-Some.change _ _ _ _ here c.if-is_empty_left.ensures work change
+      within = grown_past c.args.instance.now _ _ _ _ _ _ work.extends change.before_last c.behind-after.ensures;
+      looked = looked_step c.args.instance.now _ _ c.in-Some.change _ _ _ _ _ here c.if-is_empty_left.ensures work
+          change
           c.behind-after.ensures
           c.dirtied-more.ensures.clean c.dirtied-more.ensures.unordered c.dirtied-more.ensures.within
           c.loop-change.invariant.looked;
