@@ -10,6 +10,7 @@ use Rattle.packing_terms.specs.Packing.{PlainInstance, dims}
 use Rattle.packing_terms.specs.Exclusions.{excludes, IsEdge}
 use Rattle.packing_terms.proofs.Sets.{excludes_symmetric}
 use Rattle.rule_terms.specs.Applied.{Extends}
+use Rattle.rule_terms.specs.Places.{HasNoEmptyMask}
 use Rattle.relation_table.specs.Masks.{mask_has}
 use Rattle.edge_state.specs.BitRows.{row_has, members_below}
 use Rattle.edge_state.specs.Edges.{PlainEdges, oldest}
@@ -47,7 +48,8 @@ pub looked_step : (instance : PlainInstance) (s t : PlainEdges) (e : Exclusion) 
     (dirty more : List ℕ)
     → IsEdge instance e.dim e.u e.v
     → HasRelationLeft instance (excludes s.trail) e.dim e.u e.v
-    → IsWorked instance s t false (IsDue fresh e.dim e.u e.v)
+    → IsWorked instance s t false (λ rule. HasNoEmptyMask instance (excludes s.trail)
+    × IsDue fresh e.dim e.u e.v rule)
     → IsChangeAfter s.trail mark e (mark + 1) → IsBehind s.trail mark e fresh next
     → ((i : ℕ) → row_has more i ≡ false → row_has dirty i ≡ false)
     → ((i : ℕ) → row_has more i ≡ false → e.dim ≡ i → IsUnordered (excludes s.trail) e)

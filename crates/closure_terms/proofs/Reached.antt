@@ -12,8 +12,9 @@ use Rattle.packing_terms.specs.Closure.{IsSubset}
 use Rattle.rule_terms.specs.Applied.{Adds, added, mirror_added}
 use Rattle.packing_terms.proofs.Sets.{excludes_symmetric, mirror_twice}
 use Rattle.packing_terms.proofs.Monotone.{open_less}
+use Rattle.rule_terms.specs.Places.{HasNoEmptyMask}
 use Rattle.rule_terms.proofs.Steps.{open_mirrored}
-use Rattle.closure_terms.specs.Work.{IsLocal, ReadsEdge, IsAppliedAt, IsDueAt, IsDue, IsCovered, IsUpToDate}
+use Rattle.closure_terms.specs.Work.{IsLocal, ReadsEdge, IsAppliedAt, IsDueAt, IsDue, IsCovered, IsUpToDate, IsPropagated}
 use Rattle.closure_terms.proofs.Touched.{IsTouched, IsAt, decide_at, touched_or_old, adds_more, still_open}
 
 not_overlap : (r : Rel) → r ≢ Overlap → mirror r ≢ Overlap
@@ -205,21 +206,18 @@ due_applied fresh j p q (Order i a b c d) (e, inl h) = (e, inl h)
 due_applied fresh j p q (Order i a b c d) (e, inr (inl h)) = (e, inr (inl h))
 due_applied fresh j p q (Order i a b c d) (e, inr (inr h)) = (e, inr (inr h.0))
 
--- The step of the worklist's invariant: where all instances that are due for the edge of the oldest
--- exclusion that wasn't looked through yet cover what they add, that exclusion is looked through.
--- Its relation is among the fresh ones. An instance that asks there for another relation alone
--- adds no more than before.
-pub settled_due : (instance : PlainInstance) (fresh : Rel → Bool) (e : Exclusion) (seen old new : List Exclusion)
+-- The step of the worklist: where all instances that are due for the edge of the oldest exclusion that
+-- wasn't looked through yet cover what they add, and each instance what it adds by the older ones,
+-- each covers what it adds with that exclusion. Its relation is among the fresh ones. An instance
+-- that asks there for another relation alone adds no more than before.
+covered_due : (instance : PlainInstance) (fresh : Rel → Bool) (e : Exclusion) (seen old new : List Exclusion)
     → fresh e.rel ≡ true → IsSubset (excludes (e ∷ seen)) (excludes old)
-    → IsUpToDate instance seen new → ((r : Rel) × (excludes old e.dim e.u e.v r ≡ false))
+    → ((rule : Rule) → IsLocal rule → IsCovered instance (excludes seen) new rule)
     → ((rule : Rule) → IsDue fresh e.dim e.u e.v rule → IsCovered instance (excludes old) new rule)
-    → IsUpToDate instance (e ∷ seen) new
-settled_due instance fresh e seen old new first within settled left done = record {
-  covered = λ rule local. record {
-    holds = λ i u v r add. go rule local i u v r add
-        (touched_or_old instance fresh e seen rule first local);
-  };
-  full = λ i u v edge. still i u v edge (decide_at e i u v);
+    → (rule : Rule) → IsLocal rule → IsCovered instance (excludes (e ∷ seen)) new rule
+covered_due instance fresh e seen old new first within settled done rule local = record {
+  holds = λ i u v r add. go rule local i u v r add
+      (touched_or_old instance fresh e seen rule first local);
 }
   where
     by_reached : (rule : Rule) (other : Rule) → IsCovered instance (excludes old) new other
@@ -234,7 +232,7 @@ settled_due instance fresh e seen old new first within settled left done = recor
         → IsTouched fresh e rule ⊎ ((j a b : ℕ) (s : Rel) → Adds instance (excludes (e ∷ seen)) rule j a b s
         → Adds instance (excludes seen) rule j a b s)
         → excludes new i u v r ≡ true
-    go rule local i u v r add (inr less) = (settled.covered rule local).holds i u v r (less i u v r add)
+    go rule local i u v r add (inr less) = (settled rule local).holds i u v r (less i u v r add)
     go rule local i u v r add (inl (inl t)) =
         let h = reached instance (e ∷ seen) fresh e.dim e.u e.v rule t in
         by_reached rule h.0 (done h.0 h.1) h.2 i u v r add
@@ -242,9 +240,15 @@ settled_due instance fresh e seen old new first within settled left done = recor
         let h = reached instance (e ∷ seen) (λ s. fresh (mirror s)) e.dim e.v e.u rule t in
         by_reached rule h.0 (done h.0 (due_swapped fresh e.dim e.u e.v h.0 h.1)) h.2 i u v r add
 
+-- no mask is empty by what was looked through, since that of the edge isn't
+full_next : (instance : PlainInstance) (e : Exclusion) (seen old : List Exclusion)
+    → IsSubset (excludes (e ∷ seen)) (excludes old) → HasNoEmptyMask instance (excludes seen)
+    → ((r : Rel) × (excludes old e.dim e.u e.v r ≡ false)) → HasNoEmptyMask instance (excludes (e ∷ seen))
+full_next instance e seen old within full left = λ i u v edge. still i u v edge (decide_at e i u v)
+  where
     still : (i u v : ℕ) → IsEdge instance i u v → IsAt e i u v ⊎ (IsAt e i u v → ⊥)
         → (r : Rel) × (excludes (e ∷ seen) i u v r ≡ false)
-    still i u v edge (inr off) = let k = settled.full i u v edge in (k.0, still_open e seen i u v k.0 off k.1)
+    still i u v edge (inr off) = let k = full i u v edge in (k.0, still_open e seen i u v k.0 off k.1)
     still i u v edge (inl (d, inl h)) = (
       left.0,
       open_less (excludes (e ∷ seen)) (excludes old) within i u v left.0
@@ -261,15 +265,29 @@ settled_due instance fresh e seen old new first within settled left done = recor
           (open_mirrored old e.dim e.u e.v left.0 left.1)))),
     )
 
--- the same where all instances that are applied for the edge cover what they add
+-- The step of the worklist's invariant.
+pub settled_due : (instance : PlainInstance) (fresh : Rel → Bool) (e : Exclusion) (seen old new : List Exclusion)
+    → fresh e.rel ≡ true → IsSubset (excludes (e ∷ seen)) (excludes old)
+    → IsPropagated instance seen new → ((r : Rel) × (excludes old e.dim e.u e.v r ≡ false))
+    → (HasNoEmptyMask instance (excludes new) → (rule : Rule) → IsDue fresh e.dim e.u e.v rule
+    → IsCovered instance (excludes old) new rule)
+    → IsPropagated instance (e ∷ seen) new
+settled_due instance fresh e seen old new first within settled left done = record {
+  covered = λ none. covered_due instance fresh e seen old new first within (settled.covered none) (done none);
+  full = full_next instance e seen old within settled.full left;
+}
+
+-- The same where masks may be empty: all instances that are applied for the edge cover what they add.
 pub settled_next : (instance : PlainInstance) (e : Exclusion) (seen old new : List Exclusion)
     → IsSubset (excludes (e ∷ seen)) (excludes old)
     → IsUpToDate instance seen new → ((r : Rel) × (excludes old e.dim e.u e.v r ≡ false))
     → ((rule : Rule) → IsAppliedAt e.dim e.u e.v rule ⊎ IsAppliedAt e.dim e.v e.u rule
     → IsCovered instance (excludes old) new rule)
     → IsUpToDate instance (e ∷ seen) new
-settled_next instance e seen old new within settled left done =
-    settled_due instance (λ r. true) e seen old new refl within settled left (λ rule h. go rule h)
+settled_next instance e seen old new within settled left done = record {
+  covered = covered_due instance (λ r. true) e seen old new refl within settled.covered (λ rule h. go rule h);
+  full = full_next instance e seen old within settled.full left;
+}
   where
     go : (rule : Rule) → IsDue (λ r. true) e.dim e.u e.v rule → IsCovered instance (excludes old) new rule
     go rule (inl h) = done rule (inl (due_applied (λ r. true) e.dim e.u e.v rule h))

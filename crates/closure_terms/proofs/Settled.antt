@@ -12,6 +12,7 @@ use Rattle.packing_terms.specs.Exclusions.{Exclusions, excludes, is_of, IsEdge, 
 use Rattle.packing_terms.specs.Rules.{Rule, Pair, Apart, Triple, Chain, Compose, Cycle, Order, IsRuleInstance, Premises}
 use Rattle.packing_terms.specs.Rules.{Concludes, by_rule, mirrored}
 use Rattle.packing_terms.specs.Closure.{IsSubset, IsStable}
+use Rattle.packing_terms.proofs.Monotone.{open_less}
 use Rattle.rule_terms.specs.Applied.{Adds, added, mirror_added, Extends}
 use Rattle.rule_terms.specs.Places.{HasNoEmptyMask}
 use Rattle.rule_terms.specs.Runs.{IsTransitive}
@@ -20,7 +21,7 @@ use Rattle.rule_terms.proofs.Steps.{trail_room, few_open}
 use Rattle.edge_state.specs.Edges.{PlainEdges, oldest}
 use Rattle.edge_state.specs.Answers.{IsChangeAfter}
 use Rattle.closure_terms.specs.States.{HasRelationLeft}
-use Rattle.closure_terms.specs.Work.{IsLocal, IsDue, IsCovered, IsExhausted, IsWorked, IsUpToDate, IsChained}
+use Rattle.closure_terms.specs.Work.{IsLocal, IsDue, IsCovered, IsExhausted, IsWorked, IsUpToDate, IsPropagated, IsChained}
 use Rattle.closure_terms.specs.Work.{IsUnordered, IsBehind, behind_one, behind_two}
 use Rattle.closure_terms.proofs.Touched.{adds_more}
 use Rattle.closure_terms.proofs.Worked.{covered_not}
@@ -49,18 +50,39 @@ change_edge d n es mark next e trail change =
 pub trail_short : (d n : ℕ) (es : List Exclusion) → IsTrail d n es → length es ≤ 3 * d * n * (n - 1) / 2
 trail_short d n es trail = let a = trail_room d n es trail in let b = few_open d n [] in omega arith
 
+-- no mask was empty before
+none_before : (instance : PlainInstance) (X Y : Exclusions) → IsSubset X Y → HasNoEmptyMask instance Y
+    → HasNoEmptyMask instance X
+none_before instance X Y more none = λ i u v edge.
+    let k = none i u v edge in (k.0, open_less X Y more i u v k.0 k.1)
+
 -- what was settled stays so when exclusions come on top
 pub settled_grown : (instance : PlainInstance) (seen old new : List Exclusion) → IsSubset (excludes old) (excludes new)
-    → IsUpToDate instance seen old
-    → IsUpToDate instance seen new
+    → IsPropagated instance seen old
+    → IsPropagated instance seen new
 settled_grown instance seen old new more h = record {
-  covered = λ rule local. record { holds = λ i u v r add. more i u v r ((h.covered rule local).holds i u v r add) };
+  covered = λ none rule local. record {
+    holds = λ i u v r add. more i u v r
+        ((h.covered (none_before instance (excludes old) (excludes new) more none) rule local).holds i u v r add);
+  };
   full = h.full;
 }
 
+-- what is up to date is so too where no mask is empty
+pub propagated : (instance : PlainInstance) (seen es : List Exclusion) → IsUpToDate instance seen es
+    → IsPropagated instance seen es
+propagated instance seen es h = record { covered = λ none. h.covered; full = h.full }
+
+-- where all was looked through, no mask is empty
+pub up_to_date : (instance : PlainInstance) (es : List Exclusion) → IsPropagated instance es es
+    → IsUpToDate instance es es
+up_to_date instance es h = record { covered = h.covered h.full; full = h.full }
+
 module _ (instance : PlainInstance) (s t : PlainEdges) (e : Exclusion) (edge : IsEdge instance e.dim e.u e.v)
     (left : HasRelationLeft instance (excludes s.trail) e.dim e.u e.v)
-    (fresh : Rel → Bool) (work : IsWorked instance s t false (IsDue fresh e.dim e.u e.v)) where
+    (fresh : Rel → Bool)
+    (work : IsWorked instance s t false (λ rule. HasNoEmptyMask instance (excludes s.trail)
+    × IsDue fresh e.dim e.u e.v rule)) where
   -- what was looked through after one change more
   seen_next : (mark next : ℕ) (f : Exclusion) → IsChangeAfter s.trail mark f next
       → oldest next t.trail ≡ f ∷ oldest mark s.trail
@@ -80,11 +102,16 @@ module _ (instance : PlainInstance) (s t : PlainEdges) (e : Exclusion) (edge : I
   -- one change more at the edge
   settled_one : (mark next : ℕ) (f : Exclusion) → IsChangeAfter s.trail mark f next → f.dim ≡ e.dim
       → f.u ≡ e.u → f.v ≡ e.v → fresh f.rel ≡ true
-      → IsUpToDate instance (oldest mark s.trail) t.trail → IsUpToDate instance (oldest next t.trail) t.trail
+      → IsPropagated instance (oldest mark s.trail) t.trail → IsPropagated instance (oldest next t.trail) t.trail
   settled_one mark next f change d u v new settled =
-      subst (λ (l : List Exclusion). IsUpToDate instance l t.trail) (sym (seen_next mark next f change))
+      subst (λ (l : List Exclusion). IsPropagated instance l t.trail) (sym (seen_next mark next f change))
       (settled_due instance fresh f (oldest mark s.trail) s.trail t.trail new (seen_within mark next f change) settled
-      (rw (d, u, v) (left.some edge)) (rw (d, u, v) (work.done refl)))
+      (rw (d, u, v) (left.some edge)) (rw (d, u, v) done))
+    where
+      done : HasNoEmptyMask instance (excludes t.trail) → (rule : Rule) → IsDue fresh e.dim e.u e.v rule
+          → IsCovered instance (excludes s.trail) t.trail rule
+      done none rule due = work.done refl rule
+          (none_before instance (excludes s.trail) (excludes t.trail) work.extends.kept none, due)
 
   chained_one : (i mark next : ℕ) (f : Exclusion) → IsChangeAfter s.trail mark f next → f.dim ≡ e.dim
       → f.u ≡ e.u → f.v ≡ e.v
@@ -96,20 +123,20 @@ module _ (instance : PlainInstance) (s t : PlainEdges) (e : Exclusion) (edge : I
       (λ is. let h = free (sym d ∙ is) in record { forth = rw (d, u, v) h.forth; back = rw (d, u, v) h.back }) chained)
 
   -- all changes at the edge that stand together
-  pub settled_step : (mark next : ℕ) → IsUpToDate instance (oldest mark s.trail) s.trail
+  pub settled_step : (mark next : ℕ) → IsPropagated instance (oldest mark s.trail) s.trail
       → IsChangeAfter s.trail mark e (mark + 1)
-      → IsBehind s.trail mark e fresh next → IsUpToDate instance (oldest next t.trail) t.trail
+      → IsBehind s.trail mark e fresh next → IsPropagated instance (oldest next t.trail) t.trail
   settled_step mark next settled change behind = go behind
     where
-      one : fresh e.rel ≡ true → IsUpToDate instance (oldest (mark + 1) t.trail) t.trail
+      one : fresh e.rel ≡ true → IsPropagated instance (oldest (mark + 1) t.trail) t.trail
       one new = settled_one mark (mark + 1) e change refl refl refl new
           (settled_grown instance (oldest mark s.trail) s.trail t.trail work.extends.kept settled)
 
-      go : IsBehind s.trail mark e fresh next → IsUpToDate instance (oldest next t.trail) t.trail
+      go : IsBehind s.trail mark e fresh next → IsPropagated instance (oldest next t.trail) t.trail
       go (behind_one is new) = rw is (one new)
       go (behind_two f more d u v new also) =
           settled_one (mark + 1) next f more d u v also
-          (subst (λ (l : List Exclusion). IsUpToDate instance l t.trail)
+          (subst (λ (l : List Exclusion). IsPropagated instance l t.trail)
           (seen_before (mark + 1) (let h = change.before_last in omega arith)) (one new))
 
   pub chained_step : (i mark next : ℕ) → (e.dim ≡ i → IsUnordered (excludes s.trail) e)
@@ -237,10 +264,10 @@ stable_settled instance es settled chains _ _ _ _ (mirrored rule r is p c) =
     (all_covered instance es settled chains rule is).holds _ _ _ _ (mirror_added r is p c)
 
 pub settled_after : (instance : PlainInstance) (old new : List Exclusion) (k : ℕ) → Extends instance old new
-    → k ≡ length old → IsUpToDate instance old old
-    → IsUpToDate instance (oldest k new) new
+    → k ≡ length old → IsPropagated instance old old
+    → IsPropagated instance (oldest k new) new
 settled_after instance old new k extends e h =
-    subst (λ (l : List Exclusion). IsUpToDate instance l new) (sym same)
+    subst (λ (l : List Exclusion). IsPropagated instance l new) (sym same)
     (settled_grown instance old old new extends.kept h)
   where
     same : oldest k new ≡ old
@@ -312,9 +339,9 @@ grown_past instance old new mark next e fresh extends h behind =
 
 -- the last position is reached: all was looked through
 pub settled_all : (instance : PlainInstance) (es : List Exclusion) (k : ℕ) → k ≡ length es
-    → IsUpToDate instance (oldest k es) es
-    → IsUpToDate instance es es
-settled_all instance es k e h = subst (λ (l : List Exclusion). IsUpToDate instance l es) (oldest_all es k e) h
+    → IsPropagated instance (oldest k es) es
+    → IsPropagated instance es es
+settled_all instance es k e h = subst (λ (l : List Exclusion). IsPropagated instance l es) (oldest_all es k e) h
 
 pub chained_all : (instance : PlainInstance) (i : ℕ) (es : List Exclusion) (k : ℕ) → k ≡ length es
     → IsChained instance i (oldest k es) es

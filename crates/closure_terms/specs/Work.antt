@@ -102,6 +102,13 @@ pub record IsUpToDate (instance : PlainInstance) (seen es : List Exclusion) : Ty
   pub covered : (rule : Rule) → IsLocal rule → IsCovered instance (excludes seen) es rule
   pub full : HasNoEmptyMask instance (excludes seen)
 
+-- Like `IsUpToDate`, where no mask is empty by the whole list. An empty mask is found when its own
+-- exclusions are looked through, so no instance has to find it earlier.
+pub record IsPropagated (instance : PlainInstance) (seen es : List Exclusion) : Type 0 where
+  pub covered : HasNoEmptyMask instance (excludes es) → (rule : Rule) → IsLocal rule
+      → IsCovered instance (excludes seen) es rule
+  pub full : HasNoEmptyMask instance (excludes seen)
+
 -- all that CHAIN adds in this dimension by what was looked through is excluded
 pub record IsChained (instance : PlainInstance) (i : ℕ) (seen es : List Exclusion) : Type 0 where
   pub covered : (rule : Rule) → IsChainIn i rule → IsCovered instance (excludes seen) es rule
@@ -122,6 +129,6 @@ pub data IsBehind (es : List Exclusion) (mark : ℕ) (e : Exclusion) (fresh : Re
 -- What was looked through of a list: no rule adds anything by it but CHAIN in the dimensions of a
 -- row.
 pub record IsLookedThrough (instance : PlainInstance) (seen es : List Exclusion) (dirty : List ℕ) : Type 0 where
-  pub settled : IsUpToDate instance seen es
+  pub settled : IsPropagated instance seen es
   pub chained : (i : ℕ) → i < dims instance → row_has dirty i ≡ false → IsChained instance i seen es
   pub within : (i : ℕ) → row_has dirty i ≡ true → i < dims instance

@@ -1,8 +1,9 @@
 -- What no composition leaves, by the relations of the first mask that are left.
-use Rattle.std.proofs.Common.{◌≡◌, ℕ, ◌<◌, ◌⊎◌, inl, inr, refl, sym, ◌∙◌, Bool, true, false, not, ◌&&◌, ◌||◌, ltb}
-use Rattle.std.proofs.lemmas.Bool.{true≢false, or_parts, or_cases, and_parts, ltb-true}
+use Rattle.std.proofs.Common.{◌≡◌, ℕ, ◌<◌, ◌⊎◌, inl, inr, refl, sym, ◌∙◌, Bool, true, false, not, ◌&&◌, ◌||◌}
+use Rattle.std.proofs.lemmas.Bool.{true≢false, or_parts, or_cases, or_left, or_right, and_parts}
+use Rattle.packing_terms.specs.declared.Rel.{Rel}
+use Rattle.packing_terms.specs.declared.Rel.TheVariants.{Overlap, Before, After}
 use Rattle.edge_state.specs.Edges.{is_other_box}
-use Rattle.closure_terms.proofs.Members.{both_on}
 use Rattle.closure_terms.proofs.Filters.{row_within}
 
 pub kept_overlap : (qo qb qa o b a t : Bool) → (((o || b) || a) && ((qo || qb) || qa)) ≡ true
@@ -65,39 +66,36 @@ and_false : (a : Bool) → (a && false) ≡ false
 and_false true = refl
 and_false false = refl
 
-not_off : (a : Bool) → not a ≡ false → a ≡ true
-not_off true h = refl
-not_off false h = absurd (true≢false h)
+-- some relation is in the mask
+pub any_of : (f : Rel → Bool) (r : Rel) → f r ≡ true → ((f Overlap || f Before) || f After) ≡ true
+any_of f Overlap h = or_left _ _ (or_left _ _ h)
+any_of f Before h = or_left _ _ (or_right _ _ h)
+any_of f After h = or_right _ _ h
 
 -- where the rows of the cases have no box and its mask isn't empty, no relation is left out
-pub none_left_out : (qo qb qa o b a to tb ta al k : Bool) → al ≡ true
-    → (((((to && not ((o || (a && qb)) || (b && qa))) && not qo) || ((tb && not ((o && qo) || b)) && not qb))
-    || ((ta && not ((o && qo) || a)) && not qa)) || (al && not (((o || b) || a) && ((qo || qb) || qa))))
-    && not k ≡ false
+pub none_left_out : (qo qb qa o b a to tb ta k : Bool)
+    → (k ≡ false → (((o || b) || a) && ((qo || qb) || qa)) ≡ true)
+    → (((to && not ((o || (a && qb)) || (b && qa))) && not qo) || ((tb && not ((o && qo) || b)) && not qb))
+    || ((ta && not ((o && qo) || a)) && not qa) ≡ false
     → (((to && not (((((o || b) || a) && qo) || ((o || a) && qb)) || ((o || b) && qa)))
     || (tb && not ((((o || b) && qo) || (((o || b) || a) && qb)) || (b && qa))))
     || (ta && not ((((o || a) && qo) || (a && qb)) || (((o || b) || a) && qa)))) && not k ≡ false
-none_left_out qo qb qa o b a to tb ta al true on h = and_false _
-none_left_out qo qb qa o b a to tb ta false false on h = absurd (true≢false (sym on))
-none_left_out qo qb qa o b a to tb ta true false on h =
-    let parts = or_parts _ _ (both_on _ (not false) refl h) in
-    let some = not_off _ parts.1 in
-    let cases = or_parts _ _ parts.0 in
+none_left_out qo qb qa o b a to tb ta true some h = and_false _
+none_left_out qo qb qa o b a to tb ta false some h =
+    let cases = or_parts _ _ h in
     let firsts = or_parts _ _ cases.0 in
-    let e0 = kept_overlap qo qb qa o b a to some firsts.0 in
-    let e1 = kept_before qo qb qa o b a tb some firsts.1 in
-    let e2 = kept_after qo qb qa o b a ta some cases.1 in
+    let e0 = kept_overlap qo qb qa o b a to (some refl) firsts.0 in
+    let e1 = kept_before qo qb qa o b a tb (some refl) firsts.1 in
+    let e2 = kept_after qo qb qa o b a ta (some refl) cases.1 in
     rw (e0, e1, e2) refl
 
 -- what is found is a box
 pub within_found : (n u x : ℕ) (to tb ta xo xb xa mo mb ma wo wb : Bool) (wa lo lb la : Bool)
     → to ≡ is_other_box n u x && xo → tb ≡ is_other_box n u x && xb → ta ≡ is_other_box n u x && xa
     → lo ≡ (to && not mo) && wo → lb ≡ (tb && not mb) && wb → la ≡ (ta && not ma) && wa
-    → (beyond all may lost found : Bool) → beyond ≡ (lo || lb) || la → all ≡ ltb x n → lost ≡ all && not may
-    → found ≡ beyond || lost
-    → found ≡ true → x < n
-within_found n u x to tb ta xo xb xa mo mb ma wo wb wa lo lb la ho hb ha eo eb ea beyond all may lost found e h k f on =
-    go (or_cases _ _ (sym f ∙ on))
+    → (found : Bool) → found ≡ (lo || lb) || la → found ≡ true → x < n
+within_found n u x to tb ta xo xb xa mo mb ma wo wb wa lo lb la ho hb ha eo eb ea found e on =
+    three (or_cases _ _ (sym e ∙ on))
   where
     from : (t y m w : Bool) → t ≡ is_other_box n u x && y → ((t && not m) && w) ≡ true → x < n
     from t y m w ht on = row_within n u x y t ht (and_parts _ _ (and_parts _ _ on).0).0
@@ -109,7 +107,3 @@ within_found n u x to tb ta xo xb xa mo mb ma wo wb wa lo lb la ho hb ha eo eb e
     three : ((lo || lb) ≡ true) ⊎ (la ≡ true) → x < n
     three (inl p) = two (or_cases _ _ p)
     three (inr p) = from ta xa ma wa ha (sym ea ∙ p)
-
-    go : (beyond ≡ true) ⊎ (lost ≡ true) → x < n
-    go (inl p) = three (or_cases _ _ (sym e ∙ p))
-    go (inr p) = ltb-true x n (sym h ∙ (and_parts _ _ (sym k ∙ p)).0)

@@ -3,10 +3,11 @@ use Rattle.std.proofs.Common.{◌≡◌, ℕ, ◌<◌, ◌⊎◌, inl, inr, sym,
 use Rattle.std.proofs.lemmas.Bool.{true≢false, cases_Bool}
 use Rattle.packing_terms.specs.declared.Rel.{Rel}
 use Rattle.packing_terms.specs.declared.Rel.TheVariants.{Overlap, Before, After}
-use Rattle.packing_terms.specs.Packing.{PlainInstance, dims}
+use Rattle.packing_terms.specs.Packing.{PlainInstance, dims, box_count}
+use Rattle.rule_terms.specs.Places.{HasNoEmptyMask}
 use Rattle.packing_terms.specs.Relations.{mirror}
 use Rattle.packing_terms.specs.Exclusions.{Exclusions, excludes}
-use Rattle.packing_terms.specs.Rules.{Rule, IsRuleInstance, Premises}
+use Rattle.packing_terms.specs.Rules.{Rule, Compose, IsRuleInstance, Premises}
 use Rattle.edge_state.specs.Edges.{PlainEdges}
 use Rattle.closure_terms.specs.Work.{IsWorked, IsCovered, IsDueAt, IsDue}
 use Rattle.closure_terms.specs.Instances.{DueAll, Composes, OrdersCrossed}
@@ -263,3 +264,22 @@ worked_no_rows instance s n row other named also f k none =
         → IsCovered instance (excludes s.trail) s.trail rule
     go rule (inl r) = covered_named instance s.trail rule (named r.0) r.2 (f r.0 r.1 (none r.0).0)
     go rule (inr r) = covered_named instance s.trail rule (also r.0) r.2 (k r.0 r.1 (none r.0).1)
+
+-- the same of COMPOSE in both orders of two boxes, if no mask is empty
+pub none_composed : (instance : PlainInstance) (s : PlainEdges) (row other : ℕ → Bool) (j u v : ℕ)
+    → ((x : ℕ) → x < box_count instance → row x ≡ false → HasNoEmptyMask instance (excludes s.trail)
+    → IsCovered instance (excludes s.trail) s.trail (Compose j u v x))
+    → ((x : ℕ) → x < box_count instance → other x ≡ false → HasNoEmptyMask instance (excludes s.trail)
+    → IsCovered instance (excludes s.trail) s.trail (Compose j v u x))
+    → ((x : ℕ) → (row x ≡ false) × (other x ≡ false))
+    → IsWorked instance s s false (λ rule. HasNoEmptyMask instance (excludes s.trail)
+    × (Composes instance j u v rule ⊎ Composes instance j v u rule))
+none_composed instance s row other j u v f k none =
+    worked_none instance s (λ rule. HasNoEmptyMask instance (excludes s.trail)
+    × (Composes instance j u v rule ⊎ Composes instance j v u rule)) (λ rule r. go rule r.0 r.1)
+  where
+    go : (rule : Rule) → HasNoEmptyMask instance (excludes s.trail)
+        → Composes instance j u v rule ⊎ Composes instance j v u rule
+        → IsCovered instance (excludes s.trail) s.trail rule
+    go rule full (inl r) = covered_named instance s.trail rule (Compose j u v r.0) r.2 (f r.0 r.1 (none r.0).0 full)
+    go rule full (inr r) = covered_named instance s.trail rule (Compose j v u r.0) r.2 (k r.0 r.1 (none r.0).1 full)

@@ -11,6 +11,7 @@ use Rattle.packing_terms.specs.Relations.{mirror}
 use Rattle.packing_terms.specs.Exclusions.{Exclusions, excludes, is_same_rel, exclusion_at, IsEdge, IsJoined}
 use Rattle.packing_terms.specs.Rules.{Rule, Apart, IsRuleInstance, Premises}
 use Rattle.packing_terms.proofs.Sets.{excludes_symmetric}
+use Rattle.rule_terms.specs.Places.{HasNoEmptyMask}
 use Rattle.rule_terms.specs.Applied.{Adds, added, mirror_added, is_narrowed, IsApplied}
 use Rattle.rule_terms.specs.Steps.{with_exclusion}
 use Rattle.rule_terms.proofs.Applied.{applied_by}
@@ -120,42 +121,54 @@ none_both instance s j u v left turned stale e joined first crossed second back 
 pub worked_pieces : (instance : PlainInstance) (s t : PlainEdges) (lost : Bool) (j u v : ℕ)
     (left turned stale : Rel → Bool) → j < dims instance → ((r : Rel) → left r ≡ not (excludes s.trail j u v r))
     → ((r : Rel) → turned r ≡ left (mirror r))
-    → IsWorked instance s t lost (λ rule. (Composes instance j u v rule ⊎ Composes instance j v u rule)
+    → IsWorked instance s t lost (λ rule. (HasNoEmptyMask instance (excludes s.trail)
+    × (Composes instance j u v rule ⊎ Composes instance j v u rule))
     ⊎ IsReachedLater instance j u v left turned stale rule)
-    → IsWorked instance s t lost (IsDue (λ r. not (stale r)) j u v)
-worked_pieces instance s t lost j u v left turned stale there hl ht h =
-    worked_guarded instance s t lost j u v stale (left Overlap) (left Before) (left After) (turned Overlap)
-    (turned Before) (turned After) there (hl Overlap) (hl Before) (hl After) (back Overlap) (back Before) (back After)
-    (ht Overlap)
-    (record {
-      same_dims = h.same_dims;
-      same_boxes = h.same_boxes;
-      same_room = h.same_room;
-      extends = h.extends;
-      empty = h.empty;
-      done = λ e rule r. go (h.done e) rule r;
-    })
+    → IsWorked instance s t lost (λ rule. HasNoEmptyMask instance (excludes s.trail)
+    × IsDue (λ r. not (stale r)) j u v rule)
+worked_pieces instance s t lost j u v left turned stale there hl ht h = record {
+  same_dims = h.same_dims;
+  same_boxes = h.same_boxes;
+  same_room = h.same_room;
+  extends = h.extends;
+  empty = h.empty;
+  done = λ e rule r. (all r.0).done e rule r.1;
+}
   where
     back : (r : Rel) → turned r ≡ not (excludes s.trail j v u r)
     back r = ht r ∙ (hl (mirror r) ∙ ap not (excludes_mirror s.trail j u v r))
 
-    go : ((rule : Rule) → (Composes instance j u v rule ⊎ Composes instance j v u rule)
+    go : HasNoEmptyMask instance (excludes s.trail) → ((rule : Rule) → (HasNoEmptyMask instance (excludes s.trail)
+        × (Composes instance j u v rule ⊎ Composes instance j v u rule))
         ⊎ IsReachedLater instance j u v left turned stale rule → IsCovered instance (excludes s.trail) t.trail rule)
         → (rule : Rule) → GuardedBoth instance j u v stale (left Overlap) (left Before) (left After) (turned Overlap)
         (turned Before) (turned After) rule → IsCovered instance (excludes s.trail) t.trail rule
-    go done rule (inl (inl (inl r))) = done rule (inl r)
-    go done rule (inl (inl (inr (g, inl (inl r))))) = done rule (inr (inl (g, inl r)))
-    go done rule (inl (inl (inr (g, inl (inr r))))) = done rule (inr (inr (inl (g, inl r))))
-    go done rule (inl (inl (inr (g, inr (inl r))))) = done rule (inr (inl (g, inr r)))
-    go done rule (inl (inl (inr (g, inr (inr r))))) = done rule (inr (inr (inl (g, inr r))))
-    go done rule (inl (inr (inl (inl (g, inl r))))) = done rule (inr (inr (inr (inl (g, r)))))
-    go done rule (inl (inr (inl (inl (g, inr r))))) = done rule (inr (inr (inr (inr (inl (inl (inl (g, r))))))))
-    go done rule (inl (inr (inl (inr r)))) = done rule (inr (inr (inr (inr (inl (inl (inr r)))))))
-    go done rule (inl (inr (inr r))) = done rule (inr (inr (inr (inr (inl (inr r))))))
-    go done rule (inr (inl (inl (g, inl r)))) =
+    go full done rule (inl (inl (inl r))) = done rule (inl (full, r))
+    go full done rule (inl (inl (inr (g, inl (inl r))))) = done rule (inr (inl (g, inl r)))
+    go full done rule (inl (inl (inr (g, inl (inr r))))) = done rule (inr (inr (inl (g, inl r))))
+    go full done rule (inl (inl (inr (g, inr (inl r))))) = done rule (inr (inl (g, inr r)))
+    go full done rule (inl (inl (inr (g, inr (inr r))))) = done rule (inr (inr (inl (g, inr r))))
+    go full done rule (inl (inr (inl (inl (g, inl r))))) = done rule (inr (inr (inr (inl (g, r)))))
+    go full done rule (inl (inr (inl (inl (g, inr r))))) = done rule (inr (inr (inr (inr (inl (inl (inl (g, r))))))))
+    go full done rule (inl (inr (inl (inr r)))) = done rule (inr (inr (inr (inr (inl (inl (inr r)))))))
+    go full done rule (inl (inr (inr r))) = done rule (inr (inr (inr (inr (inl (inr r))))))
+    go full done rule (inr (inl (inl (g, inl r)))) =
         named_apart instance s.trail t.trail rule r.0 u v r.2.1
         (done (Apart r.0 u v)
         (inr (inr (inr (inl ((sym (ht After) ∙ g.1, sym (ht Before) ∙ g.0), (r.0, r.1, (r.2.0, refl))))))))
-    go done rule (inr (inl (inl (g, inr r)))) = done rule (inr (inr (inr (inr (inr (inl (inl (g, r))))))))
-    go done rule (inr (inl (inr r))) = done rule (inr (inr (inr (inr (inr (inl (inr r)))))))
-    go done rule (inr (inr r)) = done rule (inr (inr (inr (inr (inr (inr r))))))
+    go full done rule (inr (inl (inl (g, inr r)))) = done rule (inr (inr (inr (inr (inr (inl (inl (g, r))))))))
+    go full done rule (inr (inl (inr r))) = done rule (inr (inr (inr (inr (inr (inl (inr r)))))))
+    go full done rule (inr (inr r)) = done rule (inr (inr (inr (inr (inr (inr r))))))
+
+    all : HasNoEmptyMask instance (excludes s.trail) → IsWorked instance s t lost (IsDue (λ r. not (stale r)) j u v)
+    all full = worked_guarded instance s t lost j u v stale (left Overlap) (left Before) (left After) (turned Overlap)
+        (turned Before) (turned After) there (hl Overlap) (hl Before) (hl After) (back Overlap) (back Before) (back After)
+        (ht Overlap)
+        (record {
+          same_dims = h.same_dims;
+          same_boxes = h.same_boxes;
+          same_room = h.same_room;
+          extends = h.extends;
+          empty = h.empty;
+          done = λ e rule r. go full (h.done e) rule r;
+        })

@@ -17,8 +17,6 @@ use Rattle.edge_state.proofs.Kept.{row_open, row_shut, open_is}
 use Rattle.edge_state.proofs.RowSteps.{box_apart}
 use Rattle.edge_state.proofs.Tables.{other_from}
 use Rattle.closure_terms.proofs.Filters.{minus_off}
-use Rattle.rule_terms.proofs.Applied.{extends_refl}
-use Rattle.closure_terms.specs.States.{HasEmptyMask}
 use Rattle.closure_terms.specs.Work.{IsWorked, IsCovered}
 use Rattle.closure_terms.proofs.Worked.{worked_as, worked_then}
 use Rattle.rule_passes.specs.Reached.{NoRule, composed}
@@ -267,18 +265,6 @@ pub compose_kept : (instance : PlainInstance) (X : Exclusions) (i u v x : ℕ) (
     → Concludes X (Compose i u v x) r → ⊥
 compose_kept instance X i u v x r s left ls h k c =
     clash (allows r s r) (same_allows r s) (c r s (open_is _ _ (ls r) h) k)
-
--- a mask was empty before anything was done
-pub worked_empty : (instance : PlainInstance) (s : PlainEdges) (R : Rule → Type 0)
-    → HasEmptyMask instance (excludes s.trail) → IsWorked instance s s true R
-worked_empty instance s R h = record {
-  same_dims = refl;
-  same_boxes = refl;
-  same_room = refl;
-  extends = extends_refl instance s.trail;
-  empty = λ e. h;
-  done = λ e. absurd (true≢false e);
-}
 
 -- Where each relation that isn't in the row of it is excluded if COMPOSE concludes it, and those of
 -- the rows are excluded afterwards, COMPOSE is covered.

@@ -42,16 +42,15 @@ fn left_outside<const K: usize>(
 }
 
 /// The boxes x at which COMPOSE at `u`, `v`, x may exclude something, where the mask of `u`, `v` is
-/// given: at all others it adds nothing.
+/// given: at all others whose mask with `v` isn't empty it adds nothing.
 ///
 /// A relation that is left of `u`, `v` allows itself of `u`, x, whatever is left of `v`, x, if
-/// anything is. So a relation is looked at only where it is gone from the mask, and beside that the
-/// empty masks of `v`, x. A full mask asks for no row.
+/// anything is. So a relation is looked at only if it is gone from the mask. A full mask asks for no
+/// row.
 #[inline(always)]
 pub(crate) fn beyond_compositions<const K: usize>(
     instance: &Instance,
     state: &EdgeState,
-    all: BitRow<K>,
     dim: u32,
     u: u32,
     v: u32,
@@ -59,13 +58,14 @@ pub(crate) fn beyond_compositions<const K: usize>(
 ) -> BitRow<K>
     requires words { HoldsBoxes K (box_count instance.now) }
     requires sizes { IsSized instance.now state.now dim }
-    requires all { (x : ℕ) → row_has all x ≡ nat_lt x (box_count instance.now) }
     requires u { u < box_count instance.now }
     requires v { v < box_count instance.now }
     requires distinct { u ≡ v → ⊥ }
     requires left { (r : PlainRel) → mask_has left r ≡ not (excludes state.now.trail dim u v r) }
     ensures within { (x : ℕ) → row_has result x ≡ true → x < box_count instance.now }
     ensures others { (x : ℕ) → x < box_count instance.now → row_has result x ≡ false
+        → ((q : PlainRel) × (mask_has left q ≡ true))
+        → ((s : PlainRel) × (excludes state.now.trail dim v x s ≡ false))
         → IsCovered instance.now (excludes state.now.trail) state.now.trail (Compose dim u v x) }
 {
     // For the proof alone: tells the limits of the state.
@@ -76,18 +76,15 @@ pub(crate) fn beyond_compositions<const K: usize>(
     let overlap = state.row_in::<K>(dim, v, Rel::Overlap);
     let before = state.row_in::<K>(dim, v, Rel::Before);
     let after = state.row_in::<K>(dim, v, Rel::After);
-    let any = one_of(overlap, before, after);
-    let lost = all.minus(pick(any, is_overlap | is_before | is_after));
     let may_overlap = one_of(overlap, pick(after, is_before), pick(before, is_after));
     let near = pick(overlap, is_overlap);
     let may_precede = near.or(before);
     let may_follow = near.or(after);
-    let beyond = one_of(
+    one_of(
         left_outside(state, dim, u, Rel::Overlap, may_overlap, !is_overlap),
         left_outside(state, dim, u, Rel::Before, may_precede, !is_before),
         left_outside(state, dim, u, Rel::After, may_follow, !is_after),
-    );
-    beyond.or(lost).without(v)
+    )
 }
 
 // The boxes to which the compositions leave a relation of the first box that isn't left of the

@@ -9,6 +9,7 @@ ghost use Rattle.packing_terms.specs.declared.Rel.TheVariants.{Overlap, Before, 
 ghost use Rattle.packing_terms.specs.Relations.{mirror};
 ghost use Rattle.packing_terms.specs.Packing.{box_count};
 ghost use Rattle.packing_terms.specs.Exclusions.{excludes};
+ghost use Rattle.rule_terms.specs.Places.{HasNoEmptyMask};
 ghost use Rattle.relation_table.specs.Masks.{mask_has};
 ghost use Rattle.edge_state.specs.BitRows.{HoldsBoxes, row_has};
 ghost use Rattle.closure_terms.specs.Instances.{Chords, Composes, Cycles, OrdersCrossed, Triples};
@@ -25,12 +26,11 @@ use box_instances::Instance;
 use edge_state::{BitRow, EdgeState, Mask, Rel};
 use relation_table::flip;
 
-/// Whether COMPOSE may exclude something, in one of the orders.
+/// Whether COMPOSE may exclude something, in one of the orders, if no mask is empty.
 #[inline(always)]
 pub(crate) fn may_compose<const K: usize>(
     instance: &Instance,
     state: &EdgeState,
-    all: BitRow<K>,
     dim: u32,
     u: u32,
     v: u32,
@@ -41,13 +41,13 @@ pub(crate) fn may_compose<const K: usize>(
     requires u { u < box_count instance.now }
     requires v { v < box_count instance.now }
     requires distinct { u ≡ v → ⊥ }
-    requires all { (x : ℕ) → row_has all x ≡ nat_lt x (box_count instance.now) }
     requires left { (r : PlainRel) → mask_has left r ≡ not (excludes state.now.trail dim u v r) }
     ensures { result ≡ false → IsWorked instance.now state.now state.now false
-        (λ rule. Composes instance.now dim u v rule ⊎ Composes instance.now dim v u rule) }
+        (λ rule. HasNoEmptyMask instance.now (excludes state.now.trail)
+        × (Composes instance.now dim u v rule ⊎ Composes instance.now dim v u rule)) }
 {
-    let there = beyond_compositions(instance, state, all, dim, u, v, left);
-    let back = beyond_compositions(instance, state, all, dim, v, u, flip(left));
+    let there: BitRow<K> = beyond_compositions(instance, state, dim, u, v, left);
+    let back = beyond_compositions(instance, state, dim, v, u, flip(left));
     if is_empty(there.or(back)) {
         return false;
     }

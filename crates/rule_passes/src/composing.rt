@@ -1,10 +1,11 @@
 //! COMPOSE at what a changed edge tells, by whole rows.
-ghost use Rattle.std.specs.Prelude.{◌≡◌, ◌<◌, ◌⊎◌, ℕ, true, false, not, nat_lt, IsTrue};
+ghost use Rattle.std.specs.Prelude.{◌≡◌, ◌<◌, ◌⊎◌, ℕ, true, false, not, IsTrue};
 ghost use Rattle.packing_terms.specs.declared.Rel.{Rel as PlainRel};
 ghost use Rattle.packing_terms.specs.declared.Rel.TheVariants.{Overlap, Before, After};
 ghost use Rattle.packing_terms.specs.Packing.{box_count};
 ghost use Rattle.packing_terms.specs.Exclusions.{excludes};
 ghost use Rattle.packing_terms.specs.Rules.{Follows};
+ghost use Rattle.rule_terms.specs.Places.{HasNoEmptyMask};
 ghost use Rattle.relation_table.specs.Masks.{mask_has};
 ghost use Rattle.edge_state.specs.BitRows.{HoldsBoxes, row_has};
 ghost use Rattle.edge_state.specs.Edges.{is_other_box};
@@ -15,7 +16,6 @@ ghost use Rattle.rule_passes.specs.Reached.{NoRule};
 
 use crate::candidates::uncomposed;
 use crate::excluding::exclude_each;
-use crate::rows::has_empty_mask;
 use box_instances::Instance;
 use edge_state::{BitRow, EdgeState, Mask, Rel};
 use relation_table::flip;
@@ -60,13 +60,12 @@ fn exclude_three<const K: usize>(
     exclude_each(instance, state, dim, u, Rel::After, after)
 }
 
-/// COMPOSE in both orders of the boxes of an edge, whose mask is given. What is excluded is told
-/// for both before anything is, so that the rows of the two are read once.
+/// COMPOSE in both orders of the boxes of an edge, whose mask is given, if no mask is empty. What is
+/// to be excluded is found for both orders before anything is, so the rows of the two are read once.
 #[inline(always)]
 pub(crate) fn spread_composed<const K: usize>(
     instance: &Instance,
     state: &mut EdgeState,
-    all: BitRow<K>,
     dim: u32,
     u: u32,
     v: u32,
@@ -77,17 +76,11 @@ pub(crate) fn spread_composed<const K: usize>(
     requires u { u < box_count instance.now }
     requires v { v < box_count instance.now }
     requires distinct { u ≡ v → ⊥ }
-    requires all { (x : ℕ) → row_has all x ≡ nat_lt x (box_count instance.now) }
     requires left { (r : PlainRel) → mask_has left r ≡ not (excludes state.old.trail dim u v r) }
-    ensures { IsWorked instance.now state.old state.new result (λ rule.
-        Composes instance.now dim u v rule ⊎ Composes instance.now dim v u rule) }
+    ensures { IsWorked instance.now state.old state.new result
+        (λ rule. HasNoEmptyMask instance.now (excludes state.old.trail)
+        × (Composes instance.now dim u v rule ⊎ Composes instance.now dim v u rule)) }
 {
-    if has_empty_mask(instance, state, all, dim, u) {
-        return true;
-    }
-    if has_empty_mask(instance, state, all, dim, v) {
-        return true;
-    }
     let turned = flip(left);
     let overlap = uncomposed::<K>(instance, state, dim, u, v, left, Rel::Overlap);
     let before = uncomposed::<K>(instance, state, dim, u, v, left, Rel::Before);

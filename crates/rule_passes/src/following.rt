@@ -8,6 +8,7 @@ ghost use Rattle.packing_terms.specs.declared.Rel.{Rel as PlainRel};
 ghost use Rattle.packing_terms.specs.Relations.{mirror};
 ghost use Rattle.packing_terms.specs.Packing.{box_count};
 ghost use Rattle.packing_terms.specs.Exclusions.{is_same_rel, excludes};
+ghost use Rattle.rule_terms.specs.Places.{HasNoEmptyMask};
 ghost use Rattle.relation_table.specs.Masks.{mask_has};
 ghost use Rattle.edge_state.specs.BitRows.{HoldsBoxes, row_has};
 ghost use Rattle.closure_terms.specs.States.{IsSized};
@@ -176,9 +177,10 @@ fn spread_all<const K: usize>(
     requires left { (r : PlainRel) → mask_has left r ≡ not (excludes state.old.trail dim u v r) }
     requires most { HasNoLonger instance.now dim most }
     ensures { IsWorked instance.now state.old state.new result
-        (IsDue (λ r. not (mask_has stale r)) dim u v) }
+        (λ rule. HasNoEmptyMask instance.now (excludes state.old.trail)
+        × IsDue (λ r. not (mask_has stale r)) dim u v rule) }
 {
-    if spread_composed(instance, state, all, dim, u, v, left) {
+    if spread_composed::<K>(instance, state, dim, u, v, left) {
         return true;
     }
     spread_later(
@@ -217,9 +219,10 @@ fn spread_left<const K: usize>(
     requires left { (r : PlainRel) → mask_has left r ≡ not (excludes state.old.trail dim u v r) }
     requires most { HasNoLonger instance.now dim most }
     ensures { IsWorked instance.now state.old state.new result
-        (IsDue (λ r. not (mask_has stale r)) dim u v) }
+        (λ rule. HasNoEmptyMask instance.now (excludes state.old.trail)
+        × IsDue (λ r. not (mask_has stale r)) dim u v rule) }
 {
-    if may_compose(instance, state, all, dim, u, v, left) {
+    if may_compose::<K>(instance, state, dim, u, v, left) {
         return spread_all(instance, state, all, dim, u, v, left, stale, most);
     }
     let turned = flip(left);
@@ -274,75 +277,17 @@ pub(crate) fn spread<const K: usize>(
     requires left { (r : PlainRel) → mask_has left r ≡ not (excludes state.old.trail dim u v r) }
     requires most { HasNoLonger instance.now dim most }
     ensures { IsWorked instance.now state.old state.new result
-        (IsDue (λ r. not (mask_has stale r)) dim u v) }
+        (λ rule. HasNoEmptyMask instance.now (excludes state.old.trail)
+        × IsDue (λ r. not (mask_has stale r)) dim u v rule) }
 {
+    let (overlap, before, after) = (Rel::Overlap, Rel::Before, Rel::After);
     match left.bits() {
-        1 => spread_left(
-            instance,
-            state,
-            all,
-            dim,
-            u,
-            v,
-            only(Rel::Overlap),
-            stale,
-            most,
-        ),
-        2 => spread_left(
-            instance,
-            state,
-            all,
-            dim,
-            u,
-            v,
-            only(Rel::Before),
-            stale,
-            most,
-        ),
-        3 => spread_left(
-            instance,
-            state,
-            all,
-            dim,
-            u,
-            v,
-            but(Rel::After),
-            stale,
-            most,
-        ),
-        4 => spread_left(
-            instance,
-            state,
-            all,
-            dim,
-            u,
-            v,
-            only(Rel::After),
-            stale,
-            most,
-        ),
-        5 => spread_left(
-            instance,
-            state,
-            all,
-            dim,
-            u,
-            v,
-            but(Rel::Before),
-            stale,
-            most,
-        ),
-        6 => spread_left(
-            instance,
-            state,
-            all,
-            dim,
-            u,
-            v,
-            but(Rel::Overlap),
-            stale,
-            most,
-        ),
+        1 => spread_left(instance, state, all, dim, u, v, only(overlap), stale, most),
+        2 => spread_left(instance, state, all, dim, u, v, only(before), stale, most),
+        3 => spread_left(instance, state, all, dim, u, v, but(after), stale, most),
+        4 => spread_left(instance, state, all, dim, u, v, only(after), stale, most),
+        5 => spread_left(instance, state, all, dim, u, v, but(before), stale, most),
+        6 => spread_left(instance, state, all, dim, u, v, but(overlap), stale, most),
         _ => spread_all(instance, state, all, dim, u, v, left, stale, most),
     }
 }

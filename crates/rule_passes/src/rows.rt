@@ -1,13 +1,11 @@
 //! Rows of boxes: those for which relations to one box are left or gone.
 ghost use Rattle.std.specs.Prelude.{◌≡◌, ◌<◌, ◌&&◌, ◌||◌, ℕ, true, false, nat_lt, IsTrue};
-ghost use Rattle.packing_terms.specs.declared.Rel.{Rel as PlainRel};
-ghost use Rattle.packing_terms.specs.declared.Rel.TheVariants.{Overlap};
 ghost use Rattle.packing_terms.specs.Packing.{box_count};
 ghost use Rattle.packing_terms.specs.Exclusions.{excludes};
 ghost use Rattle.packing_terms.specs.Limits.{IsBoxCount};
 ghost use Rattle.edge_state.specs.BitRows.{IsRowWidth, HoldsBoxes, row_has};
 ghost use Rattle.edge_state.specs.Edges.{is_other_box};
-ghost use Rattle.closure_terms.specs.States.{IsSized, HasEmptyMask};
+ghost use Rattle.closure_terms.specs.States.{IsSized};
 ghost use Rattle.rule_passes.specs.Reached.{IsGoneOf};
 
 use box_instances::Instance;
@@ -160,31 +158,4 @@ pub(crate) fn gone_of_any<const K: usize>(
         found = found.or(gone(instance, state, all, dim, x, first, second));
     }
     found
-}
-
-/// Whether the mask of `u` and some other box is empty.
-#[inline(always)]
-pub(crate) fn has_empty_mask<const K: usize>(
-    instance: &Instance,
-    state: &EdgeState,
-    all: BitRow<K>,
-    dim: u32,
-    u: u32,
-) -> bool
-    requires words { HoldsBoxes K (box_count instance.now) }
-    requires sizes { IsSized instance.now state.now dim }
-    requires u { u < box_count instance.now }
-    requires all { (x : ℕ) → row_has all x ≡ nat_lt x (box_count instance.now) }
-    ensures empty { result ≡ true → HasEmptyMask instance.now (excludes state.now.trail) }
-    ensures left { result ≡ false → (x : ℕ) → x < box_count instance.now → (u ≡ x → ⊥)
-        → (r : PlainRel) × (excludes state.now.trail dim u x r ≡ false) }
-{
-    let overlap = state.row_in::<K>(dim, u, Rel::Overlap);
-    let before = state.row_in::<K>(dim, u, Rel::Before);
-    let after = state.row_in::<K>(dim, u, Rel::After);
-    let lost = all.minus(one_of(overlap, before, after)).without(u);
-    match lost.first() {
-        Some(_) => true,
-        None => false,
-    }
 }

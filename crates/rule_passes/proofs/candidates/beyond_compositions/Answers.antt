@@ -1,5 +1,5 @@
-use Rattle.std.proofs.Common.{◌≡◌, Bool, ◌∙◌, refl, sym, not, ◌&&◌, ◌||◌, eqb}
-use Rattle.std.proofs.lemmas.Bool.{and_parts, lt-ltb}
+use Rattle.std.proofs.Common.{◌≡◌, Bool, true, false, ◌∙◌, refl, sym, not, ◌&&◌, ◌||◌, eqb}
+use Rattle.std.proofs.lemmas.Bool.{and_from, lt-ltb}
 use Rattle.packing_terms.specs.declared.Rel.{Rel}
 use Rattle.packing_terms.specs.declared.Rel.TheVariants.{Overlap, Before, After}
 use Rattle.packing_terms.specs.Packing.{box_count}
@@ -9,7 +9,7 @@ use Rattle.edge_state.specs.Edges.{is_other_box}
 use Rattle.edge_state.proofs.Kept.{by_rel}
 use Rattle.closure_terms.specs.Rows.{in_each_relation}
 use Rattle.closure_terms.proofs.Beyond.{covered_beyond}
-use Rattle.rule_passes.proofs.Compositions.{none_left_out, within_found}
+use Rattle.rule_passes.proofs.Compositions.{any_of, none_left_out, within_found}
 use Rattle.rule_passes.proofs.candidates.beyond_compositions.Goals as goal
 
 pub returns-clause-within : goal.returns-clause-within
@@ -19,11 +19,10 @@ returns-clause-within g c x on =
     let lb = rw c.requires.sizes.same_boxes at c.left_outside-2.ensures in
     let la = rw c.requires.sizes.same_boxes at c.left_outside-3.ensures in
     within_found n c.args.u x _ _ _ _ _ _ _ _ _ _ _ _ _ _ _ refl refl refl (lo x) (lb x) (la x)
-    _ _ _ _ _ (c.one_of-beyond.ensures x) (c.requires.all x) (c.minus-lost.ensures x) (c.or.ensures x)
-    (and_parts _ _ (sym (c.without.ensures x) ∙ on)).0
+    _ (c.one_of.ensures x) on
 
 pub returns-clause-others : goal.returns-clause-others
-returns-clause-others g c x small off =
+returns-clause-others g c x small off some_q some_s =
     let instance = c.args.instance.now in
     let es = c.args.state.now.trail in
     let j = c.args.dim in
@@ -44,30 +43,26 @@ returns-clause-others g c x small off =
     let hq : (r : Rel) → q r ≡ not (excludes es j u v r) =
     by_rel q _ (c.has-is_overlap.ensures ∙ c.requires.left Overlap) (c.has-is_before.ensures ∙ c.requires.left Before)
     (c.has-is_after.ensures ∙ c.requires.left After) in
-    let e : row_has c.without.result x
-    ≡ (((((t Overlap && not ((s Overlap || (s After && q Before)) || (s Before && q After))) && not (q Overlap))
+    let e : row_has c.one_of.result x
+    ≡ ((((t Overlap && not ((s Overlap || (s After && q Before)) || (s Before && q After))) && not (q Overlap))
     || ((t Before && not ((s Overlap && q Overlap) || s Before)) && not (q Before)))
     || ((t After && not ((s Overlap && q Overlap) || s After)) && not (q After)))
-    || (row_has c.args.all x && not (((s Overlap || s Before) || s After) && ((q Overlap || q Before) || q After))))
-    && not (eqb x v)
     = rw (
-      c.without.ensures x,
-      c.or.ensures x,
-      c.one_of-beyond.ensures x,
+      c.one_of.ensures x,
       lo x,
       lb x,
       la x,
       c.one_of-may_overlap.ensures x,
       c.or-may_precede.ensures x,
       c.or-may_follow.ensures x,
-      c.pick-2.ensures x,
-      c.pick-3.ensures x,
-      c.pick-near.ensures x,
-      c.minus-lost.ensures x,
       c.pick.ensures x,
-      c.one_of-any.ensures x,
+      c.pick-2.ensures x,
+      c.pick-near.ensures x,
     ) refl in
+    let some : eqb x v ≡ false
+    → (((s Overlap || s Before) || s After) && ((q Overlap || q Before) || q After)) ≡ true =
+    λ other. and_from _ _ (any_of s some_s.0 (hs some_s.0 ∙ rw (lt-ltb x _ small, other, some_s.1) refl))
+    (any_of q some_q.0 (hq some_q.0 ∙ (sym (c.requires.left some_q.0) ∙ some_q.1))) in
     let none = none_left_out (q Overlap) (q Before) (q After) (s Overlap) (s Before) (s After) (t Overlap) (t Before)
-    (t After) (row_has c.args.all x) (eqb x v)
-    (c.requires.all x ∙ lt-ltb x _ small) (sym e ∙ off) in
+    (t After) (eqb x v) some (sym e ∙ off) in
     covered_beyond instance es j u v x _ q s t c.requires.distinct hq hs (λ r. refl) refl none

@@ -4,7 +4,7 @@ use Rattle.edge_state.specs.Edges.{PlainEdges}
 use Rattle.edge_state.specs.BitRows.{row_has}
 use Rattle.edge_state.proofs.RowBits.{members_few}
 use Rattle.closure_terms.proofs.Worked.{worked_kept}
-use Rattle.closure_terms.proofs.Settled.{trail_short, settled_transitive, stable_settled}
+use Rattle.closure_terms.proofs.Settled.{trail_short, settled_transitive, stable_settled, propagated, up_to_date}
 use Rattle.closure_terms.proofs.Looked.{looked_after, less_to_do, marked}
 use Rattle.rule_passes.proofs.Levels.{each_set}
 use Rattle.orientation_rules.specs.KeptWeights.{PlainLevels}
@@ -25,7 +25,7 @@ cover_chains-requires g c =
           },
           (
             c.loop-dim.invariant.kept.each c.in-Some-first.dim _ there,
-            (looked.settled.full, settled_transitive _ _ _ there looked.settled),
+            (looked.settled.full, settled_transitive _ _ _ there (up_to_date _ _ looked.settled)),
           ),
         ),
       ),
@@ -129,7 +129,7 @@ loop-dim-preserved g c = record {
 pub returns-clause-ended : goal.returns-clause-ended
 returns-clause-ended g c =
     let looked = c.loop-dim.invariant.looked in (
-      stable_settled _ _ looked.settled (λ i h. looked.chained i h (c.in_default-first.ensures.least i)),
+      stable_settled _ _ (up_to_date _ _ looked.settled) (λ i h. looked.chained i h (c.in_default-first.ensures.least i)),
       looked.settled.full,
     )
 

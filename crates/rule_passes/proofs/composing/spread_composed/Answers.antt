@@ -3,7 +3,8 @@ use Rattle.packing_terms.specs.declared.Rel.{Rel}
 use Rattle.packing_terms.specs.declared.Rel.TheVariants.{Overlap, Before, After}
 use Rattle.packing_terms.specs.Relations.{mirror}
 use Rattle.packing_terms.specs.Packing.{box_count}
-use Rattle.packing_terms.specs.Exclusions.{excludes}
+use Rattle.packing_terms.specs.Exclusions.{excludes, IsEdge}
+use Rattle.rule_terms.specs.Places.{HasNoEmptyMask}
 use Rattle.packing_terms.specs.Rules.{Rule, Compose, Concludes, IsRuleInstance}
 use Rattle.packing_terms.proofs.Monotone.{follows_more}
 use Rattle.relation_table.specs.Masks.{mask_has}
@@ -14,22 +15,15 @@ use Rattle.closure_terms.specs.Rows.{in_each_relation}
 use Rattle.closure_terms.specs.Work.{IsCovered}
 use Rattle.closure_terms.proofs.Worked.{worked_kept, worked_lost_first, sizes_worked, covered_if}
 use Rattle.rule_passes.specs.Reached.{NoRule}
-use Rattle.rule_passes.proofs.RowRules.{worked_from, named_shut, none_then, worked_empty, composed_covered}
+use Rattle.rule_passes.proofs.RowRules.{worked_from, named_shut, none_then, composed_covered}
 use Rattle.rule_passes.proofs.composing.spread_composed.Goals as goal
-
-pub returns-then-has_empty_mask : goal.returns-then-has_empty_mask
-returns-then-has_empty_mask g c = worked_empty c.args.instance.now _ _ (c.has_empty_mask.ensures.empty c.if-has_empty_mask.true)
-
-pub returns-then-has_empty_mask-2 : goal.returns-then-has_empty_mask-2
-returns-then-has_empty_mask-2 g c =
-    worked_empty c.args.instance.now _ _ (c.has_empty_mask-2.ensures.empty c.if-has_empty_mask-2.true)
 
 pub returns-then-exclude_three : goal.returns-then-exclude_three
 returns-then-exclude_three g c = worked_lost_first _ _ _ _ _ _ c.if-exclude_three.true c.exclude_three.ensures.worked
 
 pub returns : goal.returns
 returns g c =
-    worked_from c.args.instance.now _ _ _ _ (λ e rule r. go e rule r)
+    worked_from c.args.instance.now _ _ _ _ (λ e rule r. go e r.0 rule r.1)
     (none_then c.args.instance.now _ _ _ _
     (worked_kept _ _ _ _ NoRule c.if-exclude_three.false c.exclude_three.ensures.worked)
     c.exclude_three-2.ensures.worked)
@@ -46,12 +40,21 @@ returns g c =
     kept w x r h = c.exclude_three-2.ensures.worked.extends.kept c.args.dim w x r
         (c.exclude_three.ensures.worked.extends.kept c.args.dim w x r h)
 
-    there : c.exclude_three-2.result ≡ false → (x : ℕ) → x < box_count c.args.instance.now
+    Full : Type 0
+    Full = HasNoEmptyMask c.args.instance.now X
+
+    beside : (a x : ℕ) → a < box_count c.args.instance.now → x < box_count c.args.instance.now → (a ≡ x → ⊥)
+        → IsEdge c.args.instance.now c.args.dim a x
+    beside a x first second distinct =
+        record { dim = c.requires.sizes.there; first = first; second = second; distinct = distinct }
+
+    there : c.exclude_three-2.result ≡ false → Full → (x : ℕ) → x < box_count c.args.instance.now
         → IsRuleInstance c.args.instance.now (Compose c.args.dim c.args.u c.args.v x)
         → IsCovered c.args.instance.now X c.exclude_three-2.new.state.trail (Compose c.args.dim c.args.u c.args.v x)
-    there e x small is =
-        let q = c.has_empty_mask.ensures.left c.if-has_empty_mask.false c.args.v c.requires.v c.requires.distinct in
-        let s = c.has_empty_mask-2.ensures.left c.if-has_empty_mask-2.false x small is.1.2.1.0 in
+    there e full x small is =
+        let q = full c.args.dim c.args.u c.args.v
+        (beside c.args.u c.args.v c.requires.u c.requires.v c.requires.distinct) in
+        let s = full c.args.dim c.args.v x (beside c.args.v x c.requires.v small is.1.2.1.0) in
         let left : (q : Rel) × (mask_has c.args.left q ≡ true) = (q.0, c.requires.left q.0 ∙ ap not q.1) in
         composed_covered c.args.instance.now _ _ c.args.dim c.args.u c.args.v x
         (in_each_relation (row_has c.uncomposed-overlap.result x) (row_has c.uncomposed-before.result x)
@@ -76,13 +79,13 @@ returns g c =
         others q s Before off is k = c.uncomposed-before.ensures.shut x off q s is k
         others q s After off is k = c.uncomposed-after.ensures.shut x off q s is k
 
-    back : c.exclude_three-2.result ≡ false → (x : ℕ) → x < box_count c.args.instance.now
+    back : c.exclude_three-2.result ≡ false → Full → (x : ℕ) → x < box_count c.args.instance.now
         → IsRuleInstance c.args.instance.now (Compose c.args.dim c.args.v c.args.u x)
         → IsCovered c.args.instance.now X c.exclude_three-2.new.state.trail (Compose c.args.dim c.args.v c.args.u x)
-    back e x small is =
-        let q = c.has_empty_mask-2.ensures.left c.if-has_empty_mask-2.false c.args.u c.requires.u
-        (λ f. c.requires.distinct (sym f)) in
-        let s = c.has_empty_mask.ensures.left c.if-has_empty_mask.false x small is.1.2.1.0 in
+    back e full x small is =
+        let q = full c.args.dim c.args.v c.args.u
+        (beside c.args.v c.args.u c.requires.v c.requires.u (λ f. c.requires.distinct (sym f))) in
+        let s = full c.args.dim c.args.u x (beside c.args.u x c.requires.u small is.1.2.1.0) in
         let left : (q : Rel) × (mask_has c.flip-turned.result q ≡ true) = (q.0, turned_is q.0 ∙ ap not q.1) in
         composed_covered c.args.instance.now _ _ c.args.dim c.args.v c.args.u x
         (in_each_relation (row_has c.uncomposed-overlap_back.result x) (row_has c.uncomposed-before_back.result x)
@@ -104,14 +107,14 @@ returns g c =
         others q s Before off is k = c.uncomposed-before_back.ensures.shut x off q s is k
         others q s After off is k = c.uncomposed-after_back.ensures.shut x off q s is k
 
-    go : c.exclude_three-2.result ≡ false → (rule : Rule)
+    go : c.exclude_three-2.result ≡ false → Full → (rule : Rule)
         → Composes c.args.instance.now c.args.dim c.args.u c.args.v rule
         ⊎ Composes c.args.instance.now c.args.dim c.args.v c.args.u rule
         → IsCovered c.args.instance.now X c.exclude_three-2.new.state.trail rule
-    go e rule (inl r) = named_shut c.args.instance.now _ _ rule (Compose c.args.dim c.args.u c.args.v r.0) r.2
-        (covered_if c.args.instance.now X _ _ (λ is. there e r.0 r.1 is))
-    go e rule (inr r) = named_shut c.args.instance.now _ _ rule (Compose c.args.dim c.args.v c.args.u r.0) r.2
-        (covered_if c.args.instance.now X _ _ (λ is. back e r.0 r.1 is))
+    go e full rule (inl r) = named_shut c.args.instance.now _ _ rule (Compose c.args.dim c.args.u c.args.v r.0) r.2
+        (covered_if c.args.instance.now X _ _ (λ is. there e full r.0 r.1 is))
+    go e full rule (inr r) = named_shut c.args.instance.now _ _ rule (Compose c.args.dim c.args.v c.args.u r.0) r.2
+        (covered_if c.args.instance.now X _ _ (λ is. back e full r.0 r.1 is))
 
 pub exclude_three-requires : goal.exclude_three-requires
 exclude_three-requires g c = (

@@ -1,5 +1,7 @@
 use Rattle.std.proofs.Common.{◌⊎◌}
+use Rattle.packing_terms.specs.Exclusions.{excludes}
 use Rattle.packing_terms.specs.Rules.{Rule}
+use Rattle.rule_terms.specs.Places.{HasNoEmptyMask}
 use Rattle.relation_table.specs.Masks.{mask_has}
 use Rattle.closure_terms.specs.Instances.{Composes}
 use Rattle.closure_terms.proofs.Worked.{worked_then, worked_kept, worked_lost_first}
@@ -13,8 +15,8 @@ returns-then-spread_composed g c = worked_lost_first _ _ _ _ _ _ c.if-spread_com
 pub returns : goal.returns
 returns g c =
     let instance = c.args.instance.now in
-    let composed : Rule → Type 0 = λ rule. Composes instance c.args.dim c.args.u c.args.v rule
-    ⊎ Composes instance c.args.dim c.args.v c.args.u rule in
+    let composed : Rule → Type 0 = λ rule. HasNoEmptyMask instance (excludes c.args.state.now.trail)
+    × (Composes instance c.args.dim c.args.u c.args.v rule ⊎ Composes instance c.args.dim c.args.v c.args.u rule) in
     let later : Rule → Type 0 = IsReachedLater instance c.args.dim c.args.u c.args.v (mask_has c.args.left)
     (mask_has c.flip.result) (mask_has c.args.stale) in
     worked_pieces instance _ _ _ c.args.dim c.args.u c.args.v (mask_has c.args.left) (mask_has c.flip.result)

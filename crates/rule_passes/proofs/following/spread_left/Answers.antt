@@ -1,6 +1,8 @@
 use Rattle.std.proofs.Common.{◌≡◌, ◌⊎◌, false}
 use Rattle.packing_terms.specs.declared.Rel.TheVariants.{Overlap}
+use Rattle.packing_terms.specs.Exclusions.{excludes}
 use Rattle.packing_terms.specs.Rules.{Rule}
+use Rattle.rule_terms.specs.Places.{HasNoEmptyMask}
 use Rattle.relation_table.specs.Masks.{mask_has}
 use Rattle.closure_terms.specs.Instances.{Composes, Triples}
 use Rattle.closure_terms.proofs.Worked.{worked_then}
@@ -11,8 +13,8 @@ use Rattle.rule_passes.proofs.following.spread_left.Goals as goal
 pub returns-then-may_spread_apart : goal.returns-then-may_spread_apart
 returns-then-may_spread_apart g c =
     let instance = c.args.instance.now in
-    let composed : Rule → Type 0 = λ rule. Composes instance c.args.dim c.args.u c.args.v rule
-    ⊎ Composes instance c.args.dim c.args.v c.args.u rule in
+    let composed : Rule → Type 0 = λ rule. HasNoEmptyMask instance (excludes c.args.state.now.trail)
+    × (Composes instance c.args.dim c.args.u c.args.v rule ⊎ Composes instance c.args.dim c.args.v c.args.u rule) in
     let later : Rule → Type 0 = IsReachedLater instance c.args.dim c.args.u c.args.v (mask_has c.args.left)
     (mask_has c.flip-turned.result) (mask_has c.args.stale) in
     worked_pieces instance _ _ _ c.args.dim c.args.u c.args.v (mask_has c.args.left) (mask_has c.flip-turned.result)
@@ -24,8 +26,8 @@ returns-then-may_spread_apart g c =
 pub returns : goal.returns
 returns g c =
     let instance = c.args.instance.now in
-    let composed : Rule → Type 0 = λ rule. Composes instance c.args.dim c.args.u c.args.v rule
-    ⊎ Composes instance c.args.dim c.args.v c.args.u rule in
+    let composed : Rule → Type 0 = λ rule. HasNoEmptyMask instance (excludes c.args.state.now.trail)
+    × (Composes instance c.args.dim c.args.u c.args.v rule ⊎ Composes instance c.args.dim c.args.v c.args.u rule) in
     let apart : Rule → Type 0 = λ rule. ((mask_has c.args.left Overlap ≡ false)
     × (mask_has c.args.stale Overlap ≡ false))
     × (Triples instance c.args.dim c.args.u c.args.v rule ⊎ Triples instance c.args.dim c.args.v c.args.u rule) in
