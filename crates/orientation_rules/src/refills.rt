@@ -74,13 +74,16 @@ pub(crate) fn clear_rows<const K: usize>(rows: &mut [BitRow<K>])
     }
 }
 
-/// Takes the boxes of `dropped` out of each row.
+/// Takes the boxes of `dropped` out of each row. Reads no row if there are none.
 pub(crate) fn drop_members<const K: usize>(dropped: BitRow<K>, rows: &mut [BitRow<K>])
     requires { IsRowWidth K }
     ensures count { length rows.new ≡ length rows.old }
     ensures left { (u x : ℕ) → u < length rows.old → GoesOn rows.new u x
         → (row_has dropped.entry x ≡ false) × GoesOn rows.old u x }
 {
+    let Some(_) = dropped.first() else {
+        return;
+    };
     for at in 0..rows.len() {
         rows[at] = rows[at].minus(dropped);
     }
