@@ -9,7 +9,7 @@ ghost use Rattle.closure_terms.specs.States.{IsSized, HasRelationLeft, HasEmptyM
 use box_instances::Instance;
 use edge_state::{EdgeState, Mask};
 
-/// Whether the mask of two boxes, which is given, is empty.
+/// Whether the mask of two boxes, which is given, is empty. `u` isn't `v`.
 #[inline]
 pub(crate) fn is_empty_left(
     instance: &Instance,
@@ -22,14 +22,15 @@ pub(crate) fn is_empty_left(
     requires sizes { IsSized instance.now state.now dim }
     requires u { u < box_count instance.now }
     requires v { v < box_count instance.now }
+    requires distinct { u ≡ v → ⊥ }
     requires left { (r : PlainRel) → mask_has left r ≡ not (excludes state.now.trail dim u v r) }
     ensures { MatchBool result (HasEmptyMask instance.now (excludes state.now.trail))
         (HasRelationLeft instance.now (excludes state.now.trail) dim u v) }
 {
-    u != v && left.bits() == 0
+    left.bits() == 0
 }
 
-/// The same, where the mask is read.
+/// Like `is_empty_left`, but it reads the mask, and `u` may be `v`.
 #[inline(always)]
 pub(crate) fn is_empty_at(instance: &Instance, state: &EdgeState, dim: u32, u: u32, v: u32) -> bool
     requires sizes { IsSized instance.now state.now dim }

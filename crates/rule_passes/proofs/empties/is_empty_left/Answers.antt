@@ -3,10 +3,10 @@ use Rattle.packing_terms.specs.Exclusions.{excludes, IsEdge}
 use Rattle.closure_terms.proofs.Ends.{empty_or_left}
 use Rattle.rule_passes.proofs.empties.is_empty_left.Goals as goal
 
-pub returns-then-u-v : goal.returns-then-u-v
-returns-then-u-v c =
+pub returns : goal.returns
+returns c =
     let edge : IsEdge c.args.instance.now c.args.dim c.args.u c.args.v
-    = record { dim = c.requires.sizes.there; first = c.requires.u; second = c.requires.v; distinct = c.if-u-v.true } in
+    = record { dim = c.requires.sizes.there; first = c.requires.u; second = c.requires.v; distinct = c.requires.distinct } in
     let small : c.args.left < 8 = omega (arith, c.bits.ensures.value, c.bits.ensures.limit) in
     rw c.bits.ensures.value (empty_or_left c.args.instance.now (excludes c.args.state.now.trail) c.args.dim c.args.u
     c.args.v c.args.left edge small c.requires.left)

@@ -37,6 +37,7 @@ is_empty_left-requires g c =
       };
       u = omega (arith, edge.first, c.loop-change.invariant.same_boxes, c.requires.boxes);
       v = omega (arith, edge.second, c.loop-change.invariant.same_boxes, c.requires.boxes);
+      distinct = edge.distinct;
       left = c.mask_in-left.ensures;
     }
 
