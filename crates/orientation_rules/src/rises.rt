@@ -197,6 +197,7 @@ fn new_row<const K: usize>(state: &EdgeState, dim: u32, v: u32, kept: &[BitRow<K
 /// Makes weights of chains that start in each box the weights of the heaviest, where they are that
 /// so far as these rows tell, and only the boxes of another row go on to more. Answers a row with
 /// all boxes that rose.
+#[inline(always)]
 pub(crate) fn raise_tails<const K: usize>(
     instance: &Instance,
     state: &EdgeState,
@@ -233,6 +234,7 @@ pub(crate) fn raise_tails<const K: usize>(
 
 /// The same of the weights of chains that end in each box: only to the boxes to which those of the
 /// row newly go on may more chains lead.
+#[inline(always)]
 pub(crate) fn raise_heads<const K: usize>(
     instance: &Instance,
     state: &EdgeState,

@@ -45,6 +45,7 @@ pub(crate) fn may_cycle<const K: usize>(
 
 /// CYCLE with the first two boxes given, for all third boxes at once: it excludes at the second
 /// box alone, so the fourth ones of all third boxes make one row.
+#[inline(always)]
 pub(crate) fn cycles<const K: usize>(
     instance: &Instance,
     state: &mut EdgeState,

@@ -76,6 +76,7 @@ pub(crate) fn exclude_both<const K: usize>(
 }
 
 /// Excludes two relations between each box of a row and each other box of a second row.
+#[inline(always)]
 pub(crate) fn exclude_between<const K: usize>(
     instance: &Instance,
     state: &mut EdgeState,

@@ -132,6 +132,7 @@ pub(crate) fn may_order_first<const K: usize>(
 }
 
 /// ORDER with the first pair given.
+#[inline(always)]
 pub(crate) fn orders_first<const K: usize>(
     instance: &Instance,
     state: &mut EdgeState,

@@ -68,7 +68,7 @@ fn joined_beside<const K: usize>(
 }
 
 // Excludes overlap of two boxes that are joined in each other dimension: APART.
-#[inline(always)]
+#[inline(never)]
 fn shut_overlap<const K: usize>(
     instance: &Instance,
     state: &mut EdgeState,
