@@ -1,0 +1,10 @@
+pub mod Windows
+pub mod Aside
+pub mod Pairs
+pub mod FamilySound
+pub mod FamilyFed
+pub mod FamilyJudged
+pub mod FamilyTrees
+pub mod FamilyBack
+pub mod Rows
+pub mod Examples
