@@ -3,6 +3,7 @@
 use Rattle.std.specs.Prelude.{ℕ, pred, Bool, true, not, ◌&&◌, ◌==◌, List, [], ◌∷◌, ◌++◌, Option, Some, None}
 use Rattle.std.specs.List.{list_all}
 use Rattle.packing_terms.specs.declared.Rel.TheVariants.{Overlap}
+use Rattle.packing_terms.specs.declared.Exclusion.{Exclusion}
 use Rattle.packing_terms.specs.Packing.{PlainInstance}
 use Rattle.packing_terms.specs.Exclusions.{Exclusions}
 use Rattle.check_terms.specs.declared.answers.RefuseCode.{RefuseCode}
@@ -29,13 +30,18 @@ is_own_dim (Begun es j us) i = i == j
 abbrev pub may_join : PlainInstance → Exclusions → ℕ → List ℕ → List ℕ → Bool
 may_join instance X i us vs = not (is_conflict instance X) && are_aside X i us vs
 
--- Boxes that join a family. Another dimension than that of the family is `Kind`; a number that
--- names no dimension or no box is `Range`; a conflict, a box that is there already, and a box that
--- isn't apart from all others are `Choice`.
+-- Boxes that join those of the first list under these exclusions. A number that names no dimension
+-- or no box is `Range`; a conflict, a box that is there already, and a box that isn't apart from
+-- all others are `Choice`.
+abbrev pub boxes_refusal : PlainInstance → List Exclusion → ℕ → List ℕ → List ℕ → Option RefuseCode
+boxes_refusal instance es i us vs =
+    unless (names_dim instance i && list_all (names_box instance) vs) Range (
+    unless (may_join instance (closed instance es) i us vs) Choice None)
+
+-- boxes that join the family of a node: another dimension than that of the family is `Kind`
 abbrev pub join_refusal : PlainInstance → FamilyNode → ℕ → List ℕ → Option RefuseCode
 join_refusal instance n i vs =
-    unless (is_own_dim n i) Kind (unless (names_dim instance i && list_all (names_box instance) vs) Range (
-    unless (may_join instance (closed instance (exclusions_of n)) i (boxes_of n) vs) Choice None))
+    unless (is_own_dim n i) Kind (boxes_refusal instance (exclusions_of n) i (boxes_of n) vs)
 
 -- a token at a node: a plain one is of another kind where a family is begun
 abbrev pub family_refusal : PlainInstance → FamilyNode → FamilyToken → Option RefuseCode
