@@ -62,13 +62,13 @@ module _ (whole set : PlainInstance) (start splits : List Exclusion) (held : Lis
     (same : dims set ≡ dims whole) (h : IsHeld whole set start splits held state room sc nc) (last : ℕ)
     (count : last + 1 ≡ length held) (n : OpenNode)
     (here : n ≡ slice_index_or held last n) where
-  abbrev ns : List OpenNode
+  abbrev pub ns : List OpenNode
   ns = reverse (take last held)
 
-  split : reverse held ≡ n ∷ ns
+  pub split : reverse held ≡ n ∷ ns
   split = split_node held last n count (sym here)
 
-  stack : AreHeld set start splits state.trail (length state.trail) (length splits) (n ∷ ns)
+  pub stack : AreHeld set start splits state.trail (length state.trail) (length splits) (n ∷ ns)
   stack = subst (λ (l : List OpenNode). AreHeld set start splits state.trail (length state.trail) (length splits) l)
       split h.nodes
 
@@ -87,7 +87,7 @@ module _ (whole set : PlainInstance) (start splits : List Exclusion) (held : Lis
   others : length ns ≡ last
   others = length-reverse (take last held) ∙ (length-take last held ∙ omega (arith, count))
 
-  seen : nodes_of start splits held ≡ node_exclusions n (above start splits n)
+  pub seen : nodes_of start splits held ≡ node_exclusions n (above start splits n)
       ∷ map (λ m. node_exclusions m (above start splits m)) ns
   seen = ap (map (λ m. node_exclusions m (above start splits m))) split
 

@@ -8,3 +8,5 @@ pub mod Fed
 pub mod Feeding
 pub mod Begun
 pub mod Whole
+pub mod Beside
+pub mod Joined

@@ -1,3 +1,4 @@
 pub mod Ended
 pub mod Nodes
 pub mod Refuters
+pub mod Joining

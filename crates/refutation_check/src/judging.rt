@@ -19,15 +19,15 @@ use proof_tree::Token;
 use relation_table::Mask;
 use rule_passes::ClosingRoom;
 
-// Whether the number of a text names a dimension.
-fn names_dim(instance: &Instance, dim: u32) -> bool
+/// Whether the number of a text names a dimension.
+pub(crate) fn names_dim(instance: &Instance, dim: u32) -> bool
     ensures { result ≡ names_dim instance.now dim }
 {
     (1 <= dim) & (dim <= instance.dims())
 }
 
-// Whether it names a box.
-fn names_box(instance: &Instance, box_no: u32) -> bool
+/// Whether it names a box.
+pub(crate) fn names_box(instance: &Instance, box_no: u32) -> bool
     ensures { result ≡ names_box instance.now box_no }
 {
     (1 <= box_no) & (box_no <= instance.len())

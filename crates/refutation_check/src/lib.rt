@@ -5,6 +5,7 @@
 
 mod children;
 mod closing;
+mod joining;
 mod judging;
 mod node;
 mod refuter;

@@ -1,5 +1,5 @@
 //! A tree that is checked token by token.
-ghost use Rattle.std.specs.Prelude.{◌≡◌, ◌≤◌, ◌+◌, ◌-◌, ◌*◌, ◌/◌, [], length, vec_capacity, IfOk};
+ghost use Rattle.std.specs.Prelude.{◌≡◌, ◌≤◌, ◌+◌, ◌-◌, ◌*◌, ◌/◌, [], length, take, drop, vec_capacity, IfOk, Some};
 ghost use Rattle.packing_terms.specs.Exclusions.{AreAtEdges};
 ghost use Rattle.packing_terms.specs.Goals.{subset, IsBoxSet};
 ghost use Rattle.packing_terms.specs.Limits.{IsDimCount, IsBoxCount};
@@ -7,8 +7,10 @@ ghost use Rattle.box_instances.specs.Sets.{all_boxes};
 ghost use Rattle.proof_tree.specs.Plain.{plain_token};
 ghost use Rattle.check_terms.specs.Checking.{starting, answered, is_whole};
 ghost use Rattle.refutation_check.specs.Refuters.{fed, most_nodes};
+ghost use Rattle.refutation_check.specs.Joining.{AreBoxNos, join_answer, checked_joined};
 
 use crate::children::replace;
+use crate::joining::{is_too_long, test_boxes};
 use crate::judging::judge;
 use crate::node::{OpenNode, exclude_each};
 use box_instances::{BoxSet, Instance, NoMemory};
@@ -195,6 +197,69 @@ impl<'a> Refuter<'a> {
         } else {
             FeedVerdict::More
         }
+    }
+
+    // Refuses for good, with this code.
+    fn refuse(&mut self, code: RefuseCode) -> RefuseCode
+        ensures step { self.new ≡ record self.old {
+          checked = record self.old.checked { refused = Some code };
+        } }
+        ensures code { result ≡ code }
+    {
+        self.refused = Some(code);
+        code
+    }
+
+    /// Tests boxes that join a family of boxes side by side at the current node. `family` has the
+    /// boxes so far, by their numbers in the text, and from position `begun` on those that join; it
+    /// has at most 1,000. It answers true if the family is too long with them: that takes the node
+    /// away as a leaf. Else the node stays open.
+    ///
+    /// An error is the code of the first test that fails: `After` if the tree was whole, `Range` for
+    /// a number that names no dimension or no box, and `Choice` for a conflict, a box that joins
+    /// twice and one that isn't apart from all others in the closure of the node. After a refusal
+    /// each further call answers the same. It takes no memory.
+    pub fn join_family(
+        &mut self,
+        dim: u32,
+        family: &[u32],
+        begun: usize,
+    ) -> Result<bool, RefuseCode>
+        requires within { begun ≤ length family.now }
+        requires few { length family.now ≤ 1000 }
+        requires named { AreBoxNos (subset self.old.instance self.old.keep)
+            (take begun family.now) }
+        ensures step { self.new ≡ record self.old {
+          checked = checked_joined self.old.checked result;
+        } }
+        ensures answer { result
+            ≡ join_answer self.old dim (take begun family.now) (drop begun family.now) }
+    {
+        if let Some(code) = self.refused {
+            return Err(code);
+        }
+        if self.nodes.is_empty() {
+            return Err(self.refuse(RefuseCode::After));
+        }
+        let last = self.nodes.len() - 1;
+        let node = self.nodes[last];
+        let found = test_boxes(
+            self.boxes.instance(),
+            &mut self.state,
+            &mut self.room,
+            node,
+            dim,
+            family,
+            begun,
+        );
+        if let Some(code) = found {
+            return Err(self.refuse(code));
+        }
+        let long = is_too_long(self.boxes.instance(), dim, family);
+        if long {
+            self.nodes.truncate(last);
+        }
+        Ok(long)
     }
 
     /// Whether a tree was accepted whole, and no token refused behind it. At most d n (n - 1) + 1
