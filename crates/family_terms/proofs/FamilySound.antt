@@ -26,7 +26,7 @@ HasFamily instance (Free es) = Unit {0}
 HasFamily instance (Begun es i us) = IsFamily instance es i us
 
 -- and stays one
-grown : (instance : PlainInstance) (n : FamilyNode) (i : ℕ) (vs : List ℕ) → HasFamily instance n
+pub grown : (instance : PlainInstance) (n : FamilyNode) (i : ℕ) (vs : List ℕ) → HasFamily instance n
     → MayJoin instance n i vs → IsFamily instance (exclusions_of n) i (boxes_of n ++ vs)
 grown instance (Free es) i vs h j = record {
   dim_from = j.dim_from;

@@ -1,6 +1,7 @@
 pub mod Windows
 pub mod Aside
 pub mod Pairs
+pub mod Few
 pub mod FamilySound
 pub mod FamilyFed
 pub mod FamilyJudged
