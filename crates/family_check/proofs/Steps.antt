@@ -134,7 +134,8 @@ module _ (instance : PlainInstance) (i : ℕ) (vs : List ℕ) where
 
 -- another dimension is of another kind
 other_after : (instance : PlainInstance) (i j : ℕ) (us vs : List ℕ) (es : List Exclusion)
-    (nodes : List (List Exclusion)) → j ≢ i → families_after instance (nodes_seen (Some j) us (es ∷ nodes)) (Family i vs) ≡ Err Kind
+    (nodes : List (List Exclusion)) → j ≢ i
+    → families_after instance (nodes_seen (Some j) us (es ∷ nodes)) (Family i vs) ≡ Err Kind
 other_after instance i j us vs es nodes other =
     ap (λ (b : Bool). left_by (unless b Kind (boxes_refusal instance es i us vs))
     (cond (is_too_long instance i (us ++ vs)) [] (Begun es i (us ++ vs) ∷ [])) (all_free nodes))

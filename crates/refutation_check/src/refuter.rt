@@ -215,8 +215,8 @@ impl<'a> Refuter<'a> {
     /// has at most 1,000. It answers true if the family is too long with them: that takes the node
     /// away as a leaf. Else the node stays open.
     ///
-    /// An error is the code of the first test that fails: `After` if the tree was whole, `Range` for
-    /// a number that names no dimension or no box, and `Choice` for a conflict, a box that joins
+    /// An error is the code of the first test that fails: `After` if the tree was whole, `Range`
+    /// for a number that names no dimension or no box, and `Choice` for a conflict, a box that joins
     /// twice and one that isn't apart from all others in the closure of the node. After a refusal
     /// each further call answers the same. It takes no memory.
     pub fn join_family(
