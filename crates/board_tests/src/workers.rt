@@ -227,14 +227,15 @@ fn calls_for_each<R: Threads + Wait + Sync>(
     Ok(counts.are(calls, sum))
 }
 
-// Each half of the tree has 2,519 branchings, more than the cap of 2,048 there; each quarter is
-// within its cap. So with two workers and more each of the tasks 0 to 6 is explored, and none
-// twice.
+// Each half of the tree has 2,519 branchings, more than the cap of 1,088 there. One child of a half
+// has 1,679, more than the cap of 1,152, and the other 839; the children of the greater one are
+// within their cap of 1,216. So with two workers and more each of the tasks 0 to 10 is explored,
+// and none twice.
 #[test]
 fn the_gate_is_called_around_each_task(rt: HostRuntime) -> Result<(), Fail> {
     for workers in [2, 3, 8, 64] {
         assert!(rt;
-            calls_for_each(&rt, rt.alloc(), 5039, workers, 7, 21)?,
+            calls_for_each(&rt, rt.alloc(), 5039, workers, 11, 55)?,
             "{workers} workers"
         );
     }

@@ -1,5 +1,5 @@
 -- What a worker finds of a task, and what handing it in makes of the board.
-use Rattle.std.specs.Prelude.{ℕ, ◌*◌, ◌^◌, ◌≤◌, ◌<◌, ◌≡◌, ◌⊎◌, List, length, min, IfSome, Some, Result, Ok, Err}
+use Rattle.std.specs.Prelude.{ℕ, ◌+◌, ◌-◌, ◌*◌, ◌≤◌, ◌<◌, ◌≡◌, ◌⊎◌, List, length, min, IfSome, Some, Result, Ok, Err}
 use Rattle.tree_terms.specs.Trees.{SearchTree, node_at, outcome, told, count_of}
 use Rattle.tree_terms.specs.Paths.{node_told, Leaf, Splits}
 use Rattle.board_terms.specs.Board.{BoardState, PlainTask, out_path}
@@ -11,10 +11,10 @@ use Rattle.work_share.specs.Tasks.{is_past}
 use Rattle.work_share.specs.declared.exploring.Found.{Found}
 use Rattle.work_share.specs.declared.exploring.Found.TheVariants.{Whole, Pieces}
 
--- The cap under which a task of this depth is explored first: 1,024 at the root, and twice as much
--- with each step down, but never more than the budget.
+-- The cap under which a task of this depth is explored first: 1,024 at the root, 64 more with each
+-- step down, and the square of the steps below depth 512, but never more than the budget.
 abbrev pub first_cap : ℕ → ℕ → ℕ
-first_cap budget depth = min budget (1024 * 2 ^ depth)
+first_cap budget depth = min budget (1024 + 64 * depth + (depth - 512) * (depth - 512))
 
 -- the count of the node exceeds the first cap, which is below the budget
 abbrev pub ExceedsCap : ℕ → ℕ → SearchTree → Type 0

@@ -23,11 +23,26 @@ pub(crate) enum Found {
     },
 }
 
+// Cap of the root. A tree below it starts no thread.
+const ROOT_CAP: u64 = 1_024;
+
+// What a cap grows by with each step down. A resumed walk counts what it has met before, so a cap
+// has to grow; and slow growth keeps the tasks small, so that all workers stay close to the leftmost
+// unfinished task: what they explore right of a yes, or of where the budget is spent, is lost. With
+// caps that doubled, four workers took 1.4 to 1.8 times as long as one for such trees.
+const CAP_STEP: u64 = 64;
+
+// From this depth on caps grow faster, so the paths of the tasks take little memory: the squares
+// of further steps reach a budget of 1,000,000 at depth 1,500.
+const FAR_DEPTH: u32 = 512;
+
 // The cap under which a task of this depth is explored first.
 fn cap_of(depth: u32, budget: u64) -> u64
     ensures { result ≡ first_cap budget depth }
 {
-    budget.min(1024u64.saturating_mul(2u64.saturating_pow(depth)))
+    let far = u64::from(depth.saturating_sub(FAR_DEPTH));
+    let near = ROOT_CAP + CAP_STEP * u64::from(depth);
+    budget.min(near.saturating_add(far.saturating_mul(far)))
 }
 
 // The split of a node whose count exceeds the cap of its depth, or its outcome under the whole
