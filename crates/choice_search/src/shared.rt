@@ -77,9 +77,9 @@ impl<'a> ChoiceTree<'a> {
     /// What the tree gives under the budget of the settings, by as many workers as these say: what
     /// `solve_shared` answers of it, for every number of workers and every gate.
     ///
-    /// One worker decides sets with `search`, as `explore_with` does. Of more, each takes a search
-    /// from the pool of `search` for each task and gives it back, so what one task has decided serves
-    /// a later one, and the trees of other values.
+    /// One worker decides sets with `search`, as `explore_with` does. With more, each task takes a
+    /// search from the pool of `search` and gives it back. These searches share what they decide,
+    /// so a later task, also one of the trees of other values, finds the sets of earlier ones.
     pub fn solve_with<R: Threads + Wait + Sync, G: Gate + Sync>(
         &self,
         rt: &R,

@@ -7,9 +7,11 @@ mod child;
 mod insert;
 mod kept;
 mod key;
+mod known;
 mod memory;
 mod pool;
 mod search;
+mod shared;
 
 pub use answer::push_coordinates;
 pub use child::Child;

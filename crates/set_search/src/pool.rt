@@ -1,15 +1,15 @@
 //! The pool of a job: searches of sets between two tasks.
-ghost use Rattle.std.specs.Prelude.{◌≡◌, IfSome};
+ghost use Rattle.std.specs.Prelude.{◌≡◌, IfOk, IfSome};
 
-use crate::memory::SetMemory;
-use box_instances::{BoxSet, Instance};
+use crate::shared::SharedSets;
+use box_instances::{BoxSet, Instance, NoMemory};
 use class_search::are_same_instances;
 use edge_state::EdgeState;
 use rule_closure::Closer;
 use std::alloc::Global;
 use std::hint::spin_loop;
 use std::marker::Model;
-use std::sync::{Mutex, MutexGuard};
+use std::sync::{Arc, Mutex, MutexGuard};
 
 // Capacity of the pool: the greatest number of workers.
 const MOST_IDLE: usize = 64;
@@ -26,23 +26,43 @@ pub(crate) struct IdleSearch<'a> {
     pub(crate) set: BoxSet<'a>,
     pub(crate) state: EdgeState,
     pub(crate) closers: Vec<Closer>,
-    pub(crate) memory: SetMemory,
+    pub(crate) shared: Arc<SharedSets<'a>, Global>,
     pub(crate) spare: Vec<u32>,
 }
 
 impl<'a> Model for IdleSearch<'a> {
     ghost use Rattle.set_search.specs.Searches.{PlainSetSearch, HasRoom};
-    ghost use Rattle.set_search.specs.Memories.{AreVerdicts};
 
     ghost Value = { PlainSetSearch };
 
     ghost view = { λ s. record { instance = s.whole.now; scales = s.scales } };
 
-    ghost invariant = { λ s. HasRoom s.whole.now s.set.whole s.state s.closers.items
-        × AreVerdicts s.whole.now s.scales s.memory };
+    ghost invariant = { λ s. HasRoom s.whole.now s.set.whole s.state s.closers.items };
 }
 
 impl<'a> IdleSearch<'a> {
+    // The parts of a search that has decided nothing, with the sets that it shares.
+    pub(crate) fn new(
+        alloc: Global,
+        instance: &'a Instance,
+        scales: bool,
+        shared: Arc<SharedSets<'a>, Global>,
+    ) -> Result<IdleSearch<'a>, NoMemory>
+        ensures { IfOk result (λ s. s ≡ record { instance = instance.now; scales = scales }) }
+    {
+        let set = BoxSet::all(alloc, instance)?;
+        let state = EdgeState::new(alloc, instance.dims(), instance.len())?;
+        Ok(IdleSearch {
+            whole: instance,
+            scales,
+            set,
+            state,
+            closers: Vec::new(alloc),
+            shared,
+            spare: Vec::new(alloc),
+        })
+    }
+
     // Returns the search, if it is of this instance and choice of scales.
     fn into_search_of(self, instance: &Instance, scales: bool) -> Option<IdleSearch<'a>>
         ensures { IfSome result

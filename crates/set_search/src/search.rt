@@ -1,5 +1,5 @@
 //! The decision of sets of the boxes of one instance.
-ghost use Rattle.std.specs.Prelude.{◌≡◌, ◌≤◌, ℕ, List, length, IfOk, OnOk, OnErr, []};
+ghost use Rattle.std.specs.Prelude.{◌≡◌, ◌≤◌, ℕ, List, length, IfOk, IfSome, OnOk, OnErr, []};
 ghost use Rattle.packing_terms.specs.Goals.{subset, IsBoxSet};
 ghost use Rattle.packing_terms.specs.Limits.{IsDimCount, most_boxes};
 ghost use Rattle.set_search.specs.Searches.{AreClosers};
@@ -12,8 +12,9 @@ ghost use Rattle.work_share.specs.Outcomes.{plain_outcome};
 ghost use Rattle.class_search.specs.Right.{IsRight};
 
 use crate::key::SetKey;
-use crate::memory::SetMemory;
+use crate::known::KnownSets;
 use crate::pool::{IdleSearch, SearchPool};
+use crate::shared::SharedSets;
 use box_instances::{BoxSet, Instance, NoMemory};
 use class_search::decide_in;
 use edge_state::EdgeState;
@@ -22,6 +23,7 @@ use rule_closure::Closer;
 use std::alloc::Global;
 use std::marker::Model;
 use std::mem;
+use std::sync::Arc;
 
 /// The greatest budget.
 pub const MOST_BUDGET: u64 = 10_000_000;
@@ -36,7 +38,8 @@ pub const MOST_BUDGET: u64 = 10_000_000;
 /// and tokens. Sets for which there is no memory aren't kept.
 ///
 /// Of several workers, each takes a search for a task (`take`) and gives it back (`give`). It waits
-/// in the pool of this search, which outlives the task.
+/// in the pool of this search, which outlives the task. What any of these searches has decided, all
+/// of them know: they keep sets in one memory with the same bounds.
 #[derive(Drop)]
 pub struct SetSearch<'a> {
     whole: &'a Instance,
@@ -44,7 +47,11 @@ pub struct SetSearch<'a> {
     set: BoxSet<'a>,
     state: EdgeState,
     closers: Vec<Closer>,
-    memory: SetMemory,
+    // What this search has decided, unless it is the search of a task.
+    own: KnownSets<'a>,
+    // What the searches of tasks have decided.
+    shared: Arc<SharedSets<'a>, Global>,
+    is_of_task: bool,
     // Room for a set with one box more, which goes out with a set that fits.
     spare: Vec<u32>,
     // The searches of tasks that are done.
@@ -52,15 +59,15 @@ pub struct SetSearch<'a> {
 }
 
 impl<'a> Model for SetSearch<'a> {
+    ghost use Rattle.std.specs.Prelude.{◌≡◌};
     ghost use Rattle.set_search.specs.Searches.{PlainSetSearch, HasRoom};
-    ghost use Rattle.set_search.specs.Memories.{AreVerdicts};
 
     ghost Value = { PlainSetSearch };
 
     ghost view = { λ s. record { instance = s.whole.now; scales = s.scales } };
 
     ghost invariant = { λ s. HasRoom s.whole.now s.set.whole s.state s.closers.items
-        × AreVerdicts s.whole.now s.scales s.memory };
+        × (s.own ≡ record { instance = s.whole.now; scales = s.scales }) };
 }
 
 // Makes the room of a closing, for each number of boxes up to this one that has none.
@@ -94,31 +101,29 @@ impl<'a> SetSearch<'a> {
     ) -> Result<SetSearch<'a>, NoMemory>
         ensures { IfOk result (λ s. s ≡ record { instance = instance.now; scales = scales }) }
     {
-        let set = BoxSet::all(alloc, instance)?;
-        let state = EdgeState::new(alloc, instance.dims(), instance.len())?;
-        Ok(SetSearch {
-            whole: instance,
-            scales,
-            set,
-            state,
-            closers: Vec::new(alloc),
-            memory: SetMemory::new(alloc),
-            spare: Vec::new(alloc),
-            pool: SearchPool::new(alloc),
-        })
+        let known = SharedSets::new(alloc, instance, scales);
+        let Ok(shared) = Arc::new(alloc, known) else {
+            return Err(NoMemory);
+        };
+        let idle = IdleSearch::new(alloc, instance, scales, shared)?;
+        let mut search = SetSearch::of_idle(alloc, idle);
+        search.is_of_task = false;
+        Ok(search)
     }
 
-    // A search that goes on with these parts. Its own pool is empty.
+    // The search of a task, which goes on with these parts. Its own pool is empty.
     fn of_idle(alloc: Global, idle: IdleSearch<'a>) -> SetSearch<'a>
         ensures { result ≡ idle.entry }
     {
         SetSearch {
+            own: KnownSets::new(alloc, idle.whole, idle.scales),
             whole: idle.whole,
             scales: idle.scales,
             set: idle.set,
             state: idle.state,
             closers: idle.closers,
-            memory: idle.memory,
+            shared: idle.shared,
+            is_of_task: true,
             spare: idle.spare,
             pool: SearchPool::new(alloc),
         }
@@ -132,20 +137,24 @@ impl<'a> SetSearch<'a> {
             set: self.set,
             state: self.state,
             closers: self.closers,
-            memory: self.memory,
+            shared: self.shared,
             spare: self.spare,
         }
     }
 
-    /// Returns a search of the same sets for a task: one of the pool, with what it has decided, or
-    /// else a new one.
+    /// Returns a search of the same sets for a task: one of the pool, or else a new one. It knows
+    /// what the searches of other tasks have decided.
     pub fn take(&self, alloc: Global) -> Result<SetSearch<'a>, NoMemory>
         ensures { IfOk result (λ s. s ≡ self.now) }
     {
-        match self.pool.take(self.whole, self.scales) {
-            Some(idle) => Ok(SetSearch::of_idle(alloc, idle)),
-            None => SetSearch::new(alloc, self.whole, self.scales),
+        if let Some(idle) = self.pool.take(self.whole, self.scales) {
+            return Ok(SetSearch::of_idle(alloc, idle));
         }
+        let Ok(shared) = Arc::try_clone(&self.shared) else {
+            return Err(NoMemory);
+        };
+        let idle = IdleSearch::new(alloc, self.whole, self.scales, shared)?;
+        Ok(SetSearch::of_idle(alloc, idle))
     }
 
     /// Puts the search of a task into the pool, where at most 64 of them wait. It is dropped instead
@@ -209,16 +218,26 @@ impl<'a> SetSearch<'a> {
             ≡ told budget (set_verdict self.old.instance self.old.scales keep.now) }
         ensures { self.new ≡ self.old }
     {
-        match found {
-            Outcome::Past => {}
-            Outcome::Yes {
-                numbers: _,
-                count: _,
-            } => self.memory.keep(alloc, key, found),
-            Outcome::No {
-                tokens: _,
-                count: _,
-            } => self.memory.keep(alloc, key, found),
+        if self.is_of_task {
+            self.shared
+                .keep(self.whole, self.scales, alloc, keep, key, budget, found);
+        } else {
+            self.own.keep(alloc, keep, key, budget, found);
+        }
+    }
+
+    // The outcome of a set of this key under a budget, if it is kept.
+    fn recall(&self, alloc: Global, key: &SetKey, budget: u64) -> Result<Option<Outcome>, NoMemory>
+        ensures { IfOk result (λ found. IfSome found (λ r. (keep : List ℕ)
+            → HasBoxes key.now.boxes keep → IsBoxSet self.now.instance keep
+            → plain_outcome r
+            ≡ told budget (set_verdict self.now.instance self.now.scales keep))) }
+    {
+        if self.is_of_task {
+            self.shared
+                .recall(self.whole, self.scales, alloc, key, budget)
+        } else {
+            self.own.recall(alloc, key, budget)
         }
     }
 
@@ -248,7 +267,12 @@ impl<'a> SetSearch<'a> {
             tokens.old tokens.new found) }
         ensures front { OnErr result (AreLonger tokens.old tokens.new) }
     {
-        self.memory.recall_refuted(alloc, key, budget, bin, tokens)
+        if self.is_of_task {
+            self.shared
+                .recall_refuted(self.whole, self.scales, alloc, key, budget, bin, tokens)
+        } else {
+            self.own.recall_refuted(alloc, key, budget, bin, tokens)
+        }
     }
 
     /// Whether the boxes of a set, by rising number, fit: the outcome of the set's class tree where
@@ -288,7 +312,7 @@ impl<'a> SetSearch<'a> {
     {
         // For the proof alone: tells the limits of the instance.
         let _limits = self.whole.len();
-        if let Some(outcome) = self.memory.recall(alloc, key, budget)? {
+        if let Some(outcome) = self.recall(alloc, key, budget)? {
             return Ok(outcome);
         }
         let outcome = self.decide_anew(alloc, keep, budget)?;

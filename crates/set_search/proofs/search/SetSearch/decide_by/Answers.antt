@@ -1,13 +1,11 @@
 use Rattle.work_share.specs.Outcomes.{plain_outcome}
-use Rattle.set_search.proofs.Memories.{recalled, told_right}
+use Rattle.set_search.proofs.Memories.{told_right}
 use Rattle.set_search.proofs.search.SetSearch.decide_by.Goals as goal
 
 pub returns-in-Some-clause-outcome : goal.returns-in-Some-clause-outcome
 returns-in-Some-clause-outcome c =
-    let v = c.self.view_is in
-    rw (← v) (recalled c.self.inside.whole.now c.self.inside.scales c.self.inside.memory c.args.key.now.boxes
-    c.args.keep.now c.args.budget (plain_outcome c.in-Some.outcome)
-    c.self.invariant.1 c.requires.boxes (rw (← v) at c.requires.set) (rw c.in-Some.is at c.in_ok-outcome.ensures))
+    let found = rw c.in-Some.is at c.in_ok-outcome.ensures in
+    found c.args.keep.now c.requires.boxes c.requires.set
 
 pub returns-in-Some-clause-right : goal.returns-in-Some-clause-right
 returns-in-Some-clause-right c =

@@ -1,38 +1,18 @@
-use Rattle.std.proofs.Common.{ap}
-use Rattle.tree_terms.specs.Trees.{Yes, No}
+use Rattle.std.proofs.Common.{◌≡◌, sym, subst}
+use Rattle.tree_terms.specs.Trees.{told}
 use Rattle.tree_terms.specs.OuterTrees.{set_verdict}
 use Rattle.work_share.specs.Outcomes.{plain_outcome}
-use Rattle.set_search.proofs.Memories.{verdict_made, verdicts_put, decided_told}
+use Rattle.set_search.specs.Searches.{PlainSetSearch}
 use Rattle.set_search.proofs.search.SetSearch.keep_found.Goals as goal
 
-pub invariant_of-self : goal.invariant_of-self
-invariant_of-self c =
+pub keep-requires-clause-found : goal.keep-requires-clause-found
+keep-requires-clause-found c =
     let v = c.self.view_is in
-    let instance = c.self.inside.whole.now in
-    let verdict = set_verdict instance c.self.inside.scales c.args.keep.now in
-    let found = rw (← v) at c.requires.found in
-    let is = decided_told c.args.budget verdict (Yes c.in-Yes.numbers.items c.in-Yes.count)
-    (plain_outcome c.args.found.now) (ap plain_outcome c.in-Yes.is) found in (
-      c.self.invariant.0,
-      verdicts_put instance c.self.inside.scales c.self.inside.memory c.keep.new.self c.args.key.now.boxes
-          (plain_outcome c.args.found.now) c.self.invariant.1
-          (verdict_made instance c.self.inside.scales c.args.key.now.boxes c.args.keep.now
-          (plain_outcome c.args.found.now) c.requires.boxes (rw (← v) at c.requires.set) is)
-          c.keep.ensures,
-    )
+    rw (← v) at c.requires.found
 
-pub invariant_of-self-in-No : goal.invariant_of-self-in-No
-invariant_of-self-in-No c =
+pub keep-requires-else-self-clause-found : goal.keep-requires-else-self-clause-found
+keep-requires-else-self-clause-found c =
     let v = c.self.view_is in
-    let instance = c.self.inside.whole.now in
-    let verdict = set_verdict instance c.self.inside.scales c.args.keep.now in
-    let found = rw (← v) at c.requires.found in
-    let is = decided_told c.args.budget verdict (No c.in-No.tokens c.in-No.count)
-    (plain_outcome c.args.found.now) (ap plain_outcome c.in-No.is) found in (
-      c.self.invariant.0,
-      verdicts_put instance c.self.inside.scales c.self.inside.memory c.keep-in-No.new.self c.args.key.now.boxes
-          (plain_outcome c.args.found.now) c.self.invariant.1
-          (verdict_made instance c.self.inside.scales c.args.key.now.boxes c.args.keep.now
-          (plain_outcome c.args.found.now) c.requires.boxes (rw (← v) at c.requires.set) is)
-          c.keep-in-No.ensures,
-    )
+    subst (λ (s : PlainSetSearch). plain_outcome c.args.found.now
+    ≡ told c.args.budget (set_verdict s.instance s.scales c.args.keep.now)) (sym c.self.invariant.1)
+    (rw (← v) at c.requires.found)

@@ -1,25 +1,17 @@
-use Rattle.std.proofs.Common.{ℕ, List, Option, Result, Ok, Err}
-use Rattle.std.specs.Prelude.{IfOk}
+use Rattle.std.proofs.Common.{◌≡◌, List, ℕ, IfOk, subst}
 use Rattle.packing_terms.specs.Goals.{IsBoxSet}
-use Rattle.packing_terms.specs.Tokens.{PlainToken}
 use Rattle.tree_terms.specs.OuterTrees.{set_verdict}
-use Rattle.set_search.specs.Memories.{HasBoxes, IsRecalledNo, IsToldNo}
-use Rattle.set_search.proofs.Memories.{recalled_no}
+use Rattle.set_search.specs.Memories.{HasBoxes, IsToldNo}
+use Rattle.set_search.specs.Searches.{PlainSetSearch}
 use Rattle.set_search.proofs.search.SetSearch.told_refuted.Goals as goal
 
-pub returns-clause-told : goal.returns-clause-told
-returns-clause-told c = rw (← c.self.view_is) (go c.recall_refuted.result c.recall_refuted.ensures.found)
-  where
-    old : List PlainToken
-    old = c.args.tokens.now
+pub returns-then-self-clause-told : goal.returns-then-self-clause-told
+returns-then-self-clause-told c = rw (← c.self.view_is) c.recall_refuted.ensures.told
 
-    new : List PlainToken
-    new = c.recall_refuted.new.tokens
-
-    go : {E : Type 0} (r : Result (Option ℕ) E)
-        → IfOk r (λ found. IsRecalledNo c.self.inside.memory c.args.key.now.boxes c.args.budget c.args.bin old new found)
-        → IfOk r (λ found. (keep : List ℕ) → HasBoxes c.args.key.now.boxes keep → IsBoxSet c.self.inside.whole.now keep
-        → IsToldNo (set_verdict c.self.inside.whole.now c.self.inside.scales keep) c.args.budget c.args.bin old new found)
-    go (Ok found) h = λ keep has set. recalled_no c.self.inside.whole.now c.self.inside.scales c.self.inside.memory
-        c.args.key.now.boxes keep c.args.budget c.args.bin old new found c.self.invariant.1 has set h
-    go (Err e) h = tt
+pub returns-else-self-clause-told : goal.returns-else-self-clause-told
+returns-else-self-clause-told c =
+    rw (← c.self.view_is)
+    (subst (λ (s : PlainSetSearch). IfOk c.recall_refuted-else-self.result
+    (λ found. (keep : List ℕ) → HasBoxes c.args.key.now.boxes keep → IsBoxSet s.instance keep
+    → IsToldNo (set_verdict s.instance s.scales keep) c.args.budget c.args.bin c.args.tokens.now
+    c.recall_refuted-else-self.new.tokens found)) c.self.invariant.1 c.recall_refuted-else-self.ensures.told)

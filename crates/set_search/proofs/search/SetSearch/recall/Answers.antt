@@ -1,0 +1,19 @@
+use Rattle.std.proofs.Common.{◌≡◌, List, ℕ, IfOk, IfSome, subst}
+use Rattle.packing_terms.specs.Goals.{IsBoxSet}
+use Rattle.tree_terms.specs.Trees.{told}
+use Rattle.tree_terms.specs.OuterTrees.{set_verdict}
+use Rattle.work_share.specs.Outcomes.{plain_outcome}
+use Rattle.set_search.specs.Memories.{HasBoxes}
+use Rattle.set_search.specs.Searches.{PlainSetSearch}
+use Rattle.set_search.proofs.search.SetSearch.recall.Goals as goal
+
+pub returns-then-self : goal.returns-then-self
+returns-then-self c = rw (← c.self.view_is) c.recall.ensures
+
+pub returns-else-self : goal.returns-else-self
+returns-else-self c =
+    rw (← c.self.view_is)
+    (subst (λ (s : PlainSetSearch). IfOk c.recall-else-self.result
+    (λ found. IfSome found (λ r. (keep : List ℕ) → HasBoxes c.args.key.now.boxes keep → IsBoxSet s.instance keep
+    → plain_outcome r ≡ told c.args.budget (set_verdict s.instance s.scales keep)))) c.self.invariant.1
+    c.recall-else-self.ensures)

@@ -1,0 +1,118 @@
+//! Decided sets of one instance.
+ghost use Rattle.std.specs.Prelude.{◌≡◌, true, List, ℕ, IfOk, IfSome, OnErr};
+ghost use Rattle.packing_terms.specs.Goals.{IsBoxSet};
+ghost use Rattle.proof_tree.specs.Shorts.{AreLonger};
+ghost use Rattle.set_search.specs.Memories.{HasBoxes, IsToldNo};
+ghost use Rattle.tree_terms.specs.Trees.{told};
+ghost use Rattle.tree_terms.specs.OuterTrees.{set_verdict};
+ghost use Rattle.work_share.specs.Outcomes.{plain_outcome};
+
+use crate::key::SetKey;
+use crate::memory::SetMemory;
+use box_instances::{Instance, NoMemory};
+use class_search::are_same_instances;
+use proof_tree::{Outcome, TokenList};
+use std::alloc::Global;
+use std::marker::Model;
+
+// Decided sets of one instance. They are seen as the instance and the choice of scales.
+#[derive(Drop)]
+pub(crate) struct KnownSets<'a> {
+    whole: &'a Instance,
+    scales: bool,
+    memory: SetMemory,
+}
+
+impl<'a> Model for KnownSets<'a> {
+    ghost use Rattle.set_search.specs.Searches.{PlainSetSearch};
+    ghost use Rattle.set_search.specs.Memories.{AreVerdicts};
+
+    ghost Value = { PlainSetSearch };
+
+    ghost view = { λ s. record { instance = s.whole.now; scales = s.scales } };
+
+    ghost invariant = { λ s. AreVerdicts s.whole.now s.scales s.memory };
+}
+
+impl<'a> KnownSets<'a> {
+    // No set of an instance.
+    pub(crate) fn new(alloc: Global, whole: &'a Instance, scales: bool) -> KnownSets<'a>
+        ensures { result ≡ record { instance = whole.now; scales = scales } }
+    {
+        KnownSets {
+            whole,
+            scales,
+            memory: SetMemory::new(alloc),
+        }
+    }
+
+    // Whether they are of this instance and choice of scales.
+    pub(crate) fn are_of(&self, instance: &Instance, scales: bool) -> bool
+        ensures { result ≡ true
+            → self.now ≡ record { instance = instance.now; scales = scales } }
+    {
+        self.scales == scales && are_same_instances(self.whole, instance)
+    }
+
+    // The count of a set of this key that is kept as refuted, within the budget: that is appended
+    // to the tokens, and what refutes it. Else the tokens are as before.
+    pub(crate) fn recall_refuted(
+        &self,
+        alloc: Global,
+        key: &SetKey,
+        budget: u64,
+        bin: Option<u32>,
+        tokens: &mut TokenList,
+    ) -> Result<Option<u64>, NoMemory>
+        ensures told { IfOk result (λ found. (keep : List ℕ) → HasBoxes key.now.boxes keep
+            → IsBoxSet self.now.instance keep
+            → IsToldNo (set_verdict self.now.instance self.now.scales keep) budget bin
+            tokens.old tokens.new found) }
+        ensures front { OnErr result (AreLonger tokens.old tokens.new) }
+    {
+        self.memory.recall_refuted(alloc, key, budget, bin, tokens)
+    }
+
+    // The outcome of a set of this key under a budget, if it is kept.
+    pub(crate) fn recall(
+        &self,
+        alloc: Global,
+        key: &SetKey,
+        budget: u64,
+    ) -> Result<Option<Outcome>, NoMemory>
+        ensures { IfOk result (λ found. IfSome found (λ r. (keep : List ℕ)
+            → HasBoxes key.now.boxes keep → IsBoxSet self.now.instance keep
+            → plain_outcome r
+            ≡ told budget (set_verdict self.now.instance self.now.scales keep))) }
+    {
+        self.memory.recall(alloc, key, budget)
+    }
+
+    // Keeps what was found of a set, if its search wasn't cut off.
+    pub(crate) fn keep(
+        &mut self,
+        alloc: Global,
+        keep: &[u32],
+        key: &SetKey,
+        budget: u64,
+        found: &Outcome,
+    )
+        requires boxes { HasBoxes key.now.boxes keep.now }
+        requires set { IsBoxSet self.old.instance keep.now }
+        requires found { plain_outcome found.now
+            ≡ told budget (set_verdict self.old.instance self.old.scales keep.now) }
+        ensures { self.new ≡ self.old }
+    {
+        match found {
+            Outcome::Past => {}
+            Outcome::Yes {
+                numbers: _,
+                count: _,
+            } => self.memory.keep(alloc, key, found),
+            Outcome::No {
+                tokens: _,
+                count: _,
+            } => self.memory.keep(alloc, key, found),
+        }
+    }
+}

@@ -1,0 +1,124 @@
+//! The decided sets that the workers of a job share.
+ghost use Rattle.std.specs.Prelude.{◌≡◌, List, ℕ, IfOk, IfSome, OnErr};
+ghost use Rattle.packing_terms.specs.Goals.{IsBoxSet};
+ghost use Rattle.proof_tree.specs.Shorts.{AreLonger};
+ghost use Rattle.set_search.specs.Memories.{HasBoxes, IsToldNo};
+ghost use Rattle.tree_terms.specs.Trees.{told};
+ghost use Rattle.tree_terms.specs.OuterTrees.{set_verdict};
+ghost use Rattle.work_share.specs.Outcomes.{plain_outcome};
+
+use crate::key::SetKey;
+use crate::known::KnownSets;
+use box_instances::{Instance, NoMemory};
+use proof_tree::{Outcome, TokenList};
+use std::alloc::Global;
+use std::hint::spin_loop;
+use std::sync::{Mutex, MutexGuard};
+
+// Lock attempts before giving up. A holder looks up or copies one outcome, which mostly takes less
+// time than this many attempts.
+const MOST_TRIES: u32 = 10_000;
+
+// Decided sets behind a lock. Nothing is known of what another worker left there, so they are
+// tested for their instance at each call. No call waits: while another worker stays, a set counts as
+// not decided, and what is found of one isn't kept.
+#[derive(Drop)]
+pub(crate) struct SharedSets<'a> {
+    known: Mutex<KnownSets<'a>>,
+}
+
+impl<'a> SharedSets<'a> {
+    // No set of an instance.
+    pub(crate) fn new(alloc: Global, whole: &'a Instance, scales: bool) -> SharedSets<'a> {
+        SharedSets {
+            known: Mutex::new(KnownSets::new(alloc, whole, scales)),
+        }
+    }
+
+    // Locks the sets, unless another worker stays there.
+    fn enter(&self) -> Option<MutexGuard<'_, KnownSets<'a>>> {
+        for _ in 0..MOST_TRIES {
+            if let Some(guard) = self.known.try_lock() {
+                return Some(guard);
+            }
+            spin_loop();
+        }
+        None
+    }
+
+    // The count of a set of this key that is kept as refuted, within the budget: that is appended
+    // to the tokens, and what refutes it. Else the tokens are as before.
+    pub(crate) fn recall_refuted(
+        &self,
+        instance: &Instance,
+        scales: bool,
+        alloc: Global,
+        key: &SetKey,
+        budget: u64,
+        bin: Option<u32>,
+        tokens: &mut TokenList,
+    ) -> Result<Option<u64>, NoMemory>
+        ensures told { IfOk result (λ found. (keep : List ℕ) → HasBoxes key.now.boxes keep
+            → IsBoxSet instance.now keep
+            → IsToldNo (set_verdict instance.now scales keep) budget bin
+            tokens.old tokens.new found) }
+        ensures front { OnErr result (AreLonger tokens.old tokens.new) }
+    {
+        let Some(guard) = self.enter() else {
+            return Ok(None);
+        };
+        let known = &*guard;
+        if !known.are_of(instance, scales) {
+            return Ok(None);
+        }
+        known.recall_refuted(alloc, key, budget, bin, tokens)
+    }
+
+    // The outcome of a set of this key under a budget, if it is kept.
+    pub(crate) fn recall(
+        &self,
+        instance: &Instance,
+        scales: bool,
+        alloc: Global,
+        key: &SetKey,
+        budget: u64,
+    ) -> Result<Option<Outcome>, NoMemory>
+        ensures { IfOk result (λ found. IfSome found (λ r. (keep : List ℕ)
+            → HasBoxes key.now.boxes keep → IsBoxSet instance.now keep
+            → plain_outcome r ≡ told budget (set_verdict instance.now scales keep))) }
+    {
+        let Some(guard) = self.enter() else {
+            return Ok(None);
+        };
+        let known = &*guard;
+        if !known.are_of(instance, scales) {
+            return Ok(None);
+        }
+        known.recall(alloc, key, budget)
+    }
+
+    // Keeps what was found of a set, if its search wasn't cut off.
+    pub(crate) fn keep(
+        &self,
+        instance: &Instance,
+        scales: bool,
+        alloc: Global,
+        keep: &[u32],
+        key: &SetKey,
+        budget: u64,
+        found: &Outcome,
+    )
+        requires boxes { HasBoxes key.now.boxes keep.now }
+        requires set { IsBoxSet instance.now keep.now }
+        requires found { plain_outcome found.now
+            ≡ told budget (set_verdict instance.now scales keep.now) }
+    {
+        let Some(mut guard) = self.enter() else {
+            return;
+        };
+        let known = &mut *guard;
+        if known.are_of(instance, scales) {
+            known.keep(alloc, keep, key, budget, found);
+        }
+    }
+}
