@@ -70,3 +70,12 @@ pub explored_told : (instance : PlainInstance) (o : Option SearchTree) (cap : �
     → IfSome o (λ node. IsExplored instance node cap e) → IfSome (outcome_of o) (λ v. r ≡ told cap v)
 explored_told instance None cap e r f h = tt
 explored_told instance (Some node) cap e r f h = f node h
+
+-- what is told of a walk's node is told of the node at which the walk was left
+pub left_node : {A : Type 0} (tell : SearchTree → A) (instance : PlainInstance) (o : Option SearchTree)
+    (left : Option Standing) (s : Standing) (node : A) → left ≡ Some s → node ≡ tell (standing_tree s)
+    → IfSome o (λ t. IfSome left (IsWalkOf instance t)) → IfSome o (λ t. node ≡ tell t)
+left_node tell instance None left s node is h known = tt
+left_node tell instance (Some t) left s node is h known =
+    let w = subst (λ (l : Option Standing). IfSome l (IsWalkOf instance t)) is known in
+    h ∙ ap tell w.is

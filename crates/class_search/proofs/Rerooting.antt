@@ -5,7 +5,7 @@ use Rattle.std.proofs.Common.{append-nil}
 use Rattle.std.specs.List.{remove}
 use Rattle.std.proofs.lemmas.List.{reverse-append, length-append}
 use Rattle.packing_terms.specs.declared.Exclusion.{Exclusion}
-use Rattle.packing_terms.specs.Packing.{PlainInstance}
+use Rattle.packing_terms.specs.Packing.{PlainInstance, dims, box_count}
 use Rattle.packing_terms.specs.Tokens.{PlainToken}
 use Rattle.edge_state.specs.Edges.{oldest}
 use Rattle.tree_terms.specs.Trees.{SearchTree, No, child_at}
@@ -16,8 +16,9 @@ use Rattle.class_search.specs.declared.walk.Frame.{Frame}
 use Rattle.class_search.specs.declared.walk.Walk.{Walk}
 use Rattle.class_search.specs.declared.kept.Standing.{Standing}
 use Rattle.class_search.specs.declared.kept.Refuted.{Refuted as RefutedNode}
-use Rattle.class_search.specs.Splits.{plain_split, added}
-use Rattle.class_search.specs.Visits.{kind_tree}
+use Rattle.class_search.specs.declared.visit.NodeKind.TheVariants.{Divided}
+use Rattle.class_search.specs.Splits.{plain_split, added, IsSplitAmong}
+use Rattle.class_search.specs.Visits.{kind_tree, IsDivided}
 use Rattle.class_search.specs.Walks.{child_in, child_tree, frame_tree, root_of, IsFirst, AreMet}
 use Rattle.class_search.specs.Kept.{IsStanding, standing_tree, IsWalkOf, IsAllOf, HasChild}
 
@@ -40,6 +41,7 @@ pub record IsRerooted (instance : PlainInstance) (whole : SearchTree) (f : Frame
   pub left_count : ℕ
   pub whole_is : whole ≡ frame_tree instance f among
   pub child_is : root_of instance fs es here ≡ child_tree instance f among
+  pub divided : IsDivided instance (oldest f.mark among) f.split f.rank
   pub first : IsFirst instance f among f.first own own_count
   pub tokens_are : ts ≡ ((plain_split f.split).token ∷ own) ++ left
   pub count_is : c ≡ (1 + own_count) + left_count
@@ -60,6 +62,7 @@ module _ (instance : PlainInstance) where
         left_count = 0;
         whole_is = refl;
         child_is = s.leads;
+        divided = s.divided;
         first = s.first;
         tokens_are = s.all_tokens ∙ (ap (λ l. (l ++ (plain_split f.split).token ∷ []) ++ s.own) none.0
             ∙ sym (append-nil ((plain_split f.split).token ∷ s.own)));
@@ -79,6 +82,7 @@ module _ (instance : PlainInstance) where
         left_count = (r.left_count + 1) + s.own_count;
         whole_is = r.whole_is;
         child_is = r.child_is;
+        divided = r.divided;
         first = r.first;
         tokens_are =
             s.all_tokens
@@ -126,6 +130,15 @@ module _ (s : Standing) (f : Frame) (rest : List Frame) (e : s.walk.frames.items
 
   pub met_some : (0 < length s.walk.tokens) × (1 ≤ s.walk.count)
   met_some = ((let t = ap length r.tokens_are in omega (arith, t)), (let n = r.count_is in omega (arith, n)))
+
+  -- the split that is told of the node is that of the first frame
+  pub met_node : {A : Type 0} (tell : SearchTree → A) (node : A)
+      → ((es : List Exclusion) → node ≡ tell (kind_tree s.instance.now es (Divided f.split f.rank)))
+      → node ≡ tell (standing_tree s)
+  met_node tell node is = is (oldest f.mark r.among) ∙ ap tell (sym r.whole_is)
+
+  pub met_among : IsSplitAmong (dims s.instance.now) (box_count s.instance.now) f.split
+  met_among = r.divided.split.among
 
   pub met_size : (size : Size) → f.first ≡ Some size → (1 + size.tokens ≤ length s.walk.tokens)
       × (1 + size.count ≤ s.walk.count)

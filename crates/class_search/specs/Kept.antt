@@ -4,12 +4,15 @@ use Rattle.packing_terms.specs.Packing.{PlainInstance, dims, box_count}
 use Rattle.packing_terms.specs.Scales.{SidesFit}
 use Rattle.work_share.specs.Outcomes.{plain_outcome}
 use Rattle.tree_terms.specs.Trees.{SearchTree, No, outcome, told, child_at, node_at}
+use Rattle.tree_terms.specs.Paths.{node_told}
+use Rattle.work_share.specs.Nodes.{plain_node}
 use Rattle.class_search.specs.declared.kept.Standing.{Standing}
 use Rattle.class_search.specs.declared.kept.Refuted.{Refuted as RefutedNode}
 use Rattle.class_search.specs.declared.kept.Kept.{Kept}
 use Rattle.class_search.specs.declared.kept.Kept.TheVariants.{Refuted as KeptRefuted, Standing as KeptStanding}
 use Rattle.class_search.specs.declared.kept.Parts.{Parts}
 use Rattle.class_search.specs.declared.kept.Parts.TheVariants.{First, Second}
+use Rattle.class_search.specs.declared.kept.Division.{Division}
 use Rattle.class_search.specs.declared.kept.Explored.{Explored}
 use Rattle.class_search.specs.Walks.{walk_tree, IsWalk}
 use Rattle.class_search.specs.Tree.{PlainClassTree, shape}
@@ -52,6 +55,11 @@ abbrev pub ArePartsOf : PlainInstance → SearchTree → Parts → Type 0
 ArePartsOf instance tree (First s) = HasChild tree 0 (λ t. IsWalkOf instance t s)
 ArePartsOf instance tree (Second r s) =
     HasChild tree 0 (λ t. IsAllOf t r) × HasChild tree 1 (λ t. IsWalkOf instance t s)
+
+-- what is left of a tree is right: its split, and what is left to its children
+pub record IsDivisionOf (instance : PlainInstance) (tree : SearchTree) (d : Division) : Type 0 where
+  pub node : plain_node d.node ≡ node_told tree
+  pub parts : ArePartsOf instance tree d.parts
 
 -- what is told under a cap, with a walk through the same tree, if one is left
 pub record IsExplored (instance : PlainInstance) (tree : SearchTree) (cap : ℕ) (e : Explored) : Type 0 where

@@ -1,14 +1,15 @@
-//! The class tree with a room for walks that were left where their cap was spent.
+//! The class tree with walks that were left where their cap was spent, and with their splits.
 ghost use Rattle.std.specs.Prelude.{◌≡◌, ◌++◌, ◌∷◌, [], IfOk, IfSome, IsSome, MatchBool, Some};
 ghost use Rattle.tree_terms.specs.Trees.{node_at, outcome, told};
 ghost use Rattle.tree_terms.specs.Paths.{node_told, outcome_at, IsReachable};
 ghost use Rattle.work_share.specs.Outcomes.{plain_outcome};
 ghost use Rattle.work_share.specs.Nodes.{plain_node};
 ghost use Rattle.class_search.specs.Kept.{IsKeptAt, ArePartsOf, IsWalkOf};
+ghost use Rattle.class_search.specs.Pieces.{IsSplitAt};
 ghost use Rattle.class_search.specs.Tree.{shape, same_trees};
 
 use crate::ClassTree;
-use crate::kept::{Explored, Kept, Parts, Standing};
+use crate::kept::{Division, Explored, Kept, Parts, Standing};
 use box_instances::NoMemory;
 use proof_tree::Outcome;
 use std::alloc::{AllocError, Global};
@@ -77,16 +78,72 @@ impl<'a> Piece<'a> {
     }
 }
 
-// The class tree, with a room for what is kept of nodes below those whose cap was spent. It is seen
+// The split of the node at a path of a class tree, whose walk was left.
+#[derive(Drop)]
+pub(crate) struct KnownSplit<'a> {
+    tree: &'a ClassTree<'a>,
+    path: Vec<u32>,
+    node: Node,
+}
+
+impl<'a> Model for KnownSplit<'a> {
+    ghost use Rattle.class_search.specs.Pieces.{PlainSplit, IsSplitAt};
+
+    ghost Value = { PlainSplit };
+
+    ghost view = { λ k. record { tree = k.tree.now; path = k.path.items; node = k.node } };
+
+    ghost invariant = { λ k. IsSplitAt k.tree.now k.path.items k.node };
+}
+
+impl<'a> KnownSplit<'a> {
+    // Whether it is of the node at this path.
+    fn is_at(&self, path: &[u32]) -> bool
+        ensures { MatchBool result (self.now.path ≡ path.now) (¬ (self.now.path ≡ path.now)) }
+    {
+        self.path.as_slice() == path
+    }
+
+    // The split, if it is of the node at this path of this tree.
+    fn node_of(self, tree: &ClassTree<'_>, path: &[u32]) -> Option<Node>
+        ensures { IfSome result (IsSplitAt tree.now path.now) }
+    {
+        if !self.is_at(path) {
+            return None;
+        }
+        if !self.tree.same(tree) {
+            return None;
+        }
+        Some(self.node)
+    }
+
+    // The split of the node at a path.
+    fn of_node(
+        alloc: Global,
+        tree: &'a ClassTree<'a>,
+        path: &[u32],
+        node: Node,
+    ) -> Result<KnownSplit<'a>, AllocError>
+        requires { IsSplitAt tree.now path.now node }
+    {
+        let path = Vec::from_slice(alloc, path)?;
+        Ok(KnownSplit { tree, path, node })
+    }
+}
+
+// The class tree, with what is kept of nodes whose cap was spent and of their children. It is seen
 // as that tree.
 //
-// Whoever explores the node of a kept walk goes on with it. Nothing hangs on what the room holds:
-// each piece is right for its node, and where the room stays in use by another thread, or there is
-// no memory for a piece, the walk is lost and its node is begun anew.
+// A worker that explores the node of a kept walk resumes it, and one that splits the node of a walk
+// takes the split from there: from the root on, that would take a closure for each step of the
+// path. Nothing depends on what the lists hold: each entry is right for its node. If a list stays in
+// use by another thread, or there is no memory for an entry, the walk is lost and its node is begun
+// anew.
 #[derive(Drop)]
 pub(crate) struct KeepingTree<'a> {
     tree: &'a ClassTree<'a>,
     room: Mutex<Vec<Piece<'a>>>,
+    splits: Mutex<Vec<KnownSplit<'a>>>,
 }
 
 impl<'a> Model for KeepingTree<'a> {
@@ -101,9 +158,9 @@ impl<'a> Model for KeepingTree<'a> {
 // shorter than so many tries.
 const MOST_TRIES: u32 = 10_000;
 
-// The room, once nobody else is in it. It never waits, so that a tree can be explored by whoever
-// has no leave to.
-fn entered<'b, 'a>(room: &'b Mutex<Vec<Piece<'a>>>) -> Option<MutexGuard<'b, Vec<Piece<'a>>>> {
+// Tries to lock a list, at most `MOST_TRIES` times. It never blocks, because `Tree::explore` has no
+// runtime handle with `Wait`.
+fn entered<'b, T>(room: &'b Mutex<Vec<T>>) -> Option<MutexGuard<'b, Vec<T>>> {
     for _ in 0..MOST_TRIES {
         if let Some(guard) = room.try_lock() {
             return Some(guard);
@@ -119,6 +176,29 @@ fn taken<'a>(room: &Mutex<Vec<Piece<'a>>>, path: &[u32]) -> Option<Piece<'a>> {
     let pieces = &mut *room;
     let position = pieces.iter().position(|piece| piece.is_at(path))?;
     Some(pieces.swap_remove(position))
+}
+
+// Takes the split of the node at this path out of the list, if it is there.
+fn taken_split<'a>(splits: &Mutex<Vec<KnownSplit<'a>>>, path: &[u32]) -> Option<KnownSplit<'a>> {
+    let mut splits = entered(splits)?;
+    let known = &mut *splits;
+    let position = known.iter().position(|split| split.is_at(path))?;
+    Some(known.swap_remove(position))
+}
+
+// Puts a split into the list, unless that is in use.
+fn put_split<'a>(
+    splits: &Mutex<Vec<KnownSplit<'a>>>,
+    split: KnownSplit<'a>,
+) -> Result<(), AllocError> {
+    match entered(splits) {
+        Some(mut splits) => {
+            let known = &mut *splits;
+            known.push(split)?;
+            Ok(())
+        }
+        None => Ok(()),
+    }
 }
 
 // Puts pieces into the room, unless it is in use.
@@ -164,6 +244,7 @@ impl<'a> KeepingTree<'a> {
         KeepingTree {
             tree,
             room: Mutex::new(Vec::new(alloc)),
+            splits: Mutex::new(Vec::new(alloc)),
         }
     }
 
@@ -181,10 +262,14 @@ impl<'a> KeepingTree<'a> {
         let Some(standing) = left else {
             return Ok(());
         };
-        let Some(parts) = standing.parts()? else {
+        let Some(Division { node, parts }) = standing.division()? else {
             return Ok(());
         };
-        put(&self.room, pieces_of(alloc, self.tree, path, parts)?)
+        put(&self.room, pieces_of(alloc, self.tree, path, parts)?)?;
+        put_split(
+            &self.splits,
+            KnownSplit::of_node(alloc, self.tree, path, node)?,
+        )
     }
 
     // What was kept of the node at a path, or the walk that begins there.
@@ -223,6 +308,11 @@ impl<'a> Tree for KeepingTree<'a> {
         ensures { IfOk result (λ r. IfSome (node_at (Some (shape self.now)) path.now)
             (λ node. plain_node r ≡ node_told node)) }
     {
+        if let Some(split) = taken_split(&self.splits, path) {
+            if let Some(node) = split.node_of(self.tree, path) {
+                return Ok(node);
+            }
+        }
         self.tree.node(alloc, path)
     }
 

@@ -3,15 +3,17 @@ ghost use Rattle.std.specs.Prelude.{◌≡◌, IfOk, IfSome};
 ghost use Rattle.packing_terms.specs.Rank.{ranked_pairs};
 ghost use Rattle.tree_terms.specs.Trees.{SearchTree, No, outcome, told};
 ghost use Rattle.work_share.specs.Outcomes.{plain_outcome};
-ghost use Rattle.class_search.specs.Kept.{IsStanding, standing_tree, IsKeptOf, ArePartsOf, IsExplored};
+ghost use Rattle.class_search.specs.Kept.{IsStanding, standing_tree, IsKeptOf, IsDivisionOf, IsExplored};
 
 use crate::search::Search;
-use crate::walk::{End, Walk, go_on};
+use crate::visit::NodeKind;
+use crate::walk::{End, Walk, go_on, told};
 use box_instances::{Instance, NoMemory};
 use edge_state::EdgeState;
 use proof_tree::{Outcome, TokenList};
 use rule_closure::Closer;
 use std::alloc::{AllocError, Global};
+use work_share::Node;
 
 // A walk, with the closed state of the node where it stands.
 #[derive(Drop)]
@@ -42,6 +44,14 @@ pub(crate) enum Kept<'a> {
 pub(crate) enum Parts<'a> {
     First(Standing<'a>),
     Second(Refuted, Standing<'a>),
+}
+
+// What a walk leaves where it has gone on to a child: the split of its node, and what is left to the
+// children.
+#[derive(Drop)]
+pub(crate) struct Division<'a> {
+    pub node: Node,
+    pub parts: Parts<'a>,
 }
 
 // What exploring gives: what is told, and the walk where the cap was spent.
@@ -99,12 +109,14 @@ impl<'a> Standing<'a> {
         }
     }
 
-    // What it leaves to the children of its node, if it has gone on to one.
-    pub fn parts(self) -> Result<Option<Parts<'a>>, AllocError>
+    // The split of its node and what it leaves to the children, if it has gone on to one.
+    pub fn division(self) -> Result<Option<Division<'a>>, AllocError>
         requires { IsStanding self }
         ensures { IfOk result
-            (λ r. IfSome r (ArePartsOf self.entry.instance.now (standing_tree self.entry))) }
+            (λ r. IfSome r (IsDivisionOf self.entry.instance.now (standing_tree self.entry))) }
     {
+        // For the proof alone: tells the limits of the instance.
+        let _limits = self.instance.len();
         let Standing {
             instance,
             state,
@@ -116,20 +128,28 @@ impl<'a> Standing<'a> {
         }
         let split = walk.frames.remove(0);
         walk.tokens.drop_first();
+        let node = told(NodeKind::Divided {
+            split: split.split,
+            rank: split.rank,
+        });
         let Some(size) = split.first else {
             walk.count -= 1;
-            return Ok(Some(Parts::First(Standing {
+            let standing = Standing {
                 instance,
                 state,
                 closer,
                 walk,
-            })));
+            };
+            return Ok(Some(Division {
+                node,
+                parts: Parts::First(standing),
+            }));
         };
         let Walk {
             frames,
             tokens,
             count,
-            node,
+            node: kind,
         } = walk;
         let Ok((tokens, rest)) = tokens.split_at(size.tokens) else {
             return Err(AllocError);
@@ -138,21 +158,22 @@ impl<'a> Standing<'a> {
             frames,
             tokens: rest,
             count: count - 1 - size.count,
-            node,
+            node: kind,
         };
         let refuted = Refuted {
             tokens,
             count: size.count,
         };
-        Ok(Some(Parts::Second(
-            refuted,
-            Standing {
-                instance,
-                state,
-                closer,
-                walk,
-            },
-        )))
+        let standing = Standing {
+            instance,
+            state,
+            closer,
+            walk,
+        };
+        Ok(Some(Division {
+            node,
+            parts: Parts::Second(refuted, standing),
+        }))
     }
 }
 

@@ -13,3 +13,8 @@ returns c =
     subst (λ (t : PlainClassTree). IfOk c.node.result
     (λ r. IfSome (node_at (Some (shape t)) c.args.path.now) (λ node. plain_node r ≡ node_told node))) c.self.view_is
     c.node.ensures
+
+pub returns-in-Some-node_of : goal.returns-in-Some-node_of
+returns-in-Some-node_of c =
+    subst (λ (t : PlainClassTree). IfSome (node_at (Some (shape t)) c.args.path.now)
+    (λ node. plain_node c.in-Some-node_of.node ≡ node_told node)) c.self.view_is c.in-Some-node_of.ensures.is
