@@ -9,137 +9,26 @@
 //!
 //! Source: the extreme points of Crainic, Perboli and Tadei (2008).
 
-use crate::slots::clear;
+use crate::blocks::{Block, Corners, ORIGIN, Point, UP, block_of, is_lower, no_blocks, set_block};
+use crate::fill_steps::{Move, NO_BOX};
+use crate::skyline_fill::Limits;
+use crate::slots::{clear, copy_into, weight};
 use crate::turned::Turned;
 use box_instances::NoMemory;
 use loose_lists::{at, put, zeros};
 use std::alloc::Global;
 
-// The coordinates of a point, the upward one last. Where there are fewer dimensions, those before
-// the first are 0.
-type Point = [u32; 4];
-
-// The index of the upward coordinate.
-const UP: usize = 3;
-
-const ORIGIN: Point = [0, 0, 0, 0];
-
-// A laid box: where it begins and where it ends. In dimensions that the instance hasn't it is from
-// 0 to 1.
-#[derive(Clone, Copy)]
-struct Block {
-    start: Point,
-    end: Point,
-}
-
-const NO_BLOCK: Block = Block {
-    start: ORIGIN,
-    end: ORIGIN,
-};
-
-impl Block {
-    // Whether this block and another overlap. The upward dimension comes first, since it tells most
-    // of them apart.
-    #[inline]
-    fn meets(&self, other: &Block) -> bool {
-        for back in 0..4 {
-            let k = UP - back;
-            if self.end[k] <= other.start[k] || other.end[k] <= self.start[k] {
-                return false;
-            }
-        }
-        true
-    }
-
-    // Whether the block has a coordinate of a point.
-    #[inline]
-    fn has_in(&self, point: &Point, k: usize) -> bool {
-        k < 4 && self.start[k] <= point[k] && point[k] < self.end[k]
-    }
-
-    // Whether the block has a point.
-    #[inline]
-    fn has(&self, point: &Point) -> bool {
-        self.has_in(point, 3)
-            && self.has_in(point, 2)
-            && self.has_in(point, 1)
-            && self.has_in(point, 0)
-    }
-}
-
-// The far corners of a block that was laid: one for each dimension, in which it is as far as the
-// block ends, and in all others where the block starts.
-#[derive(Drop)]
-struct Corners {
-    // How far back a corner comes along another dimension before it meets a block: the first index
-    // is that of the corner.
-    pushed: [Point; 4],
-    // Where the block starts that has a corner, if one does.
-    covers: [Option<Point>; 4],
-}
-
-impl Corners {
-    fn new() -> Corners {
-        Corners {
-            pushed: [ORIGIN; 4],
-            covers: [None; 4],
-        }
-    }
-
-    // Notes another block that has a corner, or all coordinates of it but one.
-    fn note(&mut self, corner: usize, block: &Block, other: &Block) {
-        let (mut gaps, mut gap) = (0u32, 0usize);
-        for k in 0..4 {
-            if k != corner && !other.has_in(&block.start, k) {
-                gaps = gaps.saturating_add(1);
-                gap = k;
-            }
-        }
-        if corner >= 4 {
-            return;
-        }
-        if gaps == 0 {
-            self.covers[corner] = Some(other.start);
-        } else if gaps == 1 && gap < 4 && other.end[gap] <= block.start[gap] {
-            let to = self.pushed[corner][gap].max(other.end[gap]);
-            self.pushed[corner][gap] = to;
-        }
-    }
-
-    // Whether a corner that was pushed back along a dimension is in a block. That block has the
-    // corner itself too, since else the corner was pushed back to its end at least.
-    fn is_covered(&self, corner: usize, back: usize) -> bool {
-        if corner >= 4 || back >= 4 {
-            return true;
-        }
-        match self.covers[corner] {
-            Some(start) => start[back] <= self.pushed[corner][back],
-            None => false,
-        }
-    }
-}
-
-// Whether a point is lower than another: by the last coordinate, and then by those before it.
-#[inline]
-fn is_lower(first: &Point, second: &Point) -> bool {
-    for back in 0..4 {
-        let k = UP - back;
-        if first[k] != second[k] {
-            return first[k] < second[k];
-        }
-    }
-    false
-}
-
-/// The memory of a fill, and what the last one laid.
+/// The memory of a fill, with its kept blocks.
 #[derive(Drop)]
 pub struct CornerFill {
-    /// The coordinates of the boxes, box after box.
-    pub places: Vec<u32>,
-    /// Of each box whether it is laid.
-    pub lies: Vec<u32>,
-    /// How high the laid boxes reach.
+    /// How high the laid boxes of the last fill reach.
     pub height: u32,
+    // The blocks of the boxes, and of each box whether it is laid.
+    lying: Vec<Block>,
+    lies: Vec<u32>,
+    // The same of the kept fill.
+    kept: Vec<Block>,
+    is_kept: Vec<u32>,
     dims: u32,
     container: Point,
     // The least side of all boxes in each dimension.
@@ -159,19 +48,18 @@ impl CornerFill {
         let Ok(points) = vec![in alloc; ORIGIN; most] else {
             return Err(NoMemory);
         };
-        let Ok(blocks) = vec![in alloc; NO_BLOCK; n] else {
-            return Err(NoMemory);
-        };
         Ok(CornerFill {
-            places: zeros(alloc, d.saturating_mul(n))?,
-            lies: zeros(alloc, n)?,
             height: 0,
+            lying: no_blocks(alloc, n)?,
+            lies: zeros(alloc, n)?,
+            kept: no_blocks(alloc, n)?,
+            is_kept: zeros(alloc, n)?,
             dims,
             container: ORIGIN,
             least: ORIGIN,
             points,
             count: 0,
-            blocks,
+            blocks: no_blocks(alloc, n)?,
             laid: 0,
         })
     }
@@ -319,11 +207,7 @@ impl CornerFill {
     fn corners_of(&self, block: &Block) -> Corners {
         let mut corners = Corners::new();
         for other in self.blocks.iter().take(self.laid) {
-            for k in 0..4 {
-                if other.has_in(&block.end, k) {
-                    corners.note(k, block, other);
-                }
-            }
+            corners.note(block, other);
         }
         corners
     }
@@ -347,12 +231,7 @@ impl CornerFill {
 
     // Lays a box.
     fn lay(&mut self, v: u32, block: &Block) {
-        let place = (v as usize).saturating_mul(self.dims as usize);
-        let first = self.first_index();
-        for k in first..4 {
-            let index = place.saturating_add(k - first);
-            put(&mut self.places, index, block.start[k]);
-        }
+        set_block(&mut self.lying, v as usize, block);
         self.height = self.height.max(block.end[UP]);
         put(&mut self.lies, v as usize, 1);
         if self.laid < self.blocks.len() {
@@ -373,14 +252,110 @@ impl CornerFill {
         sides
     }
 
-    /// Lays boxes in an order, none of which reaches above `top`.
-    pub fn run(&mut self, turned: &Turned, order: &[u32], top: u32) {
-        self.begin(turned, order, top);
-        for k in 0..order.len() {
+    // Lays the boxes of an order from a position on. It answers the weight of all that are left out,
+    // `left` before them, or `u64::MAX` if that is more than the limits allow.
+    fn fill(
+        &mut self,
+        turned: &Turned,
+        order: &[u32],
+        first: usize,
+        weights: &[u64],
+        limits: &Limits,
+        left: u64,
+    ) -> u64 {
+        let mut left = left;
+        for k in first..order.len() {
             let v = at(order, k);
             let sides = self.sides_of(turned, v);
             if let Some(block) = self.lowest_block(&sides) {
                 self.lay(v, &block);
+                if self.height > limits.highest {
+                    return u64::MAX;
+                }
+                continue;
+            }
+            left = left.saturating_add(weight(weights, v));
+            if left > limits.most_left {
+                return u64::MAX;
+            }
+        }
+        left
+    }
+
+    /// Lays boxes in an order. It answers the total weight of those that are left out, or `u64::MAX`
+    /// if the fill was cut by `limits`.
+    pub fn run(&mut self, turned: &Turned, order: &[u32], weights: &[u64], limits: &Limits) -> u64 {
+        self.begin(turned, order, limits.top);
+        self.fill(turned, order, 0, weights, limits, 0)
+    }
+
+    // Whether a move exchanges two boxes of the same sides and weight.
+    fn are_alike(&self, turned: &Turned, weights: &[u64], moved: &Move) -> bool {
+        let (u, v) = (moved.forward, moved.back);
+        v != NO_BOX && turned.are_equal(u, v) && weight(weights, u) == weight(weights, v)
+    }
+
+    // Exchanges the blocks of two boxes in the kept fill.
+    fn exchange(&mut self, first: usize, second: usize) {
+        let (block, is_kept) = (block_of(&self.kept, first), at(&self.is_kept, first));
+        let other = block_of(&self.kept, second);
+        let is_other = at(&self.is_kept, second);
+        set_block(&mut self.kept, first, &other);
+        set_block(&mut self.kept, second, &block);
+        put(&mut self.is_kept, first, is_other);
+        put(&mut self.is_kept, second, is_kept);
+    }
+
+    /// Lays boxes in the order of the kept fill behind a move, or answers that it exchanges two
+    /// boxes of the same sides and weight alone. The boxes before the move lie where they did.
+    pub fn run_moved(
+        &mut self,
+        turned: &Turned,
+        order: &[u32],
+        moved: &Move,
+        weights: &[u64],
+        limits: &Limits,
+    ) -> Option<u64> {
+        if self.are_alike(turned, weights, moved) {
+            self.exchange(moved.forward as usize, moved.back as usize);
+            return None;
+        }
+        self.begin(turned, order, limits.top);
+        let first = (moved.position as usize).min(order.len());
+        let mut left = 0u64;
+        for v in order[..first].iter() {
+            if at(&self.is_kept, *v as usize) == 1 {
+                let block = block_of(&self.kept, *v as usize);
+                self.lay(*v, &block);
+            } else {
+                left = left.saturating_add(weight(weights, *v));
+            }
+        }
+        Some(self.fill(turned, order, first, weights, limits, left))
+    }
+
+    /// Keeps what the last fill laid.
+    pub fn keep(&mut self) {
+        copy_into(&self.lies, &mut self.is_kept);
+        if self.kept.len() == self.lying.len() {
+            self.kept.copy_from_slice(&self.lying);
+        }
+    }
+
+    /// Whether the kept fill laid a box.
+    #[inline]
+    pub fn is_laid(&self, v: u32) -> bool {
+        at(&self.is_kept, v as usize) == 1
+    }
+
+    /// Writes the coordinates of the boxes of the kept fill, box after box.
+    pub fn write(&self, places: &mut [u32]) {
+        let first = self.first_index();
+        for v in 0..self.kept.len() {
+            let block = block_of(&self.kept, v);
+            let place = v.saturating_mul(self.dims as usize);
+            for k in first..4 {
+                put(places, place.saturating_add(k - first), block.start[k]);
             }
         }
     }

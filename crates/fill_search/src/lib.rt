@@ -4,7 +4,9 @@
 #![tactic(auto)]
 
 mod batches;
+mod blocks;
 mod corner_fill;
+mod fill_steps;
 mod fills;
 mod orders;
 mod rounds;
@@ -19,6 +21,6 @@ pub use fills::Fills;
 pub use orders::{Draws, order_by_value, size, start_orders};
 pub use skyline::{Gap, NOTHING, Segment, Skyline, lowest, segment_at};
 pub use skyline_fill::Limits;
-pub use slots::{clear, container_side, copy_into, first_numbers, side, value, volumes};
+pub use slots::{clear, container_side, copy_into, first_numbers, side, value, volumes, weight};
 pub use swaps::Incumbent;
 pub use turned::{Turned, all_turns_of, turns_of};

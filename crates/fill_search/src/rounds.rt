@@ -16,6 +16,12 @@ pub(crate) const WIDE: u32 = 1_000;
 
 const NARROW: u32 = 3;
 
+// The rounds of a batch that stack boxes, in two dimensions and in more. The others pack some strips
+// lower that these don't.
+const FLAT_STACKS: u64 = 6;
+
+const DEEP_STACKS: u64 = 4;
+
 /// What the rounds of a batch make small.
 #[derive(Clone, Copy)]
 pub(crate) enum Goal {
@@ -143,21 +149,33 @@ impl Round {
         self.found.cost = height;
     }
 
-    // Makes the height small. In two dimensions half of the rounds stack the boxes without a limit.
+    // Makes the height small. Most rounds in two dimensions, and half of them in more, stack the
+    // boxes without a limit; the others fill the container in each direction in turn.
     fn make_low(&mut self, instance: &Instance, plan: Plan, kind: u64) {
-        if instance.dims() == 2 && kind < 4 {
+        let (stacks, ways) = if instance.dims() == 2 {
+            (FLAT_STACKS, 1)
+        } else {
+            (DEEP_STACKS, 2)
+        };
+        if kind < stacks {
             let style = Style {
                 aim: Aim::Height,
                 window: WIDE,
                 are_volumes: false,
             };
-            self.swap(0, style, plan.fills, plan.enough);
+            let direction = (kind % ways) as usize;
+            self.swap(direction, style, plan.fills, plan.enough);
             return;
         }
-        let window = if kind == 5 || kind == 6 { NARROW } else { WIDE };
         let turns = (self.turns.len() as u64).max(1);
-        let direction = plan.batch.saturating_mul(4).saturating_add(kind / 2) % turns;
-        self.lower(instance, direction as usize, window, plan);
+        let turn = plan.batch.saturating_mul(ROUNDS as u64 - stacks);
+        let turn = turn.saturating_add(kind);
+        let window = if instance.dims() == 2 && turn / turns % 2 == 1 {
+            NARROW
+        } else {
+            WIDE
+        };
+        self.lower(instance, (turn % turns) as usize, window, plan);
     }
 
     /// Runs a round of a batch, of this kind below `ROUNDS`, that begins behind the packing `from`.

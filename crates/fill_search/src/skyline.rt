@@ -1,6 +1,8 @@
 //! The skyline of boxes that lie on a floor: its segments from left to right.
 
+use crate::slots::copy_first;
 use box_instances::NoMemory;
+use loose_lists::{at, put, zeros};
 use std::alloc::Global;
 
 /// A part of the skyline: where it begins, how wide it is, and how high it lies.
@@ -75,26 +77,51 @@ impl Gap {
 /// A skyline that is raised in place, within a fixed capacity.
 #[derive(Drop)]
 pub struct Skyline {
-    segments: Vec<Segment>,
+    // Where the segments begin, and behind them where the last one ends.
+    starts: Vec<u32>,
+    heights: Vec<u32>,
     count: usize,
+}
+
+// Inserts an entry before the one at an index, of the first `count` ones of a list.
+#[inline]
+fn insert(list: &mut [u32], index: usize, count: usize, entry: u32) {
+    if index <= count && count < list.len() {
+        list.copy_within(index..count, index + 1);
+        list[index] = entry;
+    }
+}
+
+/// Removes an entry from the first `count` ones of a list.
+#[inline]
+pub(crate) fn remove(list: &mut [u32], index: usize, count: usize) {
+    let end = count.min(list.len());
+    if index < end {
+        list.copy_within(index + 1..end, index);
+    }
 }
 
 impl Skyline {
     /// A skyline without segments, for up to `boxes` boxes, or `NoMemory`. Each box adds at most
     /// one segment.
     pub fn new(alloc: Global, boxes: u32) -> Result<Skyline, NoMemory> {
-        let Ok(segments) = vec![in alloc; NOTHING; boxes as usize + 2] else {
-            return Err(NoMemory);
-        };
-        Ok(Skyline { segments, count: 0 })
+        let most = boxes as usize + 2;
+        Ok(Skyline {
+            starts: zeros(alloc, most + 1)?,
+            heights: zeros(alloc, most)?,
+            count: 0,
+        })
     }
 
     /// Copies the segments of `other`, a skyline for the same number of boxes.
     pub fn copy(&mut self, other: &Skyline) {
         self.count = other.count;
-        if self.segments.len() == other.segments.len() {
-            self.segments.copy_from_slice(&other.segments);
-        }
+        copy_first(
+            &other.starts,
+            &mut self.starts,
+            other.count.saturating_add(1),
+        );
+        copy_first(&other.heights, &mut self.heights, other.count);
     }
 
     /// The number of segments.
@@ -106,8 +133,8 @@ impl Skyline {
     pub fn hash(&self) -> u64 {
         let mut hash = 0u64;
         for k in 0..self.count {
-            let here = self.at(k);
-            let mixed = hash ^ (u64::from(here.start) << 32) ^ u64::from(here.height);
+            let (start, height) = (at(&self.starts, k), at(&self.heights, k));
+            let mixed = hash ^ (u64::from(start) << 32) ^ u64::from(height);
             hash = mixed.wrapping_mul(0x9e37_79b9_7f4a_7c15).rotate_left(17);
         }
         hash
@@ -116,128 +143,130 @@ impl Skyline {
     /// Makes it a floor of this width at height 0.
     pub fn flatten(&mut self, width: u32) {
         self.count = 1;
-        self.set(
-            0,
-            Segment {
-                start: 0,
-                width,
-                height: 0,
-            },
-        );
+        put(&mut self.starts, 0, 0);
+        put(&mut self.starts, 1, width);
+        put(&mut self.heights, 0, 0);
     }
 
+    // The index of the lowest segment, of several the leftmost.
     #[inline]
-    fn at(&self, index: usize) -> Segment {
-        segment_at(&self.segments, index)
-    }
-
-    #[inline]
-    fn set(&mut self, index: usize, segment: Segment) {
-        if index < self.segments.len() {
-            self.segments[index] = segment;
+    fn lowest(&self) -> usize {
+        let count = self.count.min(self.heights.len());
+        let heights = &self.heights[..count];
+        let mut least = u32::MAX;
+        for height in heights.iter() {
+            least = least.min(*height);
         }
+        for (k, height) in heights.iter().enumerate() {
+            if *height == least {
+                return k;
+            }
+        }
+        0
+    }
+
+    // The width of a segment.
+    #[inline]
+    fn width(&self, index: usize) -> u32 {
+        let end = at(&self.starts, index.saturating_add(1));
+        end.saturating_sub(at(&self.starts, index))
     }
 
     /// The lowest gap, of several the leftmost.
+    #[inline]
     pub fn lowest_gap(&self) -> Gap {
-        let count = self.count.min(self.segments.len());
-        let index = lowest(&self.segments[..count]);
-        let here = self.at(index);
+        let index = self.lowest();
+        let height = at(&self.heights, index);
         let left = if index == 0 {
             u32::MAX
         } else {
-            self.at(index - 1).height.saturating_sub(here.height)
+            at(&self.heights, index - 1).saturating_sub(height)
         };
-        let right = if index.saturating_add(1) >= count {
+        let next = index.saturating_add(1);
+        let right = if next >= self.count {
             u32::MAX
         } else {
-            let next = self.at(index.saturating_add(1));
-            next.height.saturating_sub(here.height)
+            at(&self.heights, next).saturating_sub(height)
         };
         Gap {
             index,
-            start: here.start,
-            width: here.width,
-            height: here.height,
+            start: at(&self.starts, index),
+            width: self.width(index),
+            height,
             left,
             right,
         }
     }
 
-    // Removes a segment.
-    fn remove(&mut self, index: usize) {
-        let count = self.count.min(self.segments.len());
-        if index < count {
-            self.segments.copy_within(index + 1..count, index);
-            self.count = count - 1;
-        }
-    }
-
-    // Inserts a segment before the one at an index.
-    fn insert(&mut self, index: usize, segment: Segment) {
-        let count = self.count;
-        if index <= count && count < self.segments.len() {
-            self.segments.copy_within(index..count, index + 1);
-            self.segments[index] = segment;
-            self.count = count + 1;
-        }
-    }
-
-    // Joins a segment to the one before it, where both are as high.
+    // Joins a segment to the one before it.
+    #[inline]
     fn join(&mut self, index: usize) {
-        if index == 0 || index >= self.count {
-            return;
+        remove(&mut self.starts, index, self.count.saturating_add(1));
+        remove(&mut self.heights, index, self.count);
+        self.count = self.count.saturating_sub(1);
+    }
+
+    // Whether the segment at an index is as high as this, and neither the first nor past the last.
+    #[inline]
+    fn is_level(&self, index: usize, height: u32) -> bool {
+        index < self.count && at(&self.heights, index) == height
+    }
+
+    // Raises a whole segment.
+    #[inline]
+    fn raise_all(&mut self, index: usize, height: u32) {
+        put(&mut self.heights, index, height);
+        let next = index.saturating_add(1);
+        if self.is_level(next, height) {
+            self.join(next);
         }
-        let (before, here) = (self.at(index - 1), self.at(index));
-        if before.height == here.height {
-            let width = before.width.saturating_add(here.width);
-            self.set(index - 1, Segment { width, ..before });
-            self.remove(index);
+        if index > 0 && self.is_level(index - 1, height) {
+            self.join(index);
         }
     }
 
-    // Splits a segment: the part at its left or its right end is raised to a height. It answers the
-    // index of that part.
-    fn split(&mut self, index: usize, part: u32, height: u32, is_right: bool) -> usize {
-        let whole = self.at(index);
-        let rest = whole.width.saturating_sub(part);
-        let (start, moved) = if is_right {
-            (whole.start, whole.start.saturating_add(rest))
+    // Adds a segment before the one at an index.
+    #[inline]
+    fn add(&mut self, index: usize, start: u32, height: u32) {
+        insert(&mut self.starts, index, self.count.saturating_add(1), start);
+        insert(&mut self.heights, index, self.count, height);
+        self.count = self.count.saturating_add(1);
+    }
+
+    // Raises a part of a segment at its left end.
+    #[inline]
+    fn raise_left(&mut self, index: usize, part: u32, height: u32) {
+        let start = at(&self.starts, index);
+        let end = start.saturating_add(part);
+        if index == 0 || !self.is_level(index - 1, height) {
+            self.add(index, start, height);
+            put(&mut self.starts, index.saturating_add(1), end);
         } else {
-            (whole.start.saturating_add(part), whole.start)
-        };
-        let raised = Segment {
-            start: moved,
-            width: part,
-            height,
-        };
-        self.set(
-            index,
-            Segment {
-                start,
-                width: rest,
-                height: whole.height,
-            },
-        );
-        let to = if is_right {
-            index.saturating_add(1)
+            put(&mut self.starts, index, end);
+        }
+    }
+
+    // Raises a part of a segment at its right end.
+    #[inline]
+    fn raise_right(&mut self, index: usize, part: u32, height: u32) {
+        let next = index.saturating_add(1);
+        let start = at(&self.starts, next).saturating_sub(part);
+        if self.is_level(next, height) {
+            put(&mut self.starts, next, start);
         } else {
-            index
-        };
-        self.insert(to, raised);
-        to
+            self.add(next, start, height);
+        }
     }
 
     /// Raises a part of a segment to a height: the first `width` units, or the last if `is_right`.
+    #[inline]
     pub fn raise(&mut self, index: usize, width: u32, height: u32, is_right: bool) {
-        let whole = self.at(index);
-        let mut raised = index;
-        if width >= whole.width {
-            self.set(index, Segment { height, ..whole });
+        if width >= self.width(index) {
+            self.raise_all(index, height);
+        } else if is_right {
+            self.raise_right(index, width, height);
         } else {
-            raised = self.split(index, width, height, is_right);
+            self.raise_left(index, width, height);
         }
-        self.join(raised.saturating_add(1));
-        self.join(raised);
     }
 }

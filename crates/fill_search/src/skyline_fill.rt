@@ -1,13 +1,14 @@
 //! One fill of a container in two dimensions, without going back.
 //!
 //! The lowest gap of the skyline takes the box with the best score, of equal ones the first of an
-//! order. A gap that takes none is lost up to its lower neighbour.
+//! order. A gap that takes none is lost up to its lower neighbour. The steps of a fill are kept, so
+//! that a fill in a changed order begins at the first step that the change reaches.
 //!
 //! Source: the best-fit rule of Burke, Kendall and Whitwell (2004), with the scores of Leung, Zhang
 //! and Sim (2011).
 
-use crate::skyline::{Gap, Skyline};
-use crate::slots::clear;
+use crate::fill_steps::{Move, NO_BOX, NO_STEP, Step, score};
+use crate::skyline::{Gap, Skyline, remove};
 use crate::turned::Turned;
 use box_instances::NoMemory;
 use loose_lists::{at, put, zeros};
@@ -22,202 +23,357 @@ pub struct Limits {
     pub window: u32,
     /// A fill that loses a greater area than this is cut.
     pub most_lost: u64,
+    /// A fill that reaches higher than this is cut.
+    pub highest: u32,
+    /// In three dimensions and more a fill that leaves out a greater weight is cut.
+    pub most_left: u64,
 }
 
-/// A box that isn't laid yet.
+impl Limits {
+    // Whether all of this many boxes are compared.
+    #[inline]
+    fn is_wide(&self, count: usize) -> bool {
+        self.window as usize >= count
+    }
+}
+
+// The greatest number of boxes of an instance: the rank of the first box that waits.
+const FIRST_RANK: u32 = 128;
+
+// A score takes the bits above these of a rank.
+const RANK_BITS: u32 = 8;
+
+// A box that is chosen: its position among those that wait, its score, and the last box that was
+// compared with it, or `NO_BOX` if all were.
 #[derive(Clone, Copy)]
-struct Waiting {
-    width: u32,
-    height: u32,
-    box_no: u32,
+struct Chosen {
+    index: usize,
+    score: u32,
+    last: u32,
 }
 
-const NO_BOX: Waiting = Waiting {
-    width: u32::MAX,
-    height: u32::MAX,
-    box_no: u32::MAX,
-};
-
-/// The memory of a fill, and what the last one laid.
+/// The memory of a fill, with its kept steps.
 #[derive(Drop)]
 pub struct SkylineFill {
-    /// The coordinates of the boxes, box after box: across and up.
-    pub places: Vec<u32>,
-    /// Of each box whether it is laid.
-    pub lies: Vec<u32>,
-    /// How high the laid boxes reach.
+    /// How high the laid boxes of the last fill reach.
     pub height: u32,
     skyline: Skyline,
-    waiting: Vec<Waiting>,
+    // The widths, heights and numbers of the boxes that wait, in order.
+    widths: Vec<u32>,
+    heights: Vec<u32>,
+    numbers: Vec<u32>,
+    // Falling ranks for the positions of those that wait.
+    ranks: Vec<u32>,
     count: usize,
     narrowest: u32,
+    // The steps of the kept fill, and of each box the one that laid it, or `NO_BOX`.
+    kept: Vec<Step>,
+    kept_count: usize,
+    laid_at: Vec<u32>,
+    // The steps of the last fill, from `first` on; before that it has those of the kept one.
+    steps: Vec<Step>,
+    first: usize,
+    made: usize,
 }
 
-// How well a box fits a gap, from 1 on: it fills the width and is as high as the higher wall, or
-// the lower one, or is higher than this, or lower; or it is as high as a wall; or nothing of these.
 #[inline]
-fn score(gap: &Gap, width: u32, height: u32) -> u32 {
-    let (low, high) = (gap.left.min(gap.right), gap.left.max(gap.right));
-    if width == gap.width {
-        if height == high {
-            6
-        } else if height == low {
-            5
-        } else if height > low {
-            4
-        } else {
-            3
-        }
-    } else if height == low || height == high {
-        2
+fn step_at(steps: &[Step], index: usize) -> Step {
+    if index < steps.len() {
+        steps[index]
     } else {
-        1
+        NO_STEP
     }
+}
+
+#[inline]
+fn set_step(steps: &mut [Step], index: usize, step: Step) {
+    if index < steps.len() {
+        steps[index] = step;
+    }
+}
+
+fn no_steps(alloc: Global, count: usize) -> Result<Vec<Step>, NoMemory> {
+    let Ok(steps) = vec![in alloc; NO_STEP; count] else {
+        return Err(NoMemory);
+    };
+    Ok(steps)
 }
 
 impl SkylineFill {
     /// Memory for up to this many boxes.
     pub fn new(alloc: Global, count: u32) -> Result<SkylineFill, NoMemory> {
-        let Ok(waiting) = vec![in alloc; NO_BOX; count as usize] else {
-            return Err(NoMemory);
-        };
+        let boxes = count as usize;
+        let mut ranks = zeros(alloc, boxes)?;
+        for k in 0..count.min(FIRST_RANK) {
+            put(&mut ranks, k as usize, FIRST_RANK - k);
+        }
+        // Each box is laid once, and a lost gap is one segment less.
+        let most = 2 * boxes + 2;
         Ok(SkylineFill {
-            places: zeros(alloc, 2 * count as usize)?,
-            lies: zeros(alloc, count as usize)?,
             height: 0,
             skyline: Skyline::new(alloc, count)?,
-            waiting,
+            widths: zeros(alloc, boxes)?,
+            heights: zeros(alloc, boxes)?,
+            numbers: zeros(alloc, boxes)?,
+            ranks,
             count: 0,
             narrowest: 0,
+            kept: no_steps(alloc, most)?,
+            kept_count: 0,
+            laid_at: zeros(alloc, boxes)?,
+            steps: no_steps(alloc, most)?,
+            first: 0,
+            made: 0,
         })
-    }
-
-    #[inline]
-    fn waiting_at(&self, index: usize) -> Waiting {
-        if index < self.waiting.len() {
-            self.waiting[index]
-        } else {
-            NO_BOX
-        }
     }
 
     // The least width of the boxes that wait.
     fn find_narrowest(&mut self) {
         let mut narrowest = u32::MAX;
-        for k in 0..self.count {
-            narrowest = narrowest.min(self.waiting_at(k).width);
+        let count = self.count.min(self.widths.len());
+        for width in self.widths[..count].iter() {
+            narrowest = narrowest.min(*width);
         }
         self.narrowest = narrowest;
     }
 
-    // The floor alone, and all boxes of the order wait.
-    fn begin(&mut self, turned: &Turned, order: &[u32]) {
-        clear(&mut self.lies);
-        self.height = 0;
+    // Lays and loses again what the kept fill did before a step, and lets all other boxes of the
+    // order wait.
+    fn begin(&mut self, turned: &Turned, order: &[u32], first: usize) {
         self.skyline.flatten(turned.container(0));
-        self.count = order.len().min(self.waiting.len());
-        for k in 0..self.count {
-            let box_no = at(order, k);
-            if k < self.waiting.len() {
-                self.waiting[k] = Waiting {
-                    width: turned.side(box_no, 0),
-                    height: turned.side(box_no, 1),
-                    box_no,
-                };
+        self.height = 0;
+        self.first = first;
+        self.made = first;
+        for k in 0..first {
+            let step = step_at(&self.kept, k);
+            self.skyline
+                .raise(step.gap.index, step.width, step.top, step.is_right);
+            if step.box_no != NO_BOX {
+                self.height = self.height.max(step.top);
             }
         }
+        self.count = 0;
+        for k in 0..order.len() {
+            let box_no = at(order, k);
+            if first == 0 || at(&self.laid_at, box_no as usize) as usize >= first {
+                put(&mut self.widths, self.count, turned.side(box_no, 0));
+                put(&mut self.heights, self.count, turned.side(box_no, 1));
+                put(&mut self.numbers, self.count, box_no);
+                self.count = self.count.saturating_add(1);
+            }
+        }
+        self.count = self.count.min(self.numbers.len());
         self.find_narrowest();
     }
 
-    // The index of the box with the best score, of those that fit the gap below the top.
-    fn best_box(&self, gap: &Gap, limits: &Limits) -> Option<usize> {
+    // The box with the best score, of those that fit the gap below the top.
+    fn best_box(&self, gap: &Gap, limits: &Limits) -> Option<Chosen> {
         if gap.width < self.narrowest {
             return None;
         }
         let room = limits.top.saturating_sub(gap.height);
+        if limits.is_wide(self.laid_at.len()) {
+            self.best_of_all(gap, room)
+        } else {
+            self.best_in_window(gap, room, limits.window)
+        }
+    }
+
+    // The same where all boxes are compared. There is no branch for a box, so that several are
+    // compared by one instruction.
+    fn best_of_all(&self, gap: &Gap, room: u32) -> Option<Chosen> {
+        let mut best = 0u32;
+        let boxes = self.widths.iter().zip(self.heights.iter());
+        for ((width, height), rank) in boxes.zip(self.ranks.iter()).take(self.count) {
+            let key = (score(gap, room, *width, *height) << RANK_BITS) | *rank;
+            best = best.max(key);
+        }
+        let score = best >> RANK_BITS;
+        if score == 0 {
+            return None;
+        }
+        Some(Chosen {
+            index: FIRST_RANK.saturating_sub(best & 255) as usize,
+            score,
+            last: NO_BOX,
+        })
+    }
+
+    // The same where only the first ones that fit are compared.
+    fn best_in_window(&self, gap: &Gap, room: u32, window: u32) -> Option<Chosen> {
         let mut best = None;
         let mut best_score = 0;
+        let mut last = NO_BOX;
         let mut seen = 0u32;
-        let count = self.count.min(self.waiting.len());
-        for (k, next) in self.waiting[..count].iter().enumerate() {
-            if next.width > gap.width || next.height > room {
+        for k in 0..self.count {
+            let (width, height) = (at(&self.widths, k), at(&self.heights, k));
+            if width > gap.width || height > room {
                 continue;
             }
-            let score = score(gap, next.width, next.height);
+            let score = score(gap, room, width, height);
             if score > best_score {
                 best_score = score;
                 best = Some(k);
             }
             seen = seen.saturating_add(1);
-            if best_score == 6 || seen >= limits.window {
-                return best;
+            if best_score == 6 || seen >= window {
+                last = at(&self.numbers, k);
+                break;
             }
         }
-        best
+        let index = best?;
+        Some(Chosen {
+            index,
+            score: best_score,
+            last,
+        })
     }
 
     // Takes a box out of those that wait.
-    fn take(&mut self, index: usize) -> Waiting {
-        let taken = self.waiting_at(index);
-        let count = self.count.min(self.waiting.len());
-        if index < count {
-            self.waiting.copy_within(index + 1..count, index);
-        }
-        self.count = count.saturating_sub(1);
-        if taken.width == self.narrowest {
+    fn take(&mut self, index: usize) {
+        let width = at(&self.widths, index);
+        remove(&mut self.widths, index, self.count);
+        remove(&mut self.heights, index, self.count);
+        remove(&mut self.numbers, index, self.count);
+        self.count = self.count.saturating_sub(1);
+        if width == self.narrowest {
             self.find_narrowest();
         }
-        taken
+    }
+
+    // Makes a step, behind which the area `lost` is lost.
+    fn make(&mut self, step: Step) {
+        self.skyline
+            .raise(step.gap.index, step.width, step.top, step.is_right);
+        set_step(&mut self.steps, self.made, step);
+        self.made = self.made.saturating_add(1);
     }
 
     // Lays a box into a gap: at the wall that is as high, or else at the higher one.
-    fn lay(&mut self, index: usize, gap: &Gap) {
-        let taken = self.take(index);
-        let is_right = gap.is_right(taken.width, taken.height);
-        let start = gap.start_at(taken.width, is_right);
-        let v = taken.box_no as usize;
-        put(&mut self.lies, v, 1);
-        put(&mut self.places, 2 * v, start);
-        put(&mut self.places, 2 * v + 1, gap.height);
-        let top = gap.height.saturating_add(taken.height);
+    fn lay(&mut self, chosen: &Chosen, gap: &Gap, lost: u64) {
+        let index = chosen.index;
+        let (width, height) = (at(&self.widths, index), at(&self.heights, index));
+        let box_no = at(&self.numbers, index);
+        self.take(index);
+        let top = gap.height.saturating_add(height);
         self.height = self.height.max(top);
-        self.skyline.raise(gap.index, taken.width, top, is_right);
+        self.make(Step {
+            gap: *gap,
+            box_no,
+            last: chosen.last,
+            score: chosen.score,
+            width,
+            top,
+            is_right: gap.is_right(width, height),
+            lost,
+        });
     }
 
-    /// Lays boxes in an order. It answers whether it went on to its end, and wasn't cut.
-    pub fn run(&mut self, turned: &Turned, order: &[u32], limits: &Limits) -> bool {
-        self.begin(turned, order);
-        let mut lost = 0u64;
-        // Each box is laid once, and a lost gap is one segment less.
-        for _ in 0..order.len().saturating_mul(2).saturating_add(2) {
+    // Loses a gap up to its lower neighbour.
+    fn lose(&mut self, gap: &Gap, lost: u64) {
+        self.make(Step {
+            gap: *gap,
+            width: gap.width,
+            top: gap.height.saturating_add(gap.left.min(gap.right)),
+            lost,
+            ..NO_STEP
+        });
+    }
+
+    // Fills from where it began, `lost` being lost there. It answers whether it went on to its end,
+    // and wasn't cut.
+    fn fill(&mut self, limits: &Limits, lost: u64) -> bool {
+        let mut lost = lost;
+        for _ in self.made..self.steps.len() {
             if self.count == 0 {
                 return true;
             }
             let gap = self.skyline.lowest_gap();
-            if let Some(index) = self.best_box(&gap, limits) {
-                self.lay(index, &gap);
+            if let Some(chosen) = self.best_box(&gap, limits) {
+                self.lay(&chosen, &gap, lost);
+                if self.height > limits.highest {
+                    return false;
+                }
                 continue;
             }
             let up = gap.left.min(gap.right);
             let rise = up.min(limits.top.saturating_sub(gap.height));
-            lost = lost.saturating_add(u64::from(rise) * u64::from(gap.width));
-            if lost > limits.most_lost {
+            let area = u64::from(rise) * u64::from(gap.width);
+            if lost.saturating_add(area) > limits.most_lost {
                 return false;
             }
             if up == u32::MAX {
                 return true;
             }
-            let height = gap.height.saturating_add(up);
-            self.skyline.raise(gap.index, gap.width, height, false);
+            self.lose(&gap, lost);
+            lost = lost.saturating_add(area);
         }
         true
+    }
+
+    /// Lays boxes in an order. It answers whether it went on to its end, and wasn't cut.
+    pub fn run(&mut self, turned: &Turned, order: &[u32], limits: &Limits) -> bool {
+        self.begin(turned, order, 0);
+        self.fill(limits, 0)
+    }
+
+    /// Lays boxes in the order of the kept fill behind a move. `positions` are those of the boxes in
+    /// the new order. It answers like `run`, or that all steps are the same.
+    pub fn run_moved(
+        &mut self,
+        turned: &Turned,
+        order: &[u32],
+        positions: &[u32],
+        moved: &Move,
+        limits: &Limits,
+    ) -> Option<bool> {
+        let is_wide = limits.is_wide(self.laid_at.len());
+        let count = self.kept_count.min(self.kept.len());
+        let steps = &self.kept[..count];
+        let first = moved.first_change(turned, positions, steps, limits.top, is_wide)?;
+        let lost = step_at(&self.kept, first).lost;
+        self.begin(turned, order, first);
+        Some(self.fill(limits, lost))
+    }
+
+    /// Keeps the steps of the last fill.
+    pub fn keep(&mut self) {
+        for k in self.first..self.made {
+            let step = step_at(&self.steps, k);
+            set_step(&mut self.kept, k, step);
+        }
+        self.kept_count = self.made;
+        self.laid_at.fill(NO_BOX);
+        for k in 0..self.made {
+            let box_no = step_at(&self.kept, k).box_no;
+            put(&mut self.laid_at, box_no as usize, k.min(1_000) as u32);
+        }
+    }
+
+    /// Whether the kept fill laid a box.
+    #[inline]
+    pub fn is_laid(&self, v: u32) -> bool {
+        (v as usize) < self.laid_at.len() && at(&self.laid_at, v as usize) != NO_BOX
+    }
+
+    /// Writes the coordinates of the boxes of the kept fill, box after box: across and up.
+    pub fn write(&self, places: &mut [u32]) {
+        for k in 0..self.kept_count {
+            let step = step_at(&self.kept, k);
+            if step.box_no != NO_BOX {
+                let v = (step.box_no as usize).saturating_mul(2);
+                let across = step.gap.start_at(step.width, step.is_right);
+                put(places, v, across);
+                put(places, v.saturating_add(1), step.gap.height);
+            }
+        }
     }
 
     /// The total weight of the boxes that wait.
     pub fn weight_left(&self, weights: &[u64]) -> u64 {
         let mut left = 0u64;
         for k in 0..self.count {
-            let v = self.waiting_at(k).box_no as usize;
+            let v = at(&self.numbers, k) as usize;
             if v < weights.len() {
                 left = left.saturating_add(weights[v]);
             }

@@ -15,12 +15,30 @@ pub fn copy_into(from: &[u32], into: &mut [u32]) {
     }
 }
 
+/// Copies the first `count` entries of `from` into `into` if both have as many, else nothing.
+#[inline]
+pub(crate) fn copy_first(from: &[u32], into: &mut [u32], count: usize) {
+    if count <= from.len() && count <= into.len() {
+        into[..count].copy_from_slice(&from[..count]);
+    }
+}
+
 /// The numbers from 0 to `count - 1`, or `NoMemory`.
 pub fn first_numbers(alloc: Global, count: u32) -> Result<Vec<u32>, NoMemory> {
     let Ok(list) = (0..count).collect(alloc) else {
         return Err(NoMemory);
     };
     Ok(list)
+}
+
+/// The entry of a list of weights, or 0 past its end.
+#[inline]
+pub fn weight(weights: &[u64], v: u32) -> u64 {
+    if (v as usize) < weights.len() {
+        weights[v as usize]
+    } else {
+        0
+    }
 }
 
 /// The working side of a box in a dimension, or 0 if the instance has no such box or dimension.

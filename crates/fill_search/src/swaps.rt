@@ -4,6 +4,7 @@
 //! Source: random local search over orders (Burke, Kendall and Whitwell 2009; Wei, Oon, Zhu and Lim
 //! 2011).
 
+use crate::fill_steps::{Move, NO_BOX};
 use crate::fills::Fills;
 use crate::orders::Draws;
 use crate::skyline_fill::Limits;
@@ -77,37 +78,73 @@ impl Incumbent {
 // The volumes of the container and of all boxes, where fills may be cut by them.
 #[derive(Clone, Copy)]
 struct Lost {
-    is_limited: bool,
+    style: Style,
     room: u128,
+    floor: u128,
     boxes: u128,
 }
 
 impl Lost {
     fn new(turned: &Turned, style: Style) -> Lost {
+        let top = u128::from(turned.top().max(1));
         Lost {
-            is_limited: style.are_volumes && style.aim == Aim::Weight,
+            style,
             room: turned.room(),
+            floor: turned.room() / top,
             boxes: turned.volume_of_all(),
         }
     }
 
-    // What may be lost where boxes of this volume at most are left out.
-    fn most(&self, out: u64) -> u64 {
-        if !self.is_limited || out == u64::MAX {
+    // What may be lost of a volume in which all boxes lie.
+    fn rest(&self, volume: u128) -> u64 {
+        let rest = volume.saturating_sub(self.boxes);
+        rest.min(u128::from(u64::MAX)) as u64
+    }
+
+    // What may be lost by a fill that costs no more than this.
+    fn most(&self, cost: u64) -> u64 {
+        if cost == u64::MAX {
             return u64::MAX;
         }
-        let most = self.room.saturating_add(u128::from(out));
-        most.saturating_sub(self.boxes).min(u128::from(u64::MAX)) as u64
+        match self.style.aim {
+            Aim::Height => self.rest(self.floor.saturating_mul(u128::from(cost))),
+            Aim::Weight if self.style.are_volumes => {
+                self.rest(self.room.saturating_add(u128::from(cost)))
+            }
+            Aim::Weight => u64::MAX,
+        }
+    }
+
+    // The limits of a fill that costs no more than this.
+    fn limits(&self, turned: &Turned, cost: u64) -> Limits {
+        let most_lost = self.most(cost);
+        let window = self.style.window;
+        match self.style.aim {
+            Aim::Height => Limits {
+                top: u32::MAX / 2,
+                window,
+                most_lost,
+                highest: cost.min(u64::from(u32::MAX)) as u32,
+                most_left: u64::MAX,
+            },
+            Aim::Weight => Limits {
+                top: turned.top(),
+                window,
+                most_lost,
+                highest: u32::MAX,
+                most_left: cost,
+            },
+        }
     }
 }
 
-// A change of an order.
+// A change of an order: the boxes at two positions, the earlier one first, are swapped; or the box
+// at the second position moves forward to the first.
 #[derive(Clone, Copy)]
-enum Change {
-    Nothing,
-    Swap(usize, usize),
-    // The box at the second position moves forward to the first.
-    Forward(usize, usize),
+struct Change {
+    to: usize,
+    from: usize,
+    is_swap: bool,
 }
 
 /// The state of a round.
@@ -117,6 +154,8 @@ pub struct Swaps {
     pub order: Vec<u32>,
     pub weights: Vec<u64>,
     pub draws: Draws,
+    // The position of each box in the order.
+    positions: Vec<u32>,
 }
 
 impl Swaps {
@@ -128,6 +167,7 @@ impl Swaps {
             order: zeros(alloc, count as usize)?,
             weights,
             draws: Draws::new(),
+            positions: zeros(alloc, count as usize)?,
         })
     }
 
@@ -138,10 +178,16 @@ impl Swaps {
         number
     }
 
+    // Puts a box at a position.
+    fn set(&mut self, position: usize, v: u32) {
+        put(&mut self.order, position, v);
+        put(&mut self.positions, v as usize, position.min(128) as u32);
+    }
+
     fn swap(&mut self, first: usize, second: usize) {
         let (a, b) = (at(&self.order, first), at(&self.order, second));
-        put(&mut self.order, first, b);
-        put(&mut self.order, second, a);
+        self.set(first, b);
+        self.set(second, a);
     }
 
     /// Begins at an order, in which this many boxes are swapped with others up to six positions
@@ -155,24 +201,30 @@ impl Swaps {
             let second = first.saturating_add(ahead) % count.max(1);
             self.swap(first as usize, second as usize);
         }
+        for k in 0..self.order.len() {
+            let v = at(&self.order, k);
+            self.set(k, v);
+        }
     }
 
     // Moves the box at a position forward.
     fn move_forward(&mut self, to: usize, from: usize) {
-        if to < from && from < self.order.len() {
-            let moved = self.order[from];
-            self.order.copy_within(to..from, to + 1);
-            self.order[to] = moved;
+        let moved = at(&self.order, from);
+        for k in 0..from.saturating_sub(to) {
+            let v = at(&self.order, from - k - 1);
+            self.set(from - k, v);
         }
+        self.set(to, moved);
     }
 
-    // Takes that back.
+    // Moves it back.
     fn move_back(&mut self, to: usize, from: usize) {
-        if to < from && from < self.order.len() {
-            let moved = self.order[to];
-            self.order.copy_within(to + 1..from + 1, to);
-            self.order[from] = moved;
+        let moved = at(&self.order, to);
+        for k in to..from {
+            let v = at(&self.order, k.saturating_add(1));
+            self.set(k, v);
         }
+        self.set(from, moved);
     }
 
     // The position of a box that the last fill left out, or of any.
@@ -187,42 +239,49 @@ impl Swaps {
         position
     }
 
-    // Changes the order: two boxes swap their positions; or, two times of three where boxes may move
-    // forward, one that was left out does.
-    fn change(&mut self, is_forward: bool) -> Change {
+    // Draws a change of the order: two boxes swap their positions; or, two times of three where
+    // boxes may move forward, one that was left out does.
+    fn drawn_change(&mut self, is_forward: bool) -> Change {
         let count = self.order.len().min(128) as u32;
-        let second = self.draw(count);
-        if is_forward && self.draw(3) > 0 {
-            let first = self.drawn_position(count);
-            let (to, from) = (second.min(first) as usize, second.max(first) as usize);
-            self.move_forward(to, from);
-            return Change::Forward(to, from);
+        let second = self.draw(count) as usize;
+        let is_swap = !is_forward || self.draw(3) == 0;
+        let first = if is_swap {
+            self.draw(count)
+        } else {
+            self.drawn_position(count)
+        } as usize;
+        Change {
+            to: first.min(second),
+            from: first.max(second),
+            is_swap,
         }
-        let first = self.draw(count);
-        self.swap(first as usize, second as usize);
-        Change::Swap(first as usize, second as usize)
+    }
+
+    // Changes the order. It answers what moved.
+    fn change(&mut self, change: Change) -> Move {
+        let (forward, back) = (at(&self.order, change.from), at(&self.order, change.to));
+        if change.is_swap {
+            self.swap(change.to, change.from);
+        } else {
+            self.move_forward(change.to, change.from);
+        }
+        Move {
+            position: change.to.min(128) as u32,
+            forward,
+            back: if change.is_swap { back } else { NO_BOX },
+        }
     }
 
     fn take_back(&mut self, change: Change) {
-        match change {
-            Change::Nothing => {}
-            Change::Swap(first, second) => self.swap(first, second),
-            Change::Forward(to, from) => self.move_back(to, from),
+        if change.is_swap {
+            self.swap(change.to, change.from);
+        } else {
+            self.move_back(change.to, change.from);
         }
     }
 
-    // The cost of a fill in the order, which loses no more than this.
-    fn cost(&mut self, turned: &Turned, style: Style, most_lost: u64) -> u64 {
-        let top = match style.aim {
-            Aim::Height => u32::MAX / 2,
-            Aim::Weight => turned.top(),
-        };
-        let limits = Limits {
-            top,
-            window: style.window,
-            most_lost,
-        };
-        let left = self.fills.run(turned, &self.order, &self.weights, &limits);
+    // What a fill costs that leaves out this weight.
+    fn cost(&self, style: Style, left: u64) -> u64 {
         match style.aim {
             Aim::Weight => left,
             Aim::Height if left == 0 => u64::from(self.fills.height()),
@@ -230,12 +289,56 @@ impl Swaps {
         }
     }
 
-    // Keeps what the last fill laid.
-    fn keep(&self, turned: &Turned, cost: u64, best: &mut Incumbent) {
+    // Keeps the last fill, and what it laid if that costs less than the best so far.
+    fn keep(&mut self, turned: &Turned, cost: u64, best: &mut Incumbent) {
+        self.fills.keep();
+        if cost >= best.cost {
+            return;
+        }
         best.cost = cost;
         copy_into(&self.order, &mut best.order);
-        copy_into(self.fills.lies(), &mut best.lies);
+        for v in 0..best.lies.len() {
+            let lies = u32::from(self.fills.is_laid(v.min(128) as u32));
+            put(&mut best.lies, v, lies);
+        }
+        self.fills.write();
         turned.turn_back(self.fills.places(), &mut best.places);
+    }
+
+    // Changes the order and fills the container, to a cost of no more than this. It answers the
+    // cost behind it.
+    fn step(
+        &mut self,
+        turned: &Turned,
+        lost: &Lost,
+        is_forward: bool,
+        cost: u64,
+        best: &mut Incumbent,
+    ) -> u64 {
+        let change = self.drawn_change(is_forward);
+        if change.to == change.from {
+            return cost;
+        }
+        let moved = self.change(change);
+        let limits = lost.limits(turned, cost);
+        let left = self.fills.run_moved(
+            turned,
+            &self.order,
+            &self.positions,
+            &moved,
+            &self.weights,
+            &limits,
+        );
+        let Some(left) = left else {
+            return cost;
+        };
+        let next = self.cost(lost.style, left);
+        if next > cost {
+            self.take_back(change);
+            return cost;
+        }
+        self.keep(turned, next, best);
+        next
     }
 
     /// Changes the order up to this many times and fills each. It writes what costs less than the
@@ -249,27 +352,20 @@ impl Swaps {
         enough: u64,
         best: &mut Incumbent,
     ) -> u64 {
+        if best.cost <= enough || fills == 0 {
+            return fills;
+        }
         let lost = Lost::new(turned, style);
         let is_forward = style.moves_forward(turned);
-        let mut cost = u64::MAX;
-        for done in 0..fills {
+        let limits = lost.limits(turned, u64::MAX);
+        let left = self.fills.run(turned, &self.order, &self.weights, &limits);
+        let mut cost = self.cost(style, left);
+        self.keep(turned, cost, best);
+        for done in 1..fills {
             if best.cost <= enough {
                 return fills - done;
             }
-            let change = if cost == u64::MAX {
-                Change::Nothing
-            } else {
-                self.change(is_forward)
-            };
-            let next = self.cost(turned, style, lost.most(cost));
-            if next < best.cost {
-                self.keep(turned, next, best);
-            }
-            if next <= cost {
-                cost = next;
-            } else {
-                self.take_back(change);
-            }
+            cost = self.step(turned, &lost, is_forward, cost, best);
         }
         0
     }

@@ -9,7 +9,7 @@
 
 use box_instances::{Instance, NoMemory};
 use fill_search::{
-    Draws, Fills, Limits, Turned, all_turns_of, copy_into, side, start_orders, volumes,
+    Draws, Fills, Limits, Turned, all_turns_of, copy_into, side, start_orders, volumes, weight,
 };
 use loose_lists::{at, put, zeros};
 use std::alloc::Global;
@@ -39,15 +39,6 @@ pub struct Pool {
     order: Vec<u32>,
     // The numbers before the last refill.
     before: Vec<u32>,
-}
-
-// The entry of a list of weights, and 0 past its end.
-fn weight(weights: &[u64], v: u32) -> u64 {
-    if (v as usize) < weights.len() {
-        weights[v as usize]
-    } else {
-        0
-    }
 }
 
 // The volume of each box times the sum of its sides.
@@ -230,8 +221,12 @@ impl Pool {
             top: turned.top(),
             window,
             most_lost: u64::MAX,
+            highest: u32::MAX,
+            most_left: u64::MAX,
         };
         self.fills.run(turned, &self.order, &self.volumes, &limits);
+        self.fills.keep();
+        self.fills.write();
         let mut kept = 0usize;
         for k in 0..self.order.len() {
             let v = at(&self.order, k);
