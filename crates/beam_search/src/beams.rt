@@ -139,8 +139,8 @@ impl Beams {
         Ok(true)
     }
 
-    // Beams of one width and one guide: halfway down to `enough` where that is far, then right
-    // below the best height, as long as they find a packing.
+    // Beams of one width and one guide: halfway down to `enough` as long as that is far and they
+    // find a packing, and then right below the best height.
     fn lower_by(
         &mut self,
         instance: &Instance,
@@ -149,19 +149,19 @@ impl Beams {
         enough: u64,
         best: &mut Incumbent,
     ) -> Result<(), NoMemory> {
+        let mut is_far = true;
         for _ in 0..MOST_STEPS {
             let gap = best.cost.saturating_sub(enough);
             if gap == 0 {
                 return Ok(());
             }
-            let halfway = best.cost.saturating_sub(gap / 2);
-            if gap > 4 && self.lower_to(instance, direction, kind, halfway, best)? {
-                continue;
-            }
-            let below = best.cost.saturating_sub(1);
-            if !self.lower_to(instance, direction, kind, below, best)? {
+            is_far = is_far && gap > 4;
+            let height = best.cost.saturating_sub(if is_far { gap / 2 } else { 1 });
+            let is_lower = self.lower_to(instance, direction, kind, height, best)?;
+            if !is_lower && !is_far {
                 return Ok(());
             }
+            is_far = is_far && is_lower;
         }
         Ok(())
     }
