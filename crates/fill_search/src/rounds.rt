@@ -18,7 +18,7 @@ const NARROW: u32 = 3;
 
 // The rounds of a batch that stack boxes, in two dimensions and in more. The others pack some strips
 // lower that these don't.
-const FLAT_STACKS: u64 = 6;
+const FLAT_STACKS: u64 = 5;
 
 const DEEP_STACKS: u64 = 4;
 
