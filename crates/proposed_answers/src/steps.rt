@@ -3,14 +3,14 @@
 
 use box_instances::Instance;
 
-// A branching of n boxes takes n^2 pair steps, a split of the search for a refutation seven times
-// as many, and a batch of rounds of swaps (4,000 fills in two dimensions) 1,000 times as many. In
-// three and four dimensions a batch (1,200 fills) takes 60 n^3 steps.
+// A branching of n boxes takes n^2 pair steps, and a split of the search for a refutation seven
+// times as many. A batch of rounds of swaps takes 24,000 n steps in two dimensions (4,000 fills),
+// and 2,000 n^2 in three and four (1,200 fills).
 const SPLIT_COST: u64 = 7;
 
-const FLAT_BATCH_COST: u64 = 1_000;
+const FLAT_BATCH_COST: u64 = 24_000;
 
-const DEEP_BATCH_COST: u64 = 60;
+const DEEP_BATCH_COST: u64 = 2_000;
 
 // The steps in any case, for each branching of a small budget, and for each of a larger one: trees
 // and proposals of a run take 0.01 s for a budget of 0, 0.4 s for 10,000, and 12 s for 1,000,000.
@@ -25,11 +25,10 @@ const TREE_STEPS_OF_SMALL: u64 = 2_000;
 const TREE_STEPS_OF_MORE: u64 = 960;
 
 // The steps of swaps: as many in any case, and for each branching. With 60 boxes in two dimensions
-// these are 1 batch for a budget of 0, 11 for 10,000 (0.5 s) and 76 for 1,000,000 (3 s). Over 32
-// strips of 17 to 100 boxes the mean gap to what scales refute is 2.1 % behind one batch, 1.7 %
-// behind 8, and 1.6 % behind 32. Of 14 texts that fit by construction 11 are packed under a budget
-// of 10,000.
-const SWAP_STEPS: u64 = 4_500_000;
+// these are 2 batches for a budget of 0, 27 for 10,000 and 96 for 1,000,000. Over 32 strips of 17 to
+// 100 boxes the mean gap to what scales refute is 1.9 % behind the batches of a budget of 0, and
+// 1.6 % behind those of 10,000.
+const SWAP_STEPS: u64 = 3_000_000;
 
 const SWAP_STEPS_OF_SMALL: u64 = 3_500;
 
@@ -39,19 +38,23 @@ const MOST_BATCHES: u64 = 96;
 
 // In three and four dimensions packings are lower the longer swaps go on (60 boxes: 1,102 behind
 // 19,200 fills in a row, 1,083 behind 76,800), and little else narrows the gap.
-const DEEP_SWAP_STEPS_OF_MORE: u64 = 700;
+const DEEP_SWAP_STEPS_OF_MORE: u64 = 550;
 
 const MOST_DEEP_BATCHES: u64 = 128;
 
 const MOST_PACKING_BATCHES: u64 = 64;
 
-// A batch for values takes fewer steps, since not all boxes are placed. Over 19 texts of 20 to 100
-// boxes 40 batches place at most 2 % more than 12, and 12 at most 3 % more than 4.
-const FLAT_VALUE_BATCH_COST: u64 = 800;
+// A batch for values takes fewer steps for each box, since not all boxes are placed. In two
+// dimensions 40 batches place at most 2 % more than 12 (14 texts of 20 to 100 boxes). In three the
+// boxes of 5 texts of 20 to 100 boxes are worth 0.4 to 6 % more behind 11 to 56 batches than behind
+// 2 to 40.
+const FLAT_VALUE_BATCH_COST: u64 = 16_000;
 
-const DEEP_VALUE_BATCH_COST: u64 = 1_600;
+const DEEP_VALUE_BATCH_COST: u64 = 36_000;
 
-const MOST_VALUE_BATCHES: u64 = 40;
+const MOST_FLAT_VALUE_BATCHES: u64 = 40;
+
+const MOST_DEEP_VALUE_BATCHES: u64 = 64;
 
 // Trees and refutation searches decide hardly any question of more boxes than these (9 texts of 30
 // to 80 boxes), and packings are found the more often the longer they are searched. So `fit` then
@@ -95,20 +98,12 @@ fn swap_steps(budget: u64, more: u64) -> u64 {
     steps_of(budget, SWAP_STEPS_OF_SMALL, more).saturating_add(SWAP_STEPS)
 }
 
-// As many batches as the steps hold, each of which takes `cost` steps for the square of the boxes.
-fn batches_within(instance: &Instance, steps: u64, cost: u64) -> u64 {
-    steps / cost.saturating_mul(branching_steps(instance)).max(1)
-}
-
 // The steps that a batch of rounds of swaps takes.
 fn batch_steps(instance: &Instance) -> u64 {
-    let square = branching_steps(instance);
     if instance.dims() == 2 {
-        square.saturating_mul(FLAT_BATCH_COST)
+        u64::from(instance.len()).saturating_mul(FLAT_BATCH_COST)
     } else {
-        square
-            .saturating_mul(DEEP_BATCH_COST)
-            .saturating_mul(u64::from(instance.len()))
+        branching_steps(instance).saturating_mul(DEEP_BATCH_COST)
     }
 }
 
@@ -130,8 +125,8 @@ pub(crate) fn packing_batches(instance: &Instance, budget: u64) -> u64 {
     } else {
         0
     };
-    let steps = swap_steps(budget, SWAP_STEPS_OF_MORE).saturating_add(more);
-    (steps / batch_steps(instance).max(1)).min(MOST_PACKING_BATCHES)
+    let steps = swap_steps(budget, SWAP_STEPS_OF_MORE);
+    (steps.saturating_add(more) / batch_steps(instance).max(1)).min(MOST_PACKING_BATCHES)
 }
 
 /// The splits of a search for a refutation that a budget pays for.
@@ -145,13 +140,15 @@ pub(crate) fn paid_splits(instance: &Instance, budget: u64) -> u64 {
     splits_within(instance, part)
 }
 
-/// The batches of rounds of swaps for a set of boxes that is worth much under a budget, at most 40.
+/// The batches of rounds of swaps for a set of boxes that is worth much under a budget, at most 40
+/// in two dimensions and 64 in more.
 pub fn value_batches(instance: &Instance, budget: u64) -> u64 {
-    let cost = if instance.dims() == 2 {
-        FLAT_VALUE_BATCH_COST
+    let (cost, most) = if instance.dims() == 2 {
+        (FLAT_VALUE_BATCH_COST, MOST_FLAT_VALUE_BATCHES)
     } else {
-        DEEP_VALUE_BATCH_COST
+        (DEEP_VALUE_BATCH_COST, MOST_DEEP_VALUE_BATCHES)
     };
     let steps = swap_steps(budget, SWAP_STEPS_OF_MORE);
-    batches_within(instance, steps, cost).min(MOST_VALUE_BATCHES)
+    let batch = u64::from(instance.len()).saturating_mul(cost).max(1);
+    (steps / batch).min(most)
 }
