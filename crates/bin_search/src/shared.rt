@@ -16,6 +16,11 @@ use std::sync::Wait;
 use std::thread::Threads;
 use work_share::{Gate, Node, Settings, Tree, solve_shared};
 
+// The most boxes that several workers serve. With more boxes nearly every set of a bin comes again,
+// and one cache answers it in less time than a lock on it takes: 40 boxes took 0.06 s by one worker
+// and 0.9 s by four.
+const MOST_SHARED_BOXES: u32 = 16;
+
 // The bin tree, with the search from whose pool each task takes one. It is seen as that tree.
 #[derive(Drop)]
 pub(crate) struct PooledTree<'a, 'b> {
@@ -77,9 +82,10 @@ impl<'a> BinTree<'a> {
     /// What the tree gives under the budget of the settings, by as many workers as these say: what
     /// `solve_shared` answers of it, for every number of workers and every gate.
     ///
-    /// One worker decides sets with `search`, as `explore_with` does. With more, each task takes a
-    /// search from the pool of `search` and gives it back. These searches share what they decide,
-    /// so a later task, also one of the trees of other numbers of bins, finds the sets of earlier ones.
+    /// One worker decides sets with `search`, as `explore_with` does. More than one serve up to 16
+    /// boxes: each task takes a search from the pool of `search` and gives it back, and these
+    /// searches share what they decide, for the trees of other numbers of bins too. Trees of more
+    /// boxes are explored by the calling thread alone.
     pub fn solve_with<R: Threads + Wait + Sync, G: Gate + Sync>(
         &self,
         rt: &R,
@@ -96,7 +102,7 @@ impl<'a> BinTree<'a> {
         ensures outcome { IfOk result
             (λ r. plain_outcome r ≡ told settings.now.budget (outcome (shape self.now))) }
     {
-        if settings.workers <= 1 {
+        if settings.workers <= 1 || self.box_count() > MOST_SHARED_BOXES {
             return self.explore_with(alloc, search, settings.budget);
         }
         let pooled = PooledTree { tree: self, search };

@@ -47,6 +47,11 @@ impl<'a> Model for BinTree<'a> {
 }
 
 impl<'a> BinTree<'a> {
+    // The number of boxes of the instance.
+    pub(crate) fn box_count(&self) -> u32 {
+        self.instance.len()
+    }
+
     /// The tree for so many bins, with conservative scales or without. No box is longer than the
     /// container, and there are no more bins than boxes.
     pub fn new(
