@@ -9,12 +9,15 @@ use edge_state::Mark;
 use loose_lists::{at, put};
 use std::alloc::Global;
 
+// So many dimensions have places.
+const MOST_DIMS: usize = 4;
+
 // So many boxes have their places in a dimension.
 const MOST_BOXES: usize = 128;
 
 /// So many places there are, one for each box and dimension. Behind them stand the backward
 /// weights.
-pub(crate) const PLACES: usize = 4 * MOST_BOXES;
+pub(crate) const PLACES: usize = MOST_DIMS * MOST_BOXES;
 
 // So many weights that rose are taken back at most. Further ones don't rise.
 const MOST_RISEN: usize = 2_048;
@@ -31,7 +34,7 @@ const FEW_BOXES: u32 = 8;
 #[derive(Drop)]
 pub struct Guess {
     own: [u32; PLACES],
-    limits: [u32; 4],
+    limits: [u32; MOST_DIMS],
     weights: [u32; 2 * PLACES],
     risen: Vec<(usize, u32)>,
     used: usize,
@@ -41,10 +44,11 @@ pub struct Guess {
     is_on: bool,
 }
 
-/// The place of a box.
+/// The place of a box. A number out of range gives the place of another one, so each place is less
+/// than `PLACES`, and the compiler drops the tests of all reads and writes at it.
 #[inline]
 pub(crate) fn place_of(dim: u32, v: u32) -> usize {
-    dim as usize * MOST_BOXES + v as usize
+    dim as usize % MOST_DIMS * MOST_BOXES + v as usize % MOST_BOXES
 }
 
 impl Guess {
@@ -65,7 +69,7 @@ impl Guess {
         };
         Ok(Guess {
             own: [0; PLACES],
-            limits: [0; 4],
+            limits: [0; MOST_DIMS],
             weights: [0; 2 * PLACES],
             risen,
             used: 0,
@@ -92,9 +96,7 @@ impl Guess {
         for v in 0..instance.len() {
             self.start(place_of(dim, v), instance.side(v, dim));
         }
-        if dim < 4 {
-            self.limits[dim as usize] = instance.container_side(dim);
-        }
+        put(&mut self.limits, dim as usize, instance.container_side(dim));
     }
 
     /// Begins at a state of which nothing is known.
@@ -194,6 +196,6 @@ impl Guess {
         let head = u64::from(at(&self.weights, place));
         let tail = u64::from(at(&self.weights, place.wrapping_add(PLACES)));
         let own = u64::from(at(&self.own, place));
-        head + tail > own + u64::from(at(&self.limits, dim as usize))
+        head + tail > own + u64::from(at(&self.limits, dim as usize % MOST_DIMS))
     }
 }

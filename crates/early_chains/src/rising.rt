@@ -30,6 +30,7 @@ pub(crate) fn next_boxes<const K: usize>(
 impl Guess {
     // Raises the boxes that a chain of x goes on to. It stops at one through which a chain is too
     // long.
+    #[inline(always)]
     fn hand_on<const K: usize>(
         &mut self,
         state: &EdgeState,
@@ -58,6 +59,7 @@ impl Guess {
     }
 
     // Raises a box, and those that its chains go on to.
+    #[inline(always)]
     fn raise<const K: usize>(
         &mut self,
         state: &EdgeState,
@@ -90,6 +92,34 @@ impl Guess {
         None
     }
 
+    // The same forwards.
+    #[inline(never)]
+    fn raise_head<const K: usize>(
+        &mut self,
+        state: &EdgeState,
+        dim: u32,
+        b: u32,
+        weight: u32,
+    ) -> Option<u32>
+        requires { HoldsBoxes K state.now.boxes }
+    {
+        self.raise::<K>(state, dim, b, weight, true)
+    }
+
+    // The same backwards. Each direction has code of its own, in which it is a constant.
+    #[inline(never)]
+    fn raise_tail<const K: usize>(
+        &mut self,
+        state: &EdgeState,
+        dim: u32,
+        b: u32,
+        weight: u32,
+    ) -> Option<u32>
+        requires { HoldsBoxes K state.now.boxes }
+    {
+        self.raise::<K>(state, dim, b, weight, false)
+    }
+
     /// Two boxes are ordered. Answers a box through which a chain is thought to be too long.
     #[inline(always)]
     pub(crate) fn link<const K: usize>(
@@ -105,14 +135,14 @@ impl Guess {
         let second = place_of(dim, b);
         let head = self.weight_at(first).saturating_add(self.own_at(second));
         if head > self.weight_at(second) {
-            if let Some(x) = self.raise::<K>(state, dim, b, head, true) {
+            if let Some(x) = self.raise_head::<K>(state, dim, b, head) {
                 return Some(x);
             }
         }
         let back = self.weight_at(second.wrapping_add(PLACES));
         let tail = back.saturating_add(self.own_at(first));
         if tail > self.weight_at(first.wrapping_add(PLACES)) {
-            return self.raise::<K>(state, dim, a, tail, false);
+            return self.raise_tail::<K>(state, dim, a, tail);
         }
         None
     }
