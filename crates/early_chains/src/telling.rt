@@ -11,7 +11,7 @@ use crate::guess::{Guess, PLACES, place_of};
 use crate::lines::long_pair;
 use crate::rising::next_boxes;
 use box_instances::Instance;
-use edge_state::{BitRow, EdgeState, Mask};
+use edge_state::{BitRow, EdgeState};
 
 impl Guess {
     // The box from which the weight of x comes: before it, or behind it.
@@ -71,17 +71,16 @@ impl Guess {
         place
     }
 
-    /// The first two boxes of a chain that is too long, where one is come upon, now that so much is
-    /// left of an edge.
+    /// The first two boxes of a chain that is too long, where one is found now that `a` comes before
+    /// `b`.
     #[inline(always)]
     pub fn long_pair<const K: usize>(
         &mut self,
         instance: &Instance,
         state: &EdgeState,
         dim: u32,
-        u: u32,
-        v: u32,
-        left: Mask,
+        a: u32,
+        b: u32,
     ) -> Option<(u32, u32)>
         requires words { HoldsBoxes K (box_count instance.now) }
         requires sizes { IsSized instance.now state.now dim }
@@ -91,12 +90,7 @@ impl Guess {
         if !self.is_on() {
             return None;
         }
-        let found = match left.bits() {
-            2 => self.link::<K>(state, dim, u, v),
-            4 => self.link::<K>(state, dim, v, u),
-            _ => None,
-        };
-        let Some(x) = found else {
+        let Some(x) = self.link::<K>(state, dim, a, b) else {
             return None;
         };
         self.told_pair::<K>(instance, state, dim, x)

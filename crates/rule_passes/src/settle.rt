@@ -1,5 +1,5 @@
 //! Going along what changed: the worklist is the newer part of the state's list of exclusions.
-ghost use Rattle.std.specs.Prelude.{◌≡◌, ◌<◌, ◌≤◌, ◌+◌, ◌-◌, ◌⊎◌, ℕ, true, false, not, nat_lt, length, drop, MatchOption};
+ghost use Rattle.std.specs.Prelude.{◌≡◌, ◌<◌, ◌≤◌, ◌+◌, ◌-◌, ◌⊎◌, ℕ, true, false, not, nat_lt, length, drop, MatchOption, IfSome};
 ghost use Rattle.packing_terms.specs.Packing.{dims, box_count};
 ghost use Rattle.packing_terms.specs.declared.Rel.{Rel as PlainRel};
 ghost use Rattle.packing_terms.specs.Exclusions.{excludes};
@@ -8,9 +8,10 @@ ghost use Rattle.rule_terms.specs.Applied.{Extends};
 ghost use Rattle.edge_state.specs.BitRows.{HoldsBoxes, row_has};
 ghost use Rattle.edge_state.specs.Answers.{IsChangeAfter};
 ghost use Rattle.edge_state.specs.Edges.{oldest};
-ghost use Rattle.closure_terms.specs.States.{HasEmptyMask};
+ghost use Rattle.closure_terms.specs.States.{IsSized, HasEmptyMask};
 ghost use Rattle.closure_terms.specs.Work.{IsUnordered, IsBehind};
 ghost use Rattle.closure_terms.specs.Work.{IsLookedThrough};
+ghost use Rattle.early_chains.specs.Lines.{IsTooLong};
 
 use crate::empties::is_empty_left;
 use crate::following::spread;
@@ -46,22 +47,39 @@ fn orders(state: &EdgeState, change: Exclusion, left: Mask) -> bool
     !left.has(Rel::Overlap) & !(left.has(Rel::Before) & left.has(Rel::After))
 }
 
-// The dimensions in which CHAIN is to be looked at, with that of a change that orders its boxes.
-#[inline]
-fn dirtied(state: &EdgeState, dirty: BitRow<1>, change: Exclusion, left: Mask) -> BitRow<1>
+// The dimensions in which CHAIN is to be looked at, with that of a change that orders its boxes. If
+// it does, two boxes come with them where a chain is found that is too long.
+#[inline(always)]
+fn ordered<const K: usize>(
+    instance: &Instance,
+    state: &EdgeState,
+    guess: &mut Guess,
+    dirty: BitRow<1>,
+    change: Exclusion,
+    left: Mask,
+) -> (BitRow<1>, Option<(u32, u32)>)
+    requires words { HoldsBoxes K (box_count instance.now) }
+    requires sizes { IsSized instance.now state.now change.dim }
     requires dim { change.dim < 4 }
     requires left { (r : PlainRel) → mask_has left r
         ≡ not (excludes state.now.trail change.dim change.u change.v r) }
-    ensures clean { (i : ℕ) → row_has result i ≡ false → row_has dirty i ≡ false }
-    ensures unordered { (i : ℕ) → row_has result i ≡ false → change.dim ≡ i
+    ensures clean { (i : ℕ) → row_has result.0 i ≡ false → row_has dirty i ≡ false }
+    ensures unordered { (i : ℕ) → row_has result.0 i ≡ false → change.dim ≡ i
         → IsUnordered (excludes state.now.trail) change }
-    ensures within { (i : ℕ) → row_has result i ≡ true → (i ≡ change.dim)
+    ensures within { (i : ℕ) → row_has result.0 i ≡ true → (i ≡ change.dim)
         ⊎ (row_has dirty i ≡ true) }
+    ensures long { IfSome result.1
+        (λ p. IsTooLong instance.now (excludes state.now.trail) change.dim p.0 p.1) }
 {
-    if orders(state, change, left) {
-        return dirty.with(change.dim);
+    let (dim, u, v) = (change.dim, change.u, change.v);
+    if !orders(state, change, left) {
+        return (dirty, None);
     }
-    dirty
+    let more = dirty.with(dim);
+    if left.has(Rel::Before) {
+        return (more, guess.long_pair::<K>(instance, state, dim, u, v));
+    }
+    (more, guess.long_pair::<K>(instance, state, dim, v, u))
 }
 
 /// Looks through the exclusions that came after a position of the list, and those that follow, the
@@ -99,13 +117,12 @@ pub(crate) fn settle<const K: usize>(
         if is_empty_left(instance, state, change.dim, change.u, change.v, left) {
             return None;
         }
-        let (dim, u, v) = (change.dim, change.u, change.v);
-        if let Some((a, b)) = guess.long_pair::<K>(instance, state, dim, u, v, left) {
-            shut_pair(instance, state, dim, a, b);
+        let (more, long) = ordered::<K>(instance, state, guess, chains, change, left);
+        if let Some((a, b)) = long {
+            shut_pair(instance, state, change.dim, a, b);
             return None;
         }
         let (after, stale) = behind(state, next, change);
-        let more = dirtied(state, chains, change, left);
         let most = instance.longest_side(change.dim);
         if spread(
             instance, state, all, change.dim, change.u, change.v, left, stale, most,
