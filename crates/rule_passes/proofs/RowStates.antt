@@ -6,8 +6,7 @@ use Rattle.packing_terms.specs.declared.Rel.TheVariants.{Overlap, Before, After}
 use Rattle.packing_terms.specs.declared.Exclusion.{Exclusion}
 use Rattle.packing_terms.specs.Packing.{PlainInstance, dims, box_count}
 use Rattle.packing_terms.specs.Exclusions.{Exclusions, excludes, IsEdge}
-use Rattle.packing_terms.specs.Rules.{Rule, Follows}
-use Rattle.packing_terms.proofs.Monotone.{follows_more}
+use Rattle.packing_terms.specs.Rules.{Follows}
 use Rattle.edge_state.specs.Edges.{PlainEdges, is_other_box}
 use Rattle.edge_state.specs.RowExclusions.{with_row, HasEmptyAt, taken_at}
 use Rattle.edge_state.proofs.Kept.{row_shut, row_open}

@@ -1,8 +1,9 @@
 //! CYCLE at what a changed edge tells.
 //!
 //! Each call answers whether a mask is empty, and stops there.
-ghost use Rattle.std.specs.Prelude.{◌≡◌, ◌<◌, ◌⊎◌, ℕ, false, nat_lt};
+ghost use Rattle.std.specs.Prelude.{◌≡◌, ◌<◌, ◌⊎◌, ℕ, true, false, nat_lt};
 ghost use Rattle.packing_terms.specs.Packing.{box_count};
+ghost use Rattle.packing_terms.specs.Exclusions.{excludes, IsJoined};
 ghost use Rattle.packing_terms.specs.Rules.{Cycle};
 ghost use Rattle.edge_state.specs.BitRows.{HoldsBoxes, row_has};
 ghost use Rattle.closure_terms.specs.Instances.{Chords, Cycles};
@@ -11,12 +12,12 @@ ghost use Rattle.closure_terms.specs.Work.{IsWorked};
 
 use crate::candidates::{cycle_fourths, cycle_seconds, cycle_thirds};
 use crate::excluding::{exclude_between, exclude_both};
-use crate::rows::{gone_of_any, has_no_two, is_empty};
+use crate::rows::{either, gone_of_any, is_empty};
 use box_instances::Instance;
 use edge_state::{BitRow, EdgeState, Rel};
 
-/// Whether CYCLE may exclude something with the first two boxes given: some box is joined with one
-/// and not with the other, and some third closes a path.
+/// Whether CYCLE may exclude something with the first two boxes given: some box is joined with the
+/// first and not with the second, and with some third that closes a path.
 #[inline(always)]
 pub(crate) fn may_cycle<const K: usize>(
     instance: &Instance,
@@ -34,13 +35,13 @@ pub(crate) fn may_cycle<const K: usize>(
     ensures { result ≡ false → IsWorked instance.now state.now state.now false
         (Cycles instance.now dim a b) }
 {
-    if is_empty(cycle_fourths::<K>(instance, state, dim, a, b)) {
+    let fourths = cycle_fourths::<K>(instance, state, dim, a, b);
+    if is_empty(fourths) {
         return false;
     }
-    if is_empty(cycle_thirds(instance, state, all, dim, a, b)) {
-        return false;
-    }
-    true
+    let thirds = cycle_thirds(instance, state, all, dim, a, b);
+    let closing = gone_of_any(instance, state, all, dim, thirds, Rel::Before, Rel::After);
+    !is_empty(fourths.and(closing))
 }
 
 /// CYCLE with the first two boxes given, for all third boxes at once: it excludes at the second
@@ -77,8 +78,34 @@ pub(crate) fn cycles<const K: usize>(
     exclude_both(instance, state, dim, b, Rel::Before, Rel::After, row)
 }
 
+// Whether two boxes of a row aren't joined.
+#[inline(always)]
+fn has_open_pair<const K: usize>(
+    instance: &Instance,
+    state: &EdgeState,
+    dim: u32,
+    row: BitRow<K>,
+) -> bool
+    requires words { HoldsBoxes K (box_count instance.now) }
+    requires sizes { IsSized instance.now state.now dim }
+    requires within { (b : ℕ) → row_has row b ≡ true → b < box_count instance.now }
+    ensures { result ≡ false → (b d : ℕ) → row_has row.entry b ≡ true → row_has row.entry d ≡ true
+        → (b ≡ d → ⊥) → IsJoined (excludes state.now.trail) dim b d }
+{
+    let mut rest = row;
+    while let Some(b) = rest.first() {
+        rest = rest.without(b);
+        let open = either::<K>(instance, state, dim, b, Rel::Before, Rel::After);
+        if !is_empty(open.and(row)) {
+            return true;
+        }
+    }
+    false
+}
+
 /// Whether CYCLE may exclude something with the first and the third box given, in one of the orders:
-/// two boxes are joined with both.
+/// two boxes that aren't joined are joined with both. At 97 of 100 edges and more, those that are
+/// joined with both are joined already (three texts of 14 to 50 boxes).
 #[inline(always)]
 pub(crate) fn may_chord<const K: usize>(
     instance: &Instance,
@@ -97,10 +124,8 @@ pub(crate) fn may_chord<const K: usize>(
     ensures { result ≡ false → IsWorked instance.now state.now state.now false
         (λ rule. Chords instance.now dim a c rule ⊎ Chords instance.now dim c a rule) }
 {
-    if has_no_two(cycle_seconds(instance, state, all, dim, a, c)) {
-        return false;
-    }
-    true
+    let seconds = cycle_seconds(instance, state, all, dim, a, c);
+    has_open_pair(instance, state, dim, seconds)
 }
 
 /// CYCLE with the first and the third box given, in both orders: any two boxes that are joined with

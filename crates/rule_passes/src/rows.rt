@@ -32,19 +32,6 @@ pub(crate) fn is_empty<const K: usize>(row: BitRow<K>) -> bool
     }
 }
 
-/// Whether a row has at most one member.
-#[inline(always)]
-pub(crate) fn has_no_two<const K: usize>(row: BitRow<K>) -> bool
-    requires { IsRowWidth K }
-    ensures { result ≡ true → (x y : ℕ) → row_has row.entry x ≡ true → row_has row.entry y ≡ true
-        → x ≡ y }
-{
-    match row.first() {
-        Some(x) => is_empty(row.without(x)),
-        None => true,
-    }
-}
-
 /// What is in one of three rows.
 #[inline(always)]
 pub(crate) fn one_of<const K: usize>(

@@ -1,4 +1,4 @@
-use Rattle.std.proofs.Common.{◌≡◌, ◌∙◌, ℕ, ap, sym, not, true, false, eqb, ◌&&◌, Bool}
+use Rattle.std.proofs.Common.{◌≡◌, ◌∙◌, ℕ, ap, sym, not, eqb, ◌&&◌, Bool}
 use Rattle.std.proofs.lemmas.Bool.{and_parts, eq-eqb, true≢false}
 use Rattle.packing_terms.specs.declared.Rel.{Rel}
 use Rattle.packing_terms.specs.declared.Rel.TheVariants.{Overlap, Before, After}

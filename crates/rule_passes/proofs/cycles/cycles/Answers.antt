@@ -1,10 +1,10 @@
-use Rattle.std.proofs.Common.{◌≡◌, ◌≢◌, ◌<◌, ◌⊎◌, inl, inr, ◌∙◌, ℕ, refl, sym, Bool, true, false, arith}
+use Rattle.std.proofs.Common.{◌≡◌, ◌⊎◌, inl, inr, ◌∙◌, ℕ, refl, sym, Bool, true, false, arith}
 use Rattle.std.proofs.lemmas.Bool.{and_parts, true≢false, cases_Bool}
 use Rattle.packing_terms.specs.declared.Rel.{Rel}
-use Rattle.packing_terms.specs.declared.Rel.TheVariants.{Overlap, Before, After}
+use Rattle.packing_terms.specs.declared.Rel.TheVariants.{Before, After}
 use Rattle.packing_terms.specs.Packing.{box_count}
 use Rattle.packing_terms.specs.Exclusions.{excludes, IsJoined}
-use Rattle.packing_terms.specs.Rules.{Rule, Cycle, IsRuleInstance, Premises, Follows}
+use Rattle.packing_terms.specs.Rules.{Cycle, IsRuleInstance, Premises, Follows}
 use Rattle.edge_state.specs.BitRows.{row_has}
 use Rattle.edge_state.specs.Edges.{is_other_box}
 use Rattle.edge_state.proofs.RowSteps.{box_apart}

@@ -1,7 +1,6 @@
 use Rattle.std.proofs.Common.{arith}
-use Rattle.closure_terms.proofs.Worked.{worked_as, worked_then, worked_kept, worked_lost_first, sizes_worked}
+use Rattle.closure_terms.proofs.Worked.{worked_kept, worked_lost_first, sizes_worked}
 use Rattle.packing_terms.proofs.Monotone.{follows_more}
-use Rattle.packing_terms.specs.Exclusions.{excludes}
 use Rattle.rule_passes.specs.Reached.{NoRule}
 use Rattle.rule_passes.proofs.RowRules.{none_then}
 use Rattle.rule_passes.proofs.excluding.exclude_both.Goals as goal

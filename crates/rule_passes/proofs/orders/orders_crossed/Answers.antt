@@ -1,10 +1,9 @@
-use Rattle.std.proofs.Common.{◌≡◌, ◌≢◌, ◌<◌, ◌⊎◌, ◌∙◌, ℕ, refl, sym, Bool, true, false, not, eqb, ◌&&◌, arith}
+use Rattle.std.proofs.Common.{◌≡◌, ◌∙◌, ℕ, refl, sym, Bool, true, arith}
 use Rattle.std.proofs.lemmas.Bool.{and_parts, true≢false, eq-eqb}
 use Rattle.packing_terms.specs.declared.Rel.{Rel}
 use Rattle.packing_terms.specs.declared.Rel.TheVariants.{Overlap, Before, After}
-use Rattle.packing_terms.specs.Packing.{box_count}
 use Rattle.packing_terms.specs.Exclusions.{excludes}
-use Rattle.packing_terms.specs.Rules.{Rule, Order, IsRuleInstance, Premises, Follows}
+use Rattle.packing_terms.specs.Rules.{Order, IsRuleInstance, Premises, Follows}
 use Rattle.packing_terms.proofs.Sets.{excludes_symmetric}
 use Rattle.edge_state.specs.BitRows.{row_has}
 use Rattle.edge_state.proofs.Kept.{open_is}

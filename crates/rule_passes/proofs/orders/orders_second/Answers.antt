@@ -1,10 +1,10 @@
-use Rattle.std.proofs.Common.{◌≡◌, ◌≢◌, ◌<◌, ◌⊎◌, inl, inr, ◌∙◌, ℕ, refl, sym, Bool, true, false, not, eqb, ◌&&◌, arith}
+use Rattle.std.proofs.Common.{◌≡◌, ◌⊎◌, inl, inr, ◌∙◌, ℕ, refl, sym, Bool, true, false, not, eqb, arith}
 use Rattle.std.proofs.lemmas.Bool.{and_parts, true≢false, cases_Bool, eq-eqb}
 use Rattle.packing_terms.specs.declared.Rel.{Rel}
 use Rattle.packing_terms.specs.declared.Rel.TheVariants.{Overlap, Before, After}
 use Rattle.packing_terms.specs.Packing.{box_count}
 use Rattle.packing_terms.specs.Exclusions.{excludes, IsSurelyBefore}
-use Rattle.packing_terms.specs.Rules.{Rule, Order, IsRuleInstance, Premises, Follows}
+use Rattle.packing_terms.specs.Rules.{Order, IsRuleInstance, Premises, Follows}
 use Rattle.packing_terms.proofs.Sets.{excludes_symmetric}
 use Rattle.edge_state.specs.BitRows.{row_has}
 use Rattle.edge_state.specs.Edges.{is_other_box}

@@ -1,4 +1,4 @@
-use Rattle.std.proofs.Common.{◌≡◌, ◌≢◌, ◌<◌, ◌+◌, ◌⊎◌, inl, inr, ◌∙◌, ℕ, sym, arith, true, false}
+use Rattle.std.proofs.Common.{◌≡◌, ◌≢◌, ◌<◌, ◌+◌, ◌⊎◌, inl, inr, ℕ, arith, true, false}
 use Rattle.std.proofs.lemmas.Bool.{cases_Bool}
 use Rattle.packing_terms.specs.declared.Rel.{Rel}
 use Rattle.packing_terms.specs.declared.Rel.TheVariants.{Overlap, Before, After}
@@ -7,7 +7,6 @@ use Rattle.packing_terms.specs.Exclusions.{excludes}
 use Rattle.packing_terms.specs.Rules.{Triple, Follows}
 use Rattle.edge_state.specs.BitRows.{row_has}
 use Rattle.edge_state.proofs.RowSteps.{box_apart}
-use Rattle.closure_terms.specs.Work.{IsCovered}
 use Rattle.rule_passes.proofs.RowRules.{worked_from, covered_shut, named_shut, shut_joined, triple_follows}
 use Rattle.rule_passes.proofs.triples.triples_among.Goals as goal
 
