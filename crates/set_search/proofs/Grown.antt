@@ -1,6 +1,7 @@
 -- A set with one box more.
 use Rattle.std.proofs.Common.{◌≡◌, ℕ, ◌<◌, ap, sym, ◌∙◌, Bool, true, false, ◌||◌, eqb, ltb, List, [], ◌∷◌}
-use Rattle.std.specs.Prelude.{if◌then◌else◌}
+use Rattle.std.proofs.Common.{Result, Ok, Err}
+use Rattle.std.specs.Prelude.{if◌then◌else◌, OnErr}
 use Rattle.std.specs.List.{All}
 use Rattle.std.proofs.Math.Bool.{or_assoc, or_comm, or-false}
 use Rattle.std.proofs.lemmas.List.Elements.{All-nil, All-cons, All-head, All-tail}
@@ -28,3 +29,8 @@ below_inserted n v (u ∷ us) h = go (ltb v u) h (below_inserted n v us)
     go false h more =
         let m = more (All-tail (λ (x : ℕ). x < n) u (insert_box v us) h) in
         (All-cons (λ (x : ℕ). x < n) u us (All-head (λ (x : ℕ). x < n) u (insert_box v us) h) m.0, m.1)
+
+-- what holds holds after an error
+pub on_err : {A E : Type 0} (P : Type 0) (r : Result A E) → P → OnErr r P
+on_err P (Ok x) h = tt
+on_err P (Err e) h = h

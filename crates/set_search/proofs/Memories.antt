@@ -2,11 +2,11 @@
 use Rattle.std.proofs.Common.{◌≡◌, ℕ, suc, ◌+◌, ◌<◌, ◌≤◌, ◌⊎◌, inl, inr, refl, sym, ap, subst, ◌∙◌, arith, Bool, true}
 use Rattle.std.proofs.Common.{false, ◌||◌, eqb, ltb, List, [], ◌∷◌, ◌++◌, length, get_or, cond}
 use Rattle.std.proofs.Common.{Option, Some, None}
-use Rattle.std.specs.List.{All}
+use Rattle.std.specs.List.{All, Contains}
 use Rattle.std.specs.List.Sorted.{IsStrictlyIncreasing}
 use Rattle.std.proofs.lemmas.List.Elements.{All-contains, All-contains_itself, All-push, All-set}
 use Rattle.std.proofs.Math.ListN.{set}
-use Rattle.std.proofs.lemmas.Bool.{true≢false, cases_lt, eq-eqb, or_left, ne_eqb, lt-ltb, le-ltb}
+use Rattle.std.proofs.lemmas.Bool.{true≢false, cases_lt, eq-eqb, or_left, ne_eqb, lt-ltb, le-ltb, ltb-true}
 use Rattle.packing_terms.specs.Packing.{PlainInstance}
 use Rattle.packing_terms.specs.Goals.{subset, IsBoxSet}
 use Rattle.packing_terms.specs.Limits.{IsInternalInstance}
@@ -17,7 +17,7 @@ use Rattle.tree_terms.proofs.Decisions.{class_tree_right}
 use Rattle.box_instances.proofs.Subsets.{subset_within}
 use Rattle.class_search.specs.Right.{IsRight}
 use Rattle.set_search.proofs.Verdicts.{told_same}
-use Rattle.set_search.specs.Memories.{has_box, HasBoxes, PlainEntry, plain_count, retold, IsRecalled, IsPut, IsVerdict}
+use Rattle.set_search.specs.Memories.{has_box, HasBoxes, PlainEntry, plain_count, retold, Serves, IsRecalled, IsPut, IsCopied, IsVerdict}
 use Rattle.set_search.specs.Memories.{AreVerdicts, IsRecalledNo, IsToldNo}
 
 -- one box more
@@ -83,36 +83,73 @@ one_set (x ∷ xs) [] r s h = absurd (true≢false (sym (own_first x xs) ∙ h x
 one_set (x ∷ xs) (y ∷ ys) r s h =
     same_first x y xs ys r s h (cases_lt x y) (cases_lt y x) (one_set xs ys (rising_tail x xs r) (rising_tail y ys s))
 
--- outcomes without a budget are the same only where their verdicts are
-verdict_is : (v w : Verdict) → Decided v ≡ Decided w → v ≡ w
-verdict_is v w e = ap (λ r. verdict_in r v) e
-  where
-    verdict_in : PlainOutcome → Verdict → Verdict
-    verdict_in (Decided u) other = u
-    verdict_in Past other = other
-
--- an entry with the verdict on a set that has its boxes is right
-pub verdict_made : (instance : PlainInstance) (scales : Bool) (boxes keep : List ℕ) (outcome : PlainOutcome)
+-- an entry with the verdict on a set that has its boxes, told under its budget, is right
+pub verdict_made : (instance : PlainInstance) (scales : Bool) (boxes keep : List ℕ) (budget : ℕ)
+    (outcome : PlainOutcome)
     → HasBoxes boxes keep → IsBoxSet instance keep
-    → outcome ≡ Decided (set_verdict instance scales keep)
-    → IsVerdict instance scales (record { boxes = boxes; outcome = outcome })
-verdict_made instance scales boxes keep outcome has set e = record {
+    → outcome ≡ told budget (set_verdict instance scales keep)
+    → IsVerdict instance scales (record { boxes = boxes; budget = budget; outcome = outcome })
+verdict_made instance scales boxes keep budget outcome has set e = record {
   is = λ other other_set other_has.
-      e ∙ ap (λ us. Decided (set_verdict instance scales us))
+      e ∙ ap (λ us. told budget (set_verdict instance scales us))
       (one_set keep other set.rising other_set.rising (λ x. sym (has x) ∙ other_has x));
 }
 
 -- entries are right where one that is right was put
-pub verdicts_put : (instance : PlainInstance) (scales : Bool) (old new : List PlainEntry) (boxes : List ℕ)
-    (outcome : PlainOutcome)
-    → AreVerdicts instance scales old → IsVerdict instance scales (record { boxes = boxes; outcome = outcome })
-    → All (IsPut old boxes outcome) new
+pub verdicts_put : (instance : PlainInstance) (scales : Bool) (old new : List PlainEntry) (put : PlainEntry)
+    → AreVerdicts instance scales old → IsVerdict instance scales put
+    → All (IsPut old put) new
     → AreVerdicts instance scales new
-verdicts_put instance scales old new boxes outcome right made put k d l = go (get_or new k d) (put k d l)
+verdicts_put instance scales old new put right made all k d l = go (get_or new k d) (all k d l)
   where
-    go : (e : PlainEntry) → IsPut old boxes outcome e → IsVerdict instance scales e
+    go : (e : PlainEntry) → IsPut old put e → IsVerdict instance scales e
     go e (inl same) = subst (λ (x : PlainEntry). IsVerdict instance scales x) (sym same) made
     go e (inr there) = All-contains (IsVerdict instance scales) old e right there
+
+-- entries are right where those were copied that are right
+pub verdicts_copied : (instance : PlainInstance) (scales : Bool) (other old new : List PlainEntry)
+    → AreVerdicts instance scales other → AreVerdicts instance scales old
+    → All (IsCopied other old) new
+    → AreVerdicts instance scales new
+verdicts_copied instance scales other old new given right all k d l = go (get_or new k d) (all k d l)
+  where
+    go : (e : PlainEntry) → IsCopied other old e → IsVerdict instance scales e
+    go e (inl there) = All-contains (IsVerdict instance scales) other e given there
+    go e (inr there) = All-contains (IsVerdict instance scales) old e right there
+
+none_past : (budget : ℕ) → retold budget Past ≡ Past
+none_past budget = go (ltb budget 0)
+  where
+    go : (b : Bool) → cond b Past Past ≡ Past
+    go true = refl
+    go false = refl
+
+-- an outcome that was found under one budget is told under another one that it serves
+pub retold_told : (found budget : ℕ) (v : Verdict) (r : PlainOutcome)
+    → r ≡ told found v → Serves r found budget
+    → retold budget r ≡ told budget v
+retold_told found budget v (Decided w) e serves =
+    let t = told_same found v w e in ap (told budget) (sym t.same)
+retold_told found budget v Past e serves = go (ltb found (count_of v)) refl e
+  where
+    is_past : PlainOutcome → Type 0
+    is_past (Decided x) = ⊥
+    is_past Past = Past ≡ Past
+
+    go : (b : Bool) → ltb found (count_of v) ≡ b → Past ≡ cond b Past (Decided v) → retold budget Past ≡ told budget v
+    go true f h =
+        let l = ltb-true found (count_of v) f in
+        none_past budget ∙ sym (ap (λ b. cond b Past (Decided v)) (lt-ltb budget (count_of v) (omega (arith, l, serves))))
+    go false f h = absurd (subst is_past h refl)
+
+-- an outcome that was found under a greater budget or the same, told under this one
+pub told_within : (found budget : ℕ) (v : Verdict) (r s : PlainOutcome)
+    → budget ≤ found → r ≡ told found v → s ≡ retold budget r → s ≡ told budget v
+told_within found budget v r s l e h = h ∙ retold_told found budget v r e (go r)
+  where
+    go : (x : PlainOutcome) → Serves x found budget
+    go (Decided w) = tt
+    go Past = l
 
 -- what is recalled of a set is its verdict, told under the budget
 pub recalled : (instance : PlainInstance) (scales : Bool) (entries : List PlainEntry) (boxes keep : List ℕ) (budget : ℕ)
@@ -122,7 +159,9 @@ pub recalled : (instance : PlainInstance) (scales : Bool) (entries : List PlainE
     → r ≡ told budget (set_verdict instance scales keep)
 recalled instance scales entries boxes keep budget r right has set found =
     let v = All-contains (IsVerdict instance scales) entries found.entry right found.kept.there in
-    found.told ∙ ap (retold budget) (v.is keep set (subst (λ (b : List ℕ). HasBoxes b keep) (sym found.kept.same) has))
+    let own = v.is keep set (subst (λ (b : List ℕ). HasBoxes b keep) (sym found.kept.same) has) in
+    found.told
+    ∙ retold_told found.entry.budget budget (set_verdict instance scales keep) found.entry.outcome own found.serves
 
 -- what is told of a set that is kept as refuted is its verdict
 pub recalled_no : (instance : PlainInstance) (scales : Bool) (entries : List PlainEntry) (boxes keep : List ℕ)
@@ -136,7 +175,9 @@ recalled_no instance scales entries boxes keep budget bin old new (Some cost) ri
     let own = v.is keep set (subst (λ (b : List ℕ). HasBoxes b keep) (sym e.kept.same) has) in
     record {
       tokens = e.refuted.tokens;
-      is = verdict_is (set_verdict instance scales keep) (No e.refuted.tokens cost) (sym own ∙ e.refuted.is);
+      is = (let t = told_same e.entry.budget (set_verdict instance scales keep) (No e.refuted.tokens cost)
+          (sym e.refuted.is ∙ own) in
+          t.same);
       within = e.refuted.within;
       appended = e.refuted.appended;
     }
@@ -153,10 +194,6 @@ told_right instance scales keep budget r limits set some e =
     go true = tt
     go false = class_tree_right (subset instance keep) (subset_within instance keep set some limits) [] tt scales
 
--- the verdict itself, where it is told
-pub decided_told : (budget : ℕ) (v w : Verdict) (r : PlainOutcome) → r ≡ Decided w → r ≡ told budget v → r ≡ Decided v
-decided_told budget v w r e h = let t = told_same budget v w (sym e ∙ h) in e ∙ ap Decided (sym t.same)
-
 -- an outcome told under a budget
 pub retold_past : (budget : ℕ) (r : PlainOutcome) → budget < plain_count r → Past ≡ retold budget r
 retold_past budget r l = sym (ap (λ b. cond b Past r) (lt-ltb budget (plain_count r) l))
@@ -165,15 +202,34 @@ pub retold_same : (budget : ℕ) (r : PlainOutcome) → plain_count r ≤ budget
 retold_same budget r l = sym (ap (λ b. cond b Past r) (le-ltb budget (plain_count r) l))
 
 -- one entry more, or one in the place of another
-kept_all : (es : List PlainEntry) (boxes : List ℕ) (outcome : PlainOutcome) → All (IsPut es boxes outcome) es
-kept_all es boxes outcome k d l = inr (All-contains_itself es k d l)
+pub kept_all : (es : List PlainEntry) (put : PlainEntry) → All (IsPut es put) es
+kept_all es put k d l = inr (All-contains_itself es k d l)
 
-pub put_behind : (es : List PlainEntry) (boxes : List ℕ) (outcome : PlainOutcome)
-    → All (IsPut es boxes outcome) (es ++ record { boxes = boxes; outcome = outcome } ∷ [])
-put_behind es boxes outcome = All-push (IsPut es boxes outcome) es (record { boxes = boxes; outcome = outcome })
-    (kept_all es boxes outcome) (inl refl)
+pub put_behind : (es : List PlainEntry) (put : PlainEntry) → All (IsPut es put) (es ++ put ∷ [])
+put_behind es put = All-push (IsPut es put) es put (kept_all es put) (inl refl)
 
-pub put_at : (es : List PlainEntry) (k : ℕ) (boxes : List ℕ) (outcome : PlainOutcome)
-    → All (IsPut es boxes outcome) (set es k (record { boxes = boxes; outcome = outcome }))
-put_at es k boxes outcome = All-set (IsPut es boxes outcome) es k (record { boxes = boxes; outcome = outcome })
-    (inl refl) (kept_all es boxes outcome)
+pub put_at : (es : List PlainEntry) (k : ℕ) (put : PlainEntry) → All (IsPut es put) (set es k put)
+put_at es k put = All-set (IsPut es put) es k put (inl refl) (kept_all es put)
+
+-- the same where all entries were forgotten first
+pub put_after : (old mid new : List PlainEntry) (put : PlainEntry)
+    → (mid ≡ old) ⊎ (mid ≡ []) → All (IsPut mid put) new → All (IsPut old put) new
+put_after old mid new put (inl same) all = subst (λ (es : List PlainEntry). All (IsPut es put) new) same all
+put_after old mid new put (inr none) all =
+    λ k d l. go (get_or new k d) (subst (λ (es : List PlainEntry). All (IsPut es put) new) none all k d l)
+  where
+    go : (e : PlainEntry) → IsPut [] put e → IsPut old put e
+    go e (inl same) = inl same
+    go e (inr there) = absurd (omega (arith, there.1))
+
+-- nothing was copied, or one entry
+pub copied_none : (other es : List PlainEntry) → All (IsCopied other es) es
+copied_none other es k d l = inr (All-contains_itself es k d l)
+
+pub copied_one : (other old new : List PlainEntry) (put : PlainEntry)
+    → Contains other put → All (IsPut old put) new → All (IsCopied other old) new
+copied_one other old new put there all k d l = go (get_or new k d) (all k d l)
+  where
+    go : (e : PlainEntry) → IsPut old put e → IsCopied other old e
+    go e (inl same) = inl (subst (λ (x : PlainEntry). Contains other x) (sym same) there)
+    go e (inr kept) = inr kept

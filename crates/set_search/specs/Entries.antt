@@ -4,4 +4,4 @@ use Rattle.work_share.specs.Outcomes.{plain_outcome}
 use Rattle.set_search.specs.Memories.{PlainEntry}
 
 abbrev pub plain_entry : Entry → PlainEntry
-plain_entry e = record { boxes = e.boxes; outcome = plain_outcome e.kept }
+plain_entry e = record { boxes = e.boxes; budget = e.budget; outcome = plain_outcome e.kept }

@@ -1,12 +1,12 @@
 -- The memory of decided sets.
 use Rattle.std.specs.Prelude.{ℕ, ◌≡◌, ◌≤◌, ◌==◌, ◌||◌, ◌⊎◌, List, [], ◌∷◌, ◌++◌, length, Bool, false, nat_lt, if◌then◌else◌}
-use Rattle.std.specs.Prelude.{Option, Some, None}
+use Rattle.std.specs.Prelude.{Option, Some, None, ⊤}
 use Rattle.std.specs.List.{Contains, All}
 use Rattle.packing_terms.specs.Packing.{PlainInstance}
 use Rattle.packing_terms.specs.Goals.{IsBoxSet}
 use Rattle.packing_terms.specs.Tokens.{PlainToken}
 use Rattle.packing_terms.specs.Tokens.PlainToken.{SetRefuted}
-use Rattle.tree_terms.specs.Trees.{Verdict, PlainOutcome, Decided, Past, Yes, No, count_of}
+use Rattle.tree_terms.specs.Trees.{Verdict, PlainOutcome, Decided, Past, Yes, No, count_of, told}
 use Rattle.tree_terms.specs.OuterTrees.{set_verdict}
 use Rattle.edge_state.specs.BitRows.{row_has}
 
@@ -19,9 +19,10 @@ has_box (v ∷ vs) x = x == v || has_box vs x
 abbrev pub HasBoxes : List ℕ → List ℕ → Type 0
 HasBoxes row keep = (x : ℕ) → row_has row x ≡ has_box keep x
 
--- a row of boxes, and what is kept of their set
+-- a row of boxes, and what is kept of their set, which was found under a budget
 pub record PlainEntry : Type 0 where
   pub boxes : List ℕ
+  pub budget : ℕ
   pub outcome : PlainOutcome
 
 -- an entry that has these boxes
@@ -39,14 +40,21 @@ plain_size (Decided (Yes numbers count)) = length numbers
 plain_size (Decided (No tokens count)) = length tokens
 plain_size Past = 0
 
--- an outcome without a budget, told under one
+-- an outcome that was found under one budget, told under a smaller one
 abbrev pub retold : ℕ → PlainOutcome → PlainOutcome
 retold budget r = if nat_lt budget (plain_count r) then Past else r
+
+-- an outcome that was found under a budget says what is told under another one: it is a verdict, or
+-- the other budget isn't greater
+abbrev pub Serves : PlainOutcome → ℕ → ℕ → Type 0
+Serves (Decided v) found budget = ⊤
+Serves Past found budget = budget ≤ found
 
 -- it is the outcome of an entry that has these boxes, told under a budget
 pub record IsRecalled (entries : List PlainEntry) (boxes : List ℕ) (budget : ℕ) (r : PlainOutcome) : Type 0 where
   pub entry : PlainEntry
   pub kept : IsEntryOf entries boxes entry
+  pub serves : Serves entry.outcome entry.budget budget
   pub told : r ≡ retold budget entry.outcome
 
 -- the outcome is no with this count, which is within the budget, and that is appended to the tokens,
@@ -77,14 +85,18 @@ abbrev pub IsRecalledNo :
 IsRecalledNo entries boxes budget bin old new None = new ≡ old
 IsRecalledNo entries boxes budget bin old new (Some cost) = IsRefutedEntry entries boxes budget bin old new cost
 
--- the entry has these boxes and this outcome, or it was there before
-abbrev pub IsPut : List PlainEntry → List ℕ → PlainOutcome → PlainEntry → Type 0
-IsPut old boxes outcome e = (e ≡ record { boxes = boxes; outcome = outcome }) ⊎ Contains old e
+-- the entry is the one that was put, or it was there before
+abbrev pub IsPut : List PlainEntry → PlainEntry → PlainEntry → Type 0
+IsPut old put e = (e ≡ put) ⊎ Contains old e
 
--- the outcome of an entry is the verdict on each set that has its boxes
+-- the entry is one of another memory, or it was there before
+abbrev pub IsCopied : List PlainEntry → List PlainEntry → PlainEntry → Type 0
+IsCopied other old e = Contains other e ⊎ Contains old e
+
+-- the outcome of an entry is the verdict on each set that has its boxes, told under its budget
 pub record IsVerdict (instance : PlainInstance) (scales : Bool) (e : PlainEntry) : Type 0 where
   pub is : (keep : List ℕ) → IsBoxSet instance keep → HasBoxes e.boxes keep
-      → e.outcome ≡ Decided (set_verdict instance scales keep)
+      → e.outcome ≡ told e.budget (set_verdict instance scales keep)
 
 -- each entry is right
 abbrev pub AreVerdicts : PlainInstance → Bool → List PlainEntry → Type 0

@@ -9,7 +9,7 @@ ghost use Rattle.set_search.specs.Memories.{HasBoxes};
 
 use crate::insert::fill_with;
 use crate::key::SetKey;
-use crate::search::{MOST_BUDGET, SetSearch};
+use crate::search::{MOST_BUDGET, SetSearch, Source};
 use box_instances::NoMemory;
 use proof_tree::{Outcome, Token, TokenList};
 use std::alloc::Global;
@@ -58,12 +58,13 @@ impl<'a> SetSearch<'a> {
         }
         // Most sets come again and are refuted: those are told without a list of their boxes.
         let key = self.key_with(keep, v);
-        if let Some(cost) = self.told_refuted(alloc, &key, left - 1, bin, tokens)? {
+        let source = self.locate(alloc, &key);
+        if let Some(cost) = self.told_refuted(alloc, source, &key, left - 1, bin, tokens)? {
             return Ok(Child::Refuted { own: 1 + cost });
         }
         let mut set = self.take_spare(alloc);
         fill_with(&mut set, keep, v)?;
-        self.grown(alloc, set, &key, left, bin, tokens)
+        self.grown(alloc, source, set, &key, left, bin, tokens)
     }
 
     // The same of a set that is given, with its key and with something left. The memory of one that
@@ -71,6 +72,7 @@ impl<'a> SetSearch<'a> {
     fn grown(
         &mut self,
         alloc: Global,
+        source: Source,
         set: Vec<u32>,
         key: &SetKey,
         left: u64,
@@ -87,7 +89,7 @@ impl<'a> SetSearch<'a> {
             tokens.old tokens.new child) }
         ensures front { OnErr result (AreLonger tokens.old tokens.new) }
     {
-        match self.decide_by(alloc, set.as_slice(), key, left - 1)? {
+        match self.decide_by(alloc, source, set.as_slice(), key, left - 1)? {
             Outcome::Past => Ok(Child::Past),
             Outcome::No {
                 tokens: inner,

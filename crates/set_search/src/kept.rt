@@ -1,8 +1,8 @@
 //! Outcomes as a memory keeps them.
-ghost use Rattle.std.specs.Prelude.{◌≡◌, IfOk, OnErr};
+ghost use Rattle.std.specs.Prelude.{◌≡◌, true, IfOk, OnErr};
 ghost use Rattle.proof_tree.specs.Shorts.{AreLonger};
 ghost use Rattle.work_share.specs.Outcomes.{plain_outcome};
-ghost use Rattle.set_search.specs.Memories.{plain_count, plain_size, IsToldOutcome};
+ghost use Rattle.set_search.specs.Memories.{plain_count, plain_size, retold, Serves, IsToldOutcome};
 
 use box_instances::NoMemory;
 use proof_tree::{Outcome, Token, TokenList};
@@ -28,6 +28,37 @@ pub(crate) fn count_of(outcome: &Outcome) -> u64
         Outcome::No { tokens: _, count } => *count,
         Outcome::Past => 0,
     }
+}
+
+// Whether the search of a set was cut off.
+pub(crate) fn is_cut_off(outcome: &Outcome) -> bool {
+    match outcome {
+        Outcome::Yes { .. } => false,
+        Outcome::No { .. } => false,
+        Outcome::Past => true,
+    }
+}
+
+// Whether an outcome that was found under a budget says what is told under another one: a search that
+// was cut off says nothing of greater budgets.
+pub(crate) fn serves(outcome: &Outcome, found_under: u64, budget: u64) -> bool
+    ensures { result ≡ true → Serves (plain_outcome outcome.now) found_under budget }
+{
+    match outcome {
+        Outcome::Yes { .. } => true,
+        Outcome::No { .. } => true,
+        Outcome::Past => budget <= found_under,
+    }
+}
+
+// An outcome that was found under a greater budget or the same, told under this one.
+pub(crate) fn told_under(outcome: Outcome, budget: u64) -> Outcome
+    ensures { plain_outcome result ≡ retold budget (plain_outcome outcome) }
+{
+    if count_of(&outcome) > budget {
+        return Outcome::Past;
+    }
+    outcome
 }
 
 // The same outcome once more.

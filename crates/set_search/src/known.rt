@@ -46,12 +46,30 @@ impl<'a> KnownSets<'a> {
         }
     }
 
+    // No set of an instance, with a small memory, which forgets its sets when it is full.
+    pub(crate) fn small(alloc: Global, whole: &'a Instance, scales: bool) -> KnownSets<'a>
+        ensures { result ≡ record { instance = whole.now; scales = scales } }
+    {
+        KnownSets {
+            whole,
+            scales,
+            memory: SetMemory::small(alloc),
+        }
+    }
+
     // Whether they are of this instance and choice of scales.
     pub(crate) fn are_of(&self, instance: &Instance, scales: bool) -> bool
         ensures { result ≡ true
             → self.now ≡ record { instance = instance.now; scales = scales } }
     {
         self.scales == scales && are_same_instances(self.whole, instance)
+    }
+
+    // Whether other sets are of the same instance and choice of scales.
+    pub(crate) fn are_same_as(&self, other: &KnownSets<'_>) -> bool
+        ensures { result ≡ true → self.now ≡ other.now }
+    {
+        self.are_of(other.whole, other.scales)
     }
 
     // The count of a set of this key that is kept as refuted, within the budget: that is appended
@@ -88,7 +106,12 @@ impl<'a> KnownSets<'a> {
         self.memory.recall(alloc, key, budget)
     }
 
-    // Keeps what was found of a set, if its search wasn't cut off.
+    // Whether the set of a key is kept, decided or cut off.
+    pub(crate) fn has(&self, key: &SetKey) -> bool {
+        self.memory.has(key)
+    }
+
+    // Keeps what was found of a set under a budget.
     pub(crate) fn keep(
         &mut self,
         alloc: Global,
@@ -103,16 +126,14 @@ impl<'a> KnownSets<'a> {
             ≡ told budget (set_verdict self.old.instance self.old.scales keep.now) }
         ensures { self.new ≡ self.old }
     {
-        match found {
-            Outcome::Past => {}
-            Outcome::Yes {
-                numbers: _,
-                count: _,
-            } => self.memory.keep(alloc, key, found),
-            Outcome::No {
-                tokens: _,
-                count: _,
-            } => self.memory.keep(alloc, key, found),
-        }
+        self.memory.keep(alloc, key, budget, found);
+    }
+
+    // Keeps elsewhere what is kept of the set of a key. Answers whether there is anything.
+    pub(crate) fn copy_to(&self, alloc: Global, key: &SetKey, other: &mut KnownSets<'_>) -> bool
+        requires { other.old ≡ self.now }
+        ensures { other.new ≡ other.old }
+    {
+        self.memory.copy_to(alloc, key, &mut other.memory)
     }
 }

@@ -1,12 +1,12 @@
 //! The memory of decided sets.
-ghost use Rattle.std.specs.Prelude.{◌≡◌, [], map, IfOk, IfSome, OnErr};
+ghost use Rattle.std.specs.Prelude.{◌≡◌, ◌⊎◌, [], map, IfOk, IfSome, OnErr};
 ghost use Rattle.std.specs.List.{All, Contains};
 ghost use Rattle.work_share.specs.Outcomes.{plain_outcome};
 ghost use Rattle.proof_tree.specs.Shorts.{AreLonger};
 ghost use Rattle.set_search.specs.Entries.{plain_entry};
-ghost use Rattle.set_search.specs.Memories.{IsEntryOf, IsPut, IsRecalled, IsRecalledNo, plain_size};
+ghost use Rattle.set_search.specs.Memories.{IsEntryOf, IsPut, IsCopied, IsRecalled, IsRecalledNo, plain_size};
 
-use crate::kept::{copy_of, count_of, push_refuted, size_of};
+use crate::kept::{copy_of, count_of, is_cut_off, push_refuted, serves, size_of};
 use crate::key::SetKey;
 use box_instances::NoMemory;
 use edge_state::BitRow;
@@ -19,35 +19,39 @@ use std::mem;
 const PLACES: usize = 65_536;
 
 // So many places there are at first, and eight times as many where half of them have a set: a run
-// of few sets touches little memory.
+// of few sets touches little memory. A small memory has no more: it serves one worker, and all 64
+// together hold as many sets as a memory that they share.
 const FIRST_PLACES: usize = 1_024;
 
 // A set stands at the place of its key, or at one of the next ones, so many in all. With one place
 // for each key, sets whose keys agree would drive one another out, at each level anew.
 const REACH: usize = 8;
 
-// So many numbers and tokens are kept at most.
-const MOST_KEPT: usize = 4_194_304;
+// So many numbers and tokens are kept at most for each place, 4,194,304 in all.
+const KEPT_A_PLACE: usize = 64;
 
-// A decided set.
+// A decided set: its outcome under a budget, which is past if its search was cut off there.
 #[derive(Drop)]
 pub struct Entry {
     boxes: BitRow<2>,
+    budget: u64,
     kept: Outcome,
 }
 
 /// Decided sets with their outcomes. It is seen as its entries, in no order.
 ///
 /// A set has eight places by its key. Where other sets have all of them, it takes the first from an
-/// older one. So at most 65,536 sets are held, with at most 4,194,304 numbers and tokens together;
-/// what would be more, and for what there is no memory, isn't kept. It takes no memory before the
-/// first set is kept.
+/// older one. So at most 65,536 sets are held, with at most 4,194,304 numbers and tokens together,
+/// and in a small memory 1,024 sets with 65,536, which forgets all of them when it is full. What
+/// would be more, and for what there is no memory, isn't kept. It takes no memory before the first
+/// set is kept.
 #[derive(Drop)]
 pub struct SetMemory {
     // The number of the entry at each place, from 1 on, and 0 where there is none.
     places: Vec<u32>,
     entries: Vec<Entry>,
     kept: usize,
+    most_places: usize,
 }
 
 impl Model for SetMemory {
@@ -78,7 +82,31 @@ impl SetMemory {
             places: Vec::new(alloc),
             entries: Vec::new(alloc),
             kept: 0,
+            most_places: PLACES,
         }
+    }
+
+    /// A small memory of no set.
+    pub fn small(alloc: Global) -> SetMemory
+        ensures { result ≡ [] }
+    {
+        SetMemory {
+            places: Vec::new(alloc),
+            entries: Vec::new(alloc),
+            kept: 0,
+            most_places: FIRST_PLACES,
+        }
+    }
+
+    /// Whether an outcome would be more than the memory holds.
+    pub(crate) fn is_full_for(&self, outcome: &Outcome) -> bool {
+        let most = self.most_places.saturating_mul(KEPT_A_PLACE);
+        self.kept.saturating_add(size_of(outcome)) > most
+    }
+
+    /// Whether the set of a key is kept, decided or cut off.
+    pub(crate) fn has(&self, key: &SetKey) -> bool {
+        self.entry_of(key).is_some()
     }
 
     // The number that stands at a place.
@@ -147,7 +175,8 @@ impl SetMemory {
         push_refuted(&entry.kept, alloc, budget, bin, tokens)
     }
 
-    /// The outcome of a set under a budget, if the set is kept.
+    /// The outcome of a set under a budget, if the set is kept. One whose search was cut off is past
+    /// up to the budget of that search, and unknown under a greater one.
     pub fn recall(
         &self,
         alloc: Global,
@@ -160,6 +189,9 @@ impl SetMemory {
         let Some(entry) = self.entry_of(key) else {
             return Ok(None);
         };
+        if !serves(&entry.kept, entry.budget, budget) {
+            return Ok(None);
+        }
         if count_of(&entry.kept) > budget {
             return Ok(Some(Outcome::Past));
         }
@@ -195,7 +227,7 @@ impl SetMemory {
         ensures { self.new ≡ self.old }
     {
         let count = self.places.len();
-        if count >= PLACES || self.entries.len() < count / 2 {
+        if count >= self.most_places || self.entries.len() < count / 2 {
             return true;
         }
         let wanted = count.saturating_mul(8).max(FIRST_PLACES).min(PLACES);
@@ -216,7 +248,7 @@ impl SetMemory {
 
     // Puts an entry in the place of another one.
     fn replace(&mut self, index: usize, entry: Entry)
-        ensures { All (IsPut self.old entry.boxes (plain_outcome entry.kept)) self.new }
+        ensures { All (IsPut self.old (plain_entry entry)) self.new }
     {
         if index < self.entries.len() {
             let size = size_of(&entry.kept);
@@ -227,7 +259,7 @@ impl SetMemory {
 
     // Puts an entry at a place that has none.
     fn add(&mut self, place: usize, entry: Entry)
-        ensures { All (IsPut self.old entry.boxes (plain_outcome entry.kept)) self.new }
+        ensures { All (IsPut self.old (plain_entry entry)) self.new }
     {
         let size = size_of(&entry.kept);
         let number = self.entries.len() + 1;
@@ -241,20 +273,22 @@ impl SetMemory {
         self.kept = self.kept.saturating_add(size);
     }
 
-    /// Keeps the outcome of a set, which may take the place of another set.
-    pub fn keep(&mut self, alloc: Global, key: &SetKey, outcome: &Outcome)
-        ensures { All (IsPut self.old key.now.boxes (plain_outcome outcome.now)) self.new }
-    {
-        if self.kept.saturating_add(size_of(outcome)) > MOST_KEPT || !self.has_places(alloc) {
-            return;
+    // Whether an outcome says less of its set than what is kept: its search was cut off, and the set
+    // is decided.
+    fn knows_more(&self, key: &SetKey, outcome: &Outcome) -> bool {
+        if !is_cut_off(outcome) {
+            return false;
         }
-        let Ok(kept) = copy_of(alloc, outcome) else {
-            return;
-        };
-        let entry = Entry {
-            boxes: key.boxes,
-            kept,
-        };
+        match self.entry_of(key) {
+            Some(entry) => !is_cut_off(&entry.kept),
+            None => false,
+        }
+    }
+
+    // Puts an entry at a place of its key.
+    fn put(&mut self, key: &SetKey, entry: Entry)
+        ensures { All (IsPut self.old (plain_entry entry)) self.new }
+    {
         let place = self.place_of(key);
         let number = self.number_at(place);
         if number > 0 {
@@ -262,5 +296,59 @@ impl SetMemory {
         } else {
             self.add(place, entry);
         }
+    }
+
+    // Forgets all sets of a small memory that is full for an outcome.
+    fn make_room(&mut self, alloc: Global, outcome: &Outcome)
+        ensures { (self.new ≡ self.old) ⊎ (self.new ≡ []) }
+    {
+        if self.most_places < PLACES && self.is_full_for(outcome) {
+            *self = SetMemory::small(alloc);
+        }
+    }
+
+    /// Keeps the outcome of a set under a budget, which may take the place of another set.
+    pub fn keep(&mut self, alloc: Global, key: &SetKey, budget: u64, outcome: &Outcome)
+        ensures { All (IsPut self.old (record {
+          boxes = key.now.boxes;
+          budget = budget;
+          outcome = plain_outcome outcome.now;
+        })) self.new }
+    {
+        self.make_room(alloc, outcome);
+        self.keep_within(alloc, key, budget, outcome);
+    }
+
+    // Like `keep`, without room being made.
+    fn keep_within(&mut self, alloc: Global, key: &SetKey, budget: u64, outcome: &Outcome)
+        ensures { All (IsPut self.old (record {
+          boxes = key.now.boxes;
+          budget = budget;
+          outcome = plain_outcome outcome.now;
+        })) self.new }
+    {
+        if self.is_full_for(outcome) || self.knows_more(key, outcome) || !self.has_places(alloc) {
+            return;
+        }
+        let Ok(kept) = copy_of(alloc, outcome) else {
+            return;
+        };
+        let entry = Entry {
+            boxes: key.boxes,
+            budget,
+            kept,
+        };
+        self.put(key, entry);
+    }
+
+    /// Keeps in another memory what is kept of the set of a key. Answers whether there is anything.
+    pub(crate) fn copy_to(&self, alloc: Global, key: &SetKey, other: &mut SetMemory) -> bool
+        ensures { All (IsCopied self.now other.old) other.new }
+    {
+        let Some(entry) = self.entry_of(key) else {
+            return false;
+        };
+        other.keep(alloc, key, entry.budget, &entry.kept);
+        true
     }
 }

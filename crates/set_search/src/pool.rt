@@ -1,6 +1,7 @@
 //! The pool of a job: searches of sets between two tasks.
 ghost use Rattle.std.specs.Prelude.{◌≡◌, IfOk, IfSome};
 
+use crate::known::KnownSets;
 use crate::shared::SharedSets;
 use box_instances::{BoxSet, Instance, NoMemory};
 use class_search::are_same_instances;
@@ -26,28 +27,33 @@ pub(crate) struct IdleSearch<'a> {
     pub(crate) set: BoxSet<'a>,
     pub(crate) state: EdgeState,
     pub(crate) closers: Vec<Closer>,
+    pub(crate) own: KnownSets<'a>,
     pub(crate) shared: Arc<SharedSets<'a>, Global>,
     pub(crate) spare: Vec<u32>,
 }
 
 impl<'a> Model for IdleSearch<'a> {
+    ghost use Rattle.std.specs.Prelude.{◌≡◌};
     ghost use Rattle.set_search.specs.Searches.{PlainSetSearch, HasRoom};
 
     ghost Value = { PlainSetSearch };
 
     ghost view = { λ s. record { instance = s.whole.now; scales = s.scales } };
 
-    ghost invariant = { λ s. HasRoom s.whole.now s.set.whole s.state s.closers.items };
+    ghost invariant = { λ s. HasRoom s.whole.now s.set.whole s.state s.closers.items
+        × (s.own ≡ record { instance = s.whole.now; scales = s.scales }) };
 }
 
 impl<'a> IdleSearch<'a> {
-    // The parts of a search that has decided nothing, with the sets that it shares.
+    // The parts of a search that has decided nothing, with the sets that it keeps and shares.
     pub(crate) fn new(
         alloc: Global,
         instance: &'a Instance,
         scales: bool,
+        own: KnownSets<'a>,
         shared: Arc<SharedSets<'a>, Global>,
     ) -> Result<IdleSearch<'a>, NoMemory>
+        requires { own ≡ record { instance = instance.now; scales = scales } }
         ensures { IfOk result (λ s. s ≡ record { instance = instance.now; scales = scales }) }
     {
         let set = BoxSet::all(alloc, instance)?;
@@ -58,6 +64,7 @@ impl<'a> IdleSearch<'a> {
             set,
             state,
             closers: Vec::new(alloc),
+            own,
             shared,
             spare: Vec::new(alloc),
         })

@@ -11,6 +11,7 @@ ghost use Rattle.tree_terms.specs.OuterTrees.{set_verdict};
 ghost use Rattle.work_share.specs.Outcomes.{plain_outcome};
 ghost use Rattle.class_search.specs.Right.{IsRight};
 
+use crate::kept::told_under;
 use crate::key::SetKey;
 use crate::known::KnownSets;
 use crate::pool::{IdleSearch, SearchPool};
@@ -28,6 +29,22 @@ use std::sync::Arc;
 /// The greatest budget.
 pub const MOST_BUDGET: u64 = 10_000_000;
 
+// A task decides a set under so many times the branchings that it has left, since its children come
+// to the set again, and would begin it anew.
+const REACH: u64 = 8;
+
+// But under no more than so many, if it has less left. Of the refuted sets of two knapsacks of 30
+// and 36 boxes, one of 5,000 has more.
+const MOST_REACH: u64 = 8_192;
+
+// Where a set is kept: among the sets of a search, among those that it shares, or nowhere.
+#[derive(Clone, Copy)]
+pub(crate) enum Source {
+    Own,
+    Shared,
+    Nowhere,
+}
+
 /// Decides sets of the boxes of one instance, one after another, each by its class tree.
 ///
 /// It is seen as the instance and the choice of scales. An outer search makes thousands of small
@@ -39,7 +56,9 @@ pub const MOST_BUDGET: u64 = 10_000_000;
 ///
 /// Of several workers, each takes a search for a task (`take`) and gives it back (`give`). It waits
 /// in the pool of this search, which outlives the task. What any of these searches has decided, all
-/// of them know: they keep sets in one memory with the same bounds.
+/// of them know: they keep sets in one memory with the same bounds. Each also keeps up to 1,024 sets
+/// of its own, with 65,536 numbers and tokens, since a task comes to the sets of the task before it,
+/// and a lock takes longer than most answers.
 #[derive(Drop)]
 pub struct SetSearch<'a> {
     whole: &'a Instance,
@@ -47,7 +66,7 @@ pub struct SetSearch<'a> {
     set: BoxSet<'a>,
     state: EdgeState,
     closers: Vec<Closer>,
-    // What this search has decided, unless it is the search of a task.
+    // What this search has decided, and of a task also what it found among the shared sets.
     own: KnownSets<'a>,
     // What the searches of tasks have decided.
     shared: Arc<SharedSets<'a>, Global>,
@@ -92,6 +111,14 @@ fn reach_closers(
     Ok(())
 }
 
+// The budget under which a task decides a set that it asks for under this one.
+fn reach_of(budget: u64) -> u64
+    ensures { budget ≤ result }
+{
+    let reach = budget.saturating_mul(REACH).min(MOST_REACH);
+    if reach < budget { budget } else { reach }
+}
+
 impl<'a> SetSearch<'a> {
     /// The decisions of sets of the boxes of an instance, with conservative scales or without.
     pub fn new(
@@ -105,7 +132,8 @@ impl<'a> SetSearch<'a> {
         let Ok(shared) = Arc::new(alloc, known) else {
             return Err(NoMemory);
         };
-        let idle = IdleSearch::new(alloc, instance, scales, shared)?;
+        let own = KnownSets::new(alloc, instance, scales);
+        let idle = IdleSearch::new(alloc, instance, scales, own, shared)?;
         let mut search = SetSearch::of_idle(alloc, idle);
         search.is_of_task = false;
         Ok(search)
@@ -116,7 +144,7 @@ impl<'a> SetSearch<'a> {
         ensures { result ≡ idle.entry }
     {
         SetSearch {
-            own: KnownSets::new(alloc, idle.whole, idle.scales),
+            own: idle.own,
             whole: idle.whole,
             scales: idle.scales,
             set: idle.set,
@@ -137,6 +165,7 @@ impl<'a> SetSearch<'a> {
             set: self.set,
             state: self.state,
             closers: self.closers,
+            own: self.own,
             shared: self.shared,
             spare: self.spare,
         }
@@ -153,7 +182,8 @@ impl<'a> SetSearch<'a> {
         let Ok(shared) = Arc::try_clone(&self.shared) else {
             return Err(NoMemory);
         };
-        let idle = IdleSearch::new(alloc, self.whole, self.scales, shared)?;
+        let own = KnownSets::small(alloc, self.whole, self.scales);
+        let idle = IdleSearch::new(alloc, self.whole, self.scales, own, shared)?;
         Ok(SetSearch::of_idle(alloc, idle))
     }
 
@@ -203,7 +233,35 @@ impl<'a> SetSearch<'a> {
         )
     }
 
-    // Keeps what was found of a set, if its search wasn't cut off.
+    // The budget under which a set is decided that is asked for under this one.
+    fn reach_of(&self, budget: u64) -> u64
+        ensures { budget ≤ result }
+    {
+        if self.is_of_task {
+            reach_of(budget)
+        } else {
+            budget
+        }
+    }
+
+    // Where the set of a key is kept. The search of a task copies it to its own sets first.
+    pub(crate) fn locate(&mut self, alloc: Global, key: &SetKey) -> Source
+        ensures { self.new ≡ self.old }
+    {
+        if !self.is_of_task || self.own.has(key) {
+            return Source::Own;
+        }
+        if !self.shared.copy_to(alloc, key, &mut self.own) {
+            return Source::Nowhere;
+        }
+        if self.own.has(key) {
+            Source::Own
+        } else {
+            Source::Shared
+        }
+    }
+
+    // Keeps what was found of a set under a budget.
     fn keep_found(
         &mut self,
         alloc: Global,
@@ -218,26 +276,32 @@ impl<'a> SetSearch<'a> {
             ≡ told budget (set_verdict self.old.instance self.old.scales keep.now) }
         ensures { self.new ≡ self.old }
     {
+        self.own.keep(alloc, keep, key, budget, found);
         if self.is_of_task {
             self.shared
                 .keep(self.whole, self.scales, alloc, keep, key, budget, found);
-        } else {
-            self.own.keep(alloc, keep, key, budget, found);
         }
     }
 
-    // The outcome of a set of this key under a budget, if it is kept.
-    fn recall(&self, alloc: Global, key: &SetKey, budget: u64) -> Result<Option<Outcome>, NoMemory>
+    // The outcome of a set of this key under a budget, if it is kept where it says.
+    fn recall(
+        &self,
+        alloc: Global,
+        source: Source,
+        key: &SetKey,
+        budget: u64,
+    ) -> Result<Option<Outcome>, NoMemory>
         ensures { IfOk result (λ found. IfSome found (λ r. (keep : List ℕ)
             → HasBoxes key.now.boxes keep → IsBoxSet self.now.instance keep
             → plain_outcome r
             ≡ told budget (set_verdict self.now.instance self.now.scales keep))) }
     {
-        if self.is_of_task {
-            self.shared
-                .recall(self.whole, self.scales, alloc, key, budget)
-        } else {
-            self.own.recall(alloc, key, budget)
+        match source {
+            Source::Own => self.own.recall(alloc, key, budget),
+            Source::Shared => self
+                .shared
+                .recall(self.whole, self.scales, alloc, key, budget),
+            Source::Nowhere => Ok(None),
         }
     }
 
@@ -251,11 +315,12 @@ impl<'a> SetSearch<'a> {
         SetKey::of(keep).with(v)
     }
 
-    // The count of a set of this key that is kept as refuted, within the budget: that is appended to
-    // the tokens, and what refutes it. Else the tokens are as before.
+    // The count of a set of this key that is kept as refuted where it says, within the budget: that
+    // is appended to the tokens, and what refutes it. Else the tokens are as before.
     pub(crate) fn told_refuted(
         &self,
         alloc: Global,
+        source: Source,
         key: &SetKey,
         budget: u64,
         bin: Option<u32>,
@@ -267,11 +332,12 @@ impl<'a> SetSearch<'a> {
             tokens.old tokens.new found) }
         ensures front { OnErr result (AreLonger tokens.old tokens.new) }
     {
-        if self.is_of_task {
-            self.shared
-                .recall_refuted(self.whole, self.scales, alloc, key, budget, bin, tokens)
-        } else {
-            self.own.recall_refuted(alloc, key, budget, bin, tokens)
+        match source {
+            Source::Own => self.own.recall_refuted(alloc, key, budget, bin, tokens),
+            Source::Shared => self
+                .shared
+                .recall_refuted(self.whole, self.scales, alloc, key, budget, bin, tokens),
+            Source::Nowhere => Ok(None),
         }
     }
 
@@ -290,13 +356,15 @@ impl<'a> SetSearch<'a> {
         // For the proof alone: tells the limits of the instance.
         let _limits = self.whole.len();
         let key = SetKey::of(keep);
-        self.decide_by(alloc, keep, &key, budget)
+        let source = self.locate(alloc, &key);
+        self.decide_by(alloc, source, keep, &key, budget)
     }
 
-    // The same of a set whose key is given.
+    // The same of a set whose key is given, and where it is kept.
     pub(crate) fn decide_by(
         &mut self,
         alloc: Global,
+        source: Source,
         keep: &[u32],
         key: &SetKey,
         budget: u64,
@@ -312,11 +380,12 @@ impl<'a> SetSearch<'a> {
     {
         // For the proof alone: tells the limits of the instance.
         let _limits = self.whole.len();
-        if let Some(outcome) = self.recall(alloc, key, budget)? {
+        if let Some(outcome) = self.recall(alloc, source, key, budget)? {
             return Ok(outcome);
         }
-        let outcome = self.decide_anew(alloc, keep, budget)?;
-        self.keep_found(alloc, keep, key, budget, &outcome);
-        Ok(outcome)
+        let reach = self.reach_of(budget);
+        let outcome = self.decide_anew(alloc, keep, reach)?;
+        self.keep_found(alloc, keep, key, reach, &outcome);
+        Ok(told_under(outcome, budget))
     }
 }

@@ -97,7 +97,23 @@ impl<'a> SharedSets<'a> {
         known.recall(alloc, key, budget)
     }
 
-    // Keeps what was found of a set, if its search wasn't cut off.
+    // Copies what is kept of the set of a key to the sets of one worker. Answers whether there is
+    // anything, which the worker's own memory may have been too small for.
+    pub(crate) fn copy_to(&self, alloc: Global, key: &SetKey, own: &mut KnownSets<'_>) -> bool
+        ensures { own.new ≡ own.old }
+    {
+        let Some(guard) = self.enter() else {
+            return false;
+        };
+        let known = &*guard;
+        // Most sets that are looked for here are new: the test of the instance takes longer.
+        if !known.has(key) || !known.are_same_as(own) {
+            return false;
+        }
+        known.copy_to(alloc, key, own)
+    }
+
+    // Keeps what was found of a set under a budget.
     pub(crate) fn keep(
         &self,
         instance: &Instance,

@@ -3,7 +3,6 @@ use Rattle.std.specs.List.{All}
 use Rattle.std.proofs.Math.ListN.{set}
 use Rattle.std.proofs.lemmas.List.{map-set}
 use Rattle.set_search.specs.declared.memory.Entry.{Entry}
-use Rattle.work_share.specs.Outcomes.{plain_outcome}
 use Rattle.set_search.specs.Memories.{PlainEntry, IsPut}
 use Rattle.set_search.specs.Entries.{plain_entry}
 use Rattle.set_search.proofs.Memories.{put_at}
@@ -17,5 +16,5 @@ returns-then-index-len c =
     ∙ (ap (λ (x : Entry). map plain_entry (set items c.args.index x)) c.replace-gone.ensures.after
     ∙ (map-set plain_entry items c.args.index c.args.entry
     ∙ ap (λ (es : List PlainEntry). set es c.args.index (plain_entry c.args.entry)) c.self.view_is)) in
-    subst (λ (es : List PlainEntry). All (IsPut c.args.self.now c.args.entry.boxes (plain_outcome c.args.entry.kept)) es)
-    (sym e) (put_at c.args.self.now c.args.index c.args.entry.boxes (plain_outcome c.args.entry.kept))
+    subst (λ (es : List PlainEntry). All (IsPut c.args.self.now (plain_entry c.args.entry)) es) (sym e)
+    (put_at c.args.self.now c.args.index (plain_entry c.args.entry))

@@ -8,11 +8,11 @@ use Rattle.set_search.proofs.search.SetSearch.keep_found.Goals as goal
 pub keep-requires-clause-found : goal.keep-requires-clause-found
 keep-requires-clause-found c =
     let v = c.self.view_is in
-    rw (← v) at c.requires.found
-
-pub keep-requires-else-self-clause-found : goal.keep-requires-else-self-clause-found
-keep-requires-else-self-clause-found c =
-    let v = c.self.view_is in
     subst (λ (s : PlainSetSearch). plain_outcome c.args.found.now
     ≡ told c.args.budget (set_verdict s.instance s.scales c.args.keep.now)) (sym c.self.invariant.1)
     (rw (← v) at c.requires.found)
+
+pub keep-requires-then-self-clause-found : goal.keep-requires-then-self-clause-found
+keep-requires-then-self-clause-found c =
+    let v = c.self.view_is in
+    rw (← v) at c.requires.found

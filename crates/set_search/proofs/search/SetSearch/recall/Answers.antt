@@ -7,13 +7,13 @@ use Rattle.set_search.specs.Memories.{HasBoxes}
 use Rattle.set_search.specs.Searches.{PlainSetSearch}
 use Rattle.set_search.proofs.search.SetSearch.recall.Goals as goal
 
-pub returns-then-self : goal.returns-then-self
-returns-then-self c = rw (← c.self.view_is) c.recall.ensures
-
-pub returns-else-self : goal.returns-else-self
-returns-else-self c =
+pub returns-in-Own : goal.returns-in-Own
+returns-in-Own c =
     rw (← c.self.view_is)
-    (subst (λ (s : PlainSetSearch). IfOk c.recall-else-self.result
+    (subst (λ (s : PlainSetSearch). IfOk c.recall.result
     (λ found. IfSome found (λ r. (keep : List ℕ) → HasBoxes c.args.key.now.boxes keep → IsBoxSet s.instance keep
     → plain_outcome r ≡ told c.args.budget (set_verdict s.instance s.scales keep)))) c.self.invariant.1
-    c.recall-else-self.ensures)
+    c.recall.ensures)
+
+pub returns-in-Shared : goal.returns-in-Shared
+returns-in-Shared c = rw (← c.self.view_is) c.recall-in-Shared.ensures

@@ -1,17 +1,17 @@
-use Rattle.std.proofs.Common.{◌≡◌, List, ℕ, IfOk, subst}
+use Rattle.std.proofs.Common.{List, ℕ, IfOk, subst}
 use Rattle.packing_terms.specs.Goals.{IsBoxSet}
 use Rattle.tree_terms.specs.OuterTrees.{set_verdict}
 use Rattle.set_search.specs.Memories.{HasBoxes, IsToldNo}
 use Rattle.set_search.specs.Searches.{PlainSetSearch}
 use Rattle.set_search.proofs.search.SetSearch.told_refuted.Goals as goal
 
-pub returns-then-self-clause-told : goal.returns-then-self-clause-told
-returns-then-self-clause-told c = rw (← c.self.view_is) c.recall_refuted.ensures.told
-
-pub returns-else-self-clause-told : goal.returns-else-self-clause-told
-returns-else-self-clause-told c =
+pub returns-in-Own-clause-told : goal.returns-in-Own-clause-told
+returns-in-Own-clause-told c =
     rw (← c.self.view_is)
-    (subst (λ (s : PlainSetSearch). IfOk c.recall_refuted-else-self.result
+    (subst (λ (s : PlainSetSearch). IfOk c.recall_refuted.result
     (λ found. (keep : List ℕ) → HasBoxes c.args.key.now.boxes keep → IsBoxSet s.instance keep
     → IsToldNo (set_verdict s.instance s.scales keep) c.args.budget c.args.bin c.args.tokens.now
-    c.recall_refuted-else-self.new.tokens found)) c.self.invariant.1 c.recall_refuted-else-self.ensures.told)
+    c.recall_refuted.new.tokens found)) c.self.invariant.1 c.recall_refuted.ensures.told)
+
+pub returns-in-Shared-clause-told : goal.returns-in-Shared-clause-told
+returns-in-Shared-clause-told c = rw (← c.self.view_is) c.recall_refuted-in-Shared.ensures.told

@@ -1,4 +1,4 @@
-use Rattle.std.proofs.Common.{◌≡◌, List, ℕ, IfOk, subst}
+use Rattle.std.proofs.Common.{List, ℕ, IfOk, subst}
 use Rattle.packing_terms.specs.Goals.{IsBoxSet}
 use Rattle.tree_terms.specs.OuterTrees.{set_verdict}
 use Rattle.set_search.specs.Memories.{HasBoxes, IsToldNo}
