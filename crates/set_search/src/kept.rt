@@ -39,8 +39,8 @@ pub(crate) fn is_cut_off(outcome: &Outcome) -> bool {
     }
 }
 
-// Whether an outcome that was found under a budget says what is told under another one: a search that
-// was cut off says nothing of greater budgets.
+// Whether an outcome that was found under a budget says what is told under another one: a search
+// that was cut off says nothing of greater budgets.
 pub(crate) fn serves(outcome: &Outcome, found_under: u64, budget: u64) -> bool
     ensures { result ≡ true → Serves (plain_outcome outcome.now) found_under budget }
 {

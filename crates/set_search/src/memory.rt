@@ -154,9 +154,9 @@ impl SetMemory {
         Some(entry)
     }
 
-    /// The count of a set that is kept as refuted, with a count of at most the budget: to the tokens
-    /// is appended that the set of a bin, or of the boxes that are in, is refuted, and what refutes
-    /// it. Else the tokens are as before.
+    /// The count of a set that is kept as refuted, with a count of at most the budget: to the
+    /// tokens is appended that the set of a bin, or of the boxes that are in, is refuted, and what
+    /// refutes it. Else the tokens are as before.
     pub fn recall_refuted(
         &self,
         alloc: Global,
@@ -175,8 +175,8 @@ impl SetMemory {
         push_refuted(&entry.kept, alloc, budget, bin, tokens)
     }
 
-    /// The outcome of a set under a budget, if the set is kept. One whose search was cut off is past
-    /// up to the budget of that search, and unknown under a greater one.
+    /// The outcome of a set under a budget, if the set is kept. One whose search was cut off is
+    /// past up to the budget of that search, and unknown under a greater one.
     pub fn recall(
         &self,
         alloc: Global,
@@ -222,7 +222,8 @@ impl SetMemory {
         }
     }
 
-    // Takes places, or more of them where half of them have an entry. Answers whether there are any.
+    // Takes places, or more of them where half of them have an entry. Answers whether there are
+    // any.
     fn has_places(&mut self, alloc: Global) -> bool
         ensures { self.new ≡ self.old }
     {
@@ -273,8 +274,8 @@ impl SetMemory {
         self.kept = self.kept.saturating_add(size);
     }
 
-    // Whether an outcome says less of its set than what is kept: its search was cut off, and the set
-    // is decided.
+    // Whether an outcome says less of its set than what is kept: its search was cut off, and the
+    // set is decided.
     fn knows_more(&self, key: &SetKey, outcome: &Outcome) -> bool {
         if !is_cut_off(outcome) {
             return false;

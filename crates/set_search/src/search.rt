@@ -56,9 +56,9 @@ pub(crate) enum Source {
 ///
 /// Of several workers, each takes a search for a task (`take`) and gives it back (`give`). It waits
 /// in the pool of this search, which outlives the task. What any of these searches has decided, all
-/// of them know: they keep sets in one memory with the same bounds. Each also keeps up to 1,024 sets
-/// of its own, with 65,536 numbers and tokens, since a task comes to the sets of the task before it,
-/// and a lock takes longer than most answers.
+/// of them know: they keep sets in one memory with the same bounds. Each also keeps up to 1,024
+/// sets of its own, with 65,536 numbers and tokens, since a task comes to the sets of the task
+/// before it, and a lock takes longer than most answers.
 #[derive(Drop)]
 pub struct SetSearch<'a> {
     whole: &'a Instance,
@@ -187,8 +187,9 @@ impl<'a> SetSearch<'a> {
         Ok(SetSearch::of_idle(alloc, idle))
     }
 
-    /// Puts the search of a task into the pool, where at most 64 of them wait. It is dropped instead
-    /// if the pool is full or in use, or out of memory. Nothing is promised of what the pool holds.
+    /// Puts the search of a task into the pool, where at most 64 of them wait. It is dropped
+    /// instead if the pool is full or in use, or out of memory. Nothing is promised of what the
+    /// pool holds.
     pub fn give(&self, search: SetSearch<'a>) {
         self.pool.put(search.into_idle());
     }

@@ -20,8 +20,8 @@ use std::sync::{Mutex, MutexGuard};
 const MOST_TRIES: u32 = 10_000;
 
 // Decided sets behind a lock. Nothing is known of what another worker left there, so they are
-// tested for their instance at each call. No call waits: while another worker stays, a set counts as
-// not decided, and what is found of one isn't kept.
+// tested for their instance at each call. No call waits: while another worker stays, a set counts
+// as not decided, and what is found of one isn't kept.
 #[derive(Drop)]
 pub(crate) struct SharedSets<'a> {
     known: Mutex<KnownSets<'a>>,
