@@ -1,5 +1,5 @@
 -- What stands behind the result line, up to `end`, backs its claim.
-use Rattle.std.proofs.Common.{◌≡◌, ℕ, suc, pred, ◌+◌, ◌*◌, ◌≤◌, refl, sym, ap, ap₂, subst, ◌∙◌, arith, Bool, true}
+use Rattle.std.proofs.Common.{◌≡◌, ℕ, suc, pred, ◌+◌, ◌*◌, ◌≤◌, refl, sym, ap, subst, ◌∙◌, arith, Bool, true}
 use Rattle.std.proofs.Common.{false, cond, ◌&&◌, ◌-◌, inl, List, [], ◌∷◌, ◌++◌, length, append_assoc, Some, None, Ok}
 use Rattle.std.proofs.Common.{codes}
 use Rattle.std.specs.Prelude.{nat_le, nat_lt}
@@ -20,20 +20,21 @@ use Rattle.document_terms.specs.declared.claim.Claim.TheVariants.{NoHeight, Leas
 use Rattle.document_terms.specs.declared.claim.Claim.TheVariants.{GreatestValue, ValueBetween}
 use Rattle.verdict_terms.specs.declared.heading.Heading.{Heading}
 use Rattle.verdict_terms.specs.declared.heading.Heading.TheVariants.{Answer}
-use Rattle.verdict_terms.specs.Reasons.{form, range}
+use Rattle.verdict_terms.specs.Reasons.{range}
 use Rattle.verdict_terms.specs.declared.reason.Reason.TheVariants.{TooLittle}
 use Rattle.document_terms.specs.TokenLines.{token_of}
-use Rattle.verdict_terms.specs.Trees.{Refuted, ToFit, ToFitIn, ToReach, begun}
+use Rattle.verdict_terms.specs.Trees.{Refuted, ToFit, ToFitIn}
 use Rattle.verdict_terms.specs.Stages.{Stage, groups_reason, start_exclusions, claimed, placed, to_refute, is_word}
-use Rattle.verdict_terms.specs.Stages.{tree_token, exceeding_token, exceeding_line, words_line, value_stage}
-use Rattle.verdict_terms.specs.Stages.Stage.{Placing, Sharing, Taking, Proving, Refuting, Exceeding, Ending}
+use Rattle.verdict_terms.specs.Stages.{tree_token, exceeding_token, exceeding_line, value_stage}
+use Rattle.verdict_terms.specs.Stages.Stage.{Placing, Sharing, Taking, Exceeding, Ending}
 use Rattle.verdict_terms.specs.Form.{AreNumberedLines, ArePlaced, AreShared, AreTaken, AreRefuting, IsExceedingLine}
-use Rattle.verdict_terms.specs.Form.{AreProved, RefuteValue, BacksUnder}
-use Rattle.verdict_terms.proofs.Passed.{require_ok, is_word_ok, ok_is}
+use Rattle.verdict_terms.specs.Form.{AreProved, RefuteHeight, RefuteValue, BacksUnder}
+use Rattle.verdict_terms.proofs.Passed.{require_ok, ok_is}
 use Rattle.verdict_terms.proofs.Walk.{read_words}
 use Rattle.verdict_terms.proofs.BinsGood.{bins_good}
 use Rattle.verdict_terms.proofs.TreesTold.{end_told, token_ok, refuting_told}
 use Rattle.verdict_terms.proofs.BoundsTold.{PassingTold, passing_told}
+use Rattle.verdict_terms.proofs.FamiliesTold.{ProofTold, proof_told, height_told}
 use Rattle.verdict_terms.proofs.PlacesTold.{group_good, places_good, places_told, shares_told, takes_told}
 use Rattle.verdict_terms.proofs.PlacesTold.{numbered_count, no_first}
 use Rattle.text_terms.proofs.Good.{bind_ok}
@@ -46,35 +47,12 @@ pub record BackedTold (heading : Heading) (instance : PlainInstance) (claim told
   pub backs : BacksUnder heading instance claim backing
   pub same : claim ≡ told
 
--- `proof`, and a refutation behind it
-pub record ProofTold (claim told : Claim) (refuted : Refuted) (lines : List (List (List ℕ))) : Type 0 where
-  pub body : List (List (List ℕ))
-  pub are : lines ≡ (codes "proof" ∷ []) ∷ (body ++ (codes "end" ∷ []) ∷ [])
-  pub refuting : AreRefuting refuted body
-  pub same : claim ≡ told
-
-proof_told : (claim told : Claim) (refuted : Refuted) (lines : List (List (List ℕ)))
-    → read_words (Proving claim refuted) lines ≡ Ok told → ProofTold claim told refuted lines
-proof_told claim told refuted [] e = absurd (cc (e))
-proof_told claim told refuted (words ∷ lines) e =
-    let b = bind_ok (words_line (Proving claim refuted) words) (λ next. read_words next lines) told e in
-    let r = require_ok (is_word (codes "proof") words) form (Ok (Refuting claim (begun refuted))) b.0 b.1 in
-    let t = refuting_told claim told refuted lines
-    (subst (λ s. read_words s lines ≡ Ok told) (sym (ok_is (Refuting claim (begun refuted)) b.0 r.1)) b.2) in
-    record {
-      body = t.body;
-      are = ap₂ (λ w ls. w ∷ ls) (is_word_ok (codes "proof") words r.0) t.are;
-      refuting = t.refuting;
-      same = t.same;
-    }
-
 -- lines of one kind, and a proof behind them
-proved : (First : List (List (List ℕ)) → Type 0) (claim told : Claim) (refuted : Refuted)
-    (lines front back : List (List (List ℕ))) → lines ≡ front ++ back → First front
-    → ProofTold claim told refuted back
+proved : (First Second : List (List (List ℕ)) → Type 0) (claim told : Claim) (lines front back : List (List (List ℕ)))
+    → lines ≡ front ++ back → First front → ProofTold claim told Second back
     → (backing : List (List (List ℕ))) × (lines ≡ backing ++ (codes "end" ∷ []) ∷ [])
-    × AreProved First (AreRefuting refuted) backing × (claim ≡ told)
-proved First claim told refuted lines front back e first p = (
+    × AreProved First Second backing × (claim ≡ told)
+proved First Second claim told lines front back e first p = (
   front ++ (codes "proof" ∷ []) ∷ p.body,
   e ∙ ap (λ ls. front ++ ls) p.are ∙ sym (append_assoc front ((codes "proof" ∷ []) ∷ p.body) ((codes "end" ∷ []) ∷ [])),
   record { front = front; back = p.body; are = refl; is_front = first; is_back = p.refuting },
@@ -83,12 +61,12 @@ proved First claim told refuted lines front back e first p = (
 
 -- ---- places
 
-places_backed : (instance : PlainInstance) (claim told : Claim) (refuted : Refuted) (lines : List (List (List ℕ)))
-    → read_words (Placing instance claim refuted []) lines ≡ Ok told
+places_backed : (heading : Heading) (instance : PlainInstance) (claim told : Claim) (refuted : Refuted)
+    (lines : List (List (List ℕ))) → read_words (Placing heading instance claim refuted []) lines ≡ Ok told
     → (front : List (List (List ℕ))) × (back : List (List (List ℕ))) × (lines ≡ front ++ back)
-    × ArePlaced instance front × (read_words (placed claim refuted) back ≡ Ok told)
-places_backed instance claim told refuted lines e =
-    let t = places_told instance claim told refuted [] lines e in (
+    × ArePlaced instance front × (read_words (placed heading claim refuted) back ≡ Ok told)
+places_backed heading instance claim told refuted lines e =
+    let t = places_told heading instance claim told refuted [] lines e in (
       t.front,
       t.back,
       t.are,
@@ -116,7 +94,7 @@ numbered_length key most d (words ∷ lines) (n ∷ ns) places (xs, more, e, lin
 shares_backed : (instance : PlainInstance) (claim told : Claim) (k : ℕ) (lines : List (List (List ℕ)))
     → read_words (Sharing instance claim k [] []) lines ≡ Ok told
     → (front : List (List (List ℕ))) × (back : List (List (List ℕ))) × (lines ≡ front ++ back)
-    × AreShared instance k front × (read_words (placed claim (to_refute Answer instance claim)) back ≡ Ok told)
+    × AreShared instance k front × (read_words (placed Answer claim (to_refute Answer instance claim)) back ≡ Ok told)
 shares_backed instance claim told k lines e =
     let t = shares_told instance claim told k [] [] lines e in (
       t.front,
@@ -244,39 +222,37 @@ value_backed heading instance claim told reached refuted passing lines e =
 pub backed_told : (heading : Heading) (instance : PlainInstance) (claim told : Claim) (lines : List (List (List ℕ)))
     → read_words (claimed heading instance claim) lines ≡ Ok told → BackedTold heading instance claim told lines
 backed_told heading instance Fitting told lines e =
-    let p = places_backed instance Fitting told (to_refute heading instance Fitting) lines e in
+    let p = places_backed heading instance Fitting told (to_refute heading instance Fitting) lines e in
     let d = end_told Fitting told None p.1 p.4 in
     record { backing = p.0; are = p.2 ∙ ap (λ ls. p.0 ++ ls) d.are; backs = p.3; same = d.same }
 backed_told heading instance NotFitting told lines e =
     let t = refuting_told NotFitting told (ToFit instance (start_exclusions heading instance)) lines e in
     record { backing = t.body; are = t.are; backs = t.refuting; same = t.same }
 backed_told heading instance (LeastHeight h) told lines e =
-    let p = places_backed (with_last_side instance h) (LeastHeight h) told
+    let p = places_backed heading (with_last_side instance h) (LeastHeight h) told
     (to_refute heading instance (LeastHeight h)) lines e in
-    let q = proved (ArePlaced (with_last_side instance h)) (LeastHeight h) told
-    (ToFit (with_last_side instance (pred h)) (start_exclusions heading instance)) lines p.0 p.1 p.2 p.3
-    (proof_told (LeastHeight h) told
-    (ToFit (with_last_side instance (pred h)) (start_exclusions heading instance)) p.1 p.4) in
+    let q = proved (ArePlaced (with_last_side instance h)) (RefuteHeight heading instance (pred h)) (LeastHeight h) told
+    lines p.0 p.1 p.2 p.3 (height_told heading instance (LeastHeight h) told (pred h) p.1 p.4) in
     record { backing = q.0; are = q.1; backs = q.2; same = q.3 }
 backed_told heading instance (HeightBetween a b) told lines e =
-    let p = places_backed (with_last_side instance b) (HeightBetween a b) told
+    let p = places_backed heading (with_last_side instance b) (HeightBetween a b) told
     (to_refute heading instance (HeightBetween a b)) lines e in
-    let q = proved (ArePlaced (with_last_side instance b)) (HeightBetween a b) told
-    (ToFit (with_last_side instance a) (start_exclusions heading instance)) lines p.0 p.1 p.2 p.3
-    (proof_told (HeightBetween a b) told
-    (ToFit (with_last_side instance a) (start_exclusions heading instance)) p.1 p.4) in
+    let q = proved (ArePlaced (with_last_side instance b)) (RefuteHeight heading instance a) (HeightBetween a b) told
+    lines p.0 p.1 p.2 p.3 (height_told heading instance (HeightBetween a b) told a p.1 p.4) in
     record { backing = q.0; are = q.1; backs = q.2; same = q.3 }
 backed_told heading instance NoHeight told lines e =
     let t = exceeding_told instance NoHeight told (dims instance - 1) lines (omega arith) e in
     record { backing = t.0 ∷ []; are = t.1; backs = t.2; same = t.3 }
 backed_told heading instance (LeastBins k) told lines e =
     let p = shares_backed instance (LeastBins k) told k lines e in
-    let q = proved (AreShared instance k) (LeastBins k) told (ToFitIn instance (pred k)) lines p.0 p.1 p.2 p.3
+    let q = proved (AreShared instance k) (AreRefuting (ToFitIn instance (pred k))) (LeastBins k) told
+    lines p.0 p.1 p.2 p.3
     (proof_told (LeastBins k) told (ToFitIn instance (pred k)) p.1 p.4) in
     record { backing = q.0; are = q.1; backs = q.2; same = q.3 }
 backed_told heading instance (BinsBetween a b) told lines e =
     let p = shares_backed instance (BinsBetween a b) told b lines e in
-    let q = proved (AreShared instance b) (BinsBetween a b) told (ToFitIn instance a) lines p.0 p.1 p.2 p.3
+    let q = proved (AreShared instance b) (AreRefuting (ToFitIn instance a)) (BinsBetween a b) told
+    lines p.0 p.1 p.2 p.3
     (proof_told (BinsBetween a b) told (ToFitIn instance a) p.1 p.4) in
     record { backing = q.0; are = q.1; backs = q.2; same = q.3 }
 backed_told heading instance NoBins told lines e =

@@ -23,16 +23,17 @@ use Rattle.packing_terms.specs.Limits.{most_height}
 use Rattle.document_terms.specs.Claims.{most_worth}
 use Rattle.verdict_terms.specs.Numbers.{require, wanted}
 use Rattle.document_terms.specs.TokenLines.{token_of}
-use Rattle.verdict_terms.specs.Trees.{Refuted, ToFit, ToFitIn, ToReach, begun}
+use Rattle.verdict_terms.specs.Trees.{Refuted, ToFit, ToFitIn}
 use Rattle.verdict_terms.specs.Results.{one_claim, two_claim, claim_of}
 use Rattle.verdict_terms.specs.Stages.{start_exclusions, claimed, placed, to_refute, is_word, tree_token}
-use Rattle.verdict_terms.specs.Stages.{exceeding_token, exceeding_line, words_line, value_stage}
-use Rattle.verdict_terms.specs.Stages.Stage.{Placing, Sharing, Taking, Proving, Refuting, Exceeding, Ending}
-use Rattle.verdict_terms.specs.Form.{IsResult, ArePlaced, AreShared, AreTaken, AreRefuting, IsExceedingLine, BacksUnder}
+use Rattle.verdict_terms.specs.Stages.{exceeding_token, exceeding_line, value_stage}
+use Rattle.verdict_terms.specs.Stages.Stage.{Placing, Sharing, Taking, Exceeding, Ending}
+use Rattle.verdict_terms.specs.Form.{IsResult, ArePlaced, AreShared, AreTaken, IsExceedingLine, BacksUnder}
 use Rattle.verdict_terms.proofs.Walk.{read_words}
 use Rattle.verdict_terms.proofs.Taken.{is_same, required, bound, wanted_is}
 use Rattle.verdict_terms.proofs.TreesGiven.{end_given, not_end, refuting_given}
 use Rattle.verdict_terms.proofs.BoundsGiven.{passing_given}
+use Rattle.verdict_terms.proofs.FamiliesGiven.{proof_given, height_given}
 use Rattle.verdict_terms.proofs.PlacesGiven.{no_places_reason, no_bins_reason, no_taken_reason, places_given}
 use Rattle.verdict_terms.proofs.PlacesGiven.{shares_given, takes_given}
 
@@ -88,15 +89,6 @@ result_given instance (ValueBetween a b) words is =
 
 -- ---- what stands behind it
 
-proof_given : (claim : Claim) (refuted : Refuted) (body : List (List (List ℕ))) → AreRefuting refuted body
-    → read_words (Proving claim refuted) ((codes "proof" ∷ []) ∷ (body ++ (codes "end" ∷ []) ∷ [])) ≡ Ok claim
-proof_given claim refuted body r =
-    bound (words_line (Proving claim refuted) (codes "proof" ∷ [])) (Refuting claim (begun refuted))
-    (λ next. read_words next (body ++ (codes "end" ∷ []) ∷ []))
-    (required (is_word (codes "proof") (codes "proof" ∷ [])) form (Ok (Refuting claim (begun refuted)))
-    (is_same (codes "proof")))
-    ∙ refuting_given claim refuted body r
-
 -- lines of one kind, a proof behind them, and `end`, in another bracketing
 joined : (front back lines : List (List (List ℕ))) → lines ≡ front ++ (codes "proof" ∷ []) ∷ back
     → lines ++ (codes "end" ∷ []) ∷ [] ≡ front ++ ((codes "proof" ∷ []) ∷ (back ++ (codes "end" ∷ []) ∷ []))
@@ -109,19 +101,19 @@ some_room (suc n) zero h k = absurd (omega (arith, k))
 some_room (suc n) (suc d) h k = let e : suc n * suc d ≡ suc (n * suc d + d) = grind arith in omega (arith, e)
 
 module _ (instance : PlainInstance) (some_dims : 1 ≤ dims instance) (some_boxes : 1 ≤ box_count instance) where
-  placed_given : (target : PlainInstance) (claim : Claim) (refuted : Refuted) (front back : List (List (List ℕ)))
+  placed_given : (heading : Heading) (target : PlainInstance) (claim : Claim) (refuted : Refuted) (front back : List (List (List ℕ)))
       → dims target ≡ dims instance → box_count target ≡ box_count instance
-      → ArePlaced target front → read_words (Placing target claim refuted []) (front ++ back)
-      ≡ read_words (placed claim refuted) back
-  placed_given target claim refuted front back same_dims same_boxes p =
+      → ArePlaced target front → read_words (Placing heading target claim refuted []) (front ++ back)
+      ≡ read_words (placed heading claim refuted) back
+  placed_given heading target claim refuted front back same_dims same_boxes p =
       let d : 1 ≤ dims target = omega (arith, same_dims, some_dims) in
       let n : 1 ≤ box_count target = omega (arith, same_boxes, some_boxes) in
-      places_given target claim refuted [] p.places front back d p.are_lines p.packing.count
+      places_given heading target claim refuted [] p.places front back d p.are_lines p.packing.count
       (some_room (box_count target) (dims target) n d) (no_places_reason target p.places p.packing)
 
   shared_given : (claim : Claim) (k : ℕ) (front back : List (List (List ℕ))) → AreShared instance k front
       → read_words (Sharing instance claim k [] []) (front ++ back)
-      ≡ read_words (placed claim (to_refute Answer instance claim)) back
+      ≡ read_words (placed Answer claim (to_refute Answer instance claim)) back
   shared_given claim k front back p =
       shares_given instance claim k [] [] p.bins p.places front back p.are_lines p.packing.count
       (omega (arith, some_boxes)) (no_bins_reason instance k p.bins p.places p.packing)
@@ -158,24 +150,22 @@ module _ (instance : PlainInstance) (some_dims : 1 ≤ dims instance) (some_boxe
       → BacksUnder heading instance claim lines
       → read_words (claimed heading instance claim) (lines ++ (codes "end" ∷ []) ∷ []) ≡ Ok claim
   backed_given heading Fitting lines b =
-      placed_given instance Fitting (to_refute heading instance Fitting) lines ((codes "end" ∷ []) ∷ []) refl refl b
+      placed_given heading instance Fitting (to_refute heading instance Fitting) lines ((codes "end" ∷ []) ∷ []) refl refl b
       ∙ end_given Fitting None
   backed_given heading NotFitting lines b =
       refuting_given NotFitting (ToFit instance (start_exclusions heading instance)) lines b
   backed_given heading (LeastHeight h) lines b =
       ap (read_words (claimed heading instance (LeastHeight h))) (joined b.front b.back lines b.are)
-      ∙ placed_given (with_last_side instance h) (LeastHeight h)
+      ∙ placed_given heading (with_last_side instance h) (LeastHeight h)
       (ToFit (with_last_side instance (pred h)) (start_exclusions heading instance)) b.front
       ((codes "proof" ∷ []) ∷ (b.back ++ (codes "end" ∷ []) ∷ [])) (higher_dims h) refl b.is_front
-      ∙ proof_given (LeastHeight h) (ToFit (with_last_side instance (pred h)) (start_exclusions heading instance))
-      b.back b.is_back
+      ∙ height_given heading instance (LeastHeight h) (pred h) b.back b.is_back
   backed_given heading (HeightBetween x y) lines b =
       ap (read_words (claimed heading instance (HeightBetween x y))) (joined b.front b.back lines b.are)
-      ∙ placed_given (with_last_side instance y) (HeightBetween x y)
+      ∙ placed_given heading (with_last_side instance y) (HeightBetween x y)
       (ToFit (with_last_side instance x) (start_exclusions heading instance)) b.front
       ((codes "proof" ∷ []) ∷ (b.back ++ (codes "end" ∷ []) ∷ [])) (higher_dims y) refl b.is_front
-      ∙ proof_given (HeightBetween x y) (ToFit (with_last_side instance x) (start_exclusions heading instance))
-      b.back b.is_back
+      ∙ height_given heading instance (HeightBetween x y) x b.back b.is_back
   backed_given heading NoHeight lines b = exceeding_given NoHeight (dims instance - 1) lines b
   backed_given heading (LeastBins k) lines b =
       ap (read_words (claimed heading instance (LeastBins k))) (joined b.front b.back lines b.are)

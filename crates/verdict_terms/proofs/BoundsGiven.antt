@@ -1,6 +1,6 @@
 -- The lines of a refutation with priced leaves are taken up to `end`.
 use Rattle.std.proofs.Common.{◌≡◌, ℕ, refl, sym, ap, subst, ◌∙◌, Bool, true, false, List, [], ◌∷◌, ◌++◌, Option}
-use Rattle.std.proofs.Common.{Some, None, Result, Ok, codes, option_map}
+use Rattle.std.proofs.Common.{Some, None, Result, Ok, codes}
 use Rattle.packing_terms.specs.Packing.{PlainInstance, dims}
 use Rattle.packing_terms.specs.OuterRefutation.{Choice as BoxChoice, no_choice}
 use Rattle.packing_terms.specs.OuterFeeding.{OpenNode, Outer}

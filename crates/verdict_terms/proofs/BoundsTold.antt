@@ -1,6 +1,6 @@
 -- Lines of a tree with priced leaves up to `end` that are taken are those of a refutation.
 use Rattle.std.proofs.Common.{◌≡◌, ℕ, refl, sym, ap, ap₂, subst, ◌∙◌, Bool, true, false, List, [], ◌∷◌, ◌++◌}
-use Rattle.std.proofs.Common.{Option, Some, None, Result, Ok, Err, codes, ◌≤◌, take}
+use Rattle.std.proofs.Common.{Option, Some, None, Result, Ok, codes, ◌≤◌, take}
 use Rattle.packing_terms.specs.Packing.{PlainInstance, dims}
 use Rattle.packing_terms.specs.OuterRefutation.{Choice as BoxChoice, no_choice}
 use Rattle.packing_terms.specs.OuterFeeding.{OpenNode, Outer}

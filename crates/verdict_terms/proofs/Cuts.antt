@@ -73,6 +73,7 @@ heading_cut Bounded word (job ∷ []) =
     rw (
       same_front 21 word (codes "bounded") (omega arith),
       same_front 21 job (codes "knapsack") (omega arith),
+      same_front 21 job (codes "strip") (omega arith),
     ) refl
 heading_cut heading word (job ∷ other ∷ words) = refl
 

@@ -16,7 +16,11 @@ use Rattle.packing_terms.specs.OuterFeeding.{OpenNode}
 use Rattle.bounded_terms.specs.BoundedRefutation.{BoundedToken}
 use Rattle.bounded_terms.specs.BoundedJudging.{bounded_after}
 use Rattle.bounded_terms.specs.BoundedLines.{bounded_token_of}
+use Rattle.family_terms.specs.FamilyRefutation.{FamilyToken, FamilyNode, Free}
+use Rattle.family_terms.specs.FamilyChecking.{families_after}
+use Rattle.family_terms.specs.FamilyLines.{family_token_of}
 use Rattle.verdict_terms.proofs.BoundsTold.{bounded_token_cut}
+use Rattle.verdict_terms.proofs.FamiliesTold.{family_token_cut}
 use Rattle.text_terms.specs.Lines.{Line, line_of, text_lines, cut_line, cut_words, is_line_feed, same_bytes}
 use Rattle.packing_terms.specs.Results.{◌>>=◌}
 use Rattle.text_terms.specs.Texts.{Parts, no_parts, add_line, at_end as end_of, refuse, IsWithinLimits}
@@ -38,15 +42,16 @@ use Rattle.verdict_terms.specs.Reasons.{form, range}
 use Rattle.verdict_terms.specs.Numbers.{require, numbers_line, coordinates}
 use Rattle.document_terms.specs.TokenLines.{token_of}
 use Rattle.document_terms.proofs.Cuts.{token_cut, cut_rest}
-use Rattle.verdict_terms.specs.Trees.{Refuted, Tree, begun, is_whole, refuted_dims, tree_dims, tree_after}
+use Rattle.verdict_terms.specs.Trees.{Refuted, ToFit, ToFitIn, ToReach, Tree, begun, is_whole, refuted_instance}
+use Rattle.verdict_terms.specs.Trees.{refuted_dims, tree_dims, tree_after}
 use Rattle.verdict_terms.specs.Results.{claim_of}
 use Rattle.verdict_terms.specs.Stages.{Stage, text_fault, end_of_parts, is_result, reading_line, rest_of, words_line}
 use Rattle.verdict_terms.specs.Stages.{share_line, take_box_line, exceeding_token, refused_by, places_reason}
 use Rattle.verdict_terms.specs.Stages.{bins_reason, taken_reason, to_refute, is_word, tree_token, coded, late_line}
-use Rattle.verdict_terms.specs.Stages.{late_by, grown_tree, placed, claimed, filled_line, stage_after, is_blank}
-use Rattle.verdict_terms.specs.Stages.{value_stage, bounding_end, bounding_token}
+use Rattle.verdict_terms.specs.Stages.{late_by, grown_tree, proving, placed, claimed, filled_line, stage_after, is_blank}
+use Rattle.verdict_terms.specs.Stages.{value_stage, bounding_end, bounding_token, gathering_end, gathering_token}
 use Rattle.verdict_terms.specs.Stages.Stage.{Beginning, Reading, Placing, Sharing, Taking, Proving, Refuting, Exceeding}
-use Rattle.verdict_terms.specs.Stages.Stage.{Bounding}
+use Rattle.verdict_terms.specs.Stages.Stage.{ProvingFamilies, Bounding, Gathering}
 use Rattle.verdict_terms.specs.Stages.Stage.{Ending, Ended}
 use Rattle.verdict_terms.specs.Documents.{Refusal, document_at_line, document_at_end, read_document_lines}
 use Rattle.verdict_terms.specs.Documents.{headed_verdict}
@@ -61,11 +66,13 @@ use Rattle.verdict_terms.proofs.TreesTold.{dims_same, dims_begun, coded_ok}
 abbrev IsWell : Stage → Type 0
 IsWell (Beginning heading) = Unit {0}
 IsWell (Reading heading job parts) = IsWithinLimits parts
-IsWell (Placing instance claim refuted places) = (dims instance ≤ 4) × (refuted_dims refuted ≤ 4)
+IsWell (Placing heading instance claim refuted places) = (dims instance ≤ 4) × (refuted_dims refuted ≤ 4)
 IsWell (Sharing instance claim k bins places) = dims instance ≤ 4
 IsWell (Taking heading instance claim value taken places) = dims instance ≤ 4
 IsWell (Bounding instance claim value nodes) = dims instance ≤ 4
+IsWell (Gathering instance claim nodes) = dims instance ≤ 4
 IsWell (Proving claim refuted) = refuted_dims refuted ≤ 4
+IsWell (ProvingFamilies instance claim) = dims instance ≤ 4
 IsWell (Refuting claim tree) = tree_dims tree ≤ 4
 IsWell (Exceeding instance claim m) = dims instance ≤ 4
 IsWell (Ending claim (Some d)) = d ≤ 4
@@ -100,17 +107,29 @@ module _ (instance : PlainInstance) (few : dims instance ≤ 4) where
   claimed_well heading (GreatestValue v) = few
   claimed_well heading (ValueBetween a b) = few
 
-placed_well : (claim : Claim) (refuted : Refuted) → refuted_dims refuted ≤ 4 → IsWell (placed claim refuted)
-placed_well Fitting refuted few = tt
-placed_well NotFitting refuted few = few
-placed_well (LeastHeight h) refuted few = few
-placed_well (HeightBetween a b) refuted few = few
-placed_well NoHeight refuted few = few
-placed_well (LeastBins k) refuted few = few
-placed_well (BinsBetween a b) refuted few = few
-placed_well NoBins refuted few = few
-placed_well (GreatestValue v) refuted few = few
-placed_well (ValueBetween a b) refuted few = few
+refuted_few : (refuted : Refuted) → refuted_dims refuted ≤ 4 → dims (refuted_instance refuted) ≤ 4
+refuted_few (ToFit instance start) few = few
+refuted_few (ToFitIn instance k) few = few
+refuted_few (ToReach instance y) few = few
+
+proving_well : (heading : Heading) (claim : Claim) (refuted : Refuted) → refuted_dims refuted ≤ 4
+    → IsWell (proving heading claim refuted)
+proving_well Answer claim refuted few = few
+proving_well Reduced claim refuted few = few
+proving_well Bounded claim refuted few = refuted_few refuted few
+
+placed_well : (heading : Heading) (claim : Claim) (refuted : Refuted) → refuted_dims refuted ≤ 4
+    → IsWell (placed heading claim refuted)
+placed_well heading Fitting refuted few = tt
+placed_well heading NotFitting refuted few = proving_well heading NotFitting refuted few
+placed_well heading (LeastHeight h) refuted few = proving_well heading (LeastHeight h) refuted few
+placed_well heading (HeightBetween a b) refuted few = proving_well heading (HeightBetween a b) refuted few
+placed_well heading NoHeight refuted few = proving_well heading NoHeight refuted few
+placed_well heading (LeastBins k) refuted few = proving_well heading (LeastBins k) refuted few
+placed_well heading (BinsBetween a b) refuted few = proving_well heading (BinsBetween a b) refuted few
+placed_well heading NoBins refuted few = proving_well heading NoBins refuted few
+placed_well heading (GreatestValue v) refuted few = proving_well heading (GreatestValue v) refuted few
+placed_well heading (ValueBetween a b) refuted few = proving_well heading (ValueBetween a b) refuted few
 
 begun_well : (refuted : Refuted) → refuted_dims refuted ≤ 4 → tree_dims (begun refuted) ≤ 4
 begun_well refuted few = subst (λ m. m ≤ 4) (sym (dims_begun refuted)) few
@@ -140,9 +159,10 @@ share_well instance claim k bins places (b ∷ ns) few next e =
     let q = require_ok (nat_le 1 b && nat_le b k) range _ next e in
     let c = bind_ok (coordinates ns) _ next q.1 in
     place_well (length (bins ++ pred b ∷ []) == box_count instance)
-    (bins_reason instance k (bins ++ pred b ∷ []) (places ++ c.0)) (placed claim (to_refute Answer instance claim))
+    (bins_reason instance k (bins ++ pred b ∷ []) (places ++ c.0))
+    (placed Answer claim (to_refute Answer instance claim))
     (Sharing instance claim k (bins ++ pred b ∷ []) (places ++ c.0))
-    (placed_well claim (to_refute Answer instance claim) (refute_well instance few Answer claim)) few next c.2
+    (placed_well Answer claim (to_refute Answer instance claim) (refute_well instance few Answer claim)) few next c.2
 
 value_well : (heading : Heading) (instance : PlainInstance) (claim : Claim) → dims instance ≤ 4
     → IsWell (value_stage heading instance claim)
@@ -194,6 +214,24 @@ bounding_well instance claim value (n ∷ nodes) words true few next e = absurd 
 bounding_well instance claim value nodes words false few next e =
     bounding_token_well instance claim value nodes (bounded_token_of (dims instance) words) few next e
 
+gathering_token_well : (instance : PlainInstance) (claim : Claim) (nodes : List FamilyNode) (t : Option FamilyToken)
+    → dims instance ≤ 4 → GivesWell (gathering_token instance claim nodes t)
+gathering_token_well instance claim nodes None few next e = absurd (cc (e))
+gathering_token_well instance claim nodes (Some t) few next e =
+    let b = bind_ok (coded (families_after instance nodes t)) (λ left. Ok (Gathering instance claim left)) next e in
+    gives_well (Gathering instance claim b.0) few next b.2
+
+gathering_well : (instance : PlainInstance) (claim : Claim) (nodes : List FamilyNode) (words : List (List ℕ)) (b : Bool)
+    → dims instance ≤ 4
+    → GivesWell (elim b as (λ x. Result Stage Reason) [
+      | true ↦ gathering_end claim nodes
+      | false ↦ gathering_token instance claim nodes (family_token_of (dims instance) words)
+    ])
+gathering_well instance claim [] words true few next e = gives_well (Ended claim) tt next e
+gathering_well instance claim (n ∷ nodes) words true few next e = absurd (cc (e))
+gathering_well instance claim nodes words false few next e =
+    gathering_token_well instance claim nodes (family_token_of (dims instance) words) few next e
+
 exceeding_well : (instance : PlainInstance) (claim : Claim) (m : ℕ) (t : PlainToken) → dims instance ≤ 4
     → GivesWell (exceeding_token instance claim m t)
 exceeding_well instance claim m (TooLarge v i) few next e =
@@ -215,11 +253,11 @@ words_well : (stage : Stage) (words : List (List ℕ)) → IsWell stage → Give
 words_well (Beginning h) words well next e =
     let a = heading_ok h words next e in gives_well (Reading h a.job no_parts) good_start next (ap Ok a.next_is)
 words_well (Reading h j p) words well next e = absurd (cc (e))
-words_well (Placing i c r p) words well next e =
+words_well (Placing h i c r p) words well next e =
     let n = bind_ok (numbers_line (codes "place") (dims i) words) _ next e in
     let x = bind_ok (coordinates n.0) _ next n.2 in
-    place_well (length (p ++ x.0) == box_count i * dims i) (places_reason i (p ++ x.0)) (placed c r)
-    (Placing i c r (p ++ x.0)) (placed_well c r well.1) well next x.2
+    place_well (length (p ++ x.0) == box_count i * dims i) (places_reason i (p ++ x.0)) (placed h c r)
+    (Placing h i c r (p ++ x.0)) (placed_well h c r well.1) well next x.2
 words_well (Sharing i c k b p) words well next e =
     let n = bind_ok (numbers_line (codes "place") (suc (dims i)) words) (λ ns. share_line i c k b p ns) next e in
     share_well i c k b p n.0 well next n.2
@@ -228,6 +266,9 @@ words_well (Taking h i c v t p) words well next e =
 words_well (Proving c r) words well next e =
     gives_well (Refuting c (begun r)) (begun_well r well) next
     (require_ok (is_word (codes "proof") words) form (Ok (Refuting c (begun r))) next e).1
+words_well (ProvingFamilies i c) words well next e =
+    gives_well (Gathering i c (Free [] ∷ [])) well next
+    (require_ok (is_word (codes "proof") words) form (Ok (Gathering i c (Free [] ∷ []))) next e).1
 words_well (Refuting c t) words well next e =
     let b = bind_ok (tree_token (is_word (codes "end") words) (token_of (tree_dims t) words))
     (λ x. coded (tree_after t x) >>= λ more. Ok (grown_tree c more)) next e in
@@ -235,6 +276,7 @@ words_well (Refuting c t) words well next e =
     gives_well (grown_tree c m.0) (grown_well c m.0
     (subst (λ n. n ≤ 4) (sym (dims_same t m.0 b.0 (coded_ok (tree_after t b.0) m.0 m.1))) well)) next m.2
 words_well (Bounding i c y ns) words well next e = bounding_well i c y ns words (is_word (codes "end") words) well next e
+words_well (Gathering i c ns) words well next e = gathering_well i c ns words (is_word (codes "end") words) well next e
 words_well (Exceeding i c m) words well next e =
     let b = bind_ok (tree_token (is_word (codes "end") words) (token_of (dims i) words)) (λ x. exceeding_token i c m x)
     next e in exceeding_well i c m b.0 well next b.2
@@ -261,9 +303,9 @@ filled_well (Beginning h) line well next e =
     words_well (Beginning h) line.words well next
     (require_ok (not line.bad) form (words_line (Beginning h) line.words) next e).1
 filled_well (Reading h j p) line well next e = reading_well (is_result line) h j p line well next e
-filled_well (Placing i c r p) line well next e =
-    words_well (Placing i c r p) line.words well next
-    (require_ok (not line.bad) form (words_line (Placing i c r p) line.words) next e).1
+filled_well (Placing h i c r p) line well next e =
+    words_well (Placing h i c r p) line.words well next
+    (require_ok (not line.bad) form (words_line (Placing h i c r p) line.words) next e).1
 filled_well (Sharing i c k b p) line well next e =
     words_well (Sharing i c k b p) line.words well next
     (require_ok (not line.bad) form (words_line (Sharing i c k b p) line.words) next e).1
@@ -273,12 +315,18 @@ filled_well (Taking h i c v t p) line well next e =
 filled_well (Proving c r) line well next e =
     words_well (Proving c r) line.words well next
     (require_ok (not line.bad) form (words_line (Proving c r) line.words) next e).1
+filled_well (ProvingFamilies i c) line well next e =
+    words_well (ProvingFamilies i c) line.words well next
+    (require_ok (not line.bad) form (words_line (ProvingFamilies i c) line.words) next e).1
 filled_well (Refuting c t) line well next e =
     words_well (Refuting c t) line.words well next
     (require_ok (not line.bad) form (words_line (Refuting c t) line.words) next e).1
 filled_well (Bounding i c y ns) line well next e =
     words_well (Bounding i c y ns) line.words well next
     (require_ok (not line.bad) form (words_line (Bounding i c y ns) line.words) next e).1
+filled_well (Gathering i c ns) line well next e =
+    words_well (Gathering i c ns) line.words well next
+    (require_ok (not line.bad) form (words_line (Gathering i c ns) line.words) next e).1
 filled_well (Exceeding i c m) line well next e =
     words_well (Exceeding i c m) line.words well next
     (require_ok (not line.bad) form (words_line (Exceeding i c m) line.words) next e).1
@@ -298,12 +346,12 @@ stage_well stage line well next e = go (is_blank line) e
 -- ---- what is told of a line is taken as the line
 
 -- the stage behind the numbers of a place line
-abbrev behind_numbers : PlainInstance → Claim → Refuted → List ℕ → List ℕ → Result Stage Reason
-behind_numbers instance claim refuted places ns =
+abbrev behind_numbers : Heading → PlainInstance → Claim → Refuted → List ℕ → List ℕ → Result Stage Reason
+behind_numbers heading instance claim refuted places ns =
     coordinates ns >>= λ xs.
     elim (length (places ++ xs) == box_count instance * dims instance) [
-      | true ↦ refused_by (places_reason instance (places ++ xs)) (Ok (placed claim refuted))
-      | false ↦ Ok (Placing instance claim refuted (places ++ xs))
+      | true ↦ refused_by (places_reason instance (places ++ xs)) (Ok (placed heading claim refuted))
+      | false ↦ Ok (Placing heading instance claim refuted (places ++ xs))
     ]
 
 -- the stage behind a line of a taken box, or `proof`
@@ -321,12 +369,17 @@ abbrev behind_bounding : PlainInstance → Claim → ℕ → List (OpenNode BoxC
 behind_bounding instance claim value nodes b o =
     elim b as (λ x. Result Stage Reason) [ true ↦ bounding_end claim nodes | false ↦ bounding_token instance claim value nodes o ]
 
+-- the stage behind a line of a tree with families, or `end`
+abbrev behind_gathering : PlainInstance → Claim → List FamilyNode → Bool → Option FamilyToken → Result Stage Reason
+behind_gathering instance claim nodes b o =
+    elim b as (λ x. Result Stage Reason) [ true ↦ gathering_end claim nodes | false ↦ gathering_token instance claim nodes o ]
+
 words_told : (stage : Stage) (w : List ℕ) (ws : List (List ℕ)) → IsWell stage
     → words_line stage (take 21 w ∷ cut_rest ws) ≡ words_line stage (w ∷ ws)
 words_told (Beginning h) w ws well = heading_cut h w ws
 words_told (Reading h j p) w ws well = refl
-words_told (Placing i c r p) w ws well =
-    ap (λ x. x >>= λ ns. behind_numbers i c r p ns)
+words_told (Placing h i c r p) w ws well =
+    ap (λ x. x >>= λ ns. behind_numbers h i c r p ns)
     (numbers_cut (codes "place") (dims i) w ws (omega arith) (let f = well.0 in omega (arith, f)))
 words_told (Sharing i c k b p) w ws well =
     ap (λ x. x >>= λ ns. share_line i c k b p ns)
@@ -336,12 +389,17 @@ words_told (Taking h i c v t p) w ws well =
     (numbers_cut (codes "take") (suc (dims i)) w ws (omega arith) (omega (arith, well)))
 words_told (Proving c r) w ws well =
     ap (λ b. require b form (Ok (Refuting c (begun r)))) (is_word_cut (codes "proof") w ws (omega arith))
+words_told (ProvingFamilies i c) w ws well =
+    ap (λ b. require b form (Ok (Gathering i c (Free [] ∷ [])))) (is_word_cut (codes "proof") w ws (omega arith))
 words_told (Refuting c t) w ws well =
     ap₂ (λ b o. tree_token b o >>= λ x. coded (tree_after t x) >>= λ more. Ok (grown_tree c more))
     (is_word_cut (codes "end") w ws (omega arith)) (token_cut (tree_dims t) w ws well)
 words_told (Bounding i c y ns) w ws well =
     ap₂ (λ b o. behind_bounding i c y ns b o) (is_word_cut (codes "end") w ws (omega arith))
     (bounded_token_cut (dims i) w ws well)
+words_told (Gathering i c ns) w ws well =
+    ap₂ (λ b o. behind_gathering i c ns b o) (is_word_cut (codes "end") w ws (omega arith))
+    (family_token_cut (dims i) w ws well)
 words_told (Exceeding i c m) w ws well =
     ap₂ (λ b o. tree_token b o >>= λ x. exceeding_token i c m x) (is_word_cut (codes "end") w ws (omega arith))
     (token_cut (dims i) w ws well)
@@ -375,14 +433,19 @@ filled_told : (stage : Stage) (bad : Bool) (w : List ℕ) (ws : List (List ℕ))
 filled_told (Beginning h) bad w ws n m well = ap (require (not bad) form) (words_told (Beginning h) w ws well)
 filled_told (Reading h j p) true w ws n m well = refl
 filled_told (Reading h j p) false w ws n m well = reading_told_by h j p w ws n m well
-filled_told (Placing i c r p) bad w ws n m well = ap (require (not bad) form) (words_told (Placing i c r p) w ws well)
+filled_told (Placing h i c r p) bad w ws n m well =
+    ap (require (not bad) form) (words_told (Placing h i c r p) w ws well)
 filled_told (Sharing i c k b p) bad w ws n m well =
     ap (require (not bad) form) (words_told (Sharing i c k b p) w ws well)
 filled_told (Taking h i c v t p) bad w ws n m well = ap (require (not bad) form) (words_told (Taking h i c v t p) w ws well)
 filled_told (Proving c r) bad w ws n m well = ap (require (not bad) form) (words_told (Proving c r) w ws well)
+filled_told (ProvingFamilies i c) bad w ws n m well =
+    ap (require (not bad) form) (words_told (ProvingFamilies i c) w ws well)
 filled_told (Refuting c t) bad w ws n m well = ap (require (not bad) form) (words_told (Refuting c t) w ws well)
 filled_told (Bounding i c y ns) bad w ws n m well =
     ap (require (not bad) form) (words_told (Bounding i c y ns) w ws well)
+filled_told (Gathering i c ns) bad w ws n m well =
+    ap (require (not bad) form) (words_told (Gathering i c ns) w ws well)
 filled_told (Exceeding i c x) bad w ws n m well = ap (require (not bad) form) (words_told (Exceeding i c x) w ws well)
 filled_told (Ending c b) bad w ws n m well = ap (require (not bad) form) (words_told (Ending c b) w ws well)
 filled_told (Ended c) bad w ws n m well = refl
@@ -396,12 +459,14 @@ line_told stage true [] n m well = bad_same stage
         ≡ filled_line s (record { bad = true; count = m; words = [] })
     bad_same (Beginning h) = refl
     bad_same (Reading h j p) = refl
-    bad_same (Placing i c r p) = refl
+    bad_same (Placing h i c r p) = refl
     bad_same (Sharing i c k b p) = refl
     bad_same (Taking h i c v t p) = refl
     bad_same (Proving c r) = refl
+    bad_same (ProvingFamilies i c) = refl
     bad_same (Refuting c t) = refl
     bad_same (Bounding i c y ns) = refl
+    bad_same (Gathering i c ns) = refl
     bad_same (Exceeding i c x) = refl
     bad_same (Ending c b) = refl
     bad_same (Ended c) = refl

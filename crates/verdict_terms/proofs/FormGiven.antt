@@ -130,7 +130,7 @@ heading_is Reduced Strip h = refl
 heading_is Reduced Bins h = absurd h
 heading_is Reduced Knapsack h = absurd h
 heading_is Bounded Fit h = absurd h
-heading_is Bounded Strip h = absurd h
+heading_is Bounded Strip h = refl
 heading_is Bounded Bins h = absurd h
 heading_is Bounded Knapsack h = refl
 

@@ -74,14 +74,16 @@ headed_ok Reduced word job e = go (same_bytes word (codes "fit")) (same_bytes wo
     go false true p q f = let same : Strip ≡ job = cc (f) in
         (word_is word (codes "strip") q ∙ ap job_word same, subst (MayName Reduced) same tt)
     go false false p q f = absurd (cc (f))
-headed_ok Bounded word job e = go (same_bytes word (codes "knapsack")) refl e
+headed_ok Bounded word job e = go (same_bytes word (codes "knapsack")) (same_bytes word (codes "strip")) refl refl e
   where
-    go : (a : Bool) → same_bytes word (codes "knapsack") ≡ a
-        → ◌≡◌ {A = Result SolvingJob Reason} (cond a (Ok Knapsack) (Err form)) (Ok job)
+    go : (a b : Bool) → same_bytes word (codes "knapsack") ≡ a → same_bytes word (codes "strip") ≡ b
+        → ◌≡◌ {A = Result SolvingJob Reason} (cond a (Ok Knapsack) (cond b (Ok Strip) (Err form))) (Ok job)
         → (word ≡ job_word job) × MayName Bounded job
-    go true p f = let same : Knapsack ≡ job = cc (f) in
+    go true b p q f = let same : Knapsack ≡ job = cc (f) in
         (word_is word (codes "knapsack") p ∙ ap job_word same, subst (MayName Bounded) same tt)
-    go false p f = absurd (cc (f))
+    go false true p q f = let same : Strip ≡ job = cc (f) in
+        (word_is word (codes "strip") q ∙ ap job_word same, subst (MayName Bounded) same tt)
+    go false false p q f = absurd (cc (f))
 
 pub record HeadingRead (heading : Heading) (words : List (List ℕ)) (next : Stage) : Type 0 where
   pub job : SolvingJob

@@ -4,6 +4,7 @@ pub mod Passed
 pub mod Walk
 pub mod TreesTold
 pub mod BoundsTold
+pub mod FamiliesTold
 pub mod True
 pub mod PlacesTold
 pub mod Backed
@@ -13,6 +14,7 @@ pub mod FormTold
 pub mod Taken
 pub mod TreesGiven
 pub mod BoundsGiven
+pub mod FamiliesGiven
 pub mod PlacesGiven
 pub mod BackedGiven
 pub mod FormGiven
@@ -21,3 +23,4 @@ pub mod Cuts
 pub mod FedGiven
 pub mod RowsReduced
 pub mod RowsBounded
+pub mod RowsFamilies

@@ -116,83 +116,83 @@ less a b l e = go (cases_lt a b)
     go (inr h) = absurd (eqb-false a b e (omega (arith, l, h)))
 
 -- the stage behind a line of coordinates, by whether it is the last one
-abbrev behind_place : PlainInstance → Claim → Refuted → List ℕ → Bool → Result Stage Reason
-behind_place instance claim refuted places t =
+abbrev behind_place : Heading → PlainInstance → Claim → Refuted → List ℕ → Bool → Result Stage Reason
+behind_place heading instance claim refuted places t =
     elim t as (λ x. Result Stage Reason) [
-      | true ↦ refused_by (places_reason instance places) (Ok (placed claim refuted))
+      | true ↦ refused_by (places_reason instance places) (Ok (placed heading claim refuted))
       | false ↦
-          Ok (Placing instance claim refuted places)
+          Ok (Placing heading instance claim refuted places)
     ]
 
-place_taken : (instance : PlainInstance) (claim : Claim) (refuted : Refuted) (places xs : List ℕ)
+place_taken : (heading : Heading) (instance : PlainInstance) (claim : Claim) (refuted : Refuted) (places xs : List ℕ)
     (words : List (List ℕ)) (t : Bool) → IsPlaceLine (dims instance) words xs
     → (length (places ++ xs) == box_count instance * dims instance) ≡ t
-    → place_line instance claim refuted places words ≡ behind_place instance claim refuted (places ++ xs) t
-place_taken instance claim refuted places xs words t line e =
-    ap (λ ws. place_line instance claim refuted places ws) line.are
+    → place_line heading instance claim refuted places words ≡ behind_place heading instance claim refuted (places ++ xs) t
+place_taken heading instance claim refuted places xs words t line e =
+    ap (λ ws. place_line heading instance claim refuted places ws) line.are
     ∙ bound (numbers_line (codes "place") (dims instance) (codes "place" ∷ line.numbers)) xs
-    (λ ns. coordinates ns >>= λ ys. behind_place instance claim refuted (places ++ ys)
+    (λ ns. coordinates ns >>= λ ys. behind_place heading instance claim refuted (places ++ ys)
     (length (places ++ ys) == box_count instance * dims instance))
     (numbers_line_is (codes "place") (dims instance) line.numbers xs line.count
     (all_wanted_is line.numbers xs line.are_coordinates))
-    ∙ bound (coordinates xs) xs (λ ys. behind_place instance claim refuted (places ++ ys)
+    ∙ bound (coordinates xs) xs (λ ys. behind_place heading instance claim refuted (places ++ ys)
     (length (places ++ ys) == box_count instance * dims instance))
     (coordinates_are line.numbers xs line.are_coordinates)
-    ∙ ap (behind_place instance claim refuted (places ++ xs)) e
+    ∙ ap (behind_place heading instance claim refuted (places ++ xs)) e
 
-after_place : (instance : PlainInstance) (claim : Claim) (refuted : Refuted) (places xs rest : List ℕ)
+after_place : (heading : Heading) (instance : PlainInstance) (claim : Claim) (refuted : Refuted) (places xs rest : List ℕ)
     (words : List (List ℕ)) (front back : List (List (List ℕ))) → 1 ≤ dims instance
     → IsPlaceLine (dims instance) words xs → ArePlaceLines (dims instance) front rest
     → length ((places ++ xs) ++ rest) ≡ box_count instance * dims instance
     → places_reason instance ((places ++ xs) ++ rest) ≡ None → (t : Bool)
     → (length (places ++ xs) == box_count instance * dims instance) ≡ t
     → (length (places ++ xs) < box_count instance * dims instance
-    → read_words (Placing instance claim refuted (places ++ xs)) (front ++ back)
-    ≡ read_words (placed claim refuted) back)
-    → read_words (Placing instance claim refuted places) (words ∷ (front ++ back))
-    ≡ read_words (placed claim refuted) back
-after_place instance claim refuted places xs rest words front back some line are total good true t go_on =
+    → read_words (Placing heading instance claim refuted (places ++ xs)) (front ++ back)
+    ≡ read_words (placed heading claim refuted) back)
+    → read_words (Placing heading instance claim refuted places) (words ∷ (front ++ back))
+    ≡ read_words (placed heading claim refuted) back
+after_place heading instance claim refuted places xs rest words front back some line are total good true t go_on =
     let full : length (places ++ xs) ≡ box_count instance * dims instance = eqb-true _ _ t in
     let n = none_left (dims instance) front rest (length (places ++ xs)) some are
     (let a = length-append (places ++ xs) rest in omega (arith, a, total, full)) in
     let calm : places_reason instance (places ++ xs) ≡ None =
     ap (places_reason instance) (sym (append-nil (places ++ xs)) ∙ ap (λ r. (places ++ xs) ++ r) (sym n.1)) ∙ good in
-    bound (place_line instance claim refuted places words) (placed claim refuted)
+    bound (place_line heading instance claim refuted places words) (placed heading claim refuted)
     (λ next. read_words next (front ++ back))
-    (place_taken instance claim refuted places xs words true line t
-    ∙ ap (λ o. refused_by o (Ok (placed claim refuted))) calm)
-    ∙ ap (λ ls. read_words (placed claim refuted) (ls ++ back)) n.0
-after_place instance claim refuted places xs rest words front back some line are total good false t go_on =
-    bound (place_line instance claim refuted places words) (Placing instance claim refuted (places ++ xs))
-    (λ next. read_words next (front ++ back)) (place_taken instance claim refuted places xs words false line t)
+    (place_taken heading instance claim refuted places xs words true line t
+    ∙ ap (λ o. refused_by o (Ok (placed heading claim refuted))) calm)
+    ∙ ap (λ ls. read_words (placed heading claim refuted) (ls ++ back)) n.0
+after_place heading instance claim refuted places xs rest words front back some line are total good false t go_on =
+    bound (place_line heading instance claim refuted places words) (Placing heading instance claim refuted (places ++ xs))
+    (λ next. read_words next (front ++ back)) (place_taken heading instance claim refuted places xs words false line t)
     ∙ go_on (less (length (places ++ xs)) (box_count instance * dims instance)
     (let a = length-append (places ++ xs) rest in omega (arith, a, total)) t)
 
-pub places_given : (instance : PlainInstance) (claim : Claim) (refuted : Refuted) (places more : List ℕ)
+pub places_given : (heading : Heading) (instance : PlainInstance) (claim : Claim) (refuted : Refuted) (places more : List ℕ)
     (front back : List (List (List ℕ))) → 1 ≤ dims instance
     → ArePlaceLines (dims instance) front more → length (places ++ more) ≡ box_count instance * dims instance
     → length places < box_count instance * dims instance
     → places_reason instance (places ++ more) ≡ None
-    → read_words (Placing instance claim refuted places) (front ++ back) ≡ read_words (placed claim refuted) back
-places_given instance claim refuted places more [] back some are count low good =
+    → read_words (Placing heading instance claim refuted places) (front ++ back) ≡ read_words (placed heading claim refuted) back
+places_given heading instance claim refuted places more [] back some are count low good =
     absurd (let a = length-append places more in let b : length more ≡ length {A = ℕ} [] = ap length are in
     omega (arith, a, b, count, low))
-places_given instance claim refuted places more (words ∷ front) back some (xs, rest, e, line, later) count low good =
+places_given heading instance claim refuted places more (words ∷ front) back some (xs, rest, e, line, later) count low good =
     let joined : places ++ more ≡ (places ++ xs) ++ rest =
     ap (λ m. places ++ m) e ∙ sym (append_assoc places xs rest) in
     let total : length ((places ++ xs) ++ rest) ≡ box_count instance * dims instance = ap length (sym joined) ∙ count in
     let calm : places_reason instance ((places ++ xs) ++ rest) ≡ None =
     ap (places_reason instance) (sym joined) ∙ good in
-    after_place instance claim refuted places xs rest words front back some line later total calm
+    after_place heading instance claim refuted places xs rest words front back some line later total calm
     (length (places ++ xs) == box_count instance * dims instance) refl
-    (λ low. places_given instance claim refuted (places ++ xs) rest front back some later total low calm)
+    (λ low. places_given heading instance claim refuted (places ++ xs) rest front back some later total low calm)
 
 -- ---- places in bins
 
 abbrev behind_share : PlainInstance → Claim → ℕ → List ℕ → List ℕ → Bool → Result Stage Reason
 behind_share instance claim k bins places t =
     elim t as (λ x. Result Stage Reason) [
-      | true ↦ refused_by (bins_reason instance k bins places) (Ok (placed claim (to_refute Answer instance claim)))
+      | true ↦ refused_by (bins_reason instance k bins places) (Ok (placed Answer claim (to_refute Answer instance claim)))
       | false ↦ Ok (Sharing instance claim k bins places)
     ]
 
@@ -229,7 +229,7 @@ pub shares_given : (instance : PlainInstance) (claim : Claim) (k : ℕ) (bins pl
     → length (bins ++ more_bins) ≡ box_count instance → length bins < box_count instance
     → bins_reason instance k (bins ++ more_bins) (places ++ more) ≡ None
     → read_words (Sharing instance claim k bins places) (front ++ back)
-    ≡ read_words (placed claim (to_refute Answer instance claim)) back
+    ≡ read_words (placed Answer claim (to_refute Answer instance claim)) back
 shares_given instance claim k bins places [] more [] back are count low good =
     absurd (let a = ap length (append-nil bins) in omega (arith, a, count, low))
 shares_given instance claim k bins places (n ∷ ns) more [] back are count low good = absurd are
@@ -252,17 +252,17 @@ shares_given instance claim k bins places (n ∷ ns) more (words ∷ front) back
         → bins_reason instance k ((bins ++ n ∷ []) ++ ms) ((places ++ xs) ++ rest) ≡ None
         → (length (bins ++ n ∷ []) < box_count instance
         → read_words (Sharing instance claim k (bins ++ n ∷ []) (places ++ xs)) (lines ++ back)
-        ≡ read_words (placed claim (to_refute Answer instance claim)) back)
+        ≡ read_words (placed Answer claim (to_refute Answer instance claim)) back)
         → read_words (Sharing instance claim k bins places) (words ∷ (lines ++ back))
-        ≡ read_words (placed claim (to_refute Answer instance claim)) back
+        ≡ read_words (placed Answer claim (to_refute Answer instance claim)) back
     after_share true t xs rest line [] [] are total calm go_on =
         let quiet : bins_reason instance k (bins ++ n ∷ []) (places ++ xs) ≡ None =
         ap₂ (λ b p. bins_reason instance k b p) (sym (append-nil (bins ++ n ∷ [])))
         (sym (append-nil (places ++ xs)) ∙ ap (λ r. (places ++ xs) ++ r) (sym are)) ∙ calm in
-        bound (words_line (Sharing instance claim k bins places) words) (placed claim (to_refute Answer instance claim))
+        bound (words_line (Sharing instance claim k bins places) words) (placed Answer claim (to_refute Answer instance claim))
         (λ next. read_words next back)
         (share_taken instance claim k n bins places xs words true line t
-        ∙ ap (λ o. refused_by o (Ok (placed claim (to_refute Answer instance claim)))) quiet)
+        ∙ ap (λ o. refused_by o (Ok (placed Answer claim (to_refute Answer instance claim)))) quiet)
     after_share true t xs rest line [] (w ∷ ws) are total calm go_on = absurd are
     after_share true t xs rest line (m ∷ ms) [] are total calm go_on = absurd are
     after_share true t xs rest line (m ∷ ms) (w ∷ ws) are total calm go_on =

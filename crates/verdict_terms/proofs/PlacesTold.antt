@@ -89,7 +89,7 @@ numbered_count key most d n words xs l = sym (numbers_count l.numbers xs l.are_c
 
 -- ---- places of all boxes
 
-pub record PlacesTold (instance : PlainInstance) (claim told : Claim) (refuted : Refuted) (places : List ℕ)
+pub record PlacesTold (heading : Heading) (instance : PlainInstance) (claim told : Claim) (refuted : Refuted) (places : List ℕ)
     (lines : List (List (List ℕ))) : Type 0 where
   pub front : List (List (List ℕ))
   pub back : List (List (List ℕ))
@@ -98,34 +98,34 @@ pub record PlacesTold (instance : PlainInstance) (claim told : Claim) (refuted :
   pub are_lines : ArePlaceLines (dims instance) front more
   pub count : length (places ++ more) ≡ box_count instance * dims instance
   pub good : places_reason instance (places ++ more) ≡ None
-  pub rest : read_words (placed claim refuted) back ≡ Ok told
+  pub rest : read_words (placed heading claim refuted) back ≡ Ok told
 
-pub places_told : (instance : PlainInstance) (claim told : Claim) (refuted : Refuted) (places : List ℕ)
-    (lines : List (List (List ℕ))) → read_words (Placing instance claim refuted places) lines ≡ Ok told
-    → PlacesTold instance claim told refuted places lines
-places_told instance claim told refuted places [] e = absurd (cc (e))
-places_told instance claim told refuted places (words ∷ lines) e =
-    let b = bind_ok (place_line instance claim refuted places words) (λ next. read_words next lines) told e in
+pub places_told : (heading : Heading) (instance : PlainInstance) (claim told : Claim) (refuted : Refuted) (places : List ℕ)
+    (lines : List (List (List ℕ))) → read_words (Placing heading instance claim refuted places) lines ≡ Ok told
+    → PlacesTold heading instance claim told refuted places lines
+places_told heading instance claim told refuted places [] e = absurd (cc (e))
+places_told heading instance claim told refuted places (words ∷ lines) e =
+    let b = bind_ok (place_line heading instance claim refuted places words) (λ next. read_words next lines) told e in
     let n = bind_ok (numbers_line (codes "place") (dims instance) words) _ b.0 b.1 in
     let c = bind_ok (coordinates n.0) _ b.0 n.2 in
     go c.0 (place_line_is (dims instance) words n.0 c.0 n.1 c.1)
     (length (places ++ c.0) == box_count instance * dims instance) refl b.0 c.2 b.2
-    (λ r. places_told instance claim told refuted (places ++ c.0) lines r)
+    (λ r. places_told heading instance claim told refuted (places ++ c.0) lines r)
   where
     go : (xs : List ℕ) → IsPlaceLine (dims instance) words xs → (t : Bool)
         → (length (places ++ xs) == box_count instance * dims instance) ≡ t → (next : Stage)
         → ◌≡◌ {A = Result Stage Reason}
         (elim t [
-          | true ↦ refused_by (places_reason instance (places ++ xs)) (Ok (placed claim refuted))
+          | true ↦ refused_by (places_reason instance (places ++ xs)) (Ok (placed heading claim refuted))
           | false ↦
-              Ok (Placing instance claim refuted (places ++ xs))
+              Ok (Placing heading instance claim refuted (places ++ xs))
         ]) (Ok next)
         → read_words next lines ≡ Ok told
-        → (read_words (Placing instance claim refuted (places ++ xs)) lines ≡ Ok told
-        → PlacesTold instance claim told refuted (places ++ xs) lines)
-        → PlacesTold instance claim told refuted places (words ∷ lines)
+        → (read_words (Placing heading instance claim refuted (places ++ xs)) lines ≡ Ok told
+        → PlacesTold heading instance claim told refuted (places ++ xs) lines)
+        → PlacesTold heading instance claim told refuted places (words ∷ lines)
     go xs line true t next f r later =
-        let g = refused_ok (places_reason instance (places ++ xs)) (Ok (placed claim refuted)) next f in record {
+        let g = refused_ok (places_reason instance (places ++ xs)) (Ok (placed heading claim refuted)) next f in record {
           front = words ∷ [];
           back = lines;
           more = xs;
@@ -133,11 +133,11 @@ places_told instance claim told refuted places (words ∷ lines) e =
           are_lines = (xs, [], sym (append-nil xs), line, refl);
           count = eqb-true (length (places ++ xs)) (box_count instance * dims instance) t;
           good = g.0;
-          rest = subst (λ s. read_words s lines ≡ Ok told) (sym (ok_is (placed claim refuted) next g.1)) r;
+          rest = subst (λ s. read_words s lines ≡ Ok told) (sym (ok_is (placed heading claim refuted) next g.1)) r;
         }
     go xs line false t next f r later =
         let d = later (subst (λ s. read_words s lines ≡ Ok told)
-        (sym (ok_is (Placing instance claim refuted (places ++ xs)) next f)) r) in
+        (sym (ok_is (Placing heading instance claim refuted (places ++ xs)) next f)) r) in
         let joined : (places ++ xs) ++ d.more ≡ places ++ (xs ++ d.more) = append_assoc places xs d.more in record {
           front = words ∷ d.front;
           back = d.back;
@@ -209,7 +209,7 @@ pub record SharesTold (instance : PlainInstance) (claim told : Claim) (k : ℕ) 
   pub below : All (λ b. b < k) more_bins
   pub count : length (bins ++ more_bins) ≡ box_count instance
   pub good : bins_reason instance k (bins ++ more_bins) (places ++ more) ≡ None
-  pub rest : read_words (placed claim (to_refute Answer instance claim)) back ≡ Ok told
+  pub rest : read_words (placed Answer claim (to_refute Answer instance claim)) back ≡ Ok told
 
 all_cons : (P : ℕ → Type 0) (x : ℕ) (xs : List ℕ) → P x → All P xs → All P (x ∷ xs)
 all_cons P x xs p ps zero d h = p
@@ -222,7 +222,7 @@ share_told : (instance : PlainInstance) (claim told : Claim) (k : ℕ) (bins pla
     → (length (bins ++ n ∷ []) == box_count instance) ≡ t → (next : Stage)
     → ◌≡◌ {A = Result Stage Reason} (elim t [
       | true ↦ refused_by (bins_reason instance k (bins ++ n ∷ []) (places ++ xs))
-          (Ok (placed claim (to_refute Answer instance claim)))
+          (Ok (placed Answer claim (to_refute Answer instance claim)))
       | false ↦ Ok (Sharing instance claim k (bins ++ n ∷ []) (places ++ xs))
     ]) (Ok next)
     → read_words next lines ≡ Ok told
@@ -231,7 +231,7 @@ share_told : (instance : PlainInstance) (claim told : Claim) (k : ℕ) (bins pla
     → SharesTold instance claim told k bins places (words ∷ lines)
 share_told instance claim told k bins places words lines n xs line small true t next f r later =
     let g = refused_ok (bins_reason instance k (bins ++ n ∷ []) (places ++ xs))
-    (Ok (placed claim (to_refute Answer instance claim))) next f in record {
+    (Ok (placed Answer claim (to_refute Answer instance claim))) next f in record {
       front = words ∷ [];
       back = lines;
       more_bins = n ∷ [];
@@ -242,7 +242,7 @@ share_told instance claim told k bins places words lines n xs line small true t 
       count = eqb-true (length (bins ++ n ∷ [])) (box_count instance) t;
       good = g.0;
       rest = subst (λ s. read_words s lines ≡ Ok told)
-          (sym (ok_is (placed claim (to_refute Answer instance claim)) next g.1)) r;
+          (sym (ok_is (placed Answer claim (to_refute Answer instance claim)) next g.1)) r;
     }
 share_told instance claim told k bins places words lines n xs line small false t next f r later =
     let d = later (bins ++ n ∷ []) (places ++ xs)

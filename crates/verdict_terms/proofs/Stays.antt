@@ -10,7 +10,7 @@ use Rattle.verdict_terms.specs.declared.reason.Reason.{Reason}
 use Rattle.verdict_terms.specs.declared.reason.Reason.TheVariants.{TooShort}
 use Rattle.verdict_terms.specs.Stages.{Stage, stage_after}
 use Rattle.verdict_terms.specs.Stages.Stage.{Beginning, Reading, Placing, Sharing, Taking, Proving, Refuting, Exceeding}
-use Rattle.verdict_terms.specs.Stages.Stage.{Bounding}
+use Rattle.verdict_terms.specs.Stages.Stage.{ProvingFamilies, Bounding, Gathering}
 use Rattle.verdict_terms.specs.Stages.Stage.{Ending, Ended}
 use Rattle.verdict_terms.specs.Documents.{Refusal, document_at_line, document_at_end, read_document_lines}
 use Rattle.verdict_terms.specs.Documents.{headed_verdict}
@@ -63,7 +63,7 @@ end_line (Beginning h) n r e = let same : record { line = n + 1; reason = TooSho
     ap (λ x. x.line) (sym same)
 end_line (Reading h j p) n r e = let same : record { line = n + 1; reason = TooShort } ≡ r = cc (e) in
     ap (λ x. x.line) (sym same)
-end_line (Placing i c f p) n r e = let same : record { line = n + 1; reason = TooShort } ≡ r = cc (e) in
+end_line (Placing h i c f p) n r e = let same : record { line = n + 1; reason = TooShort } ≡ r = cc (e) in
     ap (λ x. x.line) (sym same)
 end_line (Sharing i c k b p) n r e = let same : record { line = n + 1; reason = TooShort } ≡ r = cc (e) in
     ap (λ x. x.line) (sym same)
@@ -71,9 +71,13 @@ end_line (Taking h i c v t p) n r e = let same : record { line = n + 1; reason =
     ap (λ x. x.line) (sym same)
 end_line (Proving c f) n r e = let same : record { line = n + 1; reason = TooShort } ≡ r = cc (e) in
     ap (λ x. x.line) (sym same)
+end_line (ProvingFamilies i c) n r e = let same : record { line = n + 1; reason = TooShort } ≡ r = cc (e) in
+    ap (λ x. x.line) (sym same)
 end_line (Refuting c t) n r e = let same : record { line = n + 1; reason = TooShort } ≡ r = cc (e) in
     ap (λ x. x.line) (sym same)
 end_line (Bounding i c y ns) n r e = let same : record { line = n + 1; reason = TooShort } ≡ r = cc (e) in
+    ap (λ x. x.line) (sym same)
+end_line (Gathering i c ns) n r e = let same : record { line = n + 1; reason = TooShort } ≡ r = cc (e) in
     ap (λ x. x.line) (sym same)
 end_line (Exceeding i c m) n r e = let same : record { line = n + 1; reason = TooShort } ≡ r = cc (e) in
     ap (λ x. x.line) (sym same)

@@ -17,7 +17,7 @@ use Rattle.verdict_terms.specs.Numbers.{most_coordinate, require, wanted_by, wan
 use Rattle.verdict_terms.specs.Numbers.{are_coordinates, coordinates}
 use Rattle.verdict_terms.specs.Stages.{Stage, words_line, filled_line, stage_after}
 use Rattle.verdict_terms.specs.Stages.Stage.{Beginning, Reading, Placing, Sharing, Taking, Proving, Refuting, Exceeding}
-use Rattle.verdict_terms.specs.Stages.Stage.{Bounding}
+use Rattle.verdict_terms.specs.Stages.Stage.{ProvingFamilies, Bounding, Gathering}
 use Rattle.verdict_terms.specs.Stages.Stage.{Ending, Ended}
 use Rattle.verdict_terms.specs.Documents.{document_at_line, document_at_end, read_document_lines}
 use Rattle.verdict_terms.proofs.Walk.{IsLater, claim_read, read_words, words_later}
@@ -64,12 +64,14 @@ at_end_is : (stage : Stage) (n : ℕ) (claim : Claim) → claim_read stage ≡ O
 at_end_is (Ended c) n claim e = let same : c ≡ claim = cc (e) in ap Ok same
 at_end_is (Beginning h) n claim e = absurd (cc (e))
 at_end_is (Reading h j p) n claim e = absurd (cc (e))
-at_end_is (Placing i c r p) n claim e = absurd (cc (e))
+at_end_is (Placing h i c r p) n claim e = absurd (cc (e))
 at_end_is (Sharing i c k b p) n claim e = absurd (cc (e))
 at_end_is (Taking h i c v t p) n claim e = absurd (cc (e))
 at_end_is (Proving c r) n claim e = absurd (cc (e))
+at_end_is (ProvingFamilies i c) n claim e = absurd (cc (e))
 at_end_is (Refuting c t) n claim e = absurd (cc (e))
 at_end_is (Bounding i c y ns) n claim e = absurd (cc (e))
+at_end_is (Gathering i c ns) n claim e = absurd (cc (e))
 at_end_is (Exceeding i c m) n claim e = absurd (cc (e))
 at_end_is (Ending c b) n claim e = absurd (cc (e))
 
@@ -79,12 +81,14 @@ filled_is : (stage next : Stage) (c : ℕ) (words : List (List ℕ)) → IsLater
 filled_is (Beginning h) next c words later e = absurd later
 filled_is (Reading h j p) next c words later e = absurd later
 filled_is (Ended x) next c words later e = absurd (cc (e))
-filled_is (Placing i x r p) next c words later e = e
+filled_is (Placing h i x r p) next c words later e = e
 filled_is (Sharing i x k s p) next c words later e = e
 filled_is (Taking h i x v t p) next c words later e = e
 filled_is (Proving x r) next c words later e = e
+filled_is (ProvingFamilies i x) next c words later e = e
 filled_is (Refuting x t) next c words later e = e
 filled_is (Bounding i x y ns) next c words later e = e
+filled_is (Gathering i x ns) next c words later e = e
 filled_is (Exceeding i x m) next c words later e = e
 filled_is (Ending x s) next c words later e = e
 

@@ -15,6 +15,7 @@ use Rattle.packing_terms.proofs.Refuted.{none_fits}
 use Rattle.packing_terms.proofs.BinsRefuted.{none_fits_bins}
 use Rattle.packing_terms.proofs.ValueRefuted.{none_reaches}
 use Rattle.bounded_terms.proofs.BoundedSound.{none_reaches_bounded}
+use Rattle.family_terms.proofs.FamilySound.{none_fits_families}
 use Rattle.scale_terms.proofs.Excess.{excess_law}
 use Rattle.document_terms.specs.declared.claim.Claim.{Claim}
 use Rattle.document_terms.specs.Claims.{IsTrueOf}
@@ -26,7 +27,7 @@ use Rattle.verdict_terms.specs.declared.heading.Heading.TheVariants.{Answer, Red
 use Rattle.symmetry_terms.proofs.Levels.{none_fits_under, none_fits_at}
 use Rattle.verdict_terms.proofs.FormGiven.{document_limits}
 use Rattle.verdict_terms.specs.Stages.{start_exclusions}
-use Rattle.verdict_terms.specs.Form.{IsResult, AreTaken, RefuteValue, BacksUnder, DocumentsAreTrue}
+use Rattle.verdict_terms.specs.Form.{IsResult, AreTaken, RefuteHeight, RefuteValue, BacksUnder, DocumentsAreTrue}
 
 module _ (instance : PlainInstance) (sides : HasPositiveSides instance) (some : 1 ≤ dims instance) where
   higher_sides : (h : ℕ) → HasPositiveSides (with_last_side instance h)
@@ -66,14 +67,12 @@ module _ (instance : PlainInstance) (sides : HasPositiveSides instance) (some : 
   never_fits Bounded tokens refutes = none_fits excess_law instance sides tokens refutes
   never_fits Reduced tokens refutes = none_fits_under instance sides some tokens refutes
 
-  never_fits_at : (heading : Heading) (h : ℕ) (tokens : List PlainToken)
-      → Refutes (with_last_side instance h) (start_exclusions heading instance) tokens
+  never_fits_at : (heading : Heading) (h : ℕ) (lines : List (List (List ℕ))) → RefuteHeight heading instance h lines
       → ¬ Fits (with_last_side instance h)
-  never_fits_at Answer h tokens refutes =
-      none_fits excess_law (with_last_side instance h) (higher_sides h) tokens refutes
-  never_fits_at Bounded h tokens refutes =
-      none_fits excess_law (with_last_side instance h) (higher_sides h) tokens refutes
-  never_fits_at Reduced h tokens refutes = none_fits_at instance h (higher_sides h) some tokens refutes
+  never_fits_at Answer h lines r = none_fits excess_law (with_last_side instance h) (higher_sides h) r.tokens r.refute
+  never_fits_at Reduced h lines r = none_fits_at instance h (higher_sides h) some r.tokens r.refute
+  never_fits_at Bounded h lines r =
+      none_fits_families excess_law (with_last_side instance h) (higher_sides h) r.tokens r.refute
 
   -- nor is what is refuted for a value reached
   never_reaches : (heading : Heading) (value : ℕ) (lines : List (List (List ℕ)))
@@ -90,7 +89,7 @@ module _ (instance : PlainInstance) (sides : HasPositiveSides instance) (some : 
   backed_true heading (LeastHeight zero) words lines r b = absurd (let h = r.is_number.least in omega (arith, h))
   backed_true heading (LeastHeight (suc h)) words lines r b =
       least_height instance h (b.is_front.places, b.is_front.packing)
-      (never_fits_at heading h b.is_back.tokens b.is_back.refute)
+      (never_fits_at heading h b.back b.is_back)
   backed_true heading (HeightBetween x y) words lines r b = record {
     above = λ h f. go h f (cases_lt x h);
     fits = (b.is_front.places, b.is_front.packing);
@@ -99,7 +98,7 @@ module _ (instance : PlainInstance) (sides : HasPositiveSides instance) (some : 
       go : (h : ℕ) → Fits (with_last_side instance h) → (x < h) ⊎ (h ≤ x) → x < h
       go h f (inl l) = l
       go h f (inr l) =
-          absurd (never_fits_at heading x b.is_back.tokens b.is_back.refute (fits_higher instance h x l f))
+          absurd (never_fits_at heading x b.back b.is_back (fits_higher instance h x l f))
   backed_true heading NoHeight words lines r b = λ h. too_wide instance h (wide b.box_no b.dim b.large b.among)
   backed_true heading (LeastBins zero) words lines r b = absurd (let h = r.is_number.least in omega (arith, h))
   backed_true heading (LeastBins (suc k)) words lines r b =

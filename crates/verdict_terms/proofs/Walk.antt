@@ -20,6 +20,9 @@ use Rattle.packing_terms.specs.OuterFeeding.{OpenNode}
 use Rattle.bounded_terms.specs.BoundedRefutation.{BoundedToken}
 use Rattle.bounded_terms.specs.BoundedJudging.{bounded_after}
 use Rattle.bounded_terms.specs.BoundedLines.{bounded_token_of}
+use Rattle.family_terms.specs.FamilyRefutation.{FamilyToken, FamilyNode, Free}
+use Rattle.family_terms.specs.FamilyChecking.{families_after}
+use Rattle.family_terms.specs.FamilyLines.{family_token_of}
 use Rattle.verdict_terms.specs.Trees.{Refuted, Tree, begun, is_whole, tree_dims, tree_after}
 use Rattle.document_terms.specs.declared.claim.Claim.{Claim}
 use Rattle.document_terms.specs.declared.claim.Claim.TheVariants.{Fitting, NotFitting, LeastHeight, HeightBetween}
@@ -35,10 +38,10 @@ use Rattle.verdict_terms.specs.Reasons.{form, range, after}
 use Rattle.verdict_terms.specs.declared.reason.Reason.TheVariants.{TooShort}
 use Rattle.verdict_terms.specs.Stages.{Stage, words_line, share_line, take_box_line, exceeding_token, refused_by}
 use Rattle.verdict_terms.specs.Stages.{places_reason, bins_reason, taken_reason, to_refute, is_word, tree_token, coded}
-use Rattle.verdict_terms.specs.Stages.{late_line, grown_tree, filled_line, stage_after, placed, value_stage}
-use Rattle.verdict_terms.specs.Stages.{bounding_end, bounding_token}
+use Rattle.verdict_terms.specs.Stages.{late_line, grown_tree, filled_line, stage_after, proving, placed, value_stage}
+use Rattle.verdict_terms.specs.Stages.{bounding_end, bounding_token, gathering_end, gathering_token}
 use Rattle.verdict_terms.specs.Stages.Stage.{Beginning, Reading, Placing, Sharing, Taking, Proving, Refuting, Exceeding}
-use Rattle.verdict_terms.specs.Stages.Stage.{Bounding}
+use Rattle.verdict_terms.specs.Stages.Stage.{ProvingFamilies, Bounding, Gathering}
 use Rattle.verdict_terms.specs.Stages.Stage.{Ending, Ended}
 use Rattle.verdict_terms.specs.Documents.{document_at_line, document_at_end, read_document_lines}
 use Rattle.verdict_terms.proofs.Passed.{require_ok, refused_ok, ok_is}
@@ -64,12 +67,14 @@ pub end_read : (stage : Stage) (n : ℕ) (claim : Claim) → document_at_end sta
 end_read (Ended c) n claim e = let same : c ≡ claim = cc (e) in ap Ok same
 end_read (Beginning h) n claim e = absurd (cc (e))
 end_read (Reading h j p) n claim e = absurd (cc (e))
-end_read (Placing i c r p) n claim e = absurd (cc (e))
+end_read (Placing h i c r p) n claim e = absurd (cc (e))
 end_read (Sharing i c k b p) n claim e = absurd (cc (e))
 end_read (Taking h i c v t p) n claim e = absurd (cc (e))
 end_read (Proving c r) n claim e = absurd (cc (e))
+end_read (ProvingFamilies i c) n claim e = absurd (cc (e))
 end_read (Refuting c t) n claim e = absurd (cc (e))
 end_read (Bounding i c y ns) n claim e = absurd (cc (e))
+end_read (Gathering i c ns) n claim e = absurd (cc (e))
 end_read (Exceeding i c m) n claim e = absurd (cc (e))
 end_read (Ending c b) n claim e = absurd (cc (e))
 
@@ -97,20 +102,24 @@ filled_ok : (stage next : Stage) (b : Bool) (c : ℕ) (words : List (List ℕ)) 
 filled_ok (Beginning h) next b c words later e = absurd later
 filled_ok (Reading h j p) next b c words later e = absurd later
 filled_ok (Ended x) next b c words later e = absurd (cc (e))
-filled_ok (Placing i x r p) next false c words later e = (refl, e)
+filled_ok (Placing h i x r p) next false c words later e = (refl, e)
 filled_ok (Sharing i x k s p) next false c words later e = (refl, e)
 filled_ok (Taking h i x v t p) next false c words later e = (refl, e)
 filled_ok (Proving x r) next false c words later e = (refl, e)
+filled_ok (ProvingFamilies i x) next false c words later e = (refl, e)
 filled_ok (Refuting x t) next false c words later e = (refl, e)
 filled_ok (Bounding i x y ns) next false c words later e = (refl, e)
+filled_ok (Gathering i x ns) next false c words later e = (refl, e)
 filled_ok (Exceeding i x m) next false c words later e = (refl, e)
 filled_ok (Ending x s) next false c words later e = (refl, e)
-filled_ok (Placing i x r p) next true c words later e = absurd (cc (e))
+filled_ok (Placing h i x r p) next true c words later e = absurd (cc (e))
 filled_ok (Sharing i x k s p) next true c words later e = absurd (cc (e))
 filled_ok (Taking h i x v t p) next true c words later e = absurd (cc (e))
 filled_ok (Proving x r) next true c words later e = absurd (cc (e))
+filled_ok (ProvingFamilies i x) next true c words later e = absurd (cc (e))
 filled_ok (Refuting x t) next true c words later e = absurd (cc (e))
 filled_ok (Bounding i x y ns) next true c words later e = absurd (cc (e))
+filled_ok (Gathering i x ns) next true c words later e = absurd (cc (e))
 filled_ok (Exceeding i x m) next true c words later e = absurd (cc (e))
 filled_ok (Ending x s) next true c words later e = absurd (cc (e))
 
@@ -141,17 +150,22 @@ bool_gives false r s h k = k
 refused_gives : (o : Option Reason) (stage : Stage) → IsLater stage → GivesLater (refused_by o (Ok stage))
 refused_gives o stage later next e = gives stage later next (refused_ok o (Ok stage) next e).1
 
-placed_later : (claim : Claim) (refuted : Refuted) → IsLater (placed claim refuted)
-placed_later Fitting refuted = tt
-placed_later NotFitting refuted = tt
-placed_later (LeastHeight h) refuted = tt
-placed_later (HeightBetween a b) refuted = tt
-placed_later NoHeight refuted = tt
-placed_later (LeastBins k) refuted = tt
-placed_later (BinsBetween a b) refuted = tt
-placed_later NoBins refuted = tt
-placed_later (GreatestValue v) refuted = tt
-placed_later (ValueBetween a b) refuted = tt
+proving_later : (heading : Heading) (claim : Claim) (refuted : Refuted) → IsLater (proving heading claim refuted)
+proving_later Answer claim refuted = tt
+proving_later Reduced claim refuted = tt
+proving_later Bounded claim refuted = tt
+
+placed_later : (heading : Heading) (claim : Claim) (refuted : Refuted) → IsLater (placed heading claim refuted)
+placed_later heading Fitting refuted = tt
+placed_later heading NotFitting refuted = proving_later heading NotFitting refuted
+placed_later heading (LeastHeight h) refuted = proving_later heading (LeastHeight h) refuted
+placed_later heading (HeightBetween a b) refuted = proving_later heading (HeightBetween a b) refuted
+placed_later heading NoHeight refuted = proving_later heading NoHeight refuted
+placed_later heading (LeastBins k) refuted = proving_later heading (LeastBins k) refuted
+placed_later heading (BinsBetween a b) refuted = proving_later heading (BinsBetween a b) refuted
+placed_later heading NoBins refuted = proving_later heading NoBins refuted
+placed_later heading (GreatestValue v) refuted = proving_later heading (GreatestValue v) refuted
+placed_later heading (ValueBetween a b) refuted = proving_later heading (ValueBetween a b) refuted
 
 share_later : (instance : PlainInstance) (claim : Claim) (k : ℕ) (bins places ns : List ℕ)
     → GivesLater (share_line instance claim k bins places ns)
@@ -161,7 +175,8 @@ share_later instance claim k bins places (b ∷ ns) next e =
     let c = bind_ok (coordinates ns) _ next q.1 in
     bool_gives (length (bins ++ pred b ∷ []) == box_count instance) _ _
     (refused_gives (bins_reason instance k (bins ++ pred b ∷ []) (places ++ c.0))
-    (placed claim (to_refute Answer instance claim)) (placed_later claim (to_refute Answer instance claim)))
+    (placed Answer claim (to_refute Answer instance claim))
+    (placed_later Answer claim (to_refute Answer instance claim)))
     (gives (Sharing instance claim k (bins ++ pred b ∷ []) (places ++ c.0)) tt) next c.2
 
 value_later : (heading : Heading) (instance : PlainInstance) (claim : Claim)
@@ -196,6 +211,17 @@ bounding_later instance claim value nodes (Some t) next e =
     let b = bind_ok (coded (bounded_after instance value nodes t)) (λ left. Ok (Bounding instance claim value left))
     next e in gives (Bounding instance claim value b.0) tt next b.2
 
+gathering_end_later : (claim : Claim) (nodes : List FamilyNode) → GivesLater (gathering_end claim nodes)
+gathering_end_later claim [] next e = gives (Ended claim) tt next e
+gathering_end_later claim (n ∷ nodes) next e = refuses TooShort next e
+
+gathering_later : (instance : PlainInstance) (claim : Claim) (nodes : List FamilyNode) (t : Option FamilyToken)
+    → GivesLater (gathering_token instance claim nodes t)
+gathering_later instance claim nodes None next e = refuses form next e
+gathering_later instance claim nodes (Some t) next e =
+    let b = bind_ok (coded (families_after instance nodes t)) (λ left. Ok (Gathering instance claim left)) next e in
+    gives (Gathering instance claim b.0) tt next b.2
+
 exceeding_later : (instance : PlainInstance) (claim : Claim) (m : ℕ) (t : PlainToken)
     → GivesLater (exceeding_token instance claim m t)
 exceeding_later instance claim m (TooLarge v i) next e =
@@ -216,12 +242,12 @@ exceeding_later instance claim m (GlobalScales fs) next e = refuses form next e
 pub words_later : (stage : Stage) (words : List (List ℕ)) → IsLater stage → GivesLater (words_line stage words)
 words_later (Beginning h) words later next e = absurd later
 words_later (Reading h j p) words later next e = absurd later
-words_later (Placing i c r p) words later next e =
+words_later (Placing h i c r p) words later next e =
     let n = bind_ok (numbers_line (codes "place") (dims i) words) _ next e in
     let x = bind_ok (coordinates n.0) _ next n.2 in
     bool_gives (length (p ++ x.0) == box_count i * dims i) _ _
-    (refused_gives (places_reason i (p ++ x.0)) (placed c r) (placed_later c r))
-    (gives (Placing i c r (p ++ x.0)) tt) next x.2
+    (refused_gives (places_reason i (p ++ x.0)) (placed h c r) (placed_later h c r))
+    (gives (Placing h i c r (p ++ x.0)) tt) next x.2
 words_later (Sharing i c k b p) words later next e =
     bind_gives (numbers_line (codes "place") (suc (dims i)) words) (λ ns. share_line i c k b p ns)
     (λ ns. share_later i c k b p ns) next e
@@ -233,6 +259,9 @@ words_later (Taking h i c v t p) words later next e =
 words_later (Proving c r) words later next e =
     require_gives (is_word (codes "proof") words) form (Ok (Refuting c (begun r)))
     (gives (Refuting c (begun r)) tt) next e
+words_later (ProvingFamilies i c) words later next e =
+    require_gives (is_word (codes "proof") words) form (Ok (Gathering i c (Free [] ∷ [])))
+    (gives (Gathering i c (Free [] ∷ [])) tt) next e
 words_later (Refuting c t) words later next e =
     let b = bind_ok (tree_token (is_word (codes "end") words) (token_of (tree_dims t) words))
     (λ x. coded (tree_after t x) >>= λ more. Ok (grown_tree c more)) next e in
@@ -241,6 +270,9 @@ words_later (Refuting c t) words later next e =
 words_later (Bounding i c y ns) words later next e =
     bool_gives (is_word (codes "end") words) _ _ (bounding_end_later c ns)
     (bounding_later i c y ns (bounded_token_of (dims i) words)) next e
+words_later (Gathering i c ns) words later next e =
+    bool_gives (is_word (codes "end") words) _ _ (gathering_end_later c ns)
+    (gathering_later i c ns (family_token_of (dims i) words)) next e
 words_later (Exceeding i c m) words later next e =
     bind_gives (tree_token (is_word (codes "end") words) (token_of (dims i) words)) (λ x. exceeding_token i c m x)
     (λ x. exceeding_later i c m x) next e

@@ -10,6 +10,8 @@ use Rattle.packing_terms.specs.Tokens.{PlainToken}
 use Rattle.packing_terms.specs.Tokens.PlainToken.{TooLarge}
 use Rattle.bounded_terms.specs.BoundedRefutation.{BoundedToken, IsBoundedRefutation}
 use Rattle.bounded_terms.specs.BoundedLines.{bounded_token_of}
+use Rattle.family_terms.specs.FamilyRefutation.{FamilyToken, Free, RefutesFamilies}
+use Rattle.family_terms.specs.FamilyLines.{family_token_of}
 use Rattle.packing_terms.specs.Refutation.{IsTooLarge}
 use Rattle.text_terms.specs.Lines.{text_lines, number_of}
 use Rattle.text_terms.specs.Form.{AreClean, filled_lines, IsNumber, HasForm}
@@ -158,6 +160,27 @@ RefuteValue Answer instance value lines = AreRefuting (ToReach instance value) l
 RefuteValue Reduced instance value lines = AreRefuting (ToReach instance value) lines
 RefuteValue Bounded instance value lines = AreBounding instance value lines
 
+-- lines of tokens of refutations with families
+abbrev pub AreFamilyLines : ℕ → List (List (List ℕ)) → List FamilyToken → Type 0
+AreFamilyLines d [] [] = Unit {0}
+AreFamilyLines d [] (t ∷ ts) = ⊥
+AreFamilyLines d (words ∷ lines) [] = ⊥
+AreFamilyLines d (words ∷ lines) (t ∷ ts) = (family_token_of d words ≡ Some t) × AreFamilyLines d lines ts
+
+-- lines of a refutation with families of an instance, without any exclusion
+pub record AreGathering (instance : PlainInstance) (lines : List (List (List ℕ))) : Type 0 where
+  pub tokens : List FamilyToken
+  pub are_lines : AreFamilyLines (dims instance) lines tokens
+  pub refute : RefutesFamilies instance (Free []) tokens
+
+-- lines that refute a height under a heading
+abbrev pub RefuteHeight : Heading → PlainInstance → ℕ → List (List (List ℕ)) → Type 0
+RefuteHeight Answer instance h lines =
+    AreRefuting (ToFit (with_last_side instance h) (start_exclusions Answer instance)) lines
+RefuteHeight Reduced instance h lines =
+    AreRefuting (ToFit (with_last_side instance h) (start_exclusions Reduced instance)) lines
+RefuteHeight Bounded instance h lines = AreGathering (with_last_side instance h) lines
+
 -- one line `t V I` of a box that exceeds the container in one of the first m dimensions
 pub record IsExceedingLine (instance : PlainInstance) (m : ℕ) (lines : List (List (List ℕ))) : Type 0 where
   pub words : List (List ℕ)
@@ -183,11 +206,9 @@ abbrev pub BacksUnder : Heading → PlainInstance → Claim → List (List (List
 BacksUnder heading instance Fitting lines = ArePlaced instance lines
 BacksUnder heading instance NotFitting lines = AreRefuting (ToFit instance (start_exclusions heading instance)) lines
 BacksUnder heading instance (LeastHeight h) lines =
-    AreProved (ArePlaced (with_last_side instance h))
-    (AreRefuting (ToFit (with_last_side instance (pred h)) (start_exclusions heading instance))) lines
+    AreProved (ArePlaced (with_last_side instance h)) (RefuteHeight heading instance (pred h)) lines
 BacksUnder heading instance (HeightBetween a b) lines =
-    AreProved (ArePlaced (with_last_side instance b))
-    (AreRefuting (ToFit (with_last_side instance a) (start_exclusions heading instance))) lines
+    AreProved (ArePlaced (with_last_side instance b)) (RefuteHeight heading instance a) lines
 BacksUnder heading instance NoHeight lines = IsExceedingLine instance (dims instance - 1) lines
 BacksUnder heading instance (LeastBins k) lines =
     AreProved (AreShared instance k) (AreRefuting (ToFitIn instance (pred k))) lines
@@ -199,7 +220,7 @@ BacksUnder heading instance (GreatestValue v) lines =
 BacksUnder heading instance (ValueBetween a b) lines =
     AreProved (AreTaken instance a) (RefuteValue heading instance b) lines
 
--- a heading names every job, or one of `fit` and `strip`, or `knapsack`
+-- a heading names every job, or one of `fit` and `strip`, or one of `strip` and `knapsack`
 abbrev pub MayName : Heading → SolvingJob → Type 0
 MayName Answer job = Unit {0}
 MayName Reduced Fit = Unit {0}
@@ -207,7 +228,7 @@ MayName Reduced Strip = Unit {0}
 MayName Reduced Bins = ⊥
 MayName Reduced Knapsack = ⊥
 MayName Bounded Fit = ⊥
-MayName Bounded Strip = ⊥
+MayName Bounded Strip = Unit {0}
 MayName Bounded Bins = ⊥
 MayName Bounded Knapsack = Unit {0}
 

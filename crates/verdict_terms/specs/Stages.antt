@@ -6,9 +6,10 @@
 --     result ..
 -- place ..          Placing, Sharing (bins) or Taking (knapsacks): the coordinates so far, and what
 -- is to be refuted behind them
---     proof             Proving: `proof` is wanted
+--     proof             Proving: `proof` is wanted; ProvingFamilies: `proof` of a tree with families
 --     d 1 1 2           Refuting: the open nodes of the tree; Exceeding: the `t` line of `none` is wanted;
 --                       Bounding: the open nodes of a bounded refutation, and `end` behind them
+--                       Gathering: the open nodes of a refutation with families, and `end` behind them
 --     end               Ending: `end` is wanted, behind a tree (of so many dimensions) or behind places
 --                       Ended
 use Rattle.std.specs.Prelude.{ℕ, pred, suc, ◌*◌, ◌-◌, ◌&&◌, ◌==◌, not, cond, Bool, true, false, List, [], ◌∷◌, ◌++◌}
@@ -25,6 +26,9 @@ use Rattle.packing_terms.specs.OuterFeeding.{OpenNode, Outer}
 use Rattle.bounded_terms.specs.BoundedRefutation.{BoundedToken}
 use Rattle.bounded_terms.specs.BoundedJudging.{bounded_after}
 use Rattle.bounded_terms.specs.BoundedLines.{bounded_token_of}
+use Rattle.family_terms.specs.FamilyRefutation.{FamilyToken, FamilyNode, Free}
+use Rattle.family_terms.specs.FamilyChecking.{families_after}
+use Rattle.family_terms.specs.FamilyLines.{family_token_of}
 use Rattle.text_terms.specs.declared.fault.TextFault.{TextFault}
 use Rattle.text_terms.specs.Lines.{Line, same_bytes}
 use Rattle.packing_terms.specs.Results.{◌>>=◌}
@@ -49,18 +53,21 @@ use Rattle.verdict_terms.specs.declared.reason.Reason.TheVariants.{Text, Token, 
 use Rattle.verdict_terms.specs.declared.reason.Reason.TheVariants.{TooShort}
 use Rattle.verdict_terms.specs.Numbers.{require, numbers_line, coordinates}
 use Rattle.document_terms.specs.TokenLines.{token_of}
-use Rattle.verdict_terms.specs.Trees.{Refuted, ToFit, ToFitIn, ToReach, Tree, begun, tree_dims, tree_after, is_whole}
+use Rattle.verdict_terms.specs.Trees.{Refuted, ToFit, ToFitIn, ToReach, refuted_instance, Tree, begun, tree_dims}
+use Rattle.verdict_terms.specs.Trees.{tree_after, is_whole}
 use Rattle.verdict_terms.specs.Results.{claim_of}
 
 pub data Stage : Type 0 where
   Beginning : (heading : Heading) → Stage
   Reading : (heading : Heading) (job : SolvingJob) (parts : Parts) → Stage
-  Placing : (instance : PlainInstance) (claim : Claim) (refuted : Refuted) (places : List ℕ) → Stage
+  Placing : (heading : Heading) (instance : PlainInstance) (claim : Claim) (refuted : Refuted) (places : List ℕ) → Stage
   Sharing : (instance : PlainInstance) (claim : Claim) (count : ℕ) (bins places : List ℕ) → Stage
   Taking : (heading : Heading) (instance : PlainInstance) (claim : Claim) (value : ℕ) (taken places : List ℕ) → Stage
   Proving : (claim : Claim) (refuted : Refuted) → Stage
+  ProvingFamilies : (instance : PlainInstance) (claim : Claim) → Stage
   Refuting : (claim : Claim) (tree : Tree) → Stage
   Bounding : (instance : PlainInstance) (claim : Claim) (value : ℕ) (nodes : List (OpenNode BoxChoice)) → Stage
+  Gathering : (instance : PlainInstance) (claim : Claim) (nodes : List FamilyNode) → Stage
   Exceeding : (instance : PlainInstance) (claim : Claim) (dim_count : ℕ) → Stage
   Ending : (claim : Claim) (behind : Option ℕ) → Stage
   Ended : (claim : Claim) → Stage
@@ -152,12 +159,12 @@ value_stage Bounded instance claim = Bounding instance claim (value_refuted clai
 
 -- behind the result line
 abbrev pub claimed : Heading → PlainInstance → Claim → Stage
-claimed heading instance Fitting = Placing instance Fitting (to_refute heading instance Fitting) []
+claimed heading instance Fitting = Placing heading instance Fitting (to_refute heading instance Fitting) []
 claimed heading instance NotFitting = Refuting NotFitting (begun (to_refute heading instance NotFitting))
 claimed heading instance (LeastHeight h) =
-    Placing (with_last_side instance h) (LeastHeight h) (to_refute heading instance (LeastHeight h)) []
+    Placing heading (with_last_side instance h) (LeastHeight h) (to_refute heading instance (LeastHeight h)) []
 claimed heading instance (HeightBetween a b) =
-    Placing (with_last_side instance b) (HeightBetween a b) (to_refute heading instance (HeightBetween a b)) []
+    Placing heading (with_last_side instance b) (HeightBetween a b) (to_refute heading instance (HeightBetween a b)) []
 claimed heading instance NoHeight = Exceeding instance NoHeight (dims instance - 1)
 claimed heading instance (LeastBins k) = Sharing instance (LeastBins k) k [] []
 claimed heading instance (BinsBetween a b) = Sharing instance (BinsBetween a b) b [] []
@@ -185,13 +192,15 @@ heading_word Reduced = codes "reduced"
 heading_word Bounded = codes "bounded"
 
 -- the job behind it: of reduced documents there are those of `fit` and `strip`, of bounded ones those
--- of `knapsack`
+-- of `knapsack` and `strip`
 abbrev pub job_headed : Heading → List ℕ → Result SolvingJob Reason
 job_headed Answer word = job_named word
 job_headed Reduced word =
     cond (same_bytes word (codes "fit")) (Ok Fit) (
     cond (same_bytes word (codes "strip")) (Ok Strip) (Err form))
-job_headed Bounded word = cond (same_bytes word (codes "knapsack")) (Ok Knapsack) (Err form)
+job_headed Bounded word =
+    cond (same_bytes word (codes "knapsack")) (Ok Knapsack) (
+    cond (same_bytes word (codes "strip")) (Ok Strip) (Err form))
 
 -- the first line: `answer JOB`, `reduced JOB` or `bounded JOB`
 abbrev pub heading_line : Heading → List (List ℕ) → Result Stage Reason
@@ -228,18 +237,25 @@ abbrev pub reading_line : Bool → Heading → SolvingJob → Parts → Line →
 reading_line true heading job parts line = result_line heading job parts (rest_of line.words)
 reading_line false heading job parts line = text_fault (add_line parts line) >>= λ more. Ok (Reading heading job more)
 
+-- the `proof` of a claim that places show: in a bounded document, that of a tree with families, which
+-- begins with no exclusion
+abbrev pub proving : Heading → Claim → Refuted → Stage
+proving Answer claim refuted = Proving claim refuted
+proving Reduced claim refuted = Proving claim refuted
+proving Bounded claim refuted = ProvingFamilies (refuted_instance refuted) claim
+
 -- behind all places: `end` for `fit`, else `proof`
-abbrev pub placed : Claim → Refuted → Stage
-placed Fitting refuted = Ending Fitting None
-placed claim refuted = Proving claim refuted
+abbrev pub placed : Heading → Claim → Refuted → Stage
+placed heading Fitting refuted = Ending Fitting None
+placed heading claim refuted = proving heading claim refuted
 
 -- at the last place line, which the number of boxes tells, the places are tested
-abbrev pub place_line : PlainInstance → Claim → Refuted → List ℕ → List (List ℕ) → Result Stage Reason
-place_line instance claim refuted places words =
+abbrev pub place_line : Heading → PlainInstance → Claim → Refuted → List ℕ → List (List ℕ) → Result Stage Reason
+place_line heading instance claim refuted places words =
     numbers_line (codes "place") (dims instance) words >>= λ ns. coordinates ns >>= λ xs.
     elim (length (places ++ xs) == box_count instance * dims instance) [
-      | true ↦ refused_by (places_reason instance (places ++ xs)) (Ok (placed claim refuted))
-      | false ↦ Ok (Placing instance claim refuted (places ++ xs))
+      | true ↦ refused_by (places_reason instance (places ++ xs)) (Ok (placed heading claim refuted))
+      | false ↦ Ok (Placing heading instance claim refuted (places ++ xs))
     ]
 
 -- a bin number and coordinates; a tree of bins begins with no exclusion under any heading
@@ -249,7 +265,7 @@ share_line instance claim k bins places (b ∷ ns) =
     require (nat_le 1 b && nat_le b k) range (coordinates ns >>= λ xs.
     elim (length (bins ++ pred b ∷ []) == box_count instance) [
       | true ↦ refused_by (bins_reason instance k (bins ++ pred b ∷ []) (places ++ xs))
-          (Ok (placed claim (to_refute Answer instance claim)))
+          (Ok (placed Answer claim (to_refute Answer instance claim)))
       | false ↦ Ok (Sharing instance claim k (bins ++ pred b ∷ []) (places ++ xs))
     ])
 
@@ -298,6 +314,24 @@ bounding_line instance claim value nodes words =
       | false ↦ bounding_token instance claim value nodes (bounded_token_of (dims instance) words)
     ]
 
+-- `end` behind a refutation with families: it comes too early where a node is open
+abbrev pub gathering_end : Claim → List FamilyNode → Result Stage Reason
+gathering_end claim [] = Ok (Ended claim)
+gathering_end claim (n ∷ nodes) = Err TooShort
+
+-- a token of such a tree, where one is wanted
+abbrev pub gathering_token : PlainInstance → Claim → List FamilyNode → Option FamilyToken → Result Stage Reason
+gathering_token instance claim nodes None = Err form
+gathering_token instance claim nodes (Some t) =
+    coded (families_after instance nodes t) >>= λ left. Ok (Gathering instance claim left)
+
+abbrev pub gathering_line : PlainInstance → Claim → List FamilyNode → List (List ℕ) → Result Stage Reason
+gathering_line instance claim nodes words =
+    elim (is_word (codes "end") words) [
+      | true ↦ gathering_end claim nodes
+      | false ↦ gathering_token instance claim nodes (family_token_of (dims instance) words)
+    ]
+
 -- the `t` line of `none`: the box exceeds the container in one of the first dimensions, of which
 -- there are so many
 abbrev pub exceeding_token : PlainInstance → Claim → ℕ → PlainToken → Result Stage Reason
@@ -325,7 +359,8 @@ late_line None words = form
 abbrev pub words_line : Stage → List (List ℕ) → Result Stage Reason
 words_line (Beginning heading) words = heading_line heading words
 words_line (Reading heading job parts) words = Err form
-words_line (Placing instance claim refuted places) words = place_line instance claim refuted places words
+words_line (Placing heading instance claim refuted places) words =
+    place_line heading instance claim refuted places words
 words_line (Sharing instance claim k bins places) words =
     numbers_line (codes "place") (suc (dims instance)) words >>= λ ns. share_line instance claim k bins places ns
 words_line (Taking heading instance claim value taken places) words =
@@ -336,8 +371,11 @@ words_line (Taking heading instance claim value taken places) words =
     ]
 words_line (Proving claim refuted) words =
     require (is_word (codes "proof") words) form (Ok (Refuting claim (begun refuted)))
+words_line (ProvingFamilies instance claim) words =
+    require (is_word (codes "proof") words) form (Ok (Gathering instance claim (Free [] ∷ [])))
 words_line (Refuting claim tree) words = tree_line claim tree words
 words_line (Bounding instance claim value nodes) words = bounding_line instance claim value nodes words
+words_line (Gathering instance claim nodes) words = gathering_line instance claim nodes words
 words_line (Exceeding instance claim m) words = exceeding_line instance claim m words
 words_line (Ending claim behind) words =
     require (is_word (codes "end") words) (late_line behind words) (Ok (Ended claim))

@@ -17,6 +17,12 @@ pub data Refuted : Type 0 where
   ToFitIn : (instance : PlainInstance) (bins : ℕ) → Refuted
   ToReach : (instance : PlainInstance) (value : ℕ) → Refuted
 
+-- the instance
+abbrev pub refuted_instance : Refuted → PlainInstance
+refuted_instance (ToFit instance start) = instance
+refuted_instance (ToFitIn instance k) = instance
+refuted_instance (ToReach instance y) = instance
+
 -- the dimensions of the instance
 abbrev pub refuted_dims : Refuted → ℕ
 refuted_dims (ToFit instance start) = dims instance

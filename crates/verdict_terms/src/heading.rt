@@ -7,6 +7,7 @@ pub enum Heading {
     Answer,
     /// `reduced`, and `fit` or `strip`: the tree of an instance begins with its symmetry facts.
     Reduced,
-    /// `bounded`, and `knapsack`: leaves of the tree for a value may be priced out, or exchanges.
+    /// `bounded`, and `knapsack` or `strip`: leaves of the tree for a value may be priced out, or
+    /// exchanges, and leaves of the tree for a height may be families of boxes side by side.
     Bounded,
 }

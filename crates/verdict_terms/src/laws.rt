@@ -3,10 +3,12 @@ ghost use Rattle.verdict_terms.specs.Fed.{DocumentsAreFed, RefusalsStay};
 ghost use Rattle.verdict_terms.specs.Form.{DocumentsHaveForm, DocumentsAreTrue};
 
 /// A text is verified with a claim under a heading exactly where it is such a document of it: no
-/// line has a bad byte, and the lines that aren't blank are, in this order, `answer JOB` or
-/// `reduced JOB` as the heading says, the lines of an instance, the result line of the claim, what
-/// backs it, and `end`. Reduced documents are of `fit` and `strip`, and refute an instance, or a
-/// height of it, under the instance's symmetry facts.
+/// line has a bad byte, and the lines that aren't blank are, in this order, `answer JOB`,
+/// `reduced JOB` or `bounded JOB` as the heading says, the lines of an instance, the result line of
+/// the claim, what backs it, and `end`. Reduced documents are of `fit` and `strip`, and refute an
+/// instance, or a height of it, under the instance's symmetry facts. Bounded documents are of
+/// `knapsack` and `strip`, and refute a value by a bounded refutation, a height by a refutation with
+/// families.
 pub fn documents_have_form()
     ensures { DocumentsHaveForm }
 {}
