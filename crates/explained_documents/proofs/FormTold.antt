@@ -1,5 +1,5 @@
 -- A verified text has the form of an explained document.
-use Rattle.std.proofs.Common.{◌≡◌, ℕ, ◌+◌, refl, sym, ap, ap₂, subst, ◌∙◌, Bool, true, false, not, ◌&&◌, List, [], ◌∷◌}
+use Rattle.std.proofs.Common.{◌≡◌, ℕ, ◌+◌, refl, sym, ap, ap₂, subst, ◌∙◌, Bool, true, false, List, [], ◌∷◌}
 use Rattle.std.proofs.Common.{◌++◌, length, Option, Some, None, Result, Ok, Err, codes}
 use Rattle.std.specs.List.{list_any}
 use Rattle.std.proofs.lemmas.Bool.{and_parts}
@@ -25,9 +25,9 @@ use Rattle.explained_terms.proofs.Explained.{fed_explains}
 use Rattle.explained_documents.specs.declared.reason.ExplainedReason.{ExplainedReason}
 use Rattle.explained_documents.specs.Stages.{ExplainedStage, Heading, Reading, Explaining, Ending, Ended, form, require}
 use Rattle.explained_documents.specs.Stages.{are_two, text_fault, end_of_parts, begun, reading_line, tree_step, coded}
-use Rattle.explained_documents.specs.Stages.{grown, late_by, tree_line, filled_line, stage_after}
+use Rattle.explained_documents.specs.Stages.{grown, late_by, filled_line, stage_after}
 use Rattle.explained_documents.specs.Documents.{at_line, at_end, read_lines, explained_verdict}
-use Rattle.explained_documents.specs.Form.{AreStepLines, IsExplainedDocument, DocumentsHaveForm}
+use Rattle.explained_documents.specs.Form.{AreStepLines, DocumentsHaveForm}
 use Rattle.explained_documents.proofs.Passed.{ok_is, require_ok, fault_ok, coded_ok, end_ok}
 
 -- ---- words

@@ -16,7 +16,7 @@ use Rattle.explained_documents.specs.declared.kind.DocumentKind.{DocumentKind}
 use Rattle.explained_documents.specs.declared.kind.DocumentKind.TheVariants.{Reduced as ReducedKind}
 use Rattle.explained_documents.specs.declared.kind.DocumentKind.TheVariants.{Bounded as BoundedKind}
 use Rattle.verdict_terms.specs.Form.{MayName}
-use Rattle.explained_documents.specs.Kinds.{kind_of_words, kind_of_line, kind_of_lines, document_kind}
+use Rattle.explained_documents.specs.Kinds.{kind_of_words, kind_of_line, kind_of_lines}
 use Rattle.explained_documents.specs.Kinds.{ReducedDocumentsAreOfTheirKind, BoundedDocumentsAreOfTheirKind}
 
 -- by the parts of the first line
@@ -61,12 +61,12 @@ reduced_documents text claim e =
     (d.written ++ (codes "result" ∷ d.result) ∷ (d.backing ++ (codes "end" ∷ []) ∷ [])) d.clean d.are
     ∙ job_kind (job_of claim)
 
--- the one job of a bounded document
+-- the jobs of bounded documents
 bounded_kind : (job : SolvingJob) → MayName Bounded job
     → kind_of_words (codes "bounded" ∷ job_word job ∷ []) ≡ BoundedKind
 unfolding same_bytes
 bounded_kind Fit h = absurd h
-bounded_kind Strip h = absurd h
+bounded_kind Strip h = refl
 bounded_kind Bins h = absurd h
 bounded_kind Knapsack h = refl
 

@@ -142,6 +142,14 @@ bounded_kind : document_kind (codes "\nbounded knapsack\n") ≡ Bounded
 unfolding same_bytes
 bounded_kind = refl
 
+bounded_strip : document_kind (codes "# a strip\nbounded strip\n") ≡ Bounded
+unfolding same_bytes
+bounded_strip = refl
+
+bounded_bins : document_kind (codes "bounded bins\n") ≡ Reduced
+unfolding same_bytes
+bounded_bins = refl
+
 no_kind : document_kind (codes "") ≡ Reduced
 unfolding same_bytes
 no_kind = refl

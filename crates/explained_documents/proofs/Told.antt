@@ -1,7 +1,7 @@
 -- What is told of a line, cut to 12 words of 21 bytes, is taken as the line itself; so the lines
 -- that a text tells give its verdict.
 use Rattle.std.proofs.Common.{◌≡◌, ℕ, ◌+◌, ◌≤◌, refl, ap, ap₂, ◌∙◌, arith, Bool, true, false, cond, not, List, []}
-use Rattle.std.proofs.Common.{◌∷◌, length, Result, Ok, Err, codes}
+use Rattle.std.proofs.Common.{◌∷◌, ◌||◌, length, Result, Ok, Err, codes}
 use Rattle.packing_terms.specs.Packing.{dims}
 use Rattle.packing_terms.specs.Results.{◌>>=◌}
 use Rattle.text_terms.specs.Lines.{line_of, text_lines, cut_line, cut_words, same_bytes}
@@ -22,7 +22,7 @@ use Rattle.explained_documents.specs.Documents.{at_line, read_lines, told_verdic
 use Rattle.explained_documents.specs.Documents.{explained_verdict, DocumentsAreFed}
 use Rattle.explained_documents.specs.declared.kind.DocumentKind.{DocumentKind}
 use Rattle.explained_documents.specs.declared.kind.DocumentKind.TheVariants.{Explained, Front, Bounded, Reduced}
-use Rattle.explained_documents.specs.Kinds.{kind_of_line, kind_of_lines, kind_told}
+use Rattle.explained_documents.specs.Kinds.{begin_bounded, kind_of_line, kind_of_lines, kind_told}
 use Rattle.explained_documents.specs.Kinds.{KindsAreTold}
 use Rattle.explained_documents.proofs.Limits.{IsWell, stage_well}
 
@@ -124,12 +124,13 @@ kind_cut false [] n m later now e = e
 kind_cut true (w ∷ ws) n m later now e = refl
 kind_cut false (w ∷ ws) n m later now e =
     ap₂ (λ b c. cond b Explained (cond c Front
-    (cond (are_two (codes "bounded") (codes "knapsack") (cut_words (w ∷ ws))) Bounded Reduced)))
+    (cond (begin_bounded (cut_words (w ∷ ws))) Bounded Reduced)))
     (two_cut (codes "explained") (codes "fit") w ws (omega arith) (omega arith))
     (is_word_cut (codes "front") w ws (omega arith))
     ∙ ap (λ d. cond (are_two (codes "explained") (codes "fit") (w ∷ ws)) Explained
     (cond (is_word (codes "front") (w ∷ ws)) Front (cond d Bounded Reduced)))
-    (two_cut (codes "bounded") (codes "knapsack") w ws (omega arith) (omega arith))
+    (ap₂ (λ c d. c || d) (two_cut (codes "bounded") (codes "knapsack") w ws (omega arith) (omega arith))
+    (two_cut (codes "bounded") (codes "strip") w ws (omega arith) (omega arith)))
 
 kind_is_told : (n : ℕ) (lines : List (List ℕ)) → kind_told (numbered_lines n lines) ≡ kind_of_lines lines
 kind_is_told n [] = refl

@@ -1,19 +1,30 @@
 -- The kind of a document: what its first line that isn't blank says.
-use Rattle.std.specs.Prelude.{ℕ, ◌≡◌, cond, true, false, List, [], ◌∷◌, Ok, codes}
+use Rattle.std.specs.Prelude.{ℕ, ◌≡◌, ◌||◌, cond, Bool, true, false, List, [], ◌∷◌, Ok, codes}
 use Rattle.text_terms.specs.Lines.{Line, line_of, text_lines}
 use Rattle.text_terms.specs.Feeding.{NumberedLine, lines_fed, new_lexer}
 use Rattle.document_terms.specs.declared.claim.Claim.{Claim}
+use Rattle.document_terms.specs.declared.claim.SolvingJob.{SolvingJob}
+use Rattle.document_terms.specs.declared.claim.SolvingJob.TheVariants.{Strip, Knapsack}
 use Rattle.verdict_terms.specs.Documents.{reduced_verdict, bounded_verdict}
 use Rattle.verdict_terms.specs.Stages.{is_blank, is_word}
 use Rattle.explained_documents.specs.declared.kind.DocumentKind.{DocumentKind}
 use Rattle.explained_documents.specs.declared.kind.DocumentKind.TheVariants.{Explained, Front, Bounded, Reduced}
 use Rattle.explained_documents.specs.Stages.{are_two}
 
+-- whether these words begin a bounded document
+abbrev pub begin_bounded : List (List ℕ) → Bool
+begin_bounded words =
+    are_two (codes "bounded") (codes "knapsack") words || are_two (codes "bounded") (codes "strip") words
+
+-- the job of a bounded document whose first line has these words
+abbrev pub bounded_job : List (List ℕ) → SolvingJob
+bounded_job words = cond (are_two (codes "bounded") (codes "strip") words) Strip Knapsack
+
 -- of a document whose first line has these words
 abbrev pub kind_of_words : List (List ℕ) → DocumentKind
 kind_of_words words = cond (are_two (codes "explained") (codes "fit") words) Explained
     (cond (is_word (codes "front") words) Front
-    (cond (are_two (codes "bounded") (codes "knapsack") words) Bounded Reduced))
+    (cond (begin_bounded words) Bounded Reduced))
 
 -- of a document with this first line
 abbrev pub kind_of_line : Line → DocumentKind

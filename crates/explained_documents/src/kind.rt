@@ -7,7 +7,7 @@ pub enum DocumentKind {
     Explained,
     /// `front`.
     Front,
-    /// `bounded knapsack`.
+    /// `bounded knapsack` or `bounded strip`.
     Bounded,
     /// `reduced fit` or `reduced strip`, or no line of these kinds: then it is refused as a reduced document is.
     Reduced,
