@@ -29,7 +29,7 @@ use Rattle.verdict_terms.specs.Trees.{ToFit, ToFitIn, ToReach}
 use Rattle.verdict_terms.specs.declared.heading.Heading.{Heading}
 use Rattle.verdict_terms.specs.declared.heading.Heading.TheVariants.{Answer, Reduced, Bounded}
 use Rattle.verdict_terms.specs.Stages.{heading_word, start_exclusions}
-use Rattle.verdict_terms.specs.Form.{RefuteValue, IsResult, BacksUnder, MayName, IsHeadedDocument, AreProved, AreRefuting, ArePlaced}
+use Rattle.verdict_terms.specs.Form.{RefuteHeight, RefuteValue, IsResult, BacksUnder, MayName, IsHeadedDocument, AreProved, AreRefuting, ArePlaced}
 use Rattle.verdict_terms.specs.Form.{AreShared, AreTaken, IsExceedingLine}
 use Rattle.answer_terms.specs.Answers.{Lines, answer_text, headed_lines, document_lines, backing_lines, place_lines}
 use Rattle.answer_terms.specs.Answers.{bin_lines, take_lines, token_lines, proved_lines}
@@ -235,11 +235,25 @@ number_plain n small = word_decimal n small [] tt
 pub numbers_plain : (a b : ℕ) → a < 2 ^ 64 → b < 2 ^ 64 → AreWords (decimal a ∷ decimal b ∷ [])
 numbers_plain a b small less = word_decimal a small (decimal b ∷ []) (number_plain b less)
 
+-- the headings under which a height and a value are refuted by plain tokens
+abbrev pub TakesPlain : Heading → Type 0
+TakesPlain Answer = Unit {0}
+TakesPlain Reduced = Unit {0}
+TakesPlain Bounded = ⊥
+
+height_plain : (heading : Heading) (instance : PlainInstance) (a b : ℕ) (lines : Lines) → TakesPlain heading
+    → AreProved (ArePlaced (with_last_side instance b))
+    (AreRefuting (ToFit (with_last_side instance a) (start_exclusions heading instance))) lines
+    → AreProved (ArePlaced (with_last_side instance b)) (RefuteHeight heading instance a) lines
+height_plain Answer instance a b lines plain backs = backs
+height_plain Reduced instance a b lines plain backs = backs
+height_plain Bounded instance a b lines plain backs = absurd plain
+
 least_height_backed : (heading : Heading) (instance : PlainInstance) (h : ℕ) (numbers : List ℕ)
-    (tokens : List PlainToken) → IsInstance instance
+    (tokens : List PlainToken) → IsInstance instance → TakesPlain heading
     → ShowsHeight (start_exclusions heading instance) instance (pred h) h numbers tokens
     → IsBacked heading instance (LeastHeight h) numbers tokens
-least_height_backed heading instance h numbers tokens limits shown =
+least_height_backed heading instance h numbers tokens limits plain shown =
     let levels = heights_backed (start_exclusions heading instance) instance (pred h) h numbers tokens limits shown in
     let m = shown.most in
     let r = shown.rising in
@@ -251,14 +265,14 @@ least_height_backed heading instance h numbers tokens limits shown =
         is_number = decimal_number 1 most_height h (omega (arith, r)) m (omega arith);
       };
       filled = levels.filled;
-      backs = levels.backs;
+      backs = height_plain heading instance (pred h) h _ plain levels.backs;
     }
 
 between_heights_backed : (heading : Heading) (instance : PlainInstance) (a b : ℕ) (numbers : List ℕ)
-    (tokens : List PlainToken) → IsInstance instance
+    (tokens : List PlainToken) → IsInstance instance → TakesPlain heading
     → ShowsHeight (start_exclusions heading instance) instance a b numbers tokens
     → IsBacked heading instance (HeightBetween a b) numbers tokens
-between_heights_backed heading instance a b numbers tokens limits shown =
+between_heights_backed heading instance a b numbers tokens limits plain shown =
     let levels = heights_backed (start_exclusions heading instance) instance a b numbers tokens limits shown in
     let m = shown.most in
     let r = shown.rising in
@@ -274,7 +288,7 @@ between_heights_backed heading instance a b numbers tokens limits shown =
         most = m;
       };
       filled = levels.filled;
-      backs = levels.backs;
+      backs = height_plain heading instance a b _ plain levels.backs;
     }
 
 -- ---- none
@@ -421,12 +435,6 @@ values_backed instance a b numbers tokens limits shown =
       };
     }
 
--- the headings under which a value is refuted by plain tokens
-abbrev pub TakesPlain : Heading → Type 0
-TakesPlain Answer = Unit {0}
-TakesPlain Reduced = Unit {0}
-TakesPlain Bounded = ⊥
-
 value_plain : (heading : Heading) (instance : PlainInstance) (reached refuted : ℕ) (lines : Lines) → TakesPlain heading
     → AreProved (AreTaken instance reached) (AreRefuting (ToReach instance refuted)) lines
     → AreProved (AreTaken instance reached) (RefuteValue heading instance refuted) lines
@@ -481,9 +489,9 @@ backed : (heading : Heading) (instance : PlainInstance) (claim : Claim) (numbers
 backed heading instance Fitting numbers tokens limits plain h = fit_yes heading instance numbers tokens limits h
 backed heading instance NotFitting numbers tokens limits plain h = fit_no heading instance numbers tokens limits h
 backed heading instance (LeastHeight n) numbers tokens limits plain h =
-    least_height_backed heading instance n numbers tokens limits h
+    least_height_backed heading instance n numbers tokens limits plain h
 backed heading instance (HeightBetween a b) numbers tokens limits plain h =
-    between_heights_backed heading instance a b numbers tokens limits h
+    between_heights_backed heading instance a b numbers tokens limits plain h
 backed heading instance NoHeight numbers tokens limits plain h = no_height_backed heading instance numbers tokens limits h
 backed heading instance (LeastBins k) numbers tokens limits plain h =
     least_bins_backed heading instance k numbers tokens limits h
