@@ -6,6 +6,10 @@ pub mod Filled
 pub mod FrontBacked
 pub mod FrontOwn
 pub mod FrontWritten
+pub mod HeightOwn
+pub mod HeightRows
+pub mod HeightTrue
+pub mod HeightWritten
 pub mod Named
 pub mod Numbered
 pub mod OuterWritten

@@ -164,7 +164,7 @@ fit_no heading instance numbers tokens limits h =
 -- ---- strip
 
 -- a level of a strip
-level_bounded : (instance : PlainInstance) (h : ℕ) → IsInstance instance → h ≤ most_height
+pub level_bounded : (instance : PlainInstance) (h : ℕ) → IsInstance instance → h ≤ most_height
     → IsBounded (with_last_side instance h)
 level_bounded instance h limits l = record {
   dimensions = (let d = limits.dimensions.1 in omega (arith, d, same));
@@ -193,7 +193,7 @@ level_bounded instance h limits l = record {
         omega (arith, a, s)
 
 -- its place lines are those of the instance
-level_lines : (instance : PlainInstance) (h : ℕ) (numbers : List ℕ) → place_lines (with_last_side instance h) numbers
+pub level_lines : (instance : PlainInstance) (h : ℕ) (numbers : List ℕ) → place_lines (with_last_side instance h) numbers
     ≡ place_lines instance numbers
 level_lines instance h numbers =
     ap (λ d. rows_words d (box_count instance) numbers) (length-set instance.container (dims instance - 1) h)
@@ -316,7 +316,7 @@ none_backed instance m tokens limits shown =
       };
     })
 
-no_height_backed : (heading : Heading) (instance : PlainInstance) (numbers : List ℕ) (tokens : List PlainToken)
+pub no_height_backed : (heading : Heading) (instance : PlainInstance) (numbers : List ℕ) (tokens : List PlainToken)
     → IsInstance instance
     → ShowsNone instance (dims instance - 1) tokens → IsBacked heading instance NoHeight numbers tokens
 no_height_backed heading instance numbers tokens limits shown =

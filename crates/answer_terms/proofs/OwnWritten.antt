@@ -1,8 +1,6 @@
 -- The tokens of a refutation have lines.
-use Rattle.std.proofs.Common.{◌≡◌, ℕ, zero, suc, ◌+◌, ◌*◌, ◌<◌, ◌≤◌, refl, sym, subst, arith, false, List, [], ◌∷◌}
-use Rattle.std.proofs.Common.{◌++◌, length, Some, None}
-use Rattle.std.specs.List.{flat_map}
-use Rattle.std.specs.Fmt.{decimal}
+use Rattle.std.proofs.Common.{◌≡◌, ℕ, zero, suc, ◌+◌, ◌*◌, ◌<◌, ◌≤◌, sym, subst, arith, List, [], ◌∷◌}
+use Rattle.std.proofs.Common.{◌++◌, length}
 use Rattle.packing_terms.specs.declared.Exclusion.{Exclusion}
 use Rattle.packing_terms.specs.declared.ScaleFn.{ScaleFn}
 use Rattle.packing_terms.specs.declared.ScaleFn.TheVariants.{Id, Step, Cut, Count}
@@ -11,15 +9,10 @@ use Rattle.packing_terms.specs.Limits.{IsInternalInstance, most_boxes, most_heig
 use Rattle.packing_terms.proofs.Internal.{container_small}
 use Rattle.packing_terms.specs.Scales.{IsLegalScale, function_at, IsTuple}
 use Rattle.packing_terms.specs.Tokens.{PlainToken}
-use Rattle.packing_terms.specs.Tokens.PlainToken.{Apart, Order, Rules, TooLarge, Scales, Assign, Choose, SetRefuted}
-use Rattle.packing_terms.specs.Tokens.PlainToken.{ValueShort, GlobalScales}
+use Rattle.packing_terms.specs.Tokens.PlainToken.{TooLarge}
 use Rattle.packing_terms.specs.Refutation.{Refutes, by_rules, by_side, by_scales, by_apart, by_order, IsNamed}
 use Rattle.packing_terms.specs.Refutation.{IsTooLarge}
-use Rattle.text_terms.specs.Texts.{is_none}
-use Rattle.text_terms.proofs.Spelled.{AreWords}
-use Rattle.text_terms.proofs.Back.{word_decimal}
-use Rattle.document_terms.specs.TokenLines.{IsParameter, AreWritten, IsWrittenTuple, HasLine, function_words}
-use Rattle.document_terms.specs.TokenLines.{token_words}
+use Rattle.document_terms.specs.TokenLines.{IsParameter, AreWritten, IsWrittenTuple, HasLine}
 use Rattle.verdict_terms.specs.Form.{AreTokenLines}
 use Rattle.document_terms.proofs.TokensBack.{tokens_are_read_back}
 use Rattle.answer_terms.specs.Answers.{token_lines}

@@ -5,6 +5,7 @@
 
 mod bounded_laws;
 mod front_laws;
+mod height_laws;
 mod job;
 mod laws;
 mod own_laws;
@@ -12,6 +13,7 @@ mod walk_laws;
 
 pub use bounded_laws::{bounded_answers_are_true, own_bounded_documents_are_verified};
 pub use front_laws::{own_fronts_are_fronts, own_fronts_are_verified};
+pub use height_laws::{bounded_strips_are_true, own_bounded_strips_are_verified};
 pub use job::{DocumentJob, ReducedJob};
 pub use laws::{
     answers_are_shown, answers_are_true, reduced_answers_are_shown, reduced_answers_are_true,
