@@ -2,7 +2,7 @@
 use Rattle.std.proofs.Common.{◌≡◌, [], ◌∷◌, Some, None, refl, codes, true, false}
 use Rattle.text_terms.specs.Lines.{number_of}
 use Rattle.pack_words.specs.declared.job.Job.TheVariants.{Fit, Strip, Knapsack, Make, Audit, Explain, Reduced, Front}
-use Rattle.pack_words.specs.declared.job.Job.TheVariants.{ReducedStrip, Proposed, Bounded}
+use Rattle.pack_words.specs.declared.job.Job.TheVariants.{ReducedStrip, Proposed, Bounded, BoundedStrip}
 use Rattle.document_terms.specs.declared.claim.SolvingJob.TheVariants.{Fit as SolvesFit, Strip as SolvesStrip}
 use Rattle.document_terms.specs.declared.claim.SolvingJob.TheVariants.{Bins as SolvesBins, Knapsack as SolvesKnapsack}
 use Rattle.pack_words.specs.Job.{job_of_words}
@@ -256,9 +256,36 @@ bounds_with_facts : job_of_words (codes "knapsack" ∷ codes "--bounds=yes" ∷ 
 unfolding job_of_words number_of
 bounds_with_facts = refl
 
-bounds_of_strip : job_of_words (codes "strip" ∷ codes "--bounds" ∷ codes "yes" ∷ []) ≡ None
+bounds_of_strip : job_of_words (codes "strip" ∷ codes "--bounds" ∷ codes "yes" ∷ [])
+    ≡ Some (record {
+      job = BoundedStrip false;
+      settings = record { workers = 1; budget = 1000000; scales = true };
+      number = 0;
+    })
 unfolding job_of_words number_of
 bounds_of_strip = refl
+
+bounds_of_proposed_strip : job_of_words (codes "strip" ∷ codes "--proposals=yes" ∷ codes "--bounds=yes" ∷ [])
+    ≡ Some (record {
+      job = BoundedStrip true;
+      settings = record { workers = 1; budget = 1000000; scales = true };
+      number = 0;
+    })
+unfolding job_of_words number_of
+bounds_of_proposed_strip = refl
+
+bounds_declined_by_strip : job_of_words (codes "strip" ∷ codes "--bounds=no" ∷ codes "--facts=yes" ∷ [])
+    ≡ Some (record {
+      job = ReducedStrip;
+      settings = record { workers = 1; budget = 1000000; scales = true };
+      number = 0;
+    })
+unfolding job_of_words number_of
+bounds_declined_by_strip = refl
+
+bounds_with_facts_of_strip : job_of_words (codes "strip" ∷ codes "--bounds=yes" ∷ codes "--facts=yes" ∷ []) ≡ None
+unfolding job_of_words number_of
+bounds_with_facts_of_strip = refl
 
 bounds_of_fit : job_of_words (codes "fit" ∷ codes "--bounds" ∷ codes "no" ∷ []) ≡ None
 unfolding job_of_words number_of

@@ -8,7 +8,7 @@ use Rattle.document_terms.specs.declared.claim.SolvingJob.TheVariants.{Bins as S
 use Rattle.pack_words.specs.Items.{Text, Item, option, word, items_from}
 use Rattle.pack_words.specs.declared.job.Job.{Job}
 use Rattle.pack_words.specs.declared.job.Job.TheVariants.{Fit, Strip, Bins, Knapsack, Check, Make, Audit, Explain}
-use Rattle.pack_words.specs.declared.job.Job.TheVariants.{Reduced, Front, ReducedStrip, Proposed, Bounded}
+use Rattle.pack_words.specs.declared.job.Job.TheVariants.{Reduced, Front, ReducedStrip, Proposed, Bounded, BoundedStrip}
 use Rattle.pack_words.specs.declared.job.JobWords.{JobWords}
 use Rattle.pack_words.specs.declared.job.WordsError.{WordsError}
 use Rattle.pack_words.specs.declared.job.WordsError.TheVariants.{Refused, NoMemory}
@@ -84,7 +84,7 @@ job_of_name text =
     else None)))))))))
 
 -- `check`, `audit` and `explain` take no option, `make` alone takes a number, `fit`, `strip`, `bins` and
--- `knapsack` alone take proposals, `strip` alone takes facts, and `knapsack` alone takes bounds
+-- `knapsack` alone take proposals, `strip` alone takes facts, and `strip` and `knapsack` alone take bounds
 abbrev pub takes_settings : Job → Bool
 takes_settings Check = false
 takes_settings Audit = false
@@ -107,6 +107,7 @@ takes_facts Strip = true
 takes_facts _ = false
 
 abbrev pub takes_bounds : Job → Bool
+takes_bounds Strip = true
 takes_bounds Knapsack = true
 takes_bounds _ = false
 
@@ -164,15 +165,19 @@ by_ways proposals false job = Some (by_proposals proposals job)
 by_ways false true job = Some (from_facts job)
 by_ways true true job = None
 
--- a job whose upper bounds may have priced leaves, if it takes them: with proposals where it has them
-abbrev pub bounded : Job → Job
-bounded Knapsack = Bounded false
-bounded (Proposed SolvesKnapsack) = Bounded true
-bounded job = job
+-- A job whose bounds may have the further leaves, if it takes them: with proposals where it has them. There is
+-- none from the symmetry facts on.
+abbrev pub bounded : Job → Option Job
+bounded Strip = Some (BoundedStrip false)
+bounded (Proposed SolvesStrip) = Some (BoundedStrip true)
+bounded Knapsack = Some (Bounded false)
+bounded (Proposed SolvesKnapsack) = Some (Bounded true)
+bounded ReducedStrip = None
+bounded job = Some job
 
--- a job, with priced leaves or without
-abbrev pub by_bounds : Bool → Job → Job
-by_bounds bounds job = if bounds then bounded job else job
+-- a job, with the further leaves or without
+abbrev pub by_bounds : Bool → Job → Option Job
+by_bounds bounds job = if bounds then bounded job else Some job
 
 -- the settings and the number of a job that these texts give
 abbrev pub settings_of : Job → Texts → Option JobWords
@@ -184,9 +189,10 @@ settings_of job texts =
     asked_in texts.proposals >>= λ proposals.
     asked_in texts.facts >>= λ facts.
     asked_in texts.bounds >>= λ bounds.
-    by_ways proposals facts job >>= λ asked.
+    by_ways proposals facts job >>= λ way.
+    by_bounds bounds way >>= λ asked.
     Some (record {
-      job = by_bounds bounds asked;
+      job = asked;
       settings = record { workers = workers; budget = budget; scales = scales };
       number = number;
     })

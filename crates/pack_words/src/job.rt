@@ -34,11 +34,14 @@ pub enum Job {
     /// The greatest value of boxes that fit the container. The choice trees of its upper bounds may
     /// have priced leaves. `proposals` says whether it decides by proposals first.
     Bounded { proposals: bool },
+    /// The least height of a strip that holds the boxes. The tree of its lower bound may have leaves
+    /// by families of boxes side by side. `proposals` says whether it decides by proposals first.
+    BoundedStrip { proposals: bool },
 }
 
 /// A job with its settings, and the number that `make` generates from. Where the words don't give
 /// one, the workers are 1, the budget is 1,000,000, scales are used, the number is 0, and there are
-/// no proposals, no symmetry facts and no priced leaves.
+/// no proposals, no symmetry facts, no priced leaves and no families.
 #[derive(Clone, Copy, Debug, PartialEq, Eq)]
 pub struct JobWords {
     pub job: Job,

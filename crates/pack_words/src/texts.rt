@@ -37,7 +37,7 @@ fn are_taken(job: Job, found: Found<'_>) -> bool
     match job {
         Job::Check | Job::Audit | Job::Explain => { !has_settings & found.number.is_none() & plain }
         Job::Make => plain,
-        Job::Strip => found.number.is_none() & boundless,
+        Job::Strip => found.number.is_none(),
         Job::Fit | Job::Bins => found.number.is_none() & factless & boundless,
         Job::Knapsack => found.number.is_none() & factless,
         _ => found.number.is_none() & plain,
@@ -128,23 +128,26 @@ fn by_ways(proposals: bool, facts: bool, job: Job) -> Option<Job>
     Some(from_facts(job))
 }
 
-// A job whose upper bounds may have priced leaves, if it takes them: with proposals where it has
-// them.
-fn bounded(job: Job) -> Job
+// A job whose bounds may have the further leaves, if it takes them: with proposals where it has them.
+// There is none from the symmetry facts on.
+fn bounded(job: Job) -> Option<Job>
     ensures { result ≡ bounded job }
 {
     match job {
-        Job::Knapsack => Job::Bounded { proposals: false },
-        Job::Proposed(SolvingJob::Knapsack) => Job::Bounded { proposals: true },
-        other => other,
+        Job::Strip => Some(Job::BoundedStrip { proposals: false }),
+        Job::Proposed(SolvingJob::Strip) => Some(Job::BoundedStrip { proposals: true }),
+        Job::Knapsack => Some(Job::Bounded { proposals: false }),
+        Job::Proposed(SolvingJob::Knapsack) => Some(Job::Bounded { proposals: true }),
+        Job::ReducedStrip => None,
+        other => Some(other),
     }
 }
 
-// A job, with priced leaves or without.
-fn by_bounds(bounds: bool, job: Job) -> Job
+// A job, with the further leaves or without.
+fn by_bounds(bounds: bool, job: Job) -> Option<Job>
     ensures { result ≡ by_bounds bounds job }
 {
-    if bounds { bounded(job) } else { job }
+    if bounds { bounded(job) } else { Some(job) }
 }
 
 fn settings_of(job: Job, found: Found<'_>) -> Option<JobWords>
@@ -157,7 +160,8 @@ fn settings_of(job: Job, found: Found<'_>) -> Option<JobWords>
     let proposals = asked_in(found.proposals)?;
     let facts = asked_in(found.facts)?;
     let bounds = asked_in(found.bounds)?;
-    let job = by_bounds(bounds, by_ways(proposals, facts, job)?);
+    let way = by_ways(proposals, facts, job)?;
+    let job = by_bounds(bounds, way)?;
     let settings = Settings {
         workers,
         budget: budget as u64,

@@ -60,9 +60,9 @@ fn found_in<'a>(alloc: Global, words: &'a [String]) -> Result<Found<'a>, WordsEr
 /// `scales`, `proposals`, `facts` and `bounds` are `yes` or `no`, and `number` is from 0 to
 /// 2,147,483,647. `check`, `explain` and `audit` take no option, `make` alone takes `number`,
 /// `fit`, `strip`, `bins` and `knapsack` alone take `proposals`, `strip` alone takes `facts`, and
-/// `knapsack` alone takes `bounds`. `strip` takes at most one of `proposals` and `facts` with
-/// `yes`; `knapsack` may take both `proposals` and `bounds` with `yes`. It answers `Refused`
-/// exactly where the words name no job by these rules.
+/// `strip` and `knapsack` alone take `bounds`. `facts` with `yes` allows neither `proposals` nor
+/// `bounds` with `yes`; these two may stand together. It answers `Refused` exactly where the words
+/// name no job by these rules.
 pub fn read_words(alloc: Global, words: &[String]) -> Result<JobWords, WordsError>
     ensures { IsJobAnswer (job_of_words (map string_bytes words.now)) result }
 {
