@@ -5,6 +5,7 @@ pub mod Lengths
 pub mod BoxesIn
 pub mod Outers
 pub mod Bounds
+pub mod Families
 pub mod PlaceReasons
 pub mod PlacesIn
 pub mod Ranged

@@ -35,17 +35,17 @@ module _ (instance : PlainInstance) (k : ℕ) (bins places : List ℕ) where
 
   -- what the last line comes to
   pub tested : length bins ≡ box_count instance → bins_reason instance k bins places ≡ None
-      → (claim : Claim) → shared_by instance claim k bins places ≡ Ok (placed claim (to_refute Answer instance claim))
+      → (claim : Claim) → shared_by instance claim k bins places ≡ Ok (placed Answer claim (to_refute Answer instance claim))
   tested count good claim = by (length bins == box_count instance) (eq-eqb _ _ count)
       (bins_reason instance k bins places) good
     where
       by : (t : Bool) → t ≡ true → (r : Option Reason) → r ≡ None
           → ◌≡◌ {A = Result Stage Reason}
           (elim t [
-            | true ↦ refused_by r (Ok (placed claim (to_refute Answer instance claim)))
+            | true ↦ refused_by r (Ok (placed Answer claim (to_refute Answer instance claim)))
             | false ↦
                 Ok (Sharing instance claim k bins places)
-          ]) (Ok (placed claim (to_refute Answer instance claim)))
+          ]) (Ok (placed Answer claim (to_refute Answer instance claim)))
       by true e None f = refl
       by true e (Some x) f = absurd (cc (f))
       by false e r f = absurd (cc (e))

@@ -8,5 +8,6 @@ pub mod Placings
 pub mod Proofs
 pub mod Takings
 pub mod Boundings
+pub mod Gatherings
 pub mod Words
 pub mod Sharings

@@ -17,5 +17,6 @@ TakesCoordinates places numbers new (Err NoMemory) = new ≡ places
 
 -- the places so far, in a container that may have another last side, and behind them all
 abbrev pub place_stage : Heading → PlainInstance → PlainInstance → Claim → List ℕ → Bool → Stage
-place_stage heading instance held claim places true = placed claim (to_refute heading instance claim)
-place_stage heading instance held claim places false = Placing held claim (to_refute heading instance claim) places
+place_stage heading instance held claim places true = placed heading claim (to_refute heading instance claim)
+place_stage heading instance held claim places false =
+    Placing heading held claim (to_refute heading instance claim) places

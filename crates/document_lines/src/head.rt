@@ -68,6 +68,8 @@ fn job_headed(heading: Heading, word: &[u8]) -> Result<SolvingJob, Reason>
         Heading::Bounded => {
             if is_same(word, b"knapsack") {
                 Ok(SolvingJob::Knapsack)
+            } else if is_same(word, b"strip") {
+                Ok(SolvingJob::Strip)
             } else {
                 Err(FORM)
             }

@@ -90,7 +90,7 @@ impl<'a> Model for PlaceReader<'a> {
     ghost view = { λ p. record {
       stage = place_stage p.heading p.instance.now p.held.now p.claim p.places.items p.are_placed;
       takes = not p.are_placed;
-      behind = Some (placed p.claim (to_refute p.heading p.instance.now p.claim));
+      behind = Some (placed p.heading p.claim (to_refute p.heading p.instance.now p.claim));
     } };
 }
 
@@ -104,9 +104,9 @@ impl<'a> PlaceReader<'a> {
         claim: Claim,
     ) -> PlaceReader<'a>
         ensures { result ≡ record {
-          stage = Placing held.now claim (to_refute heading instance.now claim) [];
+          stage = Placing heading held.now claim (to_refute heading instance.now claim) [];
           takes = true;
-          behind = Some (placed claim (to_refute heading instance.now claim));
+          behind = Some (placed heading claim (to_refute heading instance.now claim));
         } }
     {
         PlaceReader {

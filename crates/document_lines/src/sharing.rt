@@ -100,7 +100,7 @@ impl<'a> Model for ShareReader<'a> {
       stage = share_stage s.instance.now s.claim s.bin_count s.bins.items s.places.items
           s.is_shared;
       takes = not s.is_shared;
-      behind = Some (placed s.claim (to_refute Answer s.instance.now s.claim));
+      behind = Some (placed Answer s.claim (to_refute Answer s.instance.now s.claim));
     } };
 
     ghost invariant = { λ s. IsShared s.instance.now s.bin_count s.bins.items s.places.items
@@ -118,7 +118,7 @@ impl<'a> ShareReader<'a> {
         ensures { result ≡ record {
           stage = Sharing instance.now claim bin_count [] [];
           takes = true;
-          behind = Some (placed claim (to_refute Answer instance.now claim));
+          behind = Some (placed Answer claim (to_refute Answer instance.now claim));
         } }
     {
         ShareReader {
