@@ -48,13 +48,14 @@ level_edges Reduced instance h limits =
     omega (arith, same, some)))
 
 -- what a stage is where the claim is known
-pub fitting_placed : (claim : Claim) (refuted : Refuted) → claim ≡ Fitting → placed claim refuted ≡ Ending Fitting None
-fitting_placed claim refuted is = ap (λ c. placed c refuted) is
+pub fitting_placed : (heading : Heading) (claim : Claim) (refuted : Refuted) → claim ≡ Fitting
+    → placed heading claim refuted ≡ Ending Fitting None
+fitting_placed heading claim refuted is = ap (λ c. placed heading c refuted) is
 
 pub fitting_claimed : (heading : Heading) (instance : PlainInstance) (claim : Claim) → claim ≡ Fitting
-    → Placing instance claim (to_refute heading instance claim) [] ≡ claimed heading instance claim
+    → Placing heading instance claim (to_refute heading instance claim) [] ≡ claimed heading instance claim
 fitting_claimed heading instance claim is =
-    subst (λ (c : Claim). Placing instance c (to_refute heading instance c) [] ≡ claimed heading instance c)
+    subst (λ (c : Claim). Placing heading instance c (to_refute heading instance c) [] ≡ claimed heading instance c)
     (sym is) refl
 
 -- where the document stands behind the lines of a judge

@@ -10,7 +10,7 @@ use Rattle.verdict_terms.specs.declared.reason.Reason.TheVariants.{TooShort}
 use Rattle.verdict_terms.specs.declared.heading.Heading.{Heading}
 use Rattle.verdict_terms.specs.Stages.{Stage}
 use Rattle.verdict_terms.specs.Stages.Stage.{Beginning, Reading, Placing, Sharing, Taking, Proving, Refuting, Exceeding}
-use Rattle.verdict_terms.specs.Stages.Stage.{Bounding}
+use Rattle.verdict_terms.specs.Stages.Stage.{ProvingFamilies, Bounding, Gathering}
 use Rattle.verdict_terms.specs.Stages.Stage.{Ending, Ended}
 use Rattle.verdict_terms.specs.Documents.{Refusal, document_at_end}
 use Rattle.document_check.specs.declared.check.CheckEnd.{CheckEnd}
@@ -34,12 +34,14 @@ verdict_of None n = Err (record { line = n + 1; reason = TooShort })
 at_end_is : (stage : Stage) (n : ℕ) → document_at_end stage n ≡ verdict_of (ended_claim stage) n
 at_end_is (Beginning heading) n = refl
 at_end_is (Reading heading job parts) n = refl
-at_end_is (Placing instance claim refuted places) n = refl
+at_end_is (Placing heading instance claim refuted places) n = refl
 at_end_is (Sharing instance claim k bins places) n = refl
 at_end_is (Taking heading instance claim value taken places) n = refl
 at_end_is (Proving claim refuted) n = refl
+at_end_is (ProvingFamilies instance claim) n = refl
 at_end_is (Refuting claim tree) n = refl
 at_end_is (Bounding instance claim y nodes) n = refl
+at_end_is (Gathering instance claim nodes) n = refl
 at_end_is (Exceeding instance claim m) n = refl
 at_end_is (Ending claim behind) n = refl
 at_end_is (Ended claim) n = refl

@@ -3,6 +3,7 @@
 
 mod audit;
 mod check;
+mod families;
 mod phases;
 mod position;
 mod showing;

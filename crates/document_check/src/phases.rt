@@ -6,7 +6,7 @@ ghost use Rattle.packing_terms.specs.Goals.{with_last_side};
 ghost use Rattle.packing_terms.specs.Exclusions.{AreAtEdges};
 ghost use Rattle.packing_terms.specs.Scales.{SidesFit};
 ghost use Rattle.verdict_terms.specs.declared.heading.Heading.TheVariants.{Answer};
-ghost use Rattle.verdict_terms.specs.Stages.{placed, to_refute, claimed, start_exclusions};
+ghost use Rattle.verdict_terms.specs.Stages.{proving, placed, to_refute, claimed, start_exclusions};
 ghost use Rattle.verdict_terms.specs.Stages.Stage.{Placing, Sharing, Taking, Proving, Refuting, Exceeding, Ending};
 ghost use Rattle.verdict_terms.specs.Trees.Tree.{InnerTree};
 ghost use Rattle.verdict_terms.specs.Trees.{begun, tree_dims, ToFit, ToFitIn, ToReach};
@@ -16,6 +16,7 @@ ghost use Rattle.document_lines.specs.Checkers.{shown_inner_tree, is_inner_open}
 ghost use Rattle.document_check.specs.Passes.{IsPosition, IsCheckedFrom};
 
 use crate::check::CheckEnd;
+use crate::families::check_families;
 use crate::position::{Position, give_lines};
 use crate::showing::{read_exceeding, read_places, read_shares, read_taken};
 use box_instances::{Instance, NoMemory};
@@ -153,8 +154,8 @@ fn begin_refuter<'a>(
     Refuter::starting(alloc, level, start.as_slice())
 }
 
-// `proof`, a tree that refutes that the boxes fit at this level, and `end`.
-fn check_misfit<S: Source>(
+// `proof`, a plain tree that refutes that the boxes fit at this level, and `end`.
+fn check_plain_misfit<S: Source>(
     alloc: Global,
     input: &mut S,
     at: &mut Position,
@@ -173,6 +174,29 @@ fn check_misfit<S: Source>(
     match begin_refuter(alloc, head.heading, &head.instance, level) {
         Ok(refuter) => check_proof(alloc, input, at, head.claim, dims, refuter),
         Err(_) => CheckEnd::NoMemory,
+    }
+}
+
+// `proof`, a tree that refutes that the boxes fit at this level, and `end`. In a bounded document it
+// is a tree with families.
+fn check_misfit<S: Source>(
+    alloc: Global,
+    input: &mut S,
+    at: &mut Position,
+    head: &Claimed,
+    level: &Instance,
+) -> CheckEnd
+    requires at { IsPosition at.old }
+    requires edges { AreAtEdges level.now
+        (start_exclusions head.now.heading head.now.instance) }
+    ensures { IsCheckedFrom (S.left input.old) (S.left input.new) (S.faults input.old)
+        (S.faults input.new)
+        at.old (proving head.now.heading head.now.claim
+        (ToFit level.now (start_exclusions head.now.heading head.now.instance))) result }
+{
+    match head.heading {
+        Heading::Answer | Heading::Reduced => check_plain_misfit(alloc, input, at, head, level),
+        Heading::Bounded => check_families(alloc, input, at, head.claim, level),
     }
 }
 
@@ -252,13 +276,13 @@ fn check_placed<S: Source>(
     requires at { IsPosition at.old }
     requires edges { AreAtEdges lower.now
         (start_exclusions head.now.heading head.now.instance) }
-    requires says { placed head.now.claim
+    requires says { placed head.now.heading head.now.claim
         (to_refute head.now.heading head.now.instance head.now.claim)
-        ≡ Proving head.now.claim
+        ≡ proving head.now.heading head.now.claim
         (ToFit lower.now (start_exclusions head.now.heading head.now.instance)) }
     ensures { IsCheckedFrom (S.left input.old) (S.left input.new) (S.faults input.old)
         (S.faults input.new)
-        at.old (Placing held.now head.now.claim
+        at.old (Placing head.now.heading held.now head.now.claim
         (to_refute head.now.heading head.now.instance head.now.claim) []) result }
 {
     match read_places(alloc, input, at, head, held) {
@@ -279,13 +303,14 @@ pub(crate) fn check_heights<S: Source>(
     requires at { IsPosition at.old }
     requires high { reached ≤ most_height }
     requires low { refuted ≤ most_height }
-    requires says { placed head.now.claim
+    requires says { placed head.now.heading head.now.claim
         (to_refute head.now.heading head.now.instance head.now.claim)
-        ≡ Proving head.now.claim (ToFit (with_last_side head.now.instance refuted)
+        ≡ proving head.now.heading head.now.claim
+        (ToFit (with_last_side head.now.instance refuted)
         (start_exclusions head.now.heading head.now.instance)) }
     ensures { IsCheckedFrom (S.left input.old) (S.left input.new) (S.faults input.old)
         (S.faults input.new)
-        at.old (Placing (with_last_side head.now.instance reached) head.now.claim
+        at.old (Placing head.now.heading (with_last_side head.now.instance reached) head.now.claim
         (to_refute head.now.heading head.now.instance head.now.claim) []) result }
 {
     // For the proof alone: tells that there is a last dimension.
@@ -333,7 +358,7 @@ pub(crate) fn check_bins<S: Source>(
 ) -> CheckEnd
     requires at { IsPosition at.old }
     requires few { refuted ≤ box_count instance.now }
-    requires says { placed claim (to_refute Answer instance.now claim)
+    requires says { placed Answer claim (to_refute Answer instance.now claim)
         ≡ Proving claim (ToFitIn instance.now refuted) }
     ensures { IsCheckedFrom (S.left input.old) (S.left input.new) (S.faults input.old)
         (S.faults input.new)

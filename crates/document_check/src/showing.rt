@@ -53,9 +53,10 @@ pub(crate) fn read_places<S: Source>(
     ensures at { result ≡ None → IsPosition at.new }
     ensures goes { Goes (S.left input.old) (S.left input.new) (S.faults input.old)
         (S.faults input.new)
-        at.old (Placing held.now head.now.claim
+        at.old (Placing head.now.heading held.now head.now.claim
         (to_refute head.now.heading head.now.instance head.now.claim) []) at.new
-        (placed head.now.claim (to_refute head.now.heading head.now.instance head.now.claim))
+        (placed head.now.heading head.now.claim
+        (to_refute head.now.heading head.now.instance head.now.claim))
         result }
 {
     let mut judge = PlaceReader::new(alloc, head.heading, &head.instance, held, head.claim);
@@ -73,11 +74,11 @@ pub(crate) fn read_shares<S: Source>(
 ) -> Option<CheckEnd>
     requires { IsPosition at.old }
     ensures at { result ≡ None → IsPosition at.new }
-    ensures sides { result ≡ None → HaveSides (placed claim (to_refute Answer instance.now claim)) }
+    ensures sides { result ≡ None → HaveSides (placed Answer claim (to_refute Answer instance.now claim)) }
     ensures goes { Goes (S.left input.old) (S.left input.new) (S.faults input.old)
         (S.faults input.new)
         at.old (Sharing instance.now claim bin_count [] []) at.new
-        (placed claim (to_refute Answer instance.now claim)) result }
+        (placed Answer claim (to_refute Answer instance.now claim)) result }
 {
     let mut judge = ShareReader::new(alloc, instance, claim, bin_count);
     let end = give_lines(input, at, &mut judge);

@@ -15,4 +15,4 @@ returns-in-None g c =
     c.args.at.now s c.check_end.result)
     (fitting_claimed c.args.head.now.heading c.args.head.now.instance c.args.head.now.claim c.requires.is)
     (then_from _ _ _ _ _ _ c.args.at.now c.read_places.new.at _ _ c.check_end.result c.in-None.ensures.goes
-    (Ending Fitting None) (fitting_placed c.args.head.now.claim _ c.requires.is) c.check_end.ensures)
+    (Ending Fitting None) (fitting_placed c.args.head.now.heading c.args.head.now.claim _ c.requires.is) c.check_end.ensures)

@@ -4,7 +4,7 @@ use Rattle.verdict_terms.specs.Stages.Stage.{Proving}
 use Rattle.document_lines.specs.Proofs.{refuted_by}
 use Rattle.document_check.specs.Passes.{IsCheckedFrom}
 use Rattle.document_check.proofs.Passes.{memory_here}
-use Rattle.document_check.proofs.phases.check_misfit.Goals as goal
+use Rattle.document_check.proofs.phases.check_plain_misfit.Goals as goal
 
 pub returns-in-Ok : goal.returns-in-Ok
 returns-in-Ok g c =
