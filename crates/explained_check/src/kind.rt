@@ -1,11 +1,12 @@
 //! The kind of a document.
 ghost use Rattle.std.specs.Prelude.{◌≡◌};
 ghost use Rattle.text_terms.specs.Feeding.{ended_line};
-ghost use Rattle.explained_documents.specs.Kinds.{document_kind, kind_of_line, kind_told};
+ghost use Rattle.explained_documents.specs.Kinds.{begin_bounded, bounded_job, document_kind, kind_of_line, kind_told};
 ghost use Rattle.line_cursor.specs.Lines.{IsAmong, lines_left};
 
 use crate::lines::next_taken;
 use crate::words::are_two;
+use document_terms::SolvingJob;
 use explained_documents::DocumentKind;
 use instance_text::LineLexer;
 use line_cursor::{Cursor, is_word};
@@ -23,10 +24,28 @@ pub fn kind_of_line(line: &LineLexer) -> DocumentKind
     if is_word(line, b"front") {
         return DocumentKind::Front;
     }
-    if are_two(line, b"bounded", b"knapsack") {
+    if begins_bounded(line) {
         return DocumentKind::Bounded;
     }
     DocumentKind::Reduced
+}
+
+// Whether a bounded document begins with this line.
+fn begins_bounded(line: &LineLexer) -> bool
+    ensures { result ≡ begin_bounded line.now.held.words }
+{
+    are_two(line, b"bounded", b"knapsack") || are_two(line, b"bounded", b"strip")
+}
+
+/// The job of a bounded document whose first line that isn't blank is this one.
+pub fn bounded_job(line: &LineLexer) -> SolvingJob
+    ensures { result ≡ bounded_job line.now.held.words }
+{
+    if are_two(line, b"bounded", b"knapsack") {
+        SolvingJob::Knapsack
+    } else {
+        SolvingJob::Strip
+    }
 }
 
 // The kind that the lines that are left tell.

@@ -10,4 +10,4 @@ mod tree;
 mod words;
 
 pub use audit::{ExplainedAudit, audit_explained};
-pub use kind::{document_kind, kind_of_line};
+pub use kind::{bounded_job, document_kind, kind_of_line};

@@ -18,7 +18,7 @@ begin_bounded words =
 
 -- the job of a bounded document whose first line has these words
 abbrev pub bounded_job : List (List ℕ) → SolvingJob
-bounded_job words = cond (are_two (codes "bounded") (codes "strip") words) Strip Knapsack
+bounded_job words = cond (are_two (codes "bounded") (codes "knapsack") words) Knapsack Strip
 
 -- of a document whose first line has these words
 abbrev pub kind_of_words : List (List ℕ) → DocumentKind
