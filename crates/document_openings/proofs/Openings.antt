@@ -25,7 +25,7 @@ use Rattle.text_terms.specs.Texts.{is_none, no_parts}
 use Rattle.text_terms.specs.Feeding.{Lexer, no_line, new_lexer, held_of, add_byte, end_word, end_line, feed}
 use Rattle.text_terms.specs.Feeding.{ended_line, NumberedLine, lines_fed, told_now}
 use Rattle.text_terms.proofs.Fed.{lines_are_told}
-use Rattle.document_terms.specs.declared.claim.SolvingJob.TheVariants.{Knapsack}
+use Rattle.document_terms.specs.declared.claim.SolvingJob.TheVariants.{Strip, Knapsack}
 use Rattle.verdict_terms.specs.declared.heading.Heading.TheVariants.{Bounded as UnderBounded}
 use Rattle.verdict_terms.specs.declared.reason.Reason.{Reason}
 use Rattle.verdict_terms.specs.Reasons.{form}
@@ -36,7 +36,7 @@ use Rattle.verdict_terms.specs.Fed.{fed_verdict}
 use Rattle.packing_terms.specs.Results.{◌>>=◌}
 use Rattle.explained_documents.specs.declared.kind.DocumentKind.{DocumentKind}
 use Rattle.explained_documents.specs.declared.kind.DocumentKind.TheVariants.{Explained, Front, Bounded, Reduced}
-use Rattle.explained_documents.specs.Kinds.{kind_of_words, kind_of_line, document_kind, kind_told}
+use Rattle.explained_documents.specs.Kinds.{bounded_job, kind_of_words, kind_of_line, document_kind, kind_told}
 use Rattle.explained_documents.proofs.Told.{kinds_are_told}
 use Rattle.document_lines.specs.Reading.{IsSoFar, IsTaking}
 use Rattle.document_lines.proofs.Steps.{gives_none, so_far_start, so_far_more, single, one_byte, number_rises}
@@ -57,7 +57,7 @@ blank_cut line = go line.words
 
 -- the heading of a bounded document is taken
 bounded_heading : (line : Line) → is_blank line ≡ false → kind_of_line line ≡ Bounded
-    → stage_after (Beginning UnderBounded) line ≡ Ok (Reading UnderBounded Knapsack no_parts)
+    → stage_after (Beginning UnderBounded) line ≡ Ok (Reading UnderBounded (bounded_job line.words) no_parts)
 bounded_heading line filled kind =
     ap (λ b. elim b [
       | true ↦ Ok (Beginning UnderBounded)
@@ -67,28 +67,30 @@ bounded_heading line filled kind =
   where
     by_bad : (bad : Bool) (words : List (List ℕ)) → cond bad Reduced (kind_of_words words) ≡ Bounded
         → filled_line (Beginning UnderBounded) (record { bad = bad; count = line.count; words = words })
-        ≡ Ok (Reading UnderBounded Knapsack no_parts)
+        ≡ Ok (Reading UnderBounded (bounded_job words) no_parts)
     by_bad true words e = absurd (cc (e))
     by_bad false [] e = absurd (cc (e))
     by_bad false (w ∷ []) e = one (is_word (codes "front") (w ∷ [])) e
       where
         one : (a : Bool) → cond a Front Reduced ≡ Bounded
             → filled_line (Beginning UnderBounded) (record { bad = false; count = line.count; words = w ∷ [] })
-            ≡ Ok (Reading UnderBounded Knapsack no_parts)
+            ≡ Ok (Reading UnderBounded (bounded_job (w ∷ [])) no_parts)
         one true f = absurd (cc (f))
         one false f = absurd (cc (f))
     by_bad false (w ∷ v ∷ []) e =
         two (same_bytes w (codes "explained") && same_bytes v (codes "fit")) (same_bytes w (codes "bounded"))
-        (same_bytes v (codes "knapsack")) e
+        (same_bytes v (codes "knapsack")) (same_bytes v (codes "strip")) e
       where
-        two : (a c d : Bool) → cond a Explained (cond (c && d) Bounded Reduced) ≡ Bounded
+        two : (a c d f : Bool) → cond a Explained (cond ((c && d) || (c && f)) Bounded Reduced) ≡ Bounded
             → ◌≡◌ {A = Result Stage Reason}
-            (cond c (cond d (Ok Knapsack) (Err form) >>= λ job. Ok (Reading UnderBounded job no_parts)) (Err form))
-            (Ok (Reading UnderBounded Knapsack no_parts))
-        two true c d f = absurd (cc (f))
-        two false true true f = refl
-        two false true false f = absurd (cc (f))
-        two false false d f = absurd (cc (f))
+            (cond c (cond d (Ok Knapsack) (cond f (Ok Strip) (Err form))
+            >>= λ job. Ok (Reading UnderBounded job no_parts)) (Err form))
+            (Ok (Reading UnderBounded (cond (c && d) Knapsack Strip) no_parts))
+        two true c d f k = absurd (cc (k))
+        two false true true f k = refl
+        two false true false true k = refl
+        two false true false false k = absurd (cc (k))
+        two false false d f k = absurd (cc (k))
     by_bad false (w ∷ v ∷ u ∷ words) e = absurd (cc (e))
 
 -- a blank line is skipped
@@ -314,15 +316,18 @@ module _ (old now : Option (List ℕ)) (before after : FaultCount) (limit : ℕ)
 
         taking : kind ≡ Bounded
             → IsTaking UnderBounded (bytes ++ get_or read 0 0 ∷ []) old later (feed (get_or read 0 0) s)
-            (Reading UnderBounded Knapsack no_parts) (length (bytes ++ get_or read 0 0 ∷ []))
+            (Reading UnderBounded (bounded_job (feed (get_or read 0 0) s).held.words) no_parts)
+            (length (bytes ++ get_or read 0 0 ∷ []))
         taking bounded = record {
           taken = bytes ++ get_or read 0 0 ∷ [];
           begins = ([], sym (append-nil (bytes ++ get_or read 0 0 ∷ [])));
           gives = gives_byte;
           counted = refl;
-          so_far = so_far_more UnderBounded s (Beginning UnderBounded) (Reading UnderBounded Knapsack no_parts) bytes
+          so_far = so_far_more UnderBounded s (Beginning UnderBounded)
+              (Reading UnderBounded (bounded_job (feed (get_or read 0 0) s).held.words) no_parts) bytes
               (get_or read 0 0) h.so_far
-              (feed_goes s (Beginning UnderBounded) (Reading UnderBounded Knapsack no_parts) (get_or read 0 0) feeds
+              (feed_goes s (Beginning UnderBounded)
+              (Reading UnderBounded (bounded_job (feed (get_or read 0 0) s).held.words) no_parts) (get_or read 0 0) feeds
               (bounded_heading (ended_line (feed (get_or read 0 0) s).held) filled (sym is ∙ bounded)));
         }
 
@@ -402,7 +407,7 @@ module _ (limit : ℕ) (old mid new : Option (List ℕ)) where
       (by.0, by.1, read.1, inr (ap tells_kind (take_all limit o.bytes.items read.1) ∙ by.2))
 
   pub begun_here : (o : Opening) → o.kind ≡ Some Bounded → IsOpeningRead limit old new (Ok o)
-      → IsOpened limit old new (Ok (Begun o.lexer (length o.bytes.items)))
+      → IsOpened limit old new (Ok (Begun o.lexer (length o.bytes.items) (bounded_job o.lexer.held.words)))
   begun_here o e read =
       let by = subst (λ k. IsOpeningBy old new o.bytes.items o.lexer k) e read.0 in record {
         opening = o.bytes.items;

@@ -22,3 +22,7 @@ nothing = refl
 by_lines : IsReadByLines 18 (codes "\nbounded knapsack\nformat 1\n")
 unfolding same_bytes
 by_lines = record { kind = refl; told = refl }
+
+strip_by_lines : IsReadByLines 14 (codes "bounded strip\nformat 1\n")
+unfolding same_bytes
+strip_by_lines = record { kind = refl; told = refl }

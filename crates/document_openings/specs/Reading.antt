@@ -12,12 +12,12 @@ use Rattle.text_terms.specs.Texts.{no_parts}
 use Rattle.text_terms.specs.Feeding.{Lexer, ended_line}
 use Rattle.text_terms.specs.Lines.{is_line_feed}
 use Rattle.verdict_terms.specs.Stages.{is_blank}
-use Rattle.document_terms.specs.declared.claim.SolvingJob.TheVariants.{Knapsack}
+use Rattle.document_terms.specs.declared.claim.SolvingJob.{SolvingJob}
 use Rattle.verdict_terms.specs.declared.heading.Heading.TheVariants.{Bounded as UnderBounded}
 use Rattle.verdict_terms.specs.Stages.Stage.{Reading}
 use Rattle.explained_documents.specs.declared.kind.DocumentKind.{DocumentKind}
 use Rattle.explained_documents.specs.declared.kind.DocumentKind.TheVariants.{Bounded}
-use Rattle.explained_documents.specs.Kinds.{document_kind}
+use Rattle.explained_documents.specs.Kinds.{bounded_job, document_kind}
 use Rattle.document_lines.specs.Reading.{IsTaking}
 use Rattle.document_openings.specs.Openings.{tells_kind, IsReadWhole}
 use Rattle.document_openings.specs.declared.opening.Opened.{Opened}
@@ -25,15 +25,16 @@ use Rattle.document_openings.specs.declared.opening.Opened.TheVariants.{Whole, B
 use Rattle.document_openings.specs.declared.opening.Opening.{Opening}
 
 -- So many bytes were taken, up to the line feed that ends the heading of a bounded document: they tell its kind,
--- and its other lines are still to come.
-pub record IsBegun (limit : ℕ) (old new : Option (List ℕ)) (lexer : Lexer) (count : ℕ) : Type 0 where
+-- and its other lines are still to come. The heading names the job.
+pub record IsBegun (limit : ℕ) (old new : Option (List ℕ)) (lexer : Lexer) (count : ℕ) (job : SolvingJob) :
+    Type 0 where
   pub opening : List ℕ
   pub told : tells_kind opening ≡ true
   pub kind : document_kind opening ≡ Bounded
   pub within : length opening ≤ limit
   pub few : count ≤ limit
   pub number : lexer.number ≤ count
-  pub taking : IsTaking UnderBounded opening old new lexer (Reading UnderBounded Knapsack no_parts) count
+  pub taking : IsTaking UnderBounded opening old new lexer (Reading UnderBounded job no_parts) count
 
 -- A document that is held whole was taken to its end; of one that is read by lines its opening was taken. Or the
 -- former has more bytes than the limit, of which not more than one block beyond it was taken; or the source
@@ -41,7 +42,7 @@ pub record IsBegun (limit : ℕ) (old new : Option (List ℕ)) (lexer : Lexer) (
 abbrev pub IsOpened : ℕ → Option (List ℕ) → Option (List ℕ) → Result Opened ReadStop → Type 0
 IsOpened limit old new (Ok (Whole bytes)) =
     Gives old new bytes.items × IsAtEnd new × (length bytes.items ≤ limit) × IsReadWhole limit bytes.items
-IsOpened limit old new (Ok (Begun lexer count)) = IsBegun limit old new lexer count
+IsOpened limit old new (Ok (Begun lexer count job)) = IsBegun limit old new lexer count job
 IsOpened limit old new (Err TooLong) =
     (bytes : List ℕ) × Gives old new bytes × (limit < length bytes) × (length bytes ≤ limit + block)
     × IsReadWhole limit bytes
@@ -67,7 +68,9 @@ abbrev pub IsOpeningBy : Option (List ℕ) → Option (List ℕ) → List ℕ �
 IsOpeningBy old new bytes lexer None = Gives old new bytes × IsAtEnd new × (tells_kind bytes ≡ false)
 IsOpeningBy old new bytes lexer (Some kind) =
     Gives old new bytes × (tells_kind bytes ≡ true) × (document_kind bytes ≡ kind)
-    × (kind ≡ Bounded → IsTaking UnderBounded bytes old new lexer (Reading UnderBounded Knapsack no_parts) (length bytes))
+    × (kind ≡ Bounded
+    → IsTaking UnderBounded bytes old new lexer (Reading UnderBounded (bounded_job lexer.held.words) no_parts)
+    (length bytes))
 
 abbrev pub IsOpeningRead : ℕ → Option (List ℕ) → Option (List ℕ) → Result Opening ReadStop → Type 0
 IsOpeningRead limit old new (Ok o) =

@@ -3,7 +3,8 @@ ghost use Rattle.std.specs.Prelude.{◌≡◌, ◌≢◌, ◌<◌, ◌≤◌, �
 ghost use Rattle.text_terms.specs.Feeding.{feed};
 ghost use Rattle.document_openings.specs.Reading.{CountsOpening, IsOpened, IsOpeningRead, ReadsOn, ends_filled};
 
-use explained_check::kind_of_line;
+use document_terms::SolvingJob;
+use explained_check::{bounded_job, kind_of_line};
 use explained_documents::DocumentKind;
 use instance_text::{LexStep, LineLexer};
 use line_cursor::is_blank;
@@ -16,8 +17,12 @@ pub enum Opened {
     /// A document that is held whole: all its bytes.
     Whole(Vec<u8>),
     /// A bounded document, of which the bytes up to the line feed of its heading were taken: how
-    /// many they are, and what is held behind them.
-    Begun { lexer: LineLexer, count: u64 },
+    /// many they are, what is held behind them, and the job that the heading names.
+    Begun {
+        lexer: LineLexer,
+        count: u64,
+        job: SolvingJob,
+    },
 }
 
 // The bytes up to the line feed of the first line that isn't blank, or up to the end: what is held
@@ -112,7 +117,7 @@ fn is_bounded(kind: DocumentKind) -> bool
     }
 }
 
-/// Reads the opening of a document, and the rest too unless its heading is `bounded knapsack`.
+/// Reads the opening of a document, and the rest too unless it is a bounded one.
 ///
 /// `Whole` has all bytes, at most `limit`, of a document of another kind, or of one that ended
 /// before a line feed ended its heading. `Begun` comes behind the heading of a bounded document, of
@@ -138,8 +143,9 @@ pub fn open_document<S: Source>(
         return Ok(Opened::Whole(bytes));
     };
     if is_bounded(kind) {
+        let job = bounded_job(&lexer);
         let count = bytes.len() as u64;
-        return Ok(Opened::Begun { lexer, count });
+        return Ok(Opened::Begun { lexer, count, job });
     }
     match read_on(input, bytes, limit) {
         Ok(bytes) => Ok(Opened::Whole(bytes)),
