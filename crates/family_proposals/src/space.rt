@@ -1,0 +1,51 @@
+//! The pairs of boxes that are apart in every packing.
+use crate::slots::bit;
+use box_instances::{Instance, NoMemory};
+use edge_state::EdgeState;
+use loose_lists::pushed;
+use packing_terms::Rel;
+use rule_closure::{Closed, Closer};
+use std::alloc::Global;
+
+/// The closure of no exclusion, or `None` if it has a conflict: then no family is needed.
+pub(crate) fn root_closure(
+    alloc: Global,
+    instance: &Instance,
+) -> Result<Option<EdgeState>, NoMemory> {
+    let dims = instance.dims();
+    let count = instance.len();
+    let mut state = EdgeState::new(alloc, dims, count)?;
+    let mut closer = Closer::new(alloc, dims, count)?;
+    match closer.close(instance, &mut state) {
+        Closed::Conflict => Ok(None),
+        Closed::Stable => Ok(Some(state)),
+    }
+}
+
+/// Of each box the bits of the boxes from which it is apart in a dimension, and none if the state
+/// hasn't that dimension.
+pub(crate) fn apart_rows(
+    alloc: Global,
+    state: &EdgeState,
+    dim: u32,
+) -> Result<Vec<u128>, NoMemory> {
+    let mut rows = Vec::new(alloc);
+    for u in 0..state.boxes() {
+        let mut row = 0u128;
+        for v in 0..state.boxes() {
+            if is_apart(state, dim, u, v) {
+                row |= bit(v);
+            }
+        }
+        pushed(&mut rows, row)?;
+    }
+    Ok(rows)
+}
+
+// Whether two distinct boxes can't overlap in a dimension.
+fn is_apart(state: &EdgeState, dim: u32, u: u32, v: u32) -> bool {
+    if state.dims() <= dim || state.boxes() <= u || state.boxes() <= v || u == v {
+        return false;
+    }
+    !state.mask(dim, u, v).has(Rel::Overlap)
+}
