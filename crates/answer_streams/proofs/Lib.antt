@@ -4,6 +4,7 @@ pub mod NumberedTexts
 pub mod StripTexts
 pub mod BinsTexts
 pub mod KnapsackTexts
+pub mod BoundedStripTexts
 pub mod BoundedTexts
 pub mod Lined
 mod Blocks

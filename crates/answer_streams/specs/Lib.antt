@@ -4,6 +4,7 @@ pub mod Solutions
 pub mod Verdicts
 pub mod Lines
 pub mod Headed
+pub mod BoundedStrips
 pub mod Explanations
 pub mod Audited
 pub mod FrontTexts
