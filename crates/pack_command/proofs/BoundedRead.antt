@@ -5,6 +5,7 @@ use Rattle.pack_streams.specs.Faults.{FaultCount, Stays}
 use Rattle.pack_streams.specs.Moves.{Gives}
 use Rattle.pack_streams.proofs.Faults.{stays_on, fails_then}
 use Rattle.text_terms.specs.Feeding.{Lexer}
+use Rattle.document_terms.specs.declared.claim.SolvingJob.{SolvingJob}
 use Rattle.verdict_terms.specs.declared.heading.Heading.TheVariants.{Bounded}
 use Rattle.verdict_terms.specs.Documents.{bounded_verdict}
 use Rattle.explained_documents.specs.declared.kind.DocumentKind.TheVariants.{Bounded as OfBounded}
@@ -34,9 +35,9 @@ use Rattle.pack_command.specs.declared.stop.Stop.TheVariants.{Words, TooLong, Te
 use Rattle.pack_command.specs.declared.stop.Stop.TheVariants.{NoMemory}
 use Rattle.pack_command.proofs.Audited.{told_bounded, told_as}
 
-module _ (old mid new : Option (List ℕ)) (before between now : FaultCount) (s : Lexer) (count : ℕ)
-    (begun : IsBegun most_read_bytes old mid s count) (stays : Stays before between) where
-  behind : (end : CheckEnd) → IsBehindHeading mid new between now s count end
+module _ (old mid new : Option (List ℕ)) (before between now : FaultCount) (s : Lexer) (count : ℕ) (job : SolvingJob)
+    (begun : IsBegun most_read_bytes old mid s count job) (stays : Stays before between) where
+  behind : (end : CheckEnd) → IsBehindHeading mid new between now s count job end
       → IsCheckedBehind Bounded begun.opening old new between now end
   behind end rest = rest Bounded begun.opening old begun.taking
 
@@ -59,7 +60,7 @@ module _ (old mid new : Option (List ℕ)) (before between now : FaultCount) (s 
         (told_bounded verdict (bounded_verdict taken) (sym is)),
   )
 
-  pub bounded_read : (verdict : Verdict) → IsRestRead mid new between now s count (Ok verdict)
+  pub bounded_read : (verdict : Verdict) → IsRestRead mid new between now s count job (Ok verdict)
       → IsAuditRead old new (Ok (ToldBounded verdict))
   bounded_read (VerifiedAs claim) rest =
       let r = behind (Verified claim) rest in
@@ -68,7 +69,7 @@ module _ (old mid new : Option (List ℕ)) (before between now : FaultCount) (s 
       let r = behind (Refused line reason) rest in
       told r.taken (RefusedAs line reason) (lines_of r.taken r.begins) r.gives r.comes.0 r.comes
 
-  pub bounded_unread : (stop : Stop) → IsRestRead mid new between now s count (Err stop) → IsUnaudited old new stop
+  pub bounded_unread : (stop : Stop) → IsRestRead mid new between now s count job (Err stop) → IsUnaudited old new stop
   bounded_unread Words rest = absurd rest
   bounded_unread TooLong rest =
       let r = behind CheckTooLong rest in
@@ -83,12 +84,12 @@ module _ (old mid new : Option (List ℕ)) (before between now : FaultCount) (s 
       let r = behind CheckNoMemory rest in
       inr (record { taken = r.taken; gives = r.gives; within = r.comes.0; none = r.comes.1 }, lines_of r.taken r.begins)
 
-  pub read_counts : (verdict : Verdict) → IsRestRead mid new between now s count (Ok verdict) → Stays before now
+  pub read_counts : (verdict : Verdict) → IsRestRead mid new between now s count job (Ok verdict) → Stays before now
   read_counts (VerifiedAs claim) rest = stays_on before between now stays (behind (Verified claim) rest).faults
   read_counts (RefusedAs line reason) rest =
       stays_on before between now stays (behind (Refused line reason) rest).faults
 
-  pub unread_counts : (stop : Stop) → IsRestRead mid new between now s count (Err stop)
+  pub unread_counts : (stop : Stop) → IsRestRead mid new between now s count job (Err stop)
       → CountsReads {A = AuditedVerdict} before now (Err stop)
   unread_counts Words rest = absurd rest
   unread_counts TooLong rest = stays_on before between now stays (behind CheckTooLong rest).faults
@@ -112,9 +113,10 @@ held_read old new o bytes is opened verdict held same told =
     )
 
 -- one that goes on behind its heading
-pub begun_of : (old new : Option (List ℕ)) (o : Opened) (s : Lexer) (count : ℕ) → o ≡ Begun s count
-    → IsOpened most_read_bytes old new (Ok o) → IsBegun most_read_bytes old new s count
-begun_of old new o s count is opened = subst (λ x. IsOpened most_read_bytes old new (Ok x)) is opened
+pub begun_of : (old new : Option (List ℕ)) (o : Opened) (s : Lexer) (count : ℕ) (job : SolvingJob)
+    → o ≡ Begun s count job → IsOpened most_read_bytes old new (Ok o)
+    → IsBegun most_read_bytes old new s count job
+begun_of old new o s count job is opened = subst (λ x. IsOpened most_read_bytes old new (Ok x)) is opened
 
 pub audit_undone : (old new sunk : Option (List ℕ)) (stop : Stop) → IsUnaudited old new stop
     → IsWithoutReading Audits old new sunk sunk stop

@@ -16,6 +16,7 @@ pub mod Audited
 pub mod Ended
 pub mod BoundedRead
 pub mod ExplainedAs
+pub mod HeightsDecided
 pub mod OneJob
 pub mod Fronted
 pub mod ProposedEnds

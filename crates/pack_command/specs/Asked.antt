@@ -14,7 +14,7 @@ use Rattle.document_terms.specs.declared.claim.SolvingJob.TheVariants.{Bins as S
 use Rattle.pack_words.specs.Job.{job_of_words}
 use Rattle.pack_words.specs.declared.job.Job.{Job}
 use Rattle.pack_words.specs.declared.job.Job.TheVariants.{Fit, Strip, Bins, Knapsack, Check, Make, Audit, Explain}
-use Rattle.pack_words.specs.declared.job.Job.TheVariants.{Reduced, Front, ReducedStrip, Proposed, Bounded}
+use Rattle.pack_words.specs.declared.job.Job.TheVariants.{Reduced, Front, ReducedStrip, Proposed, Bounded, BoundedStrip}
 use Rattle.pack_words.specs.declared.job.JobWords.{JobWords}
 use Rattle.text_terms.specs.declared.settings.Settings.{Settings}
 use Rattle.verdict_terms.specs.Fed.{NoneRefused}
@@ -24,7 +24,7 @@ use Rattle.pack_command.specs.Inputs.{most_instance_bytes}
 use Rattle.pack_command.specs.Readings.{DocumentTask, Audits, Explains, AreFew, ArePast}
 use Rattle.pack_command.specs.declared.words.Asked.{Asked}
 use Rattle.pack_command.specs.declared.words.Asked.TheVariants.{Solving, Checking, Making, Auditing, Explaining}
-use Rattle.pack_command.specs.declared.words.Asked.TheVariants.{Fronting, Proposing, Bounding}
+use Rattle.pack_command.specs.declared.words.Asked.TheVariants.{Fronting, Proposing, Bounding, BoundingHeights}
 use Rattle.pack_command.specs.declared.stop.Stop.{Stop}
 use Rattle.pack_command.specs.declared.stop.Stop.TheVariants.{Words, TooLong, Text, Dimensions, ReadFault, WriteFault}
 use Rattle.pack_command.specs.declared.stop.Stop.TheVariants.{NoMemory}
@@ -44,6 +44,7 @@ document_job Explain = None
 document_job Front = None
 document_job (Proposed job) = None
 document_job (Bounded proposals) = None
+document_job (BoundedStrip proposals) = None
 
 -- the job of the words, if they are one
 abbrev pub asked_job : List (String Global) → Option JobWords
@@ -87,15 +88,17 @@ pub record AsksFront (words : List (String Global)) (settings : Settings) : Type
   pub job : asked.job ≡ Front
   pub with_settings : asked.settings ≡ settings
 
--- A job whose answer is proposed and tested: a solving job with proposals, or `knapsack` with priced
--- leaves, behind proposals or behind the choice trees.
+-- A job whose answer is proposed and tested: a solving job with proposals, `knapsack` with priced leaves, behind
+-- proposals or behind the choice trees, or `strip` with families, behind proposals or behind the class trees.
 pub data ProposedJob : Type 0 where
   Plain : (job : SolvingJob) → ProposedJob
   Bounds : (proposals : Bool) → ProposedJob
+  HeightBounds : (proposals : Bool) → ProposedJob
 
 abbrev pub job_proposed : ProposedJob → Job
 job_proposed (Plain job) = Proposed job
 job_proposed (Bounds proposals) = Bounded proposals
+job_proposed (HeightBounds proposals) = BoundedStrip proposals
 
 -- the words are the job with proposals and these settings
 pub record AsksProposed (words : List (String Global)) (job : ProposedJob) (settings : Settings) : Type 0 where
@@ -126,6 +129,7 @@ IsAsked words (Ok (Making number settings)) = AsksToMake words number settings
 IsAsked words (Ok (Fronting settings)) = AsksFront words settings
 IsAsked words (Ok (Proposing job settings)) = AsksProposed words (Plain job) settings
 IsAsked words (Ok (Bounding proposals settings)) = AsksProposed words (Bounds proposals) settings
+IsAsked words (Ok (BoundingHeights proposals settings)) = AsksProposed words (HeightBounds proposals) settings
 IsAsked words (Err Words) = AsksNothing words
 IsAsked words (Err NoMemory) = Unit {0}
 IsAsked words (Err TooLong) = ⊥

@@ -7,7 +7,7 @@ use Rattle.pack_streams.specs.Moves.{Gives}
 use Rattle.pack_streams.specs.Reading.{block}
 use Rattle.text_terms.specs.Texts.{no_parts}
 use Rattle.text_terms.specs.Feeding.{Lexer}
-use Rattle.document_terms.specs.declared.claim.SolvingJob.TheVariants.{Knapsack}
+use Rattle.document_terms.specs.declared.claim.SolvingJob.{SolvingJob}
 use Rattle.verdict_terms.specs.declared.heading.Heading.TheVariants.{Bounded}
 use Rattle.verdict_terms.specs.Documents.{bounded_verdict}
 use Rattle.verdict_terms.specs.Fed.{NoneRefusedUnder}
@@ -79,22 +79,23 @@ AreTooMany bytes =
 
 -- ---- the steps
 
--- the check of what stands behind the heading
-abbrev pub IsBehindHeading : Option (List ℕ) → Option (List ℕ) → FaultCount → FaultCount → Lexer → ℕ → CheckEnd → Type 0
-IsBehindHeading old new before now s count end =
-    IsRestChecked old new before now s (Reading Bounded Knapsack no_parts) count end
+-- the check of what stands behind the heading, which names the job
+abbrev pub IsBehindHeading : Option (List ℕ) → Option (List ℕ) → FaultCount → FaultCount → Lexer → ℕ → SolvingJob → CheckEnd
+    → Type 0
+IsBehindHeading old new before now s count job end =
+    IsRestChecked old new before now s (Reading Bounded job no_parts) count end
 
 -- it ended with a verdict, or for one of three causes
-abbrev pub IsRestRead : Option (List ℕ) → Option (List ℕ) → FaultCount → FaultCount → Lexer → ℕ → Result Verdict Stop
-    → Type 0
-IsRestRead old new before now s count (Ok (VerifiedAs claim)) =
-    IsBehindHeading old new before now s count (Verified claim)
-IsRestRead old new before now s count (Ok (RefusedAs line reason)) =
-    IsBehindHeading old new before now s count (Refused line reason)
-IsRestRead old new before now s count (Err TooLong) = IsBehindHeading old new before now s count CheckTooLong
-IsRestRead old new before now s count (Err ReadFault) = IsBehindHeading old new before now s count CheckReadFault
-IsRestRead old new before now s count (Err NoMemory) = IsBehindHeading old new before now s count CheckNoMemory
-IsRestRead old new before now s count (Err Words) = ⊥
-IsRestRead old new before now s count (Err (Text fault)) = ⊥
-IsRestRead old new before now s count (Err Dimensions) = ⊥
-IsRestRead old new before now s count (Err WriteFault) = ⊥
+abbrev pub IsRestRead : Option (List ℕ) → Option (List ℕ) → FaultCount → FaultCount → Lexer → ℕ → SolvingJob
+    → Result Verdict Stop → Type 0
+IsRestRead old new before now s count job (Ok (VerifiedAs claim)) =
+    IsBehindHeading old new before now s count job (Verified claim)
+IsRestRead old new before now s count job (Ok (RefusedAs line reason)) =
+    IsBehindHeading old new before now s count job (Refused line reason)
+IsRestRead old new before now s count job (Err TooLong) = IsBehindHeading old new before now s count job CheckTooLong
+IsRestRead old new before now s count job (Err ReadFault) = IsBehindHeading old new before now s count job CheckReadFault
+IsRestRead old new before now s count job (Err NoMemory) = IsBehindHeading old new before now s count job CheckNoMemory
+IsRestRead old new before now s count job (Err Words) = ⊥
+IsRestRead old new before now s count job (Err (Text fault)) = ⊥
+IsRestRead old new before now s count job (Err Dimensions) = ⊥
+IsRestRead old new before now s count job (Err WriteFault) = ⊥

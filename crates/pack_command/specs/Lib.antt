@@ -3,6 +3,7 @@ pub mod Answered
 pub mod Asked
 pub mod Fronts
 pub mod Bounded
+pub mod BoundedHeights
 pub mod Proposed
 pub mod Strips
 pub mod FewestBins

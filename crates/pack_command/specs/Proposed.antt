@@ -39,8 +39,9 @@ use Rattle.proposed_answers.specs.Values.{value_count, IsLimitedChoice, IsPastBe
 use Rattle.pack_streams.specs.Moves.{Gains}
 use Rattle.pack_streams.specs.Writing.{GainsPart}
 use Rattle.pack_command.specs.Answered.{branchings}
-use Rattle.pack_command.specs.Asked.{ProposedJob, Plain, Bounds, AsksProposed}
+use Rattle.pack_command.specs.Asked.{ProposedJob, Plain, Bounds, HeightBounds, AsksProposed}
 use Rattle.pack_command.specs.Bounded.{IsBoundedFound}
+use Rattle.pack_command.specs.BoundedHeights.{IsBoundedStripFound}
 use Rattle.pack_command.specs.FewestBins.{HasNoBins}
 use Rattle.pack_command.specs.Inputs.{IsWholeInput, IsPartTaken, IsInputRead}
 use Rattle.pack_command.specs.Strips.{HasNoStrip}
@@ -108,11 +109,13 @@ pub record IsProposedFound (job : SolvingJob) (settings : Settings) (instance : 
   pub status_is : status ≡ status_of answer
   pub document_is : document ≡ answer_text instance answer
 
--- of a solving job, or of `knapsack` with priced leaves
+-- of a solving job, of `knapsack` with priced leaves, or of `strip` with families
 abbrev pub IsFound : ProposedJob → Settings → PlainInstance → ℕ → List ℕ → Type 0
 IsFound (Plain job) settings instance status document = IsProposedFound job settings instance status document
 IsFound (Bounds proposals) settings instance status document =
     IsBoundedFound proposals settings instance status document
+IsFound (HeightBounds proposals) settings instance status document =
+    IsBoundedStripFound proposals settings instance status document
 
 -- the words ask for the job with proposals, the whole input is the text of this instance, and these are
 -- the status and the document of its answer

@@ -98,10 +98,11 @@ fn verdict_on(alloc: Global, bytes: &[u8]) -> Result<AuditedVerdict, NoMemory>
     }
 }
 
-// The verdict on a bounded document, of which `count` bytes were taken, up to the line feed of its
-// heading. The rest is read line by line.
+// The verdict on a bounded document of `job`, of which `count` bytes were taken, up to the line feed
+// of its heading. The rest is read line by line.
 fn read_bounded<S: Source>(
     alloc: Global,
+    job: SolvingJob,
     lexer: LineLexer,
     count: u64,
     input: &mut S,
@@ -109,16 +110,9 @@ fn read_bounded<S: Source>(
     requires number { lexer.number ≤ count }
     requires few { count ≤ most_read_bytes }
     ensures { IsRestRead (S.left input.old) (S.left input.new) (S.faults input.old)
-        (S.faults input.new) lexer count result }
+        (S.faults input.new) lexer count job result }
 {
-    match check_rest(
-        alloc,
-        Heading::Bounded,
-        SolvingJob::Knapsack,
-        lexer,
-        count,
-        input,
-    ) {
+    match check_rest(alloc, Heading::Bounded, job, lexer, count, input) {
         CheckEnd::Verified(claim) => Ok(Verdict::Verified(claim)),
         CheckEnd::Refused { line, reason } => Ok(Verdict::Refused { line, reason }),
         CheckEnd::TooLong => Err(Stop::TooLong),
@@ -137,10 +131,12 @@ fn read_verdict<S: Source>(alloc: Global, input: &mut S) -> Result<AuditedVerdic
             Ok(verdict) => Ok(verdict),
             Err(_) => Err(Stop::NoMemory),
         },
-        Ok(Opened::Begun { lexer, count }) => match read_bounded(alloc, lexer, count, input) {
-            Ok(verdict) => Ok(AuditedVerdict::Bounded(verdict)),
-            Err(stop) => Err(stop),
-        },
+        Ok(Opened::Begun { lexer, count, job }) => {
+            match read_bounded(alloc, job, lexer, count, input) {
+                Ok(verdict) => Ok(AuditedVerdict::Bounded(verdict)),
+                Err(stop) => Err(stop),
+            }
+        }
         Err(ReadStop::TooLong) => Err(Stop::TooLong),
         Err(ReadStop::ReadFault) => Err(Stop::ReadFault),
         Err(ReadStop::NoMemory) => Err(Stop::NoMemory),

@@ -3,6 +3,7 @@
 
 mod auditing;
 mod bounding;
+mod bounding_heights;
 mod checking;
 mod explaining;
 mod fronting;

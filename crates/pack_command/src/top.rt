@@ -8,9 +8,10 @@ ghost use Rattle.answer_terms.specs.declared.job.DocumentJob.TheVariants.{Solvin
 ghost use Rattle.document_terms.specs.declared.claim.SolvingJob.{SolvingJob as PlainSolvingJob};
 ghost use Rattle.document_terms.specs.declared.claim.SolvingJob.TheVariants.{Fit as SolvesFit};
 ghost use Rattle.pack_command.specs.Answered.{answer_for, class_bound, IsAnswerStatus, IsEnough};
-ghost use Rattle.pack_command.specs.Asked.{Plain, Bounds, AsksToSolve, AsksCheck, AsksToMake, AsksAudit, IsSolving, IsChecking, IsAuditing, IsExplaining, IsFronting, IsProposing, HasAnswer, ReadsNothing, IsRefusable};
+ghost use Rattle.pack_command.specs.Asked.{Plain, Bounds, HeightBounds, AsksToSolve, AsksCheck, AsksToMake, AsksAudit, IsSolving, IsChecking, IsAuditing, IsExplaining, IsFronting, IsProposing, HasAnswer, ReadsNothing, IsRefusable};
 ghost use Rattle.pack_command.specs.Audits.{IsAuditClaimed};
 ghost use Rattle.pack_command.specs.Bounded.{IsBoundedDecided, IsBoundsAmple, IsOwnBounded};
+ghost use Rattle.pack_command.specs.BoundedHeights.{AreHeightsDecided, AreHeightsAmple};
 ghost use Rattle.pack_command.specs.Readings.{Audits, Explains, IsExactlyRead};
 ghost use Rattle.pack_command.specs.Checks.{IsExactly, IsClaimed};
 ghost use Rattle.pack_command.specs.Counts.{CountsReads, CountsWrites, CountsStatus, IsFaultStatus};
@@ -27,6 +28,7 @@ ghost use Rattle.text_terms.specs.declared.settings.Settings.{Settings as PlainS
 
 use crate::auditing::audit;
 use crate::bounding::tell_bounded;
+use crate::bounding_heights::tell_bounded_strip;
 use crate::checking::check;
 use crate::explaining::explain;
 use crate::fronting::tell_front;
@@ -212,6 +214,32 @@ pub fn run<R: Threads + Wait + Sync, S: Source, K: Sink, E: Sink, G: Gate + Sync
         → IsAnswerStatus result
         → IsOwnBounded instance (K.written out.old) (K.written out.new) result }
 
+    // With `--bounds yes` `strip` is the least height over all packings, with both certificates, or
+    // two heights between which it lies, with both, or none exactly where a box is too wide. There
+    // are two only if the run without families, by the same words but `--bounds`, ends open: a
+    // height that it decides has a class tree with more branchings than the budget, and the two lie
+    // within its heights. With proposals the two lie within two others, and the trees of the height
+    // above the lower one and of the height below the upper one have more branchings than the share
+    // of the budget.
+    ensures height_bounds { (proposals : Bool) (settings : PlainSettings)
+        (instance : PlainInstance)
+        → IsProposing words.now (S.left input.old) (HeightBounds proposals) settings instance
+        → IsAnswerStatus result
+        → AreHeightsDecided proposals instance settings (K.written out.old) (K.written out.new)
+        result }
+
+    // It isn't two heights where the budget, or with proposals its share, is enough for the tree of
+    // every height; and `audit` verifies the document with its claim about that instance.
+    ensures height_bounds_settle { (proposals : Bool) (settings : PlainSettings)
+        (instance : PlainInstance)
+        → IsProposing words.now (S.left input.old) (HeightBounds proposals) settings instance
+        → AreHeightsAmple proposals settings instance → result ≢ 3 }
+    ensures height_bounds_vouched { (proposals : Bool) (settings : PlainSettings)
+        (instance : PlainInstance)
+        → IsProposing words.now (S.left input.old) (HeightBounds proposals) settings instance
+        → IsAnswerStatus result
+        → IsOwnBounded instance (K.written out.old) (K.written out.new) result }
+
     // `make` writes exactly the summary of the number, with the status of its decision: yes only
     // where the generated instance fits, no only where it doesn't, and undecided exactly where its
     // tree has more branchings than the budget.
@@ -334,6 +362,10 @@ fn job<R: Threads + Wait + Sync, S: Source, K: Sink, G: Gate + Sync>(
             proposals,
             settings,
         } => tell_bounded(rt, alloc, proposals, &settings, input, out, gate),
+        Asked::BoundingHeights {
+            proposals,
+            settings,
+        } => tell_bounded_strip(rt, alloc, proposals, &settings, input, out, gate),
         Asked::Making { number, settings } => {
             make_and_tell(rt, alloc, number, &settings, out, gate)
         }

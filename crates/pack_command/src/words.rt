@@ -36,6 +36,11 @@ pub enum Asked {
         proposals: bool,
         settings: Settings,
     },
+    /// `strip` with families, behind proposals or not, and how its trees are to be decided.
+    BoundingHeights {
+        proposals: bool,
+        settings: Settings,
+    },
     /// `make`, the number that it generates from, and how the instance is to be decided.
     Making {
         number: u32,
@@ -67,6 +72,12 @@ pub(crate) fn read_job(alloc: Global, words: &[String]) -> Result<Asked, Stop>
         Job::Proposed(job) => return Ok(Asked::Proposing { job, settings }),
         Job::Bounded { proposals } => {
             return Ok(Asked::Bounding {
+                proposals,
+                settings,
+            });
+        }
+        Job::BoundedStrip { proposals } => {
+            return Ok(Asked::BoundingHeights {
                 proposals,
                 settings,
             });

@@ -1,5 +1,5 @@
 use Rattle.std.proofs.Common.{◌∙◌, ap, arith, inl, inr, List, ℕ}
-use Rattle.pack_command.specs.Asked.{Plain, Bounds}
+use Rattle.pack_command.specs.Asked.{Plain, Bounds, HeightBounds}
 use Rattle.pack_command.specs.Run.{IsTold}
 use Rattle.pack_command.specs.Stops.{stop_status}
 use Rattle.pack_command.proofs.OwnWritten.{own_written}
@@ -10,6 +10,7 @@ use Rattle.pack_command.proofs.Fronted.{fronted_done}
 use Rattle.pack_command.proofs.ProposedEnds.{proposed_done}
 use Rattle.pack_command.proofs.ProposedDecided.{proposed_decided, proposed_own, proposed_within, proposed_exactly}
 use Rattle.pack_command.proofs.BoundedDecided.{bounded_decided, bounded_own, bounded_within}
+use Rattle.pack_command.proofs.HeightsDecided.{heights_decided, heights_own, heights_within}
 use Rattle.pack_command.proofs.Sized.{told_decided, told_front, told_whole, told_own}
 use Rattle.pack_command.proofs.Checked.{solved_done, judged_done, judged_exactly, judged_claimed}
 use Rattle.pack_command.proofs.Causes.{answer_counts, completes, never_read, refusable_done, refuses, stop_reads}
@@ -121,6 +122,21 @@ returns-in-Ok-clause-bounds_vouched g c = λ proposals settings instance asked a
     bounded_own _ _ _ _ _ _ proposals settings instance asked
     (proposed_done _ _ _ _ _ _ (Bounds proposals) settings asked.asks c.in-Ok.ensures.answered)
 
+pub returns-in-Ok-clause-height_bounds : goal.returns-in-Ok-clause-height_bounds
+returns-in-Ok-clause-height_bounds g c = λ proposals settings instance asked answer.
+    heights_decided _ _ _ _ _ _ proposals settings instance asked
+    (proposed_done _ _ _ _ _ _ (HeightBounds proposals) settings asked.asks c.in-Ok.ensures.answered)
+
+pub returns-in-Ok-clause-height_bounds_settle : goal.returns-in-Ok-clause-height_bounds_settle
+returns-in-Ok-clause-height_bounds_settle g c = λ proposals settings instance asked few.
+    heights_within _ _ _ _ _ _ proposals settings instance asked
+    (proposed_done _ _ _ _ _ _ (HeightBounds proposals) settings asked.asks c.in-Ok.ensures.answered) few
+
+pub returns-in-Ok-clause-height_bounds_vouched : goal.returns-in-Ok-clause-height_bounds_vouched
+returns-in-Ok-clause-height_bounds_vouched g c = λ proposals settings instance asked answer.
+    heights_own _ _ _ _ _ _ proposals settings instance asked
+    (proposed_done _ _ _ _ _ _ (HeightBounds proposals) settings asked.asks c.in-Ok.ensures.answered)
+
 pub returns-in-Ok-clause-makes : goal.returns-in-Ok-clause-makes
 returns-in-Ok-clause-makes g c =
     λ number settings asks answer. made_exactly _ _ _ _ _ number settings asks _ c.in-Ok.ensures.answered
@@ -201,6 +217,14 @@ returns-in-Err-clause-bounds g c =
 
 pub returns-in-Err-clause-bounds_vouched : goal.returns-in-Err-clause-bounds_vouched
 returns-in-Err-clause-bounds_vouched g c =
+    λ proposals settings instance asked answer. absurd (stop_unanswered c.in-Err.stop _ c.status.ensures answer)
+
+pub returns-in-Err-clause-height_bounds : goal.returns-in-Err-clause-height_bounds
+returns-in-Err-clause-height_bounds g c =
+    λ proposals settings instance asked answer. absurd (stop_unanswered c.in-Err.stop _ c.status.ensures answer)
+
+pub returns-in-Err-clause-height_bounds_vouched : goal.returns-in-Err-clause-height_bounds_vouched
+returns-in-Err-clause-height_bounds_vouched g c =
     λ proposals settings instance asked answer. absurd (stop_unanswered c.in-Err.stop _ c.status.ensures answer)
 
 pub returns-in-Err-clause-makes : goal.returns-in-Err-clause-makes
