@@ -2,6 +2,8 @@
 #![tactic(auto)]
 
 #[cfg(test)]
+mod bounded_strips;
+#[cfg(test)]
 mod check_faults;
 #[cfg(test)]
 mod cut_documents;

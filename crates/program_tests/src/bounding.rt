@@ -143,9 +143,10 @@ fn audit_reads_no_byte_behind_a_refused_line_of_a_bounded_document(
 }
 
 #[test]
-fn bounds_are_of_knapsack_alone(rt: HostRuntime) -> Result<(), Fail> {
+fn bounds_are_of_knapsack_and_strip_alone(rt: HostRuntime) -> Result<(), Fail> {
     assert!(rt; ends(&rt, &["bins", "--bounds", "yes"], UNIT, 2)?);
     assert!(rt; ends(&rt, &["audit", "--bounds", "no"], UNIT, 2)?);
+    assert!(rt; ends(&rt, &["strip", "--bounds=yes", "--facts=yes"], UNIT, 2)?);
     assert!(rt;
         is_solved(
             &rt,

@@ -6,6 +6,8 @@ mod bins;
 #[cfg(test)]
 mod bounding;
 #[cfg(test)]
+mod bounding_heights;
+#[cfg(test)]
 mod explanations;
 #[cfg(test)]
 mod fits;

@@ -118,8 +118,15 @@ fn words_that_name_no_job_are_refused(rt: HostRuntime) -> Result<(), Fail> {
     Ok(())
 }
 
-// What `knapsack` with bounds names.
-const BOUNDED: [(&str, Job); 4] = [
+// What `knapsack` and `strip` with bounds name.
+const BOUNDED: [(&str, Job); 8] = [
+    ("strip --bounds yes", Job::BoundedStrip { proposals: false }),
+    (
+        "strip --bounds=yes --proposals yes",
+        Job::BoundedStrip { proposals: true },
+    ),
+    ("strip --bounds no", Job::Strip),
+    ("strip --bounds no --facts yes", Job::ReducedStrip),
     ("knapsack --bounds yes", Job::Bounded { proposals: false }),
     (
         "knapsack --bounds=yes --proposals yes",
@@ -133,7 +140,7 @@ const BOUNDED: [(&str, Job); 4] = [
 ];
 
 #[test]
-fn knapsack_takes_bounds_with_proposals_or_without(rt: HostRuntime) -> Result<(), Fail> {
+fn bounds_stand_with_proposals_or_without(rt: HostRuntime) -> Result<(), Fail> {
     for row in &BOUNDED {
         let (line, job) = *row;
         assert!(rt; job_of(rt.alloc(), line) == by_default(job), "{line}");
@@ -141,10 +148,11 @@ fn knapsack_takes_bounds_with_proposals_or_without(rt: HostRuntime) -> Result<()
     Ok(())
 }
 
-// Bounds for jobs that take none, beside an option that `knapsack` does not take, with a value that
-// is neither `yes` nor `no`, and given twice.
-const NO_BOUNDS: [&str; 6] = [
-    "strip --bounds yes",
+// Bounds for jobs that take none, beside facts, with a value that is neither `yes` nor `no`, and
+// given twice.
+const NO_BOUNDS: [&str; 7] = [
+    "strip --bounds yes --facts yes",
+    "bins --bounds yes",
     "fit --bounds no",
     "check --bounds no",
     "knapsack --bounds yes --facts yes",
