@@ -360,6 +360,7 @@ def comes_before(problem, values, u, v):
 
 TOKENS = {"a": (3,), "d": (3,), "x": (0,), "t": (2,), "b": (1,), "c": (1,), "s": (0, 1), "w": (0,)}
 BOUNDED = {**TOKENS, "e": (2,), "u": ()}  # `token_of` reads the weights and the tuple of `u`
+FAMILIES = {**TOKENS, "k": range(2, 11)}  # a dimension, and 1 to 9 boxes
 STEPS = {"pair": 2, "apart": 2, "triple": 3, "compose": 3, "cycle": 4, "order": 4}
 EXPLAINED = {"a": (3,), "d": (3,), "x": (3,), "t": (2,), "chain": (3,), "on": (1,)}
 EXPLAINED.update((name, (1 + boxes,)) for name, boxes in STEPS.items())
@@ -606,7 +607,7 @@ def symmetry_facts(instance):
     return [(*fact, AFTER) for fact in facts]
 
 
-def read_tree(lines, problem, facts=()):
+def read_tree(lines, problem, facts=(), kinds=TOKENS):
     """Reads a tree that refutes the problem.
 
     `open_nodes` has a call for each open node, the next one last, that gives the node's closure. So a
@@ -615,7 +616,7 @@ def read_tree(lines, problem, facts=()):
     open_nodes, dims = [partial(Closure, problem, facts)], len(problem.wholes)
     while open_nodes:
         closure_of = open_nodes.pop()
-        line, kind, numbers = read_token(lines, TOKENS, dims)
+        line, kind, numbers = read_token(lines, kinds, dims)
         if kind in SPLITS:
             edge = edge_of(line, problem, *numbers)
             closure = closure_of()
@@ -626,9 +627,29 @@ def read_tree(lines, problem, facts=()):
             line.need(closure_of().has_conflict, "conflict")
         elif kind == "t":
             test_long_side(line, problem, *numbers, dims)
+        elif kind == "k":
+            read_family(lines, line, closure_of, numbers)
         else:
             line.need(kind == "v", "form")
             test_excess(line, problem, numbers, 1)
+
+
+def read_family(lines, line, closure_of, numbers):
+    """Reads a family from its first line on, up to the one with which it is longer than the container."""
+    dim, closure, family = numbers[0], None, []
+    while True:
+        line.need(numbers[0] == dim, "form")
+        closure = closure or closure_of()
+        problem, i, joining = closure.problem, dim - 1, [box - 1 for box in numbers[1:]]
+        line.need(0 <= i < len(problem.wholes) and all(0 <= box < problem.count for box in joining), "range")
+        line.need(not closure.has_conflict, "choice")
+        for box in joining:
+            line.need(all(box != other and closure.is_out(i, other, box, APART) for other in family), "choice")
+            family.append(box)
+        if problem.weighs_too_much(i, family):
+            return
+        line, kind, numbers = read_token(lines, FAMILIES, len(problem.wholes))
+        line.need(kind == "k", "form")
 
 
 # Trees of bins and values
@@ -858,7 +879,7 @@ def read_none(lines, problem, dims):
     test_long_side(line, problem, *numbers, dims)
 
 
-def read_strip(lines, facts_of=no_facts):
+def read_strip(lines, facts_of=no_facts, kinds=TOKENS):
     instance, result = read_instance(lines)
     claim, numbers, refuted, placed = read_levels(result, MAX_HEIGHT)
     dims = len(instance.container)
@@ -867,8 +888,8 @@ def read_strip(lines, facts_of=no_facts):
     else:
         read_places(lines, instance, instance.container[:-1] + (placed,))
         read_proof(lines)
-        read_tree(lines, instance.problem(refuted), facts_of(instance))
-    lines.finish(is_token(TOKENS, dims))
+        read_tree(lines, instance.problem(refuted), facts_of(instance), kinds)
+    lines.finish(is_token(TOKENS if claim == "none" else kinds, dims))
     return spell("strip", claim, numbers)
 
 
@@ -897,8 +918,8 @@ def read_knapsack(lines, kinds=TOKENS):
     return spell("knapsack", claim, numbers)
 
 
-def read_bounded(lines):
-    return "bounded " + read_knapsack(lines, BOUNDED)
+def read_bounded(read, kinds):
+    return lambda lines: "bounded " + read(lines, kinds=kinds)
 
 
 def read_explained(lines):
@@ -923,7 +944,8 @@ DOCUMENTS = {
     "audit": {
         "reduced fit": read_reduced(read_fit),
         "reduced strip": read_reduced(read_strip),
-        "bounded knapsack": read_bounded,
+        "bounded knapsack": read_bounded(read_knapsack, BOUNDED),
+        "bounded strip": read_bounded(read_strip, FAMILIES),
         "explained fit": read_explained,
         "front": read_front,
     },
@@ -939,7 +961,7 @@ def answer(command, stream):
         name = " ".join(line.words)
         read = DOCUMENTS[command].get(name)
         line.need(read, "form")
-        if name == "bounded knapsack":  # which `audit` reads as `check` reads an answer
+        if line.words[0] == "bounded":  # which `audit` reads as `check` reads an answer
             is_held = False
             lines.left += LIMITS["check"] - LIMITS["audit"]
         return "verified " + read(lines), 0

@@ -33,7 +33,54 @@ ROWS = "answer fit\nformat 1\ncontainer 10 100\n"
 STEPS = ROWS.replace("answer", "explained")
 SQUARES = "bounded knapsack\nformat 1\ncontainer 10 10\n" + "box 6 6 value 5\n" * 3
 SQUARES += "result greatest 5\ntake 1 0 0\nproof\n"
+STACK = "bounded strip\nformat 1\ncontainer 10 1\n" + "box 6 2\n" * 4
+STACK += "result least 8\nplace 0 0\nplace 0 2\nplace 0 4\nplace 0 6\nproof\n"
 NAMED = {
+    "a height by a family": ("audit", STACK + "k 2 1 2 3 4\nend\n", "verified bounded strip least 8"),
+    "a family in three lines": ("audit", STACK + "k 2 4\nk 2 2 1\nk 2 3\nend\n", "verified bounded strip least 8"),
+    "a family as long as the side": (
+        "audit",
+        STACK.replace("least 8", "between 8 9") + "k 2 1 2 3 4\nend\n",
+        "refused 15 short",
+    ),
+    "a family of boxes that may overlap there": (
+        "audit",
+        STACK.replace("box 6 2", "box 5 2").replace("least 8", "between 6 8") + "k 2 1 2 3 4\nend\n",
+        "refused 14 choice",
+    ),
+    "a family with a box twice": ("audit", STACK + "k 2 1 2 3 1\nend\n", "refused 14 choice"),
+    "a family of a box behind the last": ("audit", STACK + "k 2 1 2 3 5\nend\n", "refused 14 range"),
+    "a family in a dimension that is not there": ("audit", STACK + "k 3 1 2 3 4\nend\n", "refused 14 range"),
+    "a family that changes its dimension": ("audit", STACK + "k 2 1 2\nk 1 3 4\nend\n", "refused 15 form"),
+    "another token in a family": ("audit", STACK + "k 2 1 2\nx\nend\n", "refused 15 form"),
+    "a family of no boxes": ("audit", STACK + "k 2\nend\n", "refused 14 form"),
+    "a family line of ten boxes": ("audit", STACK + "k 2 1 2 3 4 1 2 3 4 1 2\nend\n", "refused 14 form"),
+    "a family behind a whole tree": ("audit", STACK + "k 2 1 2 3 4\nk 2 1\nend\n", "refused 15 after"),
+    "a family at a node with a conflict": (
+        "audit",
+        STACK.replace("container 10 1", "container 11 1").replace("least 8", "between 3 8") + "k 2 1 2\nend\n",
+        "refused 14 choice",
+    ),
+    "a conflict that only a family shows": ("audit", STACK + "x\nend\n", "refused 14 conflict"),
+    "a family under answer": ("check", STACK.replace("bounded", "answer") + "k 2 1 2 3 4\nend\n", "refused 14 form"),
+    "a family under reduced": ("audit", STACK.replace("bounded", "reduced") + "k 2 1 2 3 4\nend\n", "refused 14 form"),
+    "a bounded strip under check": ("check", STACK + "k 2 1 2 3 4\nend\n", "refused 1 form"),
+    "symmetry facts under bounded": (
+        "audit",
+        "bounded strip\nformat 1\ncontainer 10 1\n" + "box 3 6\n" * 4
+        + "result between 10 12\nplace 0 0\nplace 3 0\nplace 6 0\nplace 0 6\nproof\nx\nend\n",
+        "refused 14 conflict",
+    ),
+    "a strip that is too narrow": (
+        "audit",
+        "bounded strip\nformat 1\ncontainer 5 1\nbox 6 2\nresult none\nt 1 1\nend\n",
+        "verified bounded strip none",
+    ),
+    "a family behind the box that is too wide": (
+        "audit",
+        "bounded strip\nformat 1\ncontainer 5 1\nbox 6 2\nresult none\nt 1 1\nk 2 1\n",
+        "refused 7 form",
+    ),
     "a value by the whole shares of boxes": (
         "audit",
         SQUARES + "u 1000000000 5 step 1 step 1\nend\n",
@@ -302,9 +349,30 @@ def priced_documents(program, rng, rounds):
                 yield f"{'-'.join(words)}-{dims}-{number}", run_program(program, words, text)[1]
 
 
+def stacked_documents(rng, rounds):
+    """Documents of `bounded strip` for boxes that can only lie on one another, shown by a family in lines of any length."""
+    for number in range(rounds):
+        dims, count = rng.randint(2, 4), rng.randint(2, 14)
+        wholes = [rng.randint(3, 12) for _ in range(dims - 1)]
+        boxes = [[*(rng.randint(whole // 2 + 1, whole) for whole in wholes), rng.randint(1, 5)] for _ in range(count)]
+        bottoms = [sum(box[-1] for box in boxes[:k]) for k in range(count + 1)]
+        order, lines = rng.sample(range(1, count + 1), count), []
+        while order:
+            length = rng.randint(1, 9)
+            lines.append(" ".join(map(str, ["k", dims, *order[:length]])))
+            order = order[length:]
+        text = ["bounded strip", "format 1", " ".join(map(str, ["container", *wholes, 1]))]
+        text += [" ".join(map(str, ["box", *box])) for box in boxes]
+        text += [f"result least {bottoms[-1]}"]
+        text += [" ".join(["place", *["0"] * (dims - 1), str(bottom)]) for bottom in bottoms[:-1]]
+        yield f"stacked-{dims}-{number}", "\n".join([*text, "proof", *lines, "end", ""]).encode()
+
+
 def bounded(documents):
-    """Each document of `knapsack` under the other heading: as it is, and with a price for each `w`."""
+    """Each document of `strip` under the other heading, and each of `knapsack`: as it is, and with a price for each `w`."""
     for name, document in documents:
+        if document.startswith(b"answer strip"):
+            yield name + ".bounded", document.replace(b"answer", b"bounded", 1)
         if document.startswith(b"answer knapsack"):
             other = document.replace(b"answer", b"bounded", 1)
             dims = len(re.search(rb"^container (.*)$", other, re.M).group(1).split())
@@ -322,14 +390,14 @@ def explained(program, documents):
 # Forged copies
 
 HEADINGS = """answer fit|answer strip|answer bins|answer knapsack|reduced fit|reduced strip|reduced bins|explained fit
-explained strip|bounded knapsack|bounded fit|bounded|front|front fit|answer|answer front|answer pile""".replace("\n", "|").split("|")
+explained strip|bounded knapsack|bounded strip|bounded fit|bounded|front|front fit|answer|answer front|answer pile""".replace("\n", "|").split("|")
 RESULTS = """yes|no|undecided|none|maybe||no no|least|least 0|least 1|least 2|least 0002|least 7|least 128000000
 least 128000001|between 1|between 0 1|between 1 3|between 3 3|between 0 128000000001|between 0 128000000002
 greatest 0|greatest 3|greatest 128000000001|greatest 128000000002|front 0|front 1|front 2|front 000001
 front 1000001|front 4294967296|partial 0|partial 1|partial 2""".replace("\n", "|").split("|")
 NUMBERS = "0 1 2 128 129 1000000 1000001 128000001 4294967295 4294967296 -1 +1 1.0 1e1 0x1 x".split()
 NUMBERS += ["18446744073709551616", "9" * 20, "9" * 21, "0" * 19 + "1", "0" * 20 + "1", ""]
-WORDS = """a d x t v b c s w g u e id step cut count pair apart triple compose cycle order chain on end proof place take
+WORDS = """a d x t v b c s w g u e k id step cut count pair apart triple compose cycle order chain on end proof place take
 corner point result format container kerf box value times answer reduced explained bounded front crate END""".split()
 WORDS += ["\x7f", "\xff", "\x0b"]
 FUNCTIONS = "id|id|id|id|step 0|step 1|step 2|step 16|step 17|cut 0|cut 2|cut 3|count 0|count 2|count 3".split("|")
@@ -343,8 +411,9 @@ COUNTS.update({"e": 2, "compose": 4, "cycle": 5, "order": 5, "chain": 3})
 INNER = ["a", "d", "x", "x", "t", "v"]
 KINDS = {"answer bins": [*INNER, "b", "s", "g"], "answer knapsack": [*INNER, "c", "s", "w"]}
 KINDS["bounded knapsack"] = [*KINDS["answer knapsack"], "u", "u", "e", "e"]
+KINDS["bounded strip"] = [*INNER, "k", "k", "k"]
 KINDS["explained fit"] = "pair apart triple compose cycle order chain on a d x t v".split()
-TREE_LINES = {"a ", "d ", "x", "x ", "t ", "v ", "b ", "c ", "s", "s ", "w", "g ", "u ", "e "}
+TREE_LINES = {"a ", "d ", "x", "x ", "t ", "v ", "b ", "c ", "s", "s ", "w", "g ", "u ", "e ", "k "}
 
 
 class Forger:
@@ -442,7 +511,7 @@ class Forger:
         boxes, dims, heading = sum(line.startswith("box") for line in lines), 2, lines[0] if lines else ""
         for line in lines:
             dims = max(len(line.split()) - 1, 1) if line.startswith("container") else dims
-        others = [*COUNTS, "g", "end", "proof", "place", "take"]
+        others = [*COUNTS, "g", "k", "end", "proof", "place", "take"]
         kind = self.rng.choice(KINDS.get(heading, INNER) if self.rng.random() < 0.9 else others)
         if kind in ("v", "g", "u"):
             weights = [str(self.rng.choice([0, 1, 2, 1_000_000_000, 4_294_967_295])) for _ in "QP" if kind == "u"]
@@ -451,6 +520,7 @@ class Forger:
         if kind in ("place", "take"):
             return " ".join([kind, *(str(self.rng.randint(0, 6)) for _ in range(dims + (kind == "take")))])
         count = 3 if kind == "x" and heading == "explained fit" else COUNTS.get(kind, 0)
+        count = self.rng.choice([1, 2, 2, 3, 4, 6, 10, 11]) if kind == "k" else count
         first = [self.rng.randint(1, dims)] if count > 1 and kind != "e" else []
         numbers = self.rng.sample(range(1, boxes + 1), min(boxes, count - len(first)))
         if kind in ("a", "d", "x") and self.rng.random() < 0.9:
@@ -595,7 +665,7 @@ def long_documents(limit):
 def main(program, copies, seed):
     rng, comparison = random.Random(seed), Comparison(program, load_second())
     documents = [*stored_documents(), *fresh_documents(program, rng, 5), *priced_documents(program, rng, 5)]
-    documents += [*explained(program, documents), *bounded(documents)]
+    documents += [*explained(program, documents), *bounded(documents), *stacked_documents(rng, 15)]
     named = [(name, command, text.encode(), line) for name, (command, text, line) in NAMED.items()]
     named += long_documents(comparison.second.LIMITS["audit"])
     comparison.compare(named)
