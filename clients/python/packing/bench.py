@@ -12,6 +12,7 @@ from .outputs import csv_text, write_text
 from .progress import Progress
 from .published import read_problems
 from .question import ask
+from .search import BOUNDED_JOBS
 from .solving import checked_effort, solve_question
 from .program import run_pack, verify_text
 from .tables import read_text
@@ -77,7 +78,7 @@ def run_problem(problem, options):
     facts = {"instance": problem.name, "job": job, "dimensions": len(instance.container),
              "boxes": len(instance.boxes)}
     effort = checked_effort(job, options.budget, options.workers, options.seconds, not options.no_proposals,
-                            options.bounds and job == "knapsack")
+                            options.bounds and job in BOUNDED_JOBS)
     try:
         if options.once:
             return run_once(job, instance, effort, facts)

@@ -26,9 +26,9 @@ def add_effort(parser, seconds=20.0):
 
 
 def add_bounds(parser, when):
-    """The option that bounds the values of a knapsack by volumes."""
+    """The option that refutes values by volumes, and heights by boxes side by side."""
     parser.add_argument("--bounds", action="store_true",
-                        help=f"{when}: refute values also by the volume that is left")
+                        help=f"{when}: refute values also by volumes, heights by boxes side by side")
 
 
 def add_outputs(parser):
@@ -61,7 +61,7 @@ def make_parser():
     it.add_argument("--kerf", default="0", help="width of a cut")
     it.add_argument("--turn", action="store_true", help="parts may be turned by a quarter")
     it.add_argument("--take", action="store_true", help="one sheet: which parts are worth most")
-    add_bounds(it, "with --take")
+    add_bounds(it, "with --take or --roll")
     add_effort(it)
     add_outputs(it)
 
@@ -70,7 +70,7 @@ def make_parser():
     it.add_argument("--gap", default="0", help="gap that two boxes side by side keep")
     it.add_argument("--turn", action="store_true", help="boxes may be turned on the floor")
     it.add_argument("--take", action="store_true", help="one container: which boxes are worth most")
-    add_bounds(it, "with --take")
+    add_bounds(it, "with --take or --length")
     it.add_argument("--length", action="store_true", help="the least length of the space that is enough")
     add_effort(it)
     add_outputs(it)
@@ -127,7 +127,7 @@ def add_bench(commands):
     it.add_argument("--out", metavar="FILE", help="the table as CSV")
     it.add_argument("--svg", metavar="FILE", help="how many are solved over time")
     add_effort(it, 10.0)
-    add_bounds(it, "knapsack")
+    add_bounds(it, "strip and knapsack")
     it.set_defaults(run=bench)
 
 

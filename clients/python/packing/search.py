@@ -15,6 +15,10 @@ from .progress import Progress
 MOST_RESERVE = 0.15
 
 
+# The jobs that take `--bounds yes`.
+BOUNDED_JOBS = ("strip", "knapsack")
+
+
 @dataclass(frozen=True)
 class Effort:
     """How much a search may spend. Without seconds it is one run of the program."""
@@ -75,7 +79,7 @@ class Search:
         if self.effort.workers:
             words += ["--workers", str(self.effort.workers)]
         words += ["--proposals", "yes"] if proposals else []
-        return words + (["--bounds", "yes"] if self.effort.bounds and job == "knapsack" else [])
+        return words + (["--bounds", "yes"] if self.effort.bounds and job in BOUNDED_JOBS else [])
 
     def run(self, words, instance, share):
         """The document of a run of the program. None where it was killed, or out of memory under a limit."""

@@ -2,7 +2,7 @@
 from .answer import Answer, answer_of
 from .errors import QuestionRefused
 from .question import ask
-from .search import Effort, Search
+from .search import BOUNDED_JOBS, Effort, Search
 from .ways import go
 
 
@@ -13,9 +13,9 @@ def solve(job, container, boxes, kerf=None, names=None, quantities=None, values=
     `job` is fit, strip, bins or knapsack; `boxes` are sequences of sides or `Box`, and `names`,
     `quantities`, `values` go box by box. A strip's last container side isn't looked at, and may be
     left out. With `seconds` budgets rise until then, and the best verified document is returned;
-    without, the program runs once with `budget`. With `bounds`, for knapsack alone, values are refuted
-    also by the volume that is left, and `audit` verifies the document. Errors are subclasses of
-    `PackingError`.
+    without, the program runs once with `budget`. With `bounds`, for strip and knapsack, heights are
+    refuted also by boxes of which no two stand side by side, and values by the volume that is left;
+    `audit` verifies the document. Errors are subclasses of `PackingError`.
     """
     question = ask(job, container, boxes, kerf, names, quantities, values)
     return solve_question(question, checked_effort(job, budget, workers, seconds, proposals, bounds))
@@ -28,8 +28,8 @@ def checked_effort(job, budget=None, workers=None, seconds=None, proposals=True,
             raise QuestionRefused(f"{what} is {number!r}", f"give a number from {least} to {most:,}")
     if seconds is not None and not seconds > 0:
         raise QuestionRefused(f"seconds is {seconds!r}", "give a number greater than 0")
-    if bounds and job != "knapsack":
-        raise QuestionRefused(f"bounds is given for {job}", "give it for knapsack alone")
+    if bounds and job not in BOUNDED_JOBS:
+        raise QuestionRefused(f"bounds is given for {job}", "give it for strip or knapsack")
     return Effort(budget, workers, seconds, bool(proposals), bool(bounds))
 
 

@@ -116,7 +116,7 @@ class KeepsTimeLimits(unittest.TestCase):
 
 
 class BoundsValues(unittest.TestCase):
-    """With `bounds` a knapsack has a bounded document, which `audit` verifies; no other job takes it."""
+    """With `bounds` a knapsack or a strip has a bounded document, which `audit` verifies; fit and bins refuse it."""
 
     EIGHT = ("knapsack", (23, 10), [(3, 6)] * 8)
 
@@ -139,8 +139,16 @@ class BoundsValues(unittest.TestCase):
         answer = packing.solve(*self.EIGHT)
         self.assertEqual(answer.verdict, "verified knapsack greatest 7")
 
+    def test_the_document_of_a_strip_is_bounded(self):
+        for effort in ({"budget": 0, "proposals": False}, {"seconds": 2.0}, {}):
+            with self.subTest(effort=effort):
+                answer = packing.solve("strip", (10, 1), [(6, 2)] * 4, bounds=True, **effort)
+                self.assertEqual((answer.status, answer.upper), ("least", 8))
+                self.assertEqual(answer.verdict, "verified bounded strip least 8")
+                self.assertTrue(any("strip" in it and "--bounds yes" in it for it in answer.tried))
+
     def test_other_jobs_refuse_it(self):
-        for job in ("fit", "strip", "bins"):
+        for job in ("fit", "bins"):
             said = f"bounds is given for {job}"
             with self.subTest(job=job), self.assertRaisesRegex(packing.QuestionRefused, said):
                 packing.solve(job, (23, 10), [(3, 6)] * 8, bounds=True)
