@@ -33,7 +33,7 @@ _pack() {
         case " $jobs " in *" $each "*) job=$each ;; esac
     done
     case $job in
-        strip) options="--workers --budget --scales --proposals --facts" ;;
+        strip) options="--workers --budget --scales --proposals --facts --bounds" ;;
         knapsack) options="--workers --budget --scales --proposals --bounds" ;;
         fit | bins) options="--workers --budget --scales --proposals" ;;
         reduced | front) options="--workers --budget --scales" ;;
