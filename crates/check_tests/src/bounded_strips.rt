@@ -1,6 +1,6 @@
 //! Documents of `bounded strip`, which `audit` reads line by line: verified ones, and why others are
 //! refused.
-use program_runs::{Checked, reads_and_tells, tells, told_read_to};
+use program_runs::{Checked, reads_all_and_prints, run_with_read_fault, tells};
 use std::test::Fail;
 
 const AUDIT: &[&str] = &["audit"];
@@ -40,7 +40,10 @@ const VERIFIED: [Checked; 7] = [
 fn families_show_least_heights(rt: HostRuntime) -> Result<(), Fail> {
     for row in &VERIFIED {
         let (document, line) = *row;
-        assert!(rt; reads_and_tells(&rt, AUDIT, document, 0, line)?, "{line}");
+        assert!(rt;
+            reads_all_and_prints(&rt, AUDIT, document, 0, line)?,
+            "{line}"
+        );
     }
     Ok(())
 }
@@ -163,6 +166,6 @@ const DAMAGED: &[u8] =
 fn audit_reads_no_byte_behind_a_refused_family(rt: HostRuntime) -> Result<(), Fail> {
     let line = "refused 10 choice\n";
     assert!(rt; tells(&rt, AUDIT, DAMAGED, 1, line)?);
-    assert!(rt; told_read_to(&rt, AUDIT, DAMAGED, DAMAGED.len() - 4)?.is_line(1, line));
+    assert!(rt; run_with_read_fault(&rt, AUDIT, DAMAGED, DAMAGED.len() - 4)?.is_line(1, line));
     Ok(())
 }

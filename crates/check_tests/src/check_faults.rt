@@ -3,7 +3,8 @@
 use pack_command::check_stream;
 use pack_streams::{MemorySink, MemorySource, ReadStep, WriteStep};
 use program_runs::{
-    TWO_BOXES_FIT, reads_and_tells, stops_reading, stops_writing, told_read_to, told_with,
+    TWO_BOXES_FIT, reads_all_and_prints, run_with_plans, run_with_read_fault, stops_reading,
+    stops_writing,
 };
 use std::alloc::{AllocGlobal, Global};
 use std::sync::Wait;
@@ -29,7 +30,7 @@ fn leaves_the_rest<R: AllocGlobal + Threads + Wait + Sync>(
     rt: &R,
     reads: &[ReadStep],
 ) -> Result<bool, Fail> {
-    let told = told_with(rt, CHECK, FORM, reads, &[])?;
+    let told = run_with_plans(rt, CHECK, FORM, reads, &[])?;
     Ok(told.is_line(1, "refused 1 form\n") && told.left.as_slice() == b"format 1\n".as_slice())
 }
 
@@ -39,7 +40,7 @@ fn nothing_behind_a_refused_line_is_read(rt: HostRuntime) -> Result<(), Fail> {
     for plan in plans {
         assert!(rt; leaves_the_rest(&rt, plan)?);
     }
-    assert!(rt; told_read_to(&rt, CHECK, FORM, 12)?.is_line(1, "refused 1 form\n"));
+    assert!(rt; run_with_read_fault(&rt, CHECK, FORM, 12)?.is_line(1, "refused 1 form\n"));
     Ok(())
 }
 
@@ -71,7 +72,7 @@ fn a_line_is_given_in_one_piece(rt: HostRuntime) -> Result<(), Fail> {
     let plan = [WriteStep::Take(4096), WriteStep::Fail];
     for (document, status, line) in documents {
         assert!(rt;
-            told_with(&rt, CHECK, document, &[], &plan)?.is_line(status, line),
+            run_with_plans(&rt, CHECK, document, &[], &plan)?.is_line(status, line),
             "{line}"
         );
     }
@@ -89,6 +90,6 @@ fn is_checked_without_words(alloc: Global) -> Result<bool, Fail> {
 #[test]
 fn a_stream_is_checked_without_words(rt: HostRuntime) -> Result<(), Fail> {
     assert!(rt; is_checked_without_words(rt.alloc())?);
-    assert!(rt; reads_and_tells(&rt, CHECK, TWO_BOXES_FIT, 0, "verified fit yes\n")?);
+    assert!(rt; reads_all_and_prints(&rt, CHECK, TWO_BOXES_FIT, 0, "verified fit yes\n")?);
     Ok(())
 }

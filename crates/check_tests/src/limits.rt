@@ -2,7 +2,7 @@
 //! memory at some size fails here.
 use pack_streams::{MemorySink, SinkError, WriteFault, write_number, write_on};
 use program_runs::{
-    EIGHT_IN_A_ROW, Solved, ends, is_as_alone, is_solved, tells, told_read_whole, writes,
+    EIGHT_IN_A_ROW, Solved, count_reads, ends, is_solved, matches_one_worker, tells, writes,
 };
 use std::alloc::{AllocGlobal, Global};
 use std::sync::Wait;
@@ -197,7 +197,7 @@ fn sixty_four_boxes_are_made(rt: HostRuntime) -> Result<(), Fail> {
 fn the_most_workers_write_the_same(rt: HostRuntime) -> Result<(), Fail> {
     let words = ["fit", "--scales", "no"];
     assert!(rt; ends(&rt, &words, EIGHT_IN_A_ROW, 1)?);
-    assert!(rt; is_as_alone(&rt, &words, "64", EIGHT_IN_A_ROW, &NoGate)?);
+    assert!(rt; matches_one_worker(&rt, &words, "64", EIGHT_IN_A_ROW, &NoGate)?);
     Ok(())
 }
 
@@ -206,7 +206,7 @@ fn the_most_workers_write_the_same(rt: HostRuntime) -> Result<(), Fail> {
 fn check_reads_nothing_behind_the_end(rt: HostRuntime) -> Result<(), Fail> {
     let text = row(rt.alloc(), 1)?;
     let document = placed_row(rt.alloc(), text.written(), 1)?;
-    let reads = told_read_whole(&rt, &["check"], document.written())?;
+    let reads = count_reads(&rt, &["check"], document.written())?;
     assert!(rt; reads == document.written().len().saturating_add(1));
     Ok(())
 }

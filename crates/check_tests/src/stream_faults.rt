@@ -1,8 +1,8 @@
 //! Faults of the source and of both sinks, while an instance is decided.
 use pack_streams::{ReadStep, WriteStep};
 use program_runs::{
-    EIGHT_IN_A_ROW, Plans, TWO_BOXES, TWO_BOXES_FIT, UNIT, stops_reading, stops_writing, told_at,
-    told_with, told_written_to,
+    EIGHT_IN_A_ROW, Plans, TWO_BOXES, TWO_BOXES_FIT, UNIT, run_with, run_with_plans,
+    run_with_write_fault, stops_reading, stops_writing,
 };
 use std::alloc::AllocGlobal;
 use std::sync::Wait;
@@ -32,7 +32,7 @@ fn a_write_that_fails_at_each_byte_leaves_the_bytes_before(rt: HostRuntime) -> R
 #[test]
 fn a_write_that_would_fail_behind_the_document_is_no_fault(rt: HostRuntime) -> Result<(), Fail> {
     assert!(rt; TWO_BOXES_FIT.len() == 87);
-    let told = told_written_to(&rt, &["fit"], TWO_BOXES, 87)?;
+    let told = run_with_write_fault(&rt, &["fit"], TWO_BOXES, 87)?;
     assert!(rt; told.is_stop(0, "", TWO_BOXES_FIT));
     Ok(())
 }
@@ -44,7 +44,7 @@ fn a_message_that_fails_changes_no_status(rt: HostRuntime) -> Result<(), Fail> {
         writes: &[],
         messages: &[WriteStep::Fail],
     };
-    assert!(rt; told_at(&rt, &[], TWO_BOXES, plans, &NoGate)?.is_stop(2, "", b""));
+    assert!(rt; run_with(&rt, &[], TWO_BOXES, plans, &NoGate)?.is_stop(2, "", b""));
     Ok(())
 }
 
@@ -56,14 +56,14 @@ fn leaves_bytes<R: AllocGlobal + Threads + Wait + Sync>(
     writes: &[WriteStep],
     count: usize,
 ) -> Result<bool, Fail> {
-    let told = told_with(rt, words, text, &[], writes)?;
+    let told = run_with_plans(rt, words, text, &[], writes)?;
     Ok(told.status == 5 && told.out.len() == count)
 }
 
 #[test]
 fn a_failed_write_leaves_a_prefix(rt: HostRuntime) -> Result<(), Fail> {
     let plan = [WriteStep::Take(16), WriteStep::Fail];
-    let told = told_with(&rt, &["fit"], TWO_BOXES, &[], &plan)?;
+    let told = run_with_plans(&rt, &["fit"], TWO_BOXES, &[], &plan)?;
     assert!(rt; told.is_stop(5, "pack: write fault\n", b"answer fit\nforma"));
     Ok(())
 }
@@ -86,7 +86,7 @@ fn is_read_fault<R: AllocGlobal + Threads + Wait + Sync>(
     rt: &R,
     reads: &[ReadStep],
 ) -> Result<bool, Fail> {
-    let told = told_with(rt, &["fit"], UNIT, reads, &[])?;
+    let told = run_with_plans(rt, &["fit"], UNIT, reads, &[])?;
     Ok(told.is_stop(4, "pack: read fault\n", b""))
 }
 
@@ -110,7 +110,7 @@ const UNIT_FITS: &[u8] =
 fn input_in_single_bytes_gives_the_same_answer(rt: HostRuntime) -> Result<(), Fail> {
     let reads = [ReadStep::Give(1); 40];
     let writes = [WriteStep::Take(1); 99];
-    let told = told_with(&rt, &["fit"], UNIT, &reads, &writes)?;
+    let told = run_with_plans(&rt, &["fit"], UNIT, &reads, &writes)?;
     assert!(rt; told.is_as_written(0, UNIT_FITS));
     Ok(())
 }

@@ -11,7 +11,7 @@ use Rattle.answer_streams.specs.declared.solution.Solution.{Solution}
 use Rattle.answer_streams.specs.Solutions.{answer_found, solution_text, IsSolution}
 use Rattle.pack_command.specs.Asked.{AsksToSolve}
 use Rattle.pack_command.specs.Inputs.{IsInputRead}
-use Rattle.pack_command.specs.Run.{IsAnswered, IsCutShort}
+use Rattle.pack_command.specs.Run.{IsAnswered, IsDocumentPartlyWritten}
 
 module _ (words : List (String Global)) (old new sunk_old sunk_new : Option (List ℕ)) (job : DocumentJob)
     (settings : Settings) (instance : PlainInstance)
@@ -33,7 +33,7 @@ module _ (words : List (String Global)) (old new sunk_old sunk_new : Option (Lis
   }
 
   pub answer_cut : GainsPart sunk_old sunk_new (solution_text instance solution)
-      → IsCutShort words old new sunk_old sunk_new
+      → IsDocumentPartlyWritten words old new sunk_old sunk_new
   answer_cut part = record {
     status = status_of (answer_found solution);
     document = solution_text instance solution;

@@ -41,13 +41,13 @@ use Rattle.answer_streams.specs.Audited.{verdict_of_kind, audit_verdict, audit_s
 use Rattle.answer_streams.specs.Audited.{IsExplainedAs, IsFrontToldAs, IsToldAs}
 use Rattle.answer_streams.proofs.Lined.{front_line}
 use Rattle.pack_command.specs.Asked.{AsksToSolve, AsksTask, AsksNothing, IsLongReading}
-use Rattle.pack_command.specs.Audits.{IsAuditClaimed}
+use Rattle.pack_command.specs.Audits.{IsVerifiedAuditClaim}
 use Rattle.pack_command.specs.Checks.{HasVerdictUnder}
-use Rattle.pack_command.specs.Inputs.{most_read_bytes}
+use Rattle.pack_command.specs.Inputs.{max_audit_bytes}
 use Rattle.pack_command.specs.ByLines.{AreByLines, IsBoundedTaken}
-use Rattle.pack_command.specs.Readings.{DocumentTask, Audits, Explains, ComesTo, IsDocumentTaken, IsUntaken, AreFew}
-use Rattle.pack_command.specs.Readings.{ArePast, IsReadingDone, IsWithoutReading, IsExactlyRead}
-use Rattle.pack_command.specs.Ends.{IsDone, IsUndone}
+use Rattle.pack_command.specs.Readings.{DocumentTask, Audits, Explains, HasTaskResult, IsDocumentTaken, IsUntaken, AreFew}
+use Rattle.pack_command.specs.Readings.{ArePast, IsReadingDone, IsWithoutReading, IsTaskOutput}
+use Rattle.pack_command.specs.Ends.{IsJobCompleted, IsJobAborted}
 use Rattle.pack_command.specs.Run.{IsStopped}
 use Rattle.pack_command.specs.declared.stop.Stop.{Stop}
 use Rattle.pack_command.specs.declared.stop.Stop.TheVariants.{Words, TooLong, Text, Dimensions, ReadFault, WriteFault}
@@ -62,7 +62,7 @@ use Rattle.pack_command.proofs.OneJob.{front_tasks, proposed_tasks}
 module _ (words : List (String Global)) (old new sunk_old sunk_new : Option (List ℕ)) where
   -- what was done for the job is its text, written whole
   pub reading_done : (task : DocumentTask) (status : ℕ) → AsksTask words task
-      → IsDone words old new sunk_old sunk_new status → IsReadingDone task old new sunk_old sunk_new status
+      → IsJobCompleted words old new sunk_old sunk_new status → IsReadingDone task old new sunk_old sunk_new status
   reading_done task status asks (inl w) =
       absurd (task_solves words w.answered.job w.answered.settings task w.answered.asked asks)
   reading_done task status asks (inr (inl c)) = absurd (task_checks words task c.0 asks)
@@ -75,7 +75,7 @@ module _ (words : List (String Global)) (old new sunk_old sunk_new : Option (Lis
       absurd (proposed_tasks words p.job p.settings task p.answered.asked asks)
 
   pub reading_undone : (task : DocumentTask) (stop : Stop) → AsksTask words task
-      → IsUndone words old new sunk_old sunk_new stop
+      → IsJobAborted words old new sunk_old sunk_new stop
       → IsWithoutReading task old new sunk_old sunk_new stop ⊎ (stop ≡ NoMemory)
   reading_undone task stop asks (inl s) = go stop s
     where
@@ -132,25 +132,25 @@ same_verdict : (old new : Option (List ℕ)) (bytes taken : List ℕ) → old �
     → audit_verdict taken ≡ audit_verdict bytes
 same_verdict old new bytes taken is some =
     let rest = told_rest old new taken bytes is some.taken in
-    let all : AreByLines bytes = subst AreByLines (sym rest.1) (lines_go_on most_read_bytes taken rest.0 some.lines) in
+    let all : AreByLines bytes = subst AreByLines (sym rest.1) (lines_go_on max_audit_bytes taken rest.0 some.lines) in
     let same : bounded_verdict bytes ≡ bounded_verdict taken =
     reached_under Bounded old new taken bytes (bounded_verdict taken) is some.taken some.enough in
     ap (λ k. verdict_of_kind k taken) some.lines.kind ∙ ap BoundedVerdictOf (sym same)
     ∙ ap (λ k. verdict_of_kind k bytes) (sym all.kind)
 
 same_text : (task : DocumentTask) (old new : Option (List ℕ)) (bytes taken : List ℕ) (status : ℕ) (text : List ℕ)
-    → old ≡ Some bytes → IsDocumentTaken task old new taken → ComesTo task taken status text
-    → ComesTo task bytes status text
+    → old ≡ Some bytes → IsDocumentTaken task old new taken → HasTaskResult task taken status text
+    → HasTaskResult task bytes status text
 same_text Audits old new bytes taken status text is (inl (held, whole)) comes =
-    subst (λ b. ComesTo Audits b status text) (taken_all old new taken bytes is whole.taken whole.ended) comes
+    subst (λ b. HasTaskResult Audits b status text) (taken_all old new taken bytes is whole.taken whole.ended) comes
 same_text Audits old new bytes taken status text is (inr some) comes =
     subst (λ v. (status ≡ audit_status v) × (text ≡ audit_line v)) (same_verdict old new bytes taken is some) comes
 same_text Explains old new bytes taken status text is whole comes =
-    subst (λ b. ComesTo Explains b status text) (taken_all old new taken bytes is whole.taken whole.ended) comes
+    subst (λ b. HasTaskResult Explains b status text) (taken_all old new taken bytes is whole.taken whole.ended) comes
 
 pub exactly_read : (task : DocumentTask) (old new sunk_old sunk_new : Option (List ℕ)) (status : ℕ) (bytes : List ℕ)
     → old ≡ Some bytes
-    → IsReadingDone task old new sunk_old sunk_new status → IsExactlyRead task bytes sunk_old sunk_new status
+    → IsReadingDone task old new sunk_old sunk_new status → IsTaskOutput task bytes sunk_old sunk_new status
 exactly_read task old new sunk_old sunk_new status bytes is a = record {
   text = a.text;
   comes = same_text task old new bytes a.bytes status a.text is a.input a.comes;
@@ -210,7 +210,7 @@ taken_whole old new bytes zero (inr some) = (
     go (Err refusal) bad reached = absurd (cc (bad))
 
 pub audited_claimed : (old new sunk_old sunk_new : Option (List ℕ)) (status : ℕ) → status ≡ 0
-    → IsReadingDone Audits old new sunk_old sunk_new status → IsAuditClaimed old new sunk_old sunk_new
+    → IsReadingDone Audits old new sunk_old sunk_new status → IsVerifiedAuditClaim old new sunk_old sunk_new
 audited_claimed old new sunk_old sunk_new status zero a =
     let verified : audit_status (audit_verdict a.bytes) ≡ 0 = sym a.comes.0 ∙ zero in
     let whole = taken_whole old new a.bytes verified a.input in

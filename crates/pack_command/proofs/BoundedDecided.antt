@@ -12,7 +12,7 @@ use Rattle.bounded_terms.specs.BoundedRefutation.{IsBoundedRefutation}
 use Rattle.answer_terms.specs.BoundedAnswers.{BoundedAnswer, bounded_claim, bounded_text}
 use Rattle.answer_terms.proofs.BoundedOwn.{own_bounded_verified, bounded_answers_true, bounded_claims_told}
 use Rattle.pack_streams.specs.Moves.{Gains}
-use Rattle.pack_command.specs.Asked.{Bounds, IsProposing}
+use Rattle.pack_command.specs.Asked.{ValueBounds, IsProposalRun}
 use Rattle.pack_command.specs.Bounded.{IsBoundedFound, IsBoundedDecided, IsBoundsAmple, IsOwnBounded}
 use Rattle.pack_command.specs.Proposed.{IsProposedWritten}
 use Rattle.pack_command.proofs.ProposedDecided.{told_limits, told_found}
@@ -100,13 +100,13 @@ within_by true settings instance old new status (inr between) ample three =
 
 module _ (words : List (String Global)) (old new sunk_old sunk_new : Option (List ℕ)) (status : ℕ) (proposals : Bool)
     (settings : Settings) (instance : PlainInstance)
-    (s : IsProposing words old (Bounds proposals) settings instance)
+    (s : IsProposalRun words old (ValueBounds proposals) settings instance)
     (w : IsProposedWritten words old new sunk_old sunk_new status) where
   limits : IsInstance instance
-  limits = told_limits words old new sunk_old sunk_new status (Bounds proposals) settings instance s w
+  limits = told_limits words old new sunk_old sunk_new status (ValueBounds proposals) settings instance s w
 
   found : IsBoundedFound proposals settings instance status w.document
-  found = told_found words old new sunk_old sunk_new status (Bounds proposals) settings instance s w
+  found = told_found words old new sunk_old sunk_new status (ValueBounds proposals) settings instance s w
 
   pub bounded_decided : IsBoundedDecided proposals instance settings sunk_old sunk_new status
   bounded_decided = decided_by proposals settings instance limits sunk_old sunk_new status w.document found w.written

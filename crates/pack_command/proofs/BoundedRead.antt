@@ -26,7 +26,7 @@ use Rattle.answer_streams.specs.declared.audited.AuditedVerdict.TheVariants.{Bou
 use Rattle.answer_streams.specs.Audited.{audit_verdict, IsToldAs}
 use Rattle.answer_streams.specs.Verdicts.{plain_verdict}
 use Rattle.pack_command.specs.Counts.{CountsReads}
-use Rattle.pack_command.specs.Inputs.{most_read_bytes}
+use Rattle.pack_command.specs.Inputs.{max_audit_bytes}
 use Rattle.pack_command.specs.Checks.{HasVerdictUnder}
 use Rattle.pack_command.specs.ByLines.{AreByLines, IsUnaudited, IsBehindHeading, IsRestRead}
 use Rattle.pack_command.specs.Readings.{Audits, IsAuditRead, IsWithoutReading}
@@ -36,7 +36,7 @@ use Rattle.pack_command.specs.declared.stop.Stop.TheVariants.{NoMemory}
 use Rattle.pack_command.proofs.Audited.{told_bounded, told_as}
 
 module _ (old mid new : Option (List ℕ)) (before between now : FaultCount) (s : Lexer) (count : ℕ) (job : SolvingJob)
-    (begun : IsBegun most_read_bytes old mid s count job) (stays : Stays before between) where
+    (begun : IsBegun max_audit_bytes old mid s count job) (stays : Stays before between) where
   behind : (end : CheckEnd) → IsBehindHeading mid new between now s count job end
       → IsCheckedBehind Bounded begun.opening old new between now end
   behind end rest = rest Bounded begun.opening old begun.taking
@@ -44,7 +44,7 @@ module _ (old mid new : Option (List ℕ)) (before between now : FaultCount) (s 
   lines_of : (taken : List ℕ) → Begins begun.opening taken → AreByLines taken
   lines_of taken begins =
       subst AreByLines (sym begins.1)
-      (begun_by_lines most_read_bytes begun.opening begins.0 begun.within begun.told begun.kind)
+      (begun_by_lines max_audit_bytes begun.opening begins.0 begun.within begun.told begun.kind)
 
   told : (taken : List ℕ) (verdict : Verdict) → AreByLines taken → Gives old new taken
       → bounded_verdict taken ≡ plain_verdict verdict → HasVerdictUnder Bounded new taken (plain_verdict verdict)
@@ -103,10 +103,10 @@ module _ (old mid new : Option (List ℕ)) (before between now : FaultCount) (s 
 
 -- a document that was held whole
 pub held_read : (old new : Option (List ℕ)) (o : Opened) (bytes : Vec ℕ Global) → o ≡ Whole bytes
-    → IsOpened most_read_bytes old new (Ok o) → (verdict : AuditedVerdict) (held : List ℕ) → held ≡ bytes.items
+    → IsOpened max_audit_bytes old new (Ok o) → (verdict : AuditedVerdict) (held : List ℕ) → held ≡ bytes.items
     → IsToldAs (audit_verdict held) verdict → IsAuditRead old new (Ok verdict)
 held_read old new o bytes is opened verdict held same told =
-    let whole = subst (λ x. IsOpened most_read_bytes old new (Ok x)) is opened in (
+    let whole = subst (λ x. IsOpened max_audit_bytes old new (Ok x)) is opened in (
       bytes.items,
       inl (whole.3, record { taken = whole.0; ended = whole.1; within = whole.2 }),
       subst (λ xs. IsToldAs (audit_verdict xs) verdict) same told,
@@ -114,9 +114,9 @@ held_read old new o bytes is opened verdict held same told =
 
 -- one that goes on behind its heading
 pub begun_of : (old new : Option (List ℕ)) (o : Opened) (s : Lexer) (count : ℕ) (job : SolvingJob)
-    → o ≡ Begun s count job → IsOpened most_read_bytes old new (Ok o)
-    → IsBegun most_read_bytes old new s count job
-begun_of old new o s count job is opened = subst (λ x. IsOpened most_read_bytes old new (Ok x)) is opened
+    → o ≡ Begun s count job → IsOpened max_audit_bytes old new (Ok o)
+    → IsBegun max_audit_bytes old new s count job
+begun_of old new o s count job is opened = subst (λ x. IsOpened max_audit_bytes old new (Ok x)) is opened
 
 pub audit_undone : (old new sunk : Option (List ℕ)) (stop : Stop) → IsUnaudited old new stop
     → IsWithoutReading Audits old new sunk sunk stop

@@ -4,7 +4,7 @@ use Rattle.std.proofs.Common.{Option, Some}
 use Rattle.verdict_terms.specs.declared.heading.Heading.TheVariants.{Bounded}
 use Rattle.verdict_terms.specs.Documents.{bounded_verdict}
 use Rattle.document_openings.proofs.Telling.{one_way, lines_go_on, lines_come_back}
-use Rattle.pack_command.specs.Inputs.{most_read_bytes}
+use Rattle.pack_command.specs.Inputs.{max_audit_bytes}
 use Rattle.pack_command.specs.ByLines.{AreByLines, IsUnaudited}
 use Rattle.pack_command.specs.ByLines.{AreAuditable, AreTooMany}
 use Rattle.pack_command.specs.Readings.{IsDocumentTaken, Audits}
@@ -24,8 +24,8 @@ module _ (old new : Option (List ℕ)) (bytes : List ℕ) (is : old ≡ Some byt
       omega (arith, l, past, few)
   never_long (inr (lines, few)) (inl (taken, gives, past, most, held)) =
       let rest = told_rest old new taken bytes is gives in
-      (one_way most_read_bytes taken).1
-      (lines_come_back most_read_bytes taken rest.0 (omega (arith, past)) (subst AreByLines rest.1 lines)) held
+      (one_way max_audit_bytes taken).1
+      (lines_come_back max_audit_bytes taken rest.0 (omega (arith, past)) (subst AreByLines rest.1 lines)) held
   never_long (inr (lines, few)) (inr (p, also)) =
       let l = taken_within old new p.taken bytes is p.gives in
       let past = p.past in
@@ -39,8 +39,8 @@ module _ (old new : Option (List ℕ)) (bytes : List ℕ) (is : old ≡ Some byt
       omega (arith, ap length same, past, few)
   none_taken (inl (past, held)) taken (inr some) =
       let rest = told_rest old new taken bytes is some.taken in
-      (one_way most_read_bytes bytes).1
-      (subst AreByLines (sym rest.1) (lines_go_on most_read_bytes taken rest.0 some.lines)) held
+      (one_way max_audit_bytes bytes).1
+      (subst AreByLines (sym rest.1) (lines_go_on max_audit_bytes taken rest.0 some.lines)) held
   none_taken (inr (past, none)) taken (inl (held, whole)) =
       let same = taken_all old new taken bytes is whole.taken whole.ended in
       let few = whole.within in

@@ -10,11 +10,11 @@ use Rattle.verdict_terms.specs.Documents.{Refusal}
 use Rattle.pack_streams.specs.Faults.{FaultCount, Stays, FailedOnce}
 use Rattle.pack_command.specs.Answered.{IsAnswerStatus}
 use Rattle.pack_command.specs.Asked.{ProposedJob, AsksToSolve, AsksCheck, AsksToMake, AsksNothing, IsSolving, IsChecking, IsReading}
-use Rattle.pack_command.specs.Asked.{IsFronting, IsProposing, HasAnswer, ReadsNothing, IsLongInstance, IsLongDocument}
+use Rattle.pack_command.specs.Asked.{IsFrontRun, IsProposalRun, HasAnswer, ReadsNothing, IsLongInstance, IsLongDocument}
 use Rattle.pack_command.specs.Asked.{IsLongReading, IsFaultyText, IsRefusable}
 use Rattle.pack_command.specs.Checks.{IsVerdictStatus, IsWithoutVerdict, IsPastLimit}
 use Rattle.pack_command.specs.Counts.{CountsReads, CountsWrites, CountsStatus, IsFaultStatus}
-use Rattle.pack_command.specs.Ends.{IsDone, IsUndone}
+use Rattle.pack_command.specs.Ends.{IsJobCompleted, IsJobAborted}
 use Rattle.pack_command.specs.Run.{IsAnswered, IsStopped}
 use Rattle.pack_command.specs.Stops.{stop_status, message_of}
 use Rattle.pack_command.specs.declared.stop.Stop.{Stop}
@@ -137,7 +137,7 @@ unjudged_past old new sunk_old sunk_new NoMemory status e w = inr (inr (inr e))
 -- ---- the whole program
 
 module _ (words : List (String Global)) (old new sunk_old sunk_new : Option (List ℕ)) where
-  pub judged_undone : (stop : Stop) → AsksCheck words → IsUndone words old new sunk_old sunk_new stop
+  pub judged_undone : (stop : Stop) → AsksCheck words → IsJobAborted words old new sunk_old sunk_new stop
       → IsWithoutVerdict old new sunk_old sunk_new stop ⊎ (stop ≡ NoMemory)
   judged_undone stop asks (inl s) = go stop s
     where
@@ -195,14 +195,14 @@ module _ (words : List (String Global)) (old new sunk_old sunk_new : Option (Lis
 
   solving_stops : (job : DocumentJob) (settings : Settings) (instance : PlainInstance)
       → IsSolving words old job settings instance → (stop : Stop)
-      → IsUndone words old new sunk_old sunk_new stop → IsFault stop
+      → IsJobAborted words old new sunk_old sunk_new stop → IsFault stop
   solving_stops job settings instance s stop undone =
       by_cases stop (never_stops words old new sunk_old sunk_new job settings s.bytes instance s.asks s.told
       s.within s.read stop
       (solved_undone words old new sunk_old sunk_new stop job settings s.asks undone))
 
   checking_stops : (bytes : List ℕ) → IsChecking words old bytes → (stop : Stop)
-      → IsUndone words old new sunk_old sunk_new stop → IsFault stop
+      → IsJobAborted words old new sunk_old sunk_new stop → IsFault stop
   checking_stops bytes s stop undone = go stop (judged_undone stop s.asks undone)
     where
       go : (stop : Stop) → IsWithoutVerdict old new sunk_old sunk_new stop ⊎ (stop ≡ NoMemory) → IsFault stop
@@ -216,12 +216,12 @@ module _ (words : List (String Global)) (old new sunk_old sunk_new : Option (Lis
       go NoMemory (inl w) = tt
 
   making_stops : (number : ℕ) (settings : Settings) → AsksToMake words number settings → (stop : Stop)
-      → IsUndone words old new sunk_old sunk_new stop → IsFault stop
+      → IsJobAborted words old new sunk_old sunk_new stop → IsFault stop
   making_stops number settings asks stop undone =
       by_cases stop (λ r w m. never_unmade words old new sunk_old sunk_new number settings asks stop undone w m)
 
   reading_stops : (task : DocumentTask) (bytes : List ℕ) → IsReading words old task bytes → (stop : Stop)
-      → IsUndone words old new sunk_old sunk_new stop → IsFault stop
+      → IsJobAborted words old new sunk_old sunk_new stop → IsFault stop
   reading_stops task bytes s stop undone =
       go stop (reading_undone words old new sunk_old sunk_new task stop s.asks undone)
     where
@@ -235,22 +235,22 @@ module _ (words : List (String Global)) (old new sunk_old sunk_new : Option (Lis
       go WriteFault (inl w) = tt
       go NoMemory (inl w) = tt
 
-  fronting_stops : (settings : Settings) (instance : PlainInstance) → IsFronting words old settings instance
+  fronting_stops : (settings : Settings) (instance : PlainInstance) → IsFrontRun words old settings instance
       → (stop : Stop)
-      → IsUndone words old new sunk_old sunk_new stop → IsFault stop
+      → IsJobAborted words old new sunk_old sunk_new stop → IsFault stop
   fronting_stops settings instance s stop undone =
       by_cases stop (front_never_stops words old new sunk_old sunk_new settings instance s stop
       (fronted_undone words old new sunk_old sunk_new stop settings s.asks undone))
 
   proposing_stops : (job : ProposedJob) (settings : Settings) (instance : PlainInstance)
-      → IsProposing words old job settings instance → (stop : Stop)
-      → IsUndone words old new sunk_old sunk_new stop → IsFault stop
+      → IsProposalRun words old job settings instance → (stop : Stop)
+      → IsJobAborted words old new sunk_old sunk_new stop → IsFault stop
   proposing_stops job settings instance s stop undone =
       by_cases stop (proposed_never_stops words old new sunk_old sunk_new job settings instance s stop
       (proposed_undone words old new sunk_old sunk_new stop job settings s.asks undone))
 
   pub completes : HasAnswer words old → (stop : Stop) (status : ℕ) → status ≡ stop_status stop
-      → IsUndone words old new sunk_old sunk_new stop → IsFaultStatus status
+      → IsJobAborted words old new sunk_old sunk_new stop → IsFaultStatus status
   completes (inl s) stop status e undone = fault_status stop status (solving_stops s.0 s.1 s.2 s.3 stop undone) e
   completes (inr (inl s)) stop status e undone = fault_status stop status (checking_stops s.0 s.1 stop undone) e
   completes (inr (inr (inl s))) stop status e undone = fault_status stop status (making_stops s.0 s.1 s.2 stop undone) e
@@ -284,7 +284,7 @@ module _ (words : List (String Global)) (old new sunk_old sunk_new : Option (Lis
 
   -- they have no answer
   pub refusable_done : (stop : Stop) → IsRefusable words old stop → (status : ℕ)
-      → IsDone words old new sunk_old sunk_new status → ⊥
+      → IsJobCompleted words old new sunk_old sunk_new status → ⊥
   refusable_done Words none status (inl w) = nothing_answered none status w.document w.answered
   refusable_done Words none status (inr (inl c)) = let i = c.0.is in absurd (cc (none, i))
   refusable_done Words none status (inr (inr (inl m))) = let i = (m.asked).is in absurd (cc (none, i))
@@ -335,7 +335,7 @@ module _ (words : List (String Global)) (old new sunk_old sunk_new : Option (Lis
   abbrev EndsFor : Stop → Stop → Type 0
   EndsFor stop end = (end ≡ stop) ⊎ ((end ≡ ReadFault) ⊎ (end ≡ NoMemory))
 
-  nothing_ends : AsksNothing words → (end : Stop) → IsUndone words old new sunk_old sunk_new end → EndsFor Words end
+  nothing_ends : AsksNothing words → (end : Stop) → IsJobAborted words old new sunk_old sunk_new end → EndsFor Words end
   nothing_ends none end (inl s) = go end s
     where
       solves : ((job : DocumentJob) × (settings : Settings) × AsksToSolve words job settings) → ⊥
@@ -413,7 +413,7 @@ module _ (words : List (String Global)) (old new sunk_old sunk_new : Option (Lis
   faulty_ends fault l NoMemory s = inr (inr refl)
 
   refusable_ends : (stop : Stop) → IsRefusable words old stop → (end : Stop)
-      → IsUndone words old new sunk_old sunk_new end → EndsFor stop end
+      → IsJobAborted words old new sunk_old sunk_new end → EndsFor stop end
   refusable_ends Words none end undone = nothing_ends none end undone
   refusable_ends TooLong (inl l) end undone =
       long_ends l end (solved_undone words old new sunk_old sunk_new end l.job l.settings l.asks undone)
@@ -451,7 +451,7 @@ module _ (words : List (String Global)) (old new sunk_old sunk_new : Option (Lis
   two NoMemory l = absurd l
 
   pub refuses : (stop : Stop) → IsRefusable words old stop → (end : Stop) (status : ℕ) → status ≡ stop_status end
-      → IsUndone words old new sunk_old sunk_new end
+      → IsJobAborted words old new sunk_old sunk_new end
       → (Told : List ℕ → Type 0) → Told (message_of end) → ((status ≡ 2) × Told (message_of stop))
       ⊎ ((status ≡ 4) ⊎ (status ≡ 6))
   refuses stop l end status is undone Told told = go (refusable_ends stop l end undone)
@@ -463,7 +463,7 @@ module _ (words : List (String Global)) (old new sunk_old sunk_new : Option (Lis
 
   -- ---- words for which nothing is read
 
-  nothing_broken : AsksNothing words → IsUndone words old new sunk_old sunk_new ReadFault → ⊥
+  nothing_broken : AsksNothing words → IsJobAborted words old new sunk_old sunk_new ReadFault → ⊥
   nothing_broken none (inl s) = let i = s.0.2.is in absurd (cc (none, i))
   nothing_broken none (inr (inl c)) = let i = c.0.is in absurd (cc (none, i))
   nothing_broken none (inr (inr (inl m))) = m.cut
@@ -472,12 +472,12 @@ module _ (words : List (String Global)) (old new sunk_old sunk_new : Option (Lis
   nothing_broken none (inr (inr (inr (inr (inr p))))) = let i = p.0.2.is in absurd (cc (none, i))
 
   pub never_read : ReadsNothing words → (end : Stop) (status : ℕ) → status ≡ stop_status end
-      → IsUndone words old new sunk_old sunk_new end → ¬ (status ≡ 4)
+      → IsJobAborted words old new sunk_old sunk_new end → ¬ (status ≡ 4)
   never_read (inl none) end status is undone four = go (nothing_ends none end undone)
     where
       go : EndsFor Words end → ⊥
       go (inl w) = let s : stop_status end ≡ 2 = ap stop_status w in omega (arith, four, is, s)
-      go (inr (inl r)) = nothing_broken none (subst (λ s. IsUndone words old new sunk_old sunk_new s) r undone)
+      go (inr (inl r)) = nothing_broken none (subst (λ s. IsJobAborted words old new sunk_old sunk_new s) r undone)
       go (inr (inr m)) = let s : stop_status end ≡ 6 = ap stop_status m in omega (arith, four, is, s)
   never_read (inr (number, settings, asks)) end status is undone four =
       never_broken_off words old new sunk_old sunk_new number settings asks end undone (sym is ∙ four)

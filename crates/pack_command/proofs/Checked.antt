@@ -21,8 +21,8 @@ use Rattle.document_check.specs.Checked.{most_document_bytes}
 use Rattle.pack_command.specs.declared.stop.Stop.{Stop}
 use Rattle.pack_command.specs.Asked.{document_job, AsksToSolve, AsksCheck}
 use Rattle.answer_streams.specs.Verdicts.{verdict_status}
-use Rattle.pack_command.specs.Checks.{HasVerdictUnder, IsVerdictFound, IsVerdictWritten, IsExactly, IsClaimed}
-use Rattle.pack_command.specs.Ends.{IsDone, IsUndone}
+use Rattle.pack_command.specs.Checks.{HasVerdictUnder, IsVerdictFound, IsVerdictWritten, IsVerdictOutput, IsVerifiedClaim}
+use Rattle.pack_command.specs.Ends.{IsJobCompleted, IsJobAborted}
 use Rattle.pack_command.specs.Run.{IsWritten, IsStopped}
 use Rattle.pack_command.proofs.Written.{taken_all}
 use Rattle.pack_command.proofs.Generating.{no_solve, no_check, task_solves, task_checks}
@@ -40,7 +40,7 @@ one_job words job settings solve check =
 -- what was done for a solving job is a written answer, and for a check a written verdict
 pub solved_done : (words : List (String Global)) (old new sunk_old sunk_new : Option (List ℕ)) (status : ℕ)
     (job : DocumentJob) (settings : Settings)
-    → AsksToSolve words job settings → IsDone words old new sunk_old sunk_new status
+    → AsksToSolve words job settings → IsJobCompleted words old new sunk_old sunk_new status
     → IsWritten words old new sunk_old sunk_new status
 solved_done words old new sunk_old sunk_new status job settings asks (inl w) = w
 solved_done words old new sunk_old sunk_new status job settings asks (inr (inl c)) =
@@ -56,7 +56,7 @@ solved_done words old new sunk_old sunk_new status job settings asks (inr (inr (
 
 pub solved_undone : (words : List (String Global)) (old new sunk_old sunk_new : Option (List ℕ)) (stop : Stop)
     (job : DocumentJob) (settings : Settings)
-    → AsksToSolve words job settings → IsUndone words old new sunk_old sunk_new stop
+    → AsksToSolve words job settings → IsJobAborted words old new sunk_old sunk_new stop
     → IsStopped words old new sunk_old sunk_new stop
 solved_undone words old new sunk_old sunk_new stop job settings asks (inl s) = s
 solved_undone words old new sunk_old sunk_new stop job settings asks (inr (inl c)) =
@@ -72,7 +72,7 @@ solved_undone words old new sunk_old sunk_new stop job settings asks (inr (inr (
 
 pub judged_done : (words : List (String Global)) (old new sunk_old sunk_new : Option (List ℕ)) (status : ℕ)
     → AsksCheck words
-    → IsDone words old new sunk_old sunk_new status → IsVerdictWritten old new sunk_old sunk_new status
+    → IsJobCompleted words old new sunk_old sunk_new status → IsVerdictWritten old new sunk_old sunk_new status
 judged_done words old new sunk_old sunk_new status asks (inl w) =
     absurd (one_job words w.answered.job w.answered.settings w.answered.asked asks)
 judged_done words old new sunk_old sunk_new status asks (inr (inl c)) = c.1
@@ -107,7 +107,7 @@ reached_under heading old left taken bytes (Err refusal) is gives reached = by_e
         ap (headed_verdict heading) (sym (taken_all old left taken bytes is gives whole.0)) ∙ reached.0
 
 pub judged_exactly : (old new sunk_old sunk_new : Option (List ℕ)) (status : ℕ) (bytes : List ℕ) → old ≡ Some bytes
-    → IsVerdictWritten old new sunk_old sunk_new status → IsExactly bytes sunk_old sunk_new status
+    → IsVerdictWritten old new sunk_old sunk_new status → IsVerdictOutput bytes sunk_old sunk_new status
 judged_exactly old new sunk_old sunk_new status bytes is judged =
     let found = judged.found in
     let same : document_verdict bytes ≡ judged.verdict =
@@ -150,13 +150,13 @@ found_within old new bytes is past none verdict found =
 
 -- a verified document shows its claim, and that is true
 pub judged_claimed : (old new sunk_old sunk_new : Option (List ℕ)) (status : ℕ) → status ≡ 0
-    → IsVerdictWritten old new sunk_old sunk_new status → IsClaimed old new sunk_old sunk_new
+    → IsVerdictWritten old new sunk_old sunk_new status → IsVerifiedClaim old new sunk_old sunk_new
 judged_claimed old new sunk_old sunk_new status zero judged =
     go judged.verdict judged.found (sym judged.status_is ∙ zero) judged.line
   where
     go : (verdict : Result Claim Refusal) → IsVerdictFound old new verdict → verdict_status verdict ≡ 0
         → Gains sunk_old sunk_new (verdict_line verdict)
-        → IsClaimed old new sunk_old sunk_new
+        → IsVerifiedClaim old new sunk_old sunk_new
     go (Ok claim) found ok line =
         let document : IsDocument found.taken claim =
         (documents_have_form Answer found.taken claim).0 found.reached.0 in

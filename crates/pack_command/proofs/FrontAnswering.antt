@@ -15,7 +15,7 @@ use Rattle.answer_streams.specs.FrontTexts.{AreAllPlaced}
 use Rattle.pack_streams.specs.Moves.{Gains}
 use Rattle.pack_streams.specs.Writing.{GainsPart}
 use Rattle.pack_command.specs.Asked.{AsksFront}
-use Rattle.pack_command.specs.Fronts.{IsFrontAnswered, IsFrontWritten, IsFrontCut, IsOtherRead, AreAllPacked}
+use Rattle.pack_command.specs.Fronts.{IsFrontAnswered, IsFrontWritten, IsFrontPartlyWritten, IsNotTwoDimensional, AreAllPacked}
 use Rattle.pack_command.specs.Inputs.{IsInputRead, IsPartTaken}
 use Rattle.pack_command.proofs.Sized.{walk_packed}
 
@@ -57,7 +57,7 @@ module _ (words : List (String Global)) (old new sunk_old sunk_new : Option (Lis
       }
 
   pub front_cut : GainsPart sunk_old sunk_new (front_text instance (plain_front front))
-      → IsFrontCut words old new sunk_old sunk_new
+      → IsFrontPartlyWritten words old new sunk_old sunk_new
   front_cut part = record {
     settings = settings;
     instance = instance;
@@ -66,7 +66,7 @@ module _ (words : List (String Global)) (old new sunk_old sunk_new : Option (Lis
   }
 
 module _ (old new : Option (List ℕ)) (instance : PlainInstance) (read : IsInputRead old new (Ok instance)) where
-  pub other_read : ¬ (dims instance ≡ 2) → IsOtherRead old new
+  pub other_read : ¬ (dims instance ≡ 2) → IsNotTwoDimensional old new
   other_read other = record { bytes = read.0; instance = instance; input = read.1; read = read.2; other = other }
 
   pub whole_taken : IsPartTaken old new

@@ -5,9 +5,9 @@ use Rattle.packing_terms.specs.Packing.{PlainInstance, dims}
 use Rattle.text_terms.specs.declared.fault.TextFault.{TextFault}
 use Rattle.text_terms.specs.declared.settings.Settings.{Settings}
 use Rattle.answer_terms.specs.declared.job.DocumentJob.{DocumentJob}
-use Rattle.pack_command.specs.Asked.{AsksToSolve, AsksNothing, AsksFront, IsFronting, IsLongFront, IsFaultyFront}
+use Rattle.pack_command.specs.Asked.{AsksToSolve, AsksNothing, AsksFront, IsFrontRun, IsLongFront, IsFaultyFront}
 use Rattle.pack_command.specs.Asked.{IsOtherFront}
-use Rattle.pack_command.specs.Ends.{IsDone, IsUndone}
+use Rattle.pack_command.specs.Ends.{IsJobCompleted, IsJobAborted}
 use Rattle.pack_command.specs.Fronts.{IsFrontWritten, IsFrontAnswered, IsWithoutFront}
 use Rattle.pack_command.specs.Run.{IsStopped}
 use Rattle.pack_command.specs.declared.stop.Stop.{Stop}
@@ -18,7 +18,7 @@ use Rattle.pack_command.proofs.OneJob.{front_solves, front_checks, front_tasks, 
 
 module _ (words : List (String Global)) (old new sunk_old sunk_new : Option (List ℕ)) where
   pub fronted_done : (status : ℕ) (settings : Settings) → AsksFront words settings
-      → IsDone words old new sunk_old sunk_new status
+      → IsJobCompleted words old new sunk_old sunk_new status
       → IsFrontWritten words old new sunk_old sunk_new status
   fronted_done status settings asks (inl w) =
       absurd (front_solves words w.answered.job w.answered.settings settings w.answered.asked asks)
@@ -31,7 +31,7 @@ module _ (words : List (String Global)) (old new sunk_old sunk_new : Option (Lis
       absurd (proposed_fronts words p.job settings p.settings asks p.answered.asked)
 
   pub fronted_undone : (stop : Stop) (settings : Settings) → AsksFront words settings
-      → IsUndone words old new sunk_old sunk_new stop
+      → IsJobAborted words old new sunk_old sunk_new stop
       → IsWithoutFront words old new sunk_old sunk_new stop ⊎ (stop ≡ NoMemory)
   fronted_undone stop settings asks (inl s) = go stop s
     where
@@ -60,7 +60,7 @@ module _ (words : List (String Global)) (old new sunk_old sunk_new : Option (Lis
 
   -- ---- an input that has an answer
 
-  module _ (settings : Settings) (instance : PlainInstance) (s : IsFronting words old settings instance) where
+  module _ (settings : Settings) (instance : PlainInstance) (s : IsFrontRun words old settings instance) where
     never_long : (bytes : List ℕ) → old ≡ Some bytes → length bytes ≤ 1048576
         → IsWithoutFront words old new sunk_old sunk_new TooLong → ⊥
     never_long told is few w =

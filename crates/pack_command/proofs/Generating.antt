@@ -19,8 +19,8 @@ use Rattle.text_terms.specs.declared.settings.Settings.{Settings}
 use Rattle.pack_command.specs.Answered.{answer_for, branchings, class_bound, IsAnswerStatus, IsDecided}
 use Rattle.pack_command.specs.Asked.{document_job, task_job, AsksToSolve, AsksCheck, AsksTask, AsksToMake}
 use Rattle.pack_command.specs.Readings.{DocumentTask, Audits, Explains}
-use Rattle.pack_command.specs.Ends.{IsDone, IsUndone}
-use Rattle.pack_command.specs.Generated.{made_for, IsMade, IsMadeCut, IsExactlyMade}
+use Rattle.pack_command.specs.Ends.{IsJobCompleted, IsJobAborted}
+use Rattle.pack_command.specs.Generated.{made_for, IsMade, IsSummaryPartlyWritten, IsMakeOutput}
 use Rattle.pack_command.specs.Run.{Asks, IsStopped}
 use Rattle.pack_command.specs.Stops.{stop_status}
 use Rattle.pack_command.specs.declared.stop.Stop.{Stop}
@@ -105,10 +105,10 @@ pub record IsToldBy (instance : PlainInstance) (settings : Settings) (status : �
   pub no : status ≡ 1 → ¬ Fits instance
   pub undecided : status ≡ 3 ↔ settings.budget < branchings settings instance
 
-told_by : (instance : PlainInstance) (settings : Settings) (old new : Option (List ℕ)) (status : ℕ)
+run_with_workers : (instance : PlainInstance) (settings : Settings) (old new : Option (List ℕ)) (status : ℕ)
     → IsDecided instance settings old new status
     → IsToldBy instance settings status
-told_by instance settings old new status (inl y) =
+run_with_workers instance settings old new status (inl y) =
     let s = y.status_is in
     let w = y.within in
     record {
@@ -116,7 +116,7 @@ told_by instance settings old new status (inl y) =
       no = (λ one. absurd (omega (arith, s, one)));
       undecided = ((λ three. absurd (omega (arith, s, three))), (λ past. absurd (omega (arith, w, past))));
     }
-told_by instance settings old new status (inr (inl n)) =
+run_with_workers instance settings old new status (inr (inl n)) =
     let s = n.status_is in
     let w = n.within in
     record {
@@ -124,7 +124,7 @@ told_by instance settings old new status (inr (inl n)) =
       no = (λ one. n.none);
       undecided = ((λ three. absurd (omega (arith, s, three))), (λ past. absurd (omega (arith, w, past))));
     }
-told_by instance settings old new status (inr (inr u)) =
+run_with_workers instance settings old new status (inr (inr u)) =
     let s = u.status_is in
     record {
       yes = (λ zero. absurd (omega (arith, s, zero)));
@@ -135,7 +135,7 @@ told_by instance settings old new status (inr (inr u)) =
 fit_told : (instance : PlainInstance) (settings : Settings) → IsInstance instance
     → IsToldBy instance settings (answer_for (Solves Fit) settings instance).status
 fit_told instance settings limits =
-    told_by instance settings None None _ (fit_decided settings instance limits None None refl)
+    run_with_workers instance settings None None _ (fit_decided settings instance limits None None refl)
 
 made_status : (number : ℕ) (settings : Settings) → (answer_for (Solves Fit) settings (made_instance number)).status
     ≡ (made_for number settings).status
@@ -162,7 +162,7 @@ made_enough number settings status told enough three =
 
 module _ (words : List (String Global)) (old new sunk_old sunk_new : Option (List ℕ)) (number : ℕ) (settings : Settings)
     (asks : AsksToMake words number settings) where
-  pub made_done : (status : ℕ) → IsDone words old new sunk_old sunk_new status
+  pub made_done : (status : ℕ) → IsJobCompleted words old new sunk_old sunk_new status
       → IsMade words old new sunk_old sunk_new status
   made_done status (inl w) = absurd
       (no_solve words number settings w.answered.job w.answered.settings asks w.answered.asked)
@@ -179,8 +179,8 @@ module _ (words : List (String Global)) (old new sunk_old sunk_new : Option (Lis
       ap₂ (λ (n : ℕ) (s : Settings). made_for n s) (number_same words m number others settings asked asks)
       (settings_same words m number others settings asked asks)
 
-  pub made_exactly : (status : ℕ) → IsDone words old new sunk_old sunk_new status
-      → IsExactlyMade number settings sunk_old sunk_new status
+  pub made_exactly : (status : ℕ) → IsJobCompleted words old new sunk_old sunk_new status
+      → IsMakeOutput number settings sunk_old sunk_new status
   made_exactly status done =
       let m = made_done status done in
       let same = same_made m.number m.settings m.asked in
@@ -208,7 +208,7 @@ module _ (words : List (String Global)) (old new sunk_old sunk_new : Option (Lis
   stopped WriteFault s w m = w refl
   stopped NoMemory s w m = m refl
 
-  cut : (stop : Stop) (n : ℕ) (others : Settings) → IsMadeCut n others sunk_old sunk_new stop → ¬ (stop ≡ WriteFault)
+  cut : (stop : Stop) (n : ℕ) (others : Settings) → IsSummaryPartlyWritten n others sunk_old sunk_new stop → ¬ (stop ≡ WriteFault)
       → ¬ (stop ≡ NoMemory) → ⊥
   cut Words n others c w m = c
   cut TooLong n others c w m = c
@@ -219,7 +219,7 @@ module _ (words : List (String Global)) (old new sunk_old sunk_new : Option (Lis
   cut NoMemory n others c w m = m refl
 
   -- it doesn't end otherwise
-  pub never_unmade : (stop : Stop) → IsUndone words old new sunk_old sunk_new stop → ¬ (stop ≡ WriteFault)
+  pub never_unmade : (stop : Stop) → IsJobAborted words old new sunk_old sunk_new stop → ¬ (stop ≡ WriteFault)
       → ¬ (stop ≡ NoMemory) → ⊥
   never_unmade stop (inl s) = stopped stop s
   never_unmade stop (inr (inl c)) = λ w m. absurd (no_check words number settings asks c.0)
@@ -230,7 +230,7 @@ module _ (words : List (String Global)) (old new sunk_old sunk_new : Option (Lis
       λ w m. absurd (proposed_makes words number p.0.0 settings p.0.1 asks p.0.2)
 
   -- in particular by no failed read
-  pub never_broken_off : (stop : Stop) → IsUndone words old new sunk_old sunk_new stop → ¬ (stop_status stop ≡ 4)
+  pub never_broken_off : (stop : Stop) → IsJobAborted words old new sunk_old sunk_new stop → ¬ (stop_status stop ≡ 4)
   never_broken_off stop undone four =
       never_unmade stop undone (λ e. other (ap stop_status e)) (λ e. further (ap stop_status e))
     where

@@ -17,7 +17,7 @@ use Rattle.answer_terms.proofs.HeightOwn.{own_bounded_strips_verified}
 use Rattle.answer_streams.specs.Audited.{verdict_of_kind, BoundedVerdictOf}
 use Rattle.bounded_heights.specs.Heights.{IsOpenOnlyPast}
 use Rattle.pack_streams.specs.Moves.{Gains}
-use Rattle.pack_command.specs.Asked.{HeightBounds, IsProposing}
+use Rattle.pack_command.specs.Asked.{HeightBounds, IsProposalRun}
 use Rattle.pack_command.specs.Bounded.{IsOwnBounded}
 use Rattle.pack_command.specs.BoundedHeights.{IsBoundedStripFound, AreHeightsDecided, AreHeightsAmple}
 use Rattle.pack_command.specs.Proposed.{IsProposedWritten}
@@ -136,7 +136,7 @@ within_by proposals settings instance old new status (inr (inr none)) ample thre
 
 module _ (words : List (String Global)) (old new sunk_old sunk_new : Option (List ℕ)) (status : ℕ) (proposals : Bool)
     (settings : Settings) (instance : PlainInstance)
-    (s : IsProposing words old (HeightBounds proposals) settings instance)
+    (s : IsProposalRun words old (HeightBounds proposals) settings instance)
     (w : IsProposedWritten words old new sunk_old sunk_new status) where
   limits : IsInstance instance
   limits = told_limits words old new sunk_old sunk_new status (HeightBounds proposals) settings instance s w

@@ -6,7 +6,7 @@ use Rattle.pack_words.specs.declared.job.JobWords.{JobWords}
 use Rattle.pack_words.proofs.Walking.{some_inj}
 use Rattle.text_terms.specs.declared.settings.Settings.{Settings}
 use Rattle.pack_command.specs.Asked.{document_job, task_job, AsksToSolve, AsksCheck, AsksTask, AsksToMake, AsksFront}
-use Rattle.pack_command.specs.Asked.{ProposedJob, Plain, Bounds, HeightBounds, job_proposed, AsksProposed}
+use Rattle.pack_command.specs.Asked.{ProposedJob, Plain, ValueBounds, HeightBounds, job_proposed, AsksProposed}
 use Rattle.pack_command.specs.Readings.{DocumentTask, Audits, Explains}
 
 pub front_solves : (words : List (String Global)) (job : DocumentJob) (settings others : Settings)
@@ -49,41 +49,41 @@ front_settings words settings others x y =
 
 none_solved : (job : ProposedJob) → document_job (job_proposed job) ≡ None
 none_solved (Plain job) = refl
-none_solved (Bounds proposals) = refl
+none_solved (ValueBounds proposals) = refl
 none_solved (HeightBounds proposals) = refl
 
 none_checked : (job : ProposedJob) → job_proposed job ≡ Check → ⊥
 none_checked (Plain job) e = absurd (cc (e))
-none_checked (Bounds proposals) e = absurd (cc (e))
+none_checked (ValueBounds proposals) e = absurd (cc (e))
 none_checked (HeightBounds proposals) e = absurd (cc (e))
 
 none_made : (job : ProposedJob) → Make ≡ job_proposed job → ⊥
 none_made (Plain job) e = absurd (cc (e))
-none_made (Bounds proposals) e = absurd (cc (e))
+none_made (ValueBounds proposals) e = absurd (cc (e))
 none_made (HeightBounds proposals) e = absurd (cc (e))
 
 none_fronted : (job : ProposedJob) → Front ≡ job_proposed job → ⊥
 none_fronted (Plain job) e = absurd (cc (e))
-none_fronted (Bounds proposals) e = absurd (cc (e))
+none_fronted (ValueBounds proposals) e = absurd (cc (e))
 none_fronted (HeightBounds proposals) e = absurd (cc (e))
 
 none_read : (job : ProposedJob) (task : DocumentTask) → job_proposed job ≡ task_job task → ⊥
 none_read (Plain job) Audits e = absurd (cc (e))
 none_read (Plain job) Explains e = absurd (cc (e))
-none_read (Bounds proposals) Audits e = absurd (cc (e))
-none_read (Bounds proposals) Explains e = absurd (cc (e))
+none_read (ValueBounds proposals) Audits e = absurd (cc (e))
+none_read (ValueBounds proposals) Explains e = absurd (cc (e))
 none_read (HeightBounds proposals) Audits e = absurd (cc (e))
 none_read (HeightBounds proposals) Explains e = absurd (cc (e))
 
 one_proposed : (job other : ProposedJob) → job_proposed job ≡ job_proposed other → job ≡ other
 one_proposed (Plain job) (Plain other) e = cc (e)
-one_proposed (Plain job) (Bounds proposals) e = absurd (cc (e))
+one_proposed (Plain job) (ValueBounds proposals) e = absurd (cc (e))
 one_proposed (Plain job) (HeightBounds proposals) e = absurd (cc (e))
-one_proposed (Bounds proposals) (Plain job) e = absurd (cc (e))
-one_proposed (Bounds proposals) (Bounds others) e = cc (e)
-one_proposed (Bounds proposals) (HeightBounds others) e = absurd (cc (e))
+one_proposed (ValueBounds proposals) (Plain job) e = absurd (cc (e))
+one_proposed (ValueBounds proposals) (ValueBounds others) e = cc (e)
+one_proposed (ValueBounds proposals) (HeightBounds others) e = absurd (cc (e))
 one_proposed (HeightBounds proposals) (Plain job) e = absurd (cc (e))
-one_proposed (HeightBounds proposals) (Bounds others) e = absurd (cc (e))
+one_proposed (HeightBounds proposals) (ValueBounds others) e = absurd (cc (e))
 one_proposed (HeightBounds proposals) (HeightBounds others) e = cc (e)
 
 pub proposed_solves : (words : List (String Global)) (job : DocumentJob) (other : ProposedJob)

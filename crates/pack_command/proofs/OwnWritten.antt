@@ -26,13 +26,13 @@ use Rattle.pack_streams.specs.Moves.{Gains}
 use Rattle.pack_command.specs.Answered.{answer_for}
 use Rattle.pack_command.specs.Asked.{AsksToSolve}
 use Rattle.pack_command.specs.Run.{IsWritten}
-use Rattle.pack_command.specs.Own.{IsVerified, IsUnverified, IsOwnDocument}
+use Rattle.pack_command.specs.Own.{IsVerified, IsUndecidedOutput, IsOutputVerified}
 use Rattle.pack_command.proofs.Written.{written_answers, written_limits}
 
 own_answer : (job : SolvingJob) (settings : Settings) (instance : PlainInstance) → IsInstance instance → (a : Answer)
     → solved job settings.budget settings.scales instance ≡ a
     → IsVerified (Solves job) instance (answer_text instance a) (status_of a)
-    ⊎ IsUnverified (Solves job) (answer_text instance a) (status_of a)
+    ⊎ IsUndecidedOutput (Solves job) (answer_text instance a) (status_of a)
 own_answer job settings instance limits Undecided e =
     let fit = only_fit job settings.budget settings.scales instance e in
     inr (record {
@@ -56,7 +56,7 @@ reduced_answer : (job : ReducedJob) (settings : Settings) (instance : PlainInsta
     → (a : Answer)
     → reduced_solved job settings.budget settings.scales instance ≡ a
     → IsVerified (Reduces job) instance (reduced_text instance a) (status_of a)
-    ⊎ IsUnverified (Reduces job) (reduced_text instance a) (status_of a)
+    ⊎ IsUndecidedOutput (Reduces job) (reduced_text instance a) (status_of a)
 reduced_answer job settings instance limits Undecided e =
     let fit = only_reduced_fit job settings.budget settings.scales instance e in
     inr (record {
@@ -81,7 +81,7 @@ reduced_answer job settings instance limits (Claimed claim numbers tokens) e =
 pub own_text : (job : DocumentJob) (settings : Settings) (instance : PlainInstance) → IsInstance instance
     → (sunk_old sunk_new : Option (List ℕ))
     → Gains sunk_old sunk_new (answer_for job settings instance).text
-    → IsOwnDocument job instance sunk_old sunk_new (answer_for job settings instance).status
+    → IsOutputVerified job instance sunk_old sunk_new (answer_for job settings instance).status
 own_text (Solves job) settings instance limits sunk_old sunk_new gains = record {
   document = (answer_for (Solves job) settings instance).text;
   written = gains;
@@ -97,7 +97,7 @@ pub own_written : (words : List (String Global)) (old new sunk_old sunk_new : Op
     (settings : Settings) (told : List ℕ) (instance : PlainInstance)
     → IsWritten words old new sunk_old sunk_new status → old ≡ Some told → text_instance told ≡ Ok instance
     → (job : DocumentJob) → AsksToSolve words job settings
-    → IsOwnDocument job instance sunk_old sunk_new status
+    → IsOutputVerified job instance sunk_old sunk_new status
 own_written words old new sunk_old sunk_new status settings told instance w is read job asks =
     let a = written_answers words old new sunk_old sunk_new status settings told instance w is read job asks in
     let limits = written_limits words old new sunk_old sunk_new status settings told instance w is read in

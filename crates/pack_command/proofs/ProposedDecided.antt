@@ -11,11 +11,11 @@ use Rattle.answer_terms.specs.declared.job.DocumentJob.TheVariants.{Solving as S
 use Rattle.answer_terms.specs.Answers.{Answer, answer_text, status_of}
 use Rattle.pack_streams.specs.Moves.{Gains}
 use Rattle.pack_command.specs.Answered.{class_bound}
-use Rattle.pack_command.specs.Asked.{ProposedJob, Plain, IsProposing}
-use Rattle.pack_command.specs.Decides.{IsExactlyFit}
-use Rattle.pack_command.specs.Own.{IsOwnDocument}
+use Rattle.pack_command.specs.Asked.{ProposedJob, Plain, IsProposalRun}
+use Rattle.pack_command.specs.Decides.{StatusDecidesFit}
+use Rattle.pack_command.specs.Own.{IsOutputVerified}
 use Rattle.pack_command.specs.Proposed.{IsProposed, IsProposedFound, IsFound, IsProposedWritten, IsProposedDecided}
-use Rattle.pack_command.specs.Proposed.{IsAmple}
+use Rattle.pack_command.specs.Proposed.{IsBudgetSufficientProposed}
 use Rattle.pack_command.proofs.OneJob.{proposed_settings, proposed_job}
 use Rattle.pack_command.proofs.ProposedBins.{bins_own, bins_proposed_decided, bins_within}
 use Rattle.pack_command.proofs.ProposedChoice.{choice_own, choice_proposed_decided, choice_within}
@@ -37,7 +37,7 @@ module _ (settings : Settings) (instance : PlainInstance) (limits : IsInstance i
   job_decided SolvesKnapsack is = choice_proposed_decided settings instance answer is old new written
 
   pub job_own : (job : SolvingJob) → IsProposed job settings instance answer
-      → IsOwnDocument (Solves job) instance old new (status_of answer)
+      → IsOutputVerified (Solves job) instance old new (status_of answer)
   job_own SolvesFit is = own_proposed SolvesFit instance limits answer (fit_own settings instance limits answer is)
       old new written
   job_own SolvesStrip is = own_proposed SolvesStrip instance limits answer (strip_own settings instance answer is)
@@ -51,7 +51,7 @@ module _ (settings : Settings) (instance : PlainInstance) (limits : IsInstance i
 
 module _ (words : List (String Global)) (old new sunk_old sunk_new : Option (List ℕ)) (status : ℕ) (job : ProposedJob)
     (settings : Settings) (instance : PlainInstance)
-    (s : IsProposing words old job settings instance)
+    (s : IsProposalRun words old job settings instance)
     (w : IsProposedWritten words old new sunk_old sunk_new status) where
   same_instance : w.instance ≡ instance
   same_instance =
@@ -74,7 +74,7 @@ module _ (words : List (String Global)) (old new sunk_old sunk_new : Option (Lis
 
 module _ (words : List (String Global)) (old new sunk_old sunk_new : Option (List ℕ)) (status : ℕ) (job : SolvingJob)
     (settings : Settings) (instance : PlainInstance)
-    (s : IsProposing words old (Plain job) settings instance)
+    (s : IsProposalRun words old (Plain job) settings instance)
     (w : IsProposedWritten words old new sunk_old sunk_new status) where
   limits : IsInstance instance
   limits = told_limits words old new sunk_old sunk_new status (Plain job) settings instance s w
@@ -90,9 +90,9 @@ module _ (words : List (String Global)) (old new sunk_old sunk_new : Option (Lis
       subst (λ (n : ℕ). IsProposedDecided job instance settings sunk_old sunk_new n) (sym found.status_is)
       (job_decided settings instance limits found.answer sunk_old sunk_new written job found.is)
 
-  pub proposed_own : IsOwnDocument (Solves job) instance sunk_old sunk_new status
+  pub proposed_own : IsOutputVerified (Solves job) instance sunk_old sunk_new status
   proposed_own =
-      subst (λ (n : ℕ). IsOwnDocument (Solves job) instance sunk_old sunk_new n) (sym found.status_is)
+      subst (λ (n : ℕ). IsOutputVerified (Solves job) instance sunk_old sunk_new n) (sym found.status_is)
       (job_own settings instance limits found.answer sunk_old sunk_new written job found.is)
 
   pub proposed_limits : IsInstance instance
@@ -100,7 +100,7 @@ module _ (words : List (String Global)) (old new sunk_old sunk_new : Option (Lis
 
 within_by : (job : SolvingJob) (settings : Settings) (instance : PlainInstance) (old new : Option (List ℕ)) (status : ℕ)
     → IsProposedDecided job instance settings old new status
-    → IsAmple job settings instance → ¬ (status ≡ 3)
+    → IsBudgetSufficientProposed job settings instance → ¬ (status ≡ 3)
 within_by SolvesFit settings instance old new status d ample = fit_within settings instance old new status d ample
 within_by SolvesStrip settings instance old new status d ample = strip_within settings instance old new status d ample
 within_by SolvesBins settings instance old new status d ample = bins_within settings instance old new status d ample
@@ -109,16 +109,16 @@ within_by SolvesKnapsack settings instance old new status d ample =
 
 module _ (words : List (String Global)) (old new sunk_old sunk_new : Option (List ℕ)) (status : ℕ) where
   pub proposed_within : (job : SolvingJob) (settings : Settings) (instance : PlainInstance)
-      → IsProposing words old (Plain job) settings instance
-      → IsProposedWritten words old new sunk_old sunk_new status → IsAmple job settings instance → ¬ (status ≡ 3)
+      → IsProposalRun words old (Plain job) settings instance
+      → IsProposedWritten words old new sunk_old sunk_new status → IsBudgetSufficientProposed job settings instance → ¬ (status ≡ 3)
   proposed_within job settings instance s w ample =
       within_by job settings instance sunk_old sunk_new status
       (proposed_decided words old new sunk_old sunk_new status job settings instance s w) ample
 
   pub proposed_exactly : (settings : Settings) (instance : PlainInstance)
-      → IsProposing words old (Plain SolvesFit) settings instance
+      → IsProposalRun words old (Plain SolvesFit) settings instance
       → IsProposedWritten words old new sunk_old sunk_new status → class_bound instance ≤ settings.budget + 1
-      → IsExactlyFit instance status
+      → StatusDecidesFit instance status
   proposed_exactly settings instance s w enough =
       fit_proposed_exactly settings instance sunk_old sunk_new status
       (proposed_limits words old new sunk_old sunk_new status SolvesFit settings instance s w) enough

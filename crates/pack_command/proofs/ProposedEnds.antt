@@ -4,9 +4,9 @@ use Rattle.packing_terms.specs.Packing.{PlainInstance}
 use Rattle.text_terms.specs.declared.fault.TextFault.{TextFault}
 use Rattle.text_terms.specs.declared.settings.Settings.{Settings}
 use Rattle.answer_terms.specs.declared.job.DocumentJob.{DocumentJob}
-use Rattle.pack_command.specs.Asked.{ProposedJob, AsksToSolve, AsksNothing, AsksProposed, IsProposing, IsLongProposed}
+use Rattle.pack_command.specs.Asked.{ProposedJob, AsksToSolve, AsksNothing, AsksProposed, IsProposalRun, IsLongProposed}
 use Rattle.pack_command.specs.Asked.{IsFaultyProposed}
-use Rattle.pack_command.specs.Ends.{IsDone, IsUndone}
+use Rattle.pack_command.specs.Ends.{IsJobCompleted, IsJobAborted}
 use Rattle.pack_command.specs.Proposed.{IsProposedWritten, IsProposedAnswered, IsWithoutProposed}
 use Rattle.pack_command.specs.Run.{IsStopped}
 use Rattle.pack_command.specs.declared.stop.Stop.{Stop}
@@ -18,7 +18,7 @@ use Rattle.pack_command.proofs.OneJob.{proposed_fronts}
 
 module _ (words : List (String Global)) (old new sunk_old sunk_new : Option (List ℕ)) where
   pub proposed_done : (status : ℕ) (job : ProposedJob) (settings : Settings) → AsksProposed words job settings
-      → IsDone words old new sunk_old sunk_new status
+      → IsJobCompleted words old new sunk_old sunk_new status
       → IsProposedWritten words old new sunk_old sunk_new status
   proposed_done status job settings asks (inl w) =
       absurd (proposed_solves words w.answered.job job w.answered.settings settings w.answered.asked asks)
@@ -32,7 +32,7 @@ module _ (words : List (String Global)) (old new sunk_old sunk_new : Option (Lis
   proposed_done status job settings asks (inr (inr (inr (inr (inr p))))) = p
 
   pub proposed_undone : (stop : Stop) (job : ProposedJob) (settings : Settings) → AsksProposed words job settings
-      → IsUndone words old new sunk_old sunk_new stop
+      → IsJobAborted words old new sunk_old sunk_new stop
       → IsWithoutProposed words old new sunk_old sunk_new stop ⊎ (stop ≡ NoMemory)
   proposed_undone stop job settings asks (inl s) = go stop s
     where
@@ -64,7 +64,7 @@ module _ (words : List (String Global)) (old new sunk_old sunk_new : Option (Lis
   -- ---- an input that has an answer
 
   module _ (job : ProposedJob) (settings : Settings) (instance : PlainInstance)
-      (s : IsProposing words old job settings instance) where
+      (s : IsProposalRun words old job settings instance) where
     never_long : (bytes : List ℕ) → old ≡ Some bytes → length bytes ≤ 1048576
         → IsWithoutProposed words old new sunk_old sunk_new TooLong → ⊥
     never_long told is few w =

@@ -19,7 +19,7 @@ use Rattle.proposed_answers.specs.Behind.{IsWithoutScales}
 use Rattle.answer_streams.specs.declared.solution.Solution.TheVariants.{Fit}
 use Rattle.pack_streams.specs.Moves.{Gains}
 use Rattle.pack_command.specs.Answered.{branchings, class_bound}
-use Rattle.pack_command.specs.Decides.{IsExactlyFit}
+use Rattle.pack_command.specs.Decides.{StatusDecidesFit}
 use Rattle.pack_command.specs.Proposed.{IsProposedFit, IsProposedSolution, IsProposedFitDecided}
 use Rattle.pack_command.proofs.Found.{right_placed}
 use Rattle.pack_command.proofs.ProposedOwn.{IsOwnAnswer}
@@ -87,7 +87,7 @@ module _ (settings : Settings) (instance : PlainInstance) (old new : Option (Lis
 
   -- with a budget that is enough the status says exactly whether the instance fits
   pub fit_proposed_exactly : IsInstance instance → class_bound instance ≤ settings.budget + 1
-      → IsProposedFitDecided instance settings old new status → IsExactlyFit instance status
+      → IsProposedFitDecided instance settings old new status → StatusDecidesFit instance status
   fit_proposed_exactly limits enough (inl y) =
       let e = y.status_is in
       record {

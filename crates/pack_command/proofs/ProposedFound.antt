@@ -7,13 +7,13 @@ use Rattle.text_terms.specs.declared.settings.Settings.{Settings}
 use Rattle.pack_streams.specs.Writing.{GainsPart}
 use Rattle.pack_command.specs.Asked.{ProposedJob, AsksProposed}
 use Rattle.pack_command.specs.Inputs.{IsInputRead}
-use Rattle.pack_command.specs.Proposed.{IsFound, IsProposedCut}
+use Rattle.pack_command.specs.Proposed.{IsFound, IsProposedPartlyWritten}
 
 pub proposed_cut : (words : List (String Global)) (old new sunk_old sunk_new : Option (List ℕ)) (job : ProposedJob)
     (settings : Settings) (instance : PlainInstance) (status : ℕ) (document : List ℕ)
     → AsksProposed words job settings → IsInputRead old new (Ok instance) → IsInstance instance
     → IsFound job settings instance status document → GainsPart sunk_old sunk_new document
-    → IsProposedCut words old new sunk_old sunk_new
+    → IsProposedPartlyWritten words old new sunk_old sunk_new
 proposed_cut words old new sunk_old sunk_new job settings instance status document asks read limits is part = record {
   job = job;
   settings = settings;

@@ -15,7 +15,7 @@ use Rattle.verdict_terms.specs.declared.heading.Heading.TheVariants.{Answer as A
 use Rattle.verdict_terms.proofs.FormGiven.{documents_have_form}
 use Rattle.pack_streams.specs.Moves.{Gains}
 use Rattle.pack_command.specs.Decides.{AsksWhetherFits}
-use Rattle.pack_command.specs.Own.{IsVerified, IsUnverified, IsOwnDocument}
+use Rattle.pack_command.specs.Own.{IsVerified, IsUndecidedOutput, IsOutputVerified}
 
 -- undecided, where the job asks whether the instance fits, or a claim of the job that is shown
 abbrev pub IsOwnAnswer : SolvingJob → PlainInstance → Answer → Type 0
@@ -25,7 +25,7 @@ IsOwnAnswer job instance (Claimed claim numbers tokens) = (job_of claim ≡ job)
 own_by : (job : SolvingJob) (instance : PlainInstance) → IsInstance instance → (answer : Answer)
     → IsOwnAnswer job instance answer
     → IsVerified (Solves job) instance (answer_text instance answer) (status_of answer)
-    ⊎ IsUnverified (Solves job) (answer_text instance answer) (status_of answer)
+    ⊎ IsUndecidedOutput (Solves job) (answer_text instance answer) (status_of answer)
 own_by job instance limits Undecided own =
     inr (record { asked = own; undecided = refl; refused = (λ claim v. undecided_refused instance claim limits v) })
 own_by job instance limits (Claimed claim numbers tokens) own =
@@ -45,6 +45,6 @@ own_by job instance limits (Claimed claim numbers tokens) own =
 pub own_proposed : (job : SolvingJob) (instance : PlainInstance) → IsInstance instance → (answer : Answer)
     → IsOwnAnswer job instance answer
     → (old new : Option (List ℕ)) → Gains old new (answer_text instance answer)
-    → IsOwnDocument (Solves job) instance old new (status_of answer)
+    → IsOutputVerified (Solves job) instance old new (status_of answer)
 own_proposed job instance limits answer own old new written =
     record { document = answer_text instance answer; written = written; own = own_by job instance limits answer own }

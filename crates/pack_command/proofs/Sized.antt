@@ -20,9 +20,9 @@ use Rattle.answer_terms.proofs.FrontOwn.{own_fronts_are_verified, own_fronts_are
 use Rattle.answer_streams.specs.Audited.{FrontVerdictOf, verdict_of_kind}
 use Rattle.pack_streams.specs.Moves.{Gains}
 use Rattle.pack_command.specs.Answered.{class_bound}
-use Rattle.pack_command.specs.Asked.{IsFronting}
+use Rattle.pack_command.specs.Asked.{IsFrontRun}
 use Rattle.pack_command.specs.Fronts.{front_for, IsFrontWritten, AreAllPacked, AreAllRefuted}
-use Rattle.pack_command.specs.Fronts.{IsFrontDecided, IsOwnFront}
+use Rattle.pack_command.specs.Fronts.{IsFrontDecided, IsFrontOutputVerified}
 use Rattle.pack_command.proofs.Written.{taken_all}
 use Rattle.pack_command.proofs.OneJob.{front_settings}
 
@@ -121,7 +121,7 @@ module _ (instance : PlainInstance) where
             written = written;
           }
 
-      pub front_own : IsOwnFront instance sunk_old sunk_new status
+      pub front_own : IsFrontOutputVerified instance sunk_old sunk_new status
       front_own = record {
         document = (front_for settings instance).text;
         written = written;
@@ -145,7 +145,7 @@ module _ (instance : PlainInstance) where
 
 module _ (words : List (String Global)) (old new sunk_old sunk_new : Option (List ℕ)) (status : ℕ) (settings : Settings)
     (instance : PlainInstance)
-    (s : IsFronting words old settings instance) (w : IsFrontWritten words old new sunk_old sunk_new status) where
+    (s : IsFrontRun words old settings instance) (w : IsFrontWritten words old new sunk_old sunk_new status) where
   same_instance : w.instance ≡ instance
   same_instance =
       let a = w.answered in
@@ -171,7 +171,7 @@ module _ (words : List (String Global)) (old new sunk_old sunk_new : Option (Lis
   pub told_decided : IsFrontDecided instance settings sunk_old sunk_new status
   told_decided = front_decided instance settings told_limits s.plane sunk_old sunk_new status told_front.0 told_front.1
 
-  pub told_own : IsOwnFront instance sunk_old sunk_new status
+  pub told_own : IsFrontOutputVerified instance sunk_old sunk_new status
   told_own = front_own instance settings told_limits s.plane sunk_old sunk_new status told_front.0 told_front.1
 
   pub told_whole : class_bound instance ≤ settings.budget + 1 → ¬ (status ≡ 3)

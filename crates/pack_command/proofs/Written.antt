@@ -23,9 +23,9 @@ use Rattle.pack_words.specs.declared.job.JobWords.{JobWords}
 use Rattle.pack_words.proofs.Walking.{some_inj}
 use Rattle.text_terms.specs.declared.settings.Settings.{Settings}
 use Rattle.pack_command.specs.Asked.{document_job, AsksToSolve}
-use Rattle.pack_command.specs.Answered.{answer_for, class_bound, IsDecided, IsEnough}
+use Rattle.pack_command.specs.Answered.{answer_for, class_bound, IsDecided, IsBudgetSufficient}
 use Rattle.symmetry_terms.specs.Facts.{symmetry_facts}
-use Rattle.pack_command.specs.Decides.{IsJobDecided, AsksWhetherFits, IsExactlyFit}
+use Rattle.pack_command.specs.Decides.{IsJobDecided, AsksWhetherFits, StatusDecidesFit}
 use Rattle.pack_command.specs.Reductions.{IsReducedDecided}
 use Rattle.pack_command.specs.Strips.{IsStripDecided}
 use Rattle.pack_command.specs.FewestBins.{AreBinsDecided}
@@ -157,7 +157,7 @@ module _ (words : List (String Global)) (old new sunk_old sunk_new : Option (Lis
 
   -- with a budget that is enough the status of `fit` says exactly whether the instance fits
   fit_exactly : class_bound instance ≤ settings.budget + 1 → IsDecided instance settings sunk_old sunk_new status
-      → IsExactlyFit instance status
+      → StatusDecidesFit instance status
   fit_exactly enough (inl y) =
       let e = y.status_is in
       record {
@@ -177,7 +177,7 @@ module _ (words : List (String Global)) (old new sunk_old sunk_new : Option (Lis
       absurd (omega (arith, p, b, enough))
 
   reduced_exactly : class_bound instance ≤ settings.budget + 1
-      → IsReducedDecided instance settings sunk_old sunk_new status → IsExactlyFit instance status
+      → IsReducedDecided instance settings sunk_old sunk_new status → StatusDecidesFit instance status
   reduced_exactly enough (inl y) =
       let e = y.status_is in
       record {
@@ -197,7 +197,7 @@ module _ (words : List (String Global)) (old new sunk_old sunk_new : Option (Lis
       absurd (omega (arith, p, b, enough))
 
   pub written_fits : (job : DocumentJob) → AsksWhetherFits job → AsksToSolve words job settings
-      → class_bound instance ≤ settings.budget + 1 → IsExactlyFit instance status
+      → class_bound instance ≤ settings.budget + 1 → StatusDecidesFit instance status
   written_fits (Solves Fit) fits asks enough = fit_exactly enough (written_decides asks)
   written_fits (Solves Strip) fits asks enough = absurd fits
   written_fits (Solves Bins) fits asks enough = absurd fits
@@ -205,7 +205,7 @@ module _ (words : List (String Global)) (old new sunk_old sunk_new : Option (Lis
   written_fits (Reduces FromFit) fits asks enough = reduced_exactly enough (written_reduced asks)
   written_fits (Reduces FromStrip) fits asks enough = absurd fits
 
-  fit_enough : IsEnough (Solves Fit) instance settings.budget → IsDecided instance settings sunk_old sunk_new status
+  fit_enough : IsBudgetSufficient (Solves Fit) instance settings.budget → IsDecided instance settings sunk_old sunk_new status
       → ¬ (status ≡ 3)
   fit_enough enough (inl y) three = let e = y.status_is in omega (arith, e, three)
   fit_enough enough (inr (inl n)) three = let e = n.status_is in omega (arith, e, three)
@@ -215,7 +215,7 @@ module _ (words : List (String Global)) (old new sunk_old sunk_new : Option (Lis
       settings.scales in
       omega (arith, p, b, enough)
 
-  reduced_enough : IsEnough (Reduces FromFit) instance settings.budget
+  reduced_enough : IsBudgetSufficient (Reduces FromFit) instance settings.budget
       → IsReducedDecided instance settings sunk_old sunk_new status → ¬ (status ≡ 3)
   reduced_enough enough (inl y) three = let e = y.status_is in omega (arith, e, three)
   reduced_enough enough (inr (inl n)) three = let e = n.status_is in omega (arith, e, three)
@@ -235,7 +235,7 @@ module _ (words : List (String Global)) (old new sunk_old sunk_new : Option (Lis
       (written_internal instance written_limits) enough)
   strip_enough start enough (inr (inr n)) three = let e = n.status_is in omega (arith, e, three)
 
-  fewest_enough : IsEnough (Solves Bins) instance settings.budget
+  fewest_enough : IsBudgetSufficient (Solves Bins) instance settings.budget
       → AreBinsDecided instance settings sunk_old sunk_new status → ¬ (status ≡ 3)
   fewest_enough enough (inl l) three = let e = l.status_is in omega (arith, e, three)
   fewest_enough enough (inr (inl b)) three =
@@ -243,7 +243,7 @@ module _ (words : List (String Global)) (old new sunk_old sunk_new : Option (Lis
       ∙ bins_enough instance (written_internal instance written_limits) settings.budget settings.scales enough)
   fewest_enough enough (inr (inr n)) three = let e = n.status_is in omega (arith, e, three)
 
-  greatest_enough : IsEnough (Solves Knapsack) instance settings.budget
+  greatest_enough : IsBudgetSufficient (Solves Knapsack) instance settings.budget
       → IsValueDecided instance settings sunk_old sunk_new status → ¬ (status ≡ 3)
   greatest_enough enough (inl l) three = let e = l.status_is in omega (arith, e, three)
   greatest_enough enough (inr b) three =
@@ -251,7 +251,7 @@ module _ (words : List (String Global)) (old new sunk_old sunk_new : Option (Lis
       ∙ value_enough instance (written_internal instance written_limits) settings.budget settings.scales enough)
 
   -- a budget that bounds every count is enough
-  pub written_enough : (job : DocumentJob) → AsksToSolve words job settings → IsEnough job instance settings.budget
+  pub written_enough : (job : DocumentJob) → AsksToSolve words job settings → IsBudgetSufficient job instance settings.budget
       → ¬ (status ≡ 3)
   written_enough (Solves Fit) asks enough = fit_enough enough (written_decides asks)
   written_enough (Solves Strip) asks enough = strip_enough Nothing enough (written_least asks)

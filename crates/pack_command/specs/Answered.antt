@@ -72,10 +72,10 @@ class_bound instance = 3 ^ (dims instance * box_count instance * (box_count inst
 -- A budget that is enough for every tree that the job decides for the instance: for `fit` and each
 -- height of a strip its class tree, from the symmetry facts on too, for each number of bins its bin
 -- tree, for each value its choice tree.
-abbrev pub IsEnough : DocumentJob → PlainInstance → ℕ → Type 0
-IsEnough (Solves Fit) instance budget = class_bound instance ≤ budget + 1
-IsEnough (Reduces job) instance budget = class_bound instance ≤ budget + 1
-IsEnough (Solves Strip) instance budget = class_bound instance ≤ budget + 1
-IsEnough (Solves Bins) instance budget =
+abbrev pub IsBudgetSufficient : DocumentJob → PlainInstance → ℕ → Type 0
+IsBudgetSufficient (Solves Fit) instance budget = class_bound instance ≤ budget + 1
+IsBudgetSufficient (Reduces job) instance budget = class_bound instance ≤ budget + 1
+IsBudgetSufficient (Solves Strip) instance budget = class_bound instance ≤ budget + 1
+IsBudgetSufficient (Solves Bins) instance budget =
     class_bound instance * sum_below (box_count instance) (λ j. (box_count instance - 1) ^ (j + 1)) ≤ budget
-IsEnough (Solves Knapsack) instance budget = class_bound instance * (2 ^ (box_count instance + 1) - 2) ≤ budget
+IsBudgetSufficient (Solves Knapsack) instance budget = class_bound instance * (2 ^ (box_count instance + 1) - 2) ≤ budget

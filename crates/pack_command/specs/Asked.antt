@@ -20,7 +20,7 @@ use Rattle.text_terms.specs.declared.settings.Settings.{Settings}
 use Rattle.verdict_terms.specs.Fed.{NoneRefused}
 use Rattle.document_check.specs.Checked.{most_document_bytes}
 use Rattle.text_terms.specs.declared.fault.TextFault.{TextFault}
-use Rattle.pack_command.specs.Inputs.{most_instance_bytes}
+use Rattle.pack_command.specs.Inputs.{max_instance_bytes}
 use Rattle.pack_command.specs.Readings.{DocumentTask, Audits, Explains, AreFew, ArePast}
 use Rattle.pack_command.specs.declared.words.Asked.{Asked}
 use Rattle.pack_command.specs.declared.words.Asked.TheVariants.{Solving, Checking, Making, Auditing, Explaining}
@@ -92,12 +92,12 @@ pub record AsksFront (words : List (String Global)) (settings : Settings) : Type
 -- proposals or behind the choice trees, or `strip` with families, behind proposals or behind the class trees.
 pub data ProposedJob : Type 0 where
   Plain : (job : SolvingJob) → ProposedJob
-  Bounds : (proposals : Bool) → ProposedJob
+  ValueBounds : (proposals : Bool) → ProposedJob
   HeightBounds : (proposals : Bool) → ProposedJob
 
 abbrev pub job_proposed : ProposedJob → Job
 job_proposed (Plain job) = Proposed job
-job_proposed (Bounds proposals) = Bounded proposals
+job_proposed (ValueBounds proposals) = Bounded proposals
 job_proposed (HeightBounds proposals) = BoundedStrip proposals
 
 -- the words are the job with proposals and these settings
@@ -128,7 +128,7 @@ IsAsked words (Ok Explaining) = AsksTask words Explains
 IsAsked words (Ok (Making number settings)) = AsksToMake words number settings
 IsAsked words (Ok (Fronting settings)) = AsksFront words settings
 IsAsked words (Ok (Proposing job settings)) = AsksProposed words (Plain job) settings
-IsAsked words (Ok (Bounding proposals settings)) = AsksProposed words (Bounds proposals) settings
+IsAsked words (Ok (Bounding proposals settings)) = AsksProposed words (ValueBounds proposals) settings
 IsAsked words (Ok (BoundingHeights proposals settings)) = AsksProposed words (HeightBounds proposals) settings
 IsAsked words (Err Words) = AsksNothing words
 IsAsked words (Err NoMemory) = Unit {0}
@@ -145,7 +145,7 @@ pub record IsSolving (words : List (String Global)) (left : Option (List ℕ)) (
   pub asks : AsksToSolve words job settings
   pub bytes : List ℕ
   pub told : left ≡ Some bytes
-  pub within : length bytes ≤ most_instance_bytes
+  pub within : length bytes ≤ max_instance_bytes
   pub read : text_instance bytes ≡ Ok instance
 
 -- the words ask for `check`, and the input is these bytes
@@ -169,22 +169,22 @@ abbrev pub IsExplaining : List (String Global) → Option (List ℕ) → List �
 IsExplaining words left bytes = IsReading words left Explains bytes
 
 -- the words ask for `front`, and the input is the text of this instance, which has two dimensions
-pub record IsFronting (words : List (String Global)) (left : Option (List ℕ)) (settings : Settings)
+pub record IsFrontRun (words : List (String Global)) (left : Option (List ℕ)) (settings : Settings)
     (instance : PlainInstance) : Type 0 where
   pub asks : AsksFront words settings
   pub bytes : List ℕ
   pub told : left ≡ Some bytes
-  pub within : length bytes ≤ most_instance_bytes
+  pub within : length bytes ≤ max_instance_bytes
   pub read : text_instance bytes ≡ Ok instance
   pub plane : dims instance ≡ 2
 
 -- the words ask for the job with proposals, and the input is the text of this instance
-pub record IsProposing (words : List (String Global)) (left : Option (List ℕ)) (job : ProposedJob) (settings : Settings)
+pub record IsProposalRun (words : List (String Global)) (left : Option (List ℕ)) (job : ProposedJob) (settings : Settings)
     (instance : PlainInstance) : Type 0 where
   pub asks : AsksProposed words job settings
   pub bytes : List ℕ
   pub told : left ≡ Some bytes
-  pub within : length bytes ≤ most_instance_bytes
+  pub within : length bytes ≤ max_instance_bytes
   pub read : text_instance bytes ≡ Ok instance
 
 -- the words and the input have an answer
@@ -195,9 +195,9 @@ HasAnswer words left =
     ⊎ (((bytes : List ℕ) × IsChecking words left bytes)
     ⊎ (((number : ℕ) × (settings : Settings) × AsksToMake words number settings)
     ⊎ (((task : DocumentTask) × (bytes : List ℕ) × IsReading words left task bytes)
-    ⊎ (((settings : Settings) × (instance : PlainInstance) × IsFronting words left settings instance)
+    ⊎ (((settings : Settings) × (instance : PlainInstance) × IsFrontRun words left settings instance)
     ⊎ ((job : ProposedJob) × (settings : Settings) × (instance : PlainInstance)
-    × IsProposing words left job settings instance)))))
+    × IsProposalRun words left job settings instance)))))
 
 -- the words are a job that reads nothing, or none
 abbrev pub ReadsNothing : List (String Global) → Type 0
@@ -210,7 +210,7 @@ pub record IsLongInstance (words : List (String Global)) (left : Option (List �
   pub asks : AsksToSolve words job settings
   pub bytes : List ℕ
   pub told : left ≡ Some bytes
-  pub past : most_instance_bytes < length bytes
+  pub past : max_instance_bytes < length bytes
 
 -- more bytes come for `check` than a document may have, and no line that is whole within these is
 -- refused
@@ -236,7 +236,7 @@ pub record IsFaultyText (words : List (String Global)) (left : Option (List ℕ)
   pub asks : AsksToSolve words job settings
   pub bytes : List ℕ
   pub told : left ≡ Some bytes
-  pub within : length bytes ≤ most_instance_bytes
+  pub within : length bytes ≤ max_instance_bytes
   pub wrong : text_instance bytes ≡ Err fault
 
 -- more bytes come for `front` than an instance may have
@@ -245,7 +245,7 @@ pub record IsLongFront (words : List (String Global)) (left : Option (List ℕ))
   pub asks : AsksFront words settings
   pub bytes : List ℕ
   pub told : left ≡ Some bytes
-  pub past : most_instance_bytes < length bytes
+  pub past : max_instance_bytes < length bytes
 
 -- the words ask for `front`, and the input has this fault
 pub record IsFaultyFront (words : List (String Global)) (left : Option (List ℕ)) (fault : TextFault) : Type 0 where
@@ -253,7 +253,7 @@ pub record IsFaultyFront (words : List (String Global)) (left : Option (List ℕ
   pub asks : AsksFront words settings
   pub bytes : List ℕ
   pub told : left ≡ Some bytes
-  pub within : length bytes ≤ most_instance_bytes
+  pub within : length bytes ≤ max_instance_bytes
   pub wrong : text_instance bytes ≡ Err fault
 
 -- the words ask for `front`, and the input is the text of an instance that hasn't two dimensions
@@ -262,7 +262,7 @@ pub record IsOtherFront (words : List (String Global)) (left : Option (List ℕ)
   pub asks : AsksFront words settings
   pub bytes : List ℕ
   pub told : left ≡ Some bytes
-  pub within : length bytes ≤ most_instance_bytes
+  pub within : length bytes ≤ max_instance_bytes
   pub instance : PlainInstance
   pub read : text_instance bytes ≡ Ok instance
   pub other : ¬ (dims instance ≡ 2)
@@ -274,7 +274,7 @@ pub record IsLongProposed (words : List (String Global)) (left : Option (List �
   pub asks : AsksProposed words job settings
   pub bytes : List ℕ
   pub told : left ≡ Some bytes
-  pub past : most_instance_bytes < length bytes
+  pub past : max_instance_bytes < length bytes
 
 -- the words ask for a job with proposals, and the input has this fault
 pub record IsFaultyProposed (words : List (String Global)) (left : Option (List ℕ)) (fault : TextFault) : Type 0 where
@@ -283,7 +283,7 @@ pub record IsFaultyProposed (words : List (String Global)) (left : Option (List 
   pub asks : AsksProposed words job settings
   pub bytes : List ℕ
   pub told : left ≡ Some bytes
-  pub within : length bytes ≤ most_instance_bytes
+  pub within : length bytes ≤ max_instance_bytes
   pub wrong : text_instance bytes ≡ Err fault
 
 -- the words and the input are to be refused for this cause

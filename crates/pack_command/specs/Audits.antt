@@ -7,7 +7,7 @@ use Rattle.answer_streams.specs.Audited.{audit_verdict, audit_line, IsTrueVerdic
 
 -- The whole input is verified as a document of its kind, its line was written, and what it shows is
 -- true.
-pub record IsAuditClaimed (old new sunk_old sunk_new : Option (List ℕ)) : Type 0 where
+pub record IsVerifiedAuditClaim (old new sunk_old sunk_new : Option (List ℕ)) : Type 0 where
   pub bytes : List ℕ
   pub taken : Gives old new bytes
   pub ended : IsAtEnd new

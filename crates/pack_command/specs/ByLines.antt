@@ -21,18 +21,18 @@ use Rattle.document_openings.specs.Openings.{IsReadByLines, IsReadWhole}
 use Rattle.answer_streams.specs.declared.verdict.Verdict.{Verdict}
 use Rattle.answer_streams.specs.declared.verdict.Verdict.TheVariants.{Verified as VerifiedAs, Refused as RefusedAs}
 use Rattle.pack_command.specs.Checks.{HasVerdictUnder, IsPastLimitUnder, IsBrokenOffUnder, IsGivenUpUnder}
-use Rattle.pack_command.specs.Inputs.{most_read_bytes}
+use Rattle.pack_command.specs.Inputs.{max_audit_bytes}
 use Rattle.pack_command.specs.declared.stop.Stop.{Stop}
 use Rattle.pack_command.specs.declared.stop.Stop.TheVariants.{Words, TooLong, Text, Dimensions, ReadFault, WriteFault}
 use Rattle.pack_command.specs.declared.stop.Stop.TheVariants.{NoMemory}
 
 -- a bounded document whose heading ends within the first 2 ^ 24 bytes: it is read line by line
 abbrev pub AreByLines : List ℕ → Type 0
-AreByLines bytes = IsReadByLines most_read_bytes bytes
+AreByLines bytes = IsReadByLines max_audit_bytes bytes
 
 -- any other document: it is held whole
 abbrev pub AreHeld : List ℕ → Type 0
-AreHeld bytes = IsReadWhole most_read_bytes bytes
+AreHeld bytes = IsReadWhole max_audit_bytes bytes
 
 -- these bytes of such a document were taken, and are enough for its verdict: all of them, or those up to the line
 -- feed of the refused line
@@ -44,16 +44,16 @@ pub record IsBoundedTaken (old new : Option (List ℕ)) (bytes : List ℕ) : Typ
 -- a document that is held has more bytes than are read, of which not more than one block beyond that was taken
 abbrev pub IsLongHeld : Option (List ℕ) → Option (List ℕ) → Type 0
 IsLongHeld old new =
-    (bytes : List ℕ) × Gives old new bytes × (most_read_bytes < length bytes)
-    × (length bytes ≤ most_read_bytes + block) × AreHeld bytes
+    (bytes : List ℕ) × Gives old new bytes × (max_audit_bytes < length bytes)
+    × (length bytes ≤ max_audit_bytes + block) × AreHeld bytes
 
 -- the input broke off before more came than are held
 abbrev pub IsBrokenHeld : Option (List ℕ) → Option (List ℕ) → Type 0
-IsBrokenHeld old new = (bytes : List ℕ) × Gives old new bytes × (length bytes ≤ most_read_bytes) × AreHeld bytes
+IsBrokenHeld old new = (bytes : List ℕ) × Gives old new bytes × (length bytes ≤ max_audit_bytes) × AreHeld bytes
 
 -- memory was refused for what is to be held
 abbrev pub IsRefusedHeld : Option (List ℕ) → Option (List ℕ) → Type 0
-IsRefusedHeld old new = (bytes : List ℕ) × Gives old new bytes × (length bytes ≤ most_read_bytes + block)
+IsRefusedHeld old new = (bytes : List ℕ) × Gives old new bytes × (length bytes ≤ max_audit_bytes + block)
 
 -- why an audit ended without a verdict: the first is of a document that is held, and the second of one that is
 -- read line by line
@@ -68,13 +68,13 @@ IsUnaudited old new WriteFault = ⊥
 
 -- not more bytes than are read
 abbrev pub AreAuditable : List ℕ → Type 0
-AreAuditable bytes = (length bytes ≤ most_read_bytes) ⊎ (AreByLines bytes × (length bytes ≤ most_document_bytes))
+AreAuditable bytes = (length bytes ≤ max_audit_bytes) ⊎ (AreByLines bytes × (length bytes ≤ most_document_bytes))
 
 -- more bytes than are read: of a document that is held, or of one that is read line by line, no line of which
 -- that is whole within the limit is refused
 abbrev pub AreTooMany : List ℕ → Type 0
 AreTooMany bytes =
-    ((most_read_bytes < length bytes) × AreHeld bytes)
+    ((max_audit_bytes < length bytes) × AreHeld bytes)
     ⊎ ((most_document_bytes < length bytes) × NoneRefusedUnder Bounded (take most_document_bytes bytes))
 
 -- ---- the steps

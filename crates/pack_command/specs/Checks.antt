@@ -62,18 +62,18 @@ pub record IsGivenUpUnder (heading : Heading) (old new : Option (List ℕ)) : Ty
 abbrev pub IsPastLimit : Option (List ℕ) → Option (List ℕ) → Type 0
 IsPastLimit old new = IsPastLimitUnder Answer old new
 
-abbrev pub IsBrokenOff : Option (List ℕ) → Option (List ℕ) → Type 0
-IsBrokenOff old new = IsBrokenOffUnder Answer old new
+abbrev pub IsReadFailed : Option (List ℕ) → Option (List ℕ) → Type 0
+IsReadFailed old new = IsBrokenOffUnder Answer old new
 
-abbrev pub IsGivenUp : Option (List ℕ) → Option (List ℕ) → Type 0
-IsGivenUp old new = IsGivenUpUnder Answer old new
+abbrev pub IsOutOfMemory : Option (List ℕ) → Option (List ℕ) → Type 0
+IsOutOfMemory old new = IsGivenUpUnder Answer old new
 
 -- the verdict, or why there is none
 abbrev pub IsVerdict : Option (List ℕ) → Option (List ℕ) → Result Verdict Stop → Type 0
 IsVerdict old new (Ok verdict) = IsVerdictFound old new (plain_verdict verdict)
 IsVerdict old new (Err TooLong) = IsPastLimit old new
-IsVerdict old new (Err ReadFault) = IsBrokenOff old new
-IsVerdict old new (Err NoMemory) = IsGivenUp old new
+IsVerdict old new (Err ReadFault) = IsReadFailed old new
+IsVerdict old new (Err NoMemory) = IsOutOfMemory old new
 IsVerdict old new (Err Words) = ⊥
 IsVerdict old new (Err (Text fault)) = ⊥
 IsVerdict old new (Err Dimensions) = ⊥
@@ -87,7 +87,7 @@ pub record IsVerdictWritten (old new sunk_old sunk_new : Option (List ℕ)) (sta
   pub line : Gains sunk_old sunk_new (verdict_line verdict)
 
 -- a verdict was reached, and a part at the front of its line was written
-pub record IsLineCut (old new sunk_old sunk_new : Option (List ℕ)) : Type 0 where
+pub record IsLinePartlyWritten (old new sunk_old sunk_new : Option (List ℕ)) : Type 0 where
   pub verdict : Result Claim Refusal
   pub found : IsVerdictFound old new verdict
   pub part : GainsPart sunk_old sunk_new (verdict_line verdict)
@@ -95,9 +95,9 @@ pub record IsLineCut (old new sunk_old sunk_new : Option (List ℕ)) : Type 0 wh
 -- why a check ended without the line of a verdict
 abbrev pub IsWithoutVerdict : (old new sunk_old sunk_new : Option (List ℕ)) → Stop → Type 0
 IsWithoutVerdict old new sunk_old sunk_new TooLong = IsPastLimit old new × (sunk_new ≡ sunk_old)
-IsWithoutVerdict old new sunk_old sunk_new ReadFault = IsBrokenOff old new × (sunk_new ≡ sunk_old)
-IsWithoutVerdict old new sunk_old sunk_new WriteFault = IsLineCut old new sunk_old sunk_new
-IsWithoutVerdict old new sunk_old sunk_new NoMemory = IsGivenUp old new × (sunk_new ≡ sunk_old)
+IsWithoutVerdict old new sunk_old sunk_new ReadFault = IsReadFailed old new × (sunk_new ≡ sunk_old)
+IsWithoutVerdict old new sunk_old sunk_new WriteFault = IsLinePartlyWritten old new sunk_old sunk_new
+IsWithoutVerdict old new sunk_old sunk_new NoMemory = IsOutOfMemory old new × (sunk_new ≡ sunk_old)
 IsWithoutVerdict old new sunk_old sunk_new Words = ⊥
 IsWithoutVerdict old new sunk_old sunk_new (Text fault) = ⊥
 IsWithoutVerdict old new sunk_old sunk_new Dimensions = ⊥
@@ -107,13 +107,13 @@ abbrev pub IsVerdictStatus : ℕ → Type 0
 IsVerdictStatus status = (status ≡ 0) ⊎ (status ≡ 1)
 
 -- exactly the line of the verdict on these bytes was written, with its status
-pub record IsExactly (bytes : List ℕ) (sunk_old sunk_new : Option (List ℕ)) (status : ℕ) : Type 0 where
+pub record IsVerdictOutput (bytes : List ℕ) (sunk_old sunk_new : Option (List ℕ)) (status : ℕ) : Type 0 where
   pub status_is : status ≡ verdict_status (document_verdict bytes)
   pub line : Gains sunk_old sunk_new (verdict_line (document_verdict bytes))
 
 -- The whole input is a document, the claim of the line that was written is its own, and is true of
 -- the instance in it.
-pub record IsClaimed (old new sunk_old sunk_new : Option (List ℕ)) : Type 0 where
+pub record IsVerifiedClaim (old new sunk_old sunk_new : Option (List ℕ)) : Type 0 where
   pub bytes : List ℕ
   pub taken : Gives old new bytes
   pub ended : IsAtEnd new

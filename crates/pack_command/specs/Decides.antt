@@ -35,6 +35,6 @@ AsksWhetherFits (Solves Bins) = ⊥
 AsksWhetherFits (Solves Knapsack) = ⊥
 
 -- the status says exactly whether the instance fits
-pub record IsExactlyFit (instance : PlainInstance) (status : ℕ) : Type 0 where
+pub record StatusDecidesFit (instance : PlainInstance) (status : ℕ) : Type 0 where
   pub yes : (status ≡ 0) ↔ Fits instance
   pub no : (status ≡ 1) ↔ (¬ Fits instance)

@@ -13,8 +13,8 @@ use Rattle.pack_command.specs.declared.stop.Stop.{Stop}
 
 -- the document of an answer, the line of a check, the summary of `make`, what a whole document comes
 -- to, the document of a front, or that of a job with proposals, written whole
-abbrev pub IsDone : List (String Global) → (old new sunk_old sunk_new : Option (List ℕ)) → ℕ → Type 0
-IsDone words old new sunk_old sunk_new status =
+abbrev pub IsJobCompleted : List (String Global) → (old new sunk_old sunk_new : Option (List ℕ)) → ℕ → Type 0
+IsJobCompleted words old new sunk_old sunk_new status =
     IsWritten words old new sunk_old sunk_new status
     ⊎ ((AsksCheck words × IsVerdictWritten old new sunk_old sunk_new status)
     ⊎ (IsMade words old new sunk_old sunk_new status
@@ -23,8 +23,8 @@ IsDone words old new sunk_old sunk_new status =
     ⊎ IsProposedWritten words old new sunk_old sunk_new status))))
 
 -- why a job ended without
-abbrev pub IsUndone : List (String Global) → (old new sunk_old sunk_new : Option (List ℕ)) → Stop → Type 0
-IsUndone words old new sunk_old sunk_new stop =
+abbrev pub IsJobAborted : List (String Global) → (old new sunk_old sunk_new : Option (List ℕ)) → Stop → Type 0
+IsJobAborted words old new sunk_old sunk_new stop =
     IsStopped words old new sunk_old sunk_new stop
     ⊎ ((AsksCheck words × IsWithoutVerdict old new sunk_old sunk_new stop)
     ⊎ (IsUnmade words old new sunk_old sunk_new stop

@@ -42,14 +42,14 @@ pub record IsMade (words : List (String Global)) (old new sunk_old sunk_new : Op
   pub written : Gains sunk_old sunk_new (made_for number settings).text
 
 -- what was written where a summary wasn't written whole
-abbrev pub IsMadeCut : ℕ → Settings → (sunk_old sunk_new : Option (List ℕ)) → Stop → Type 0
-IsMadeCut number settings sunk_old sunk_new WriteFault = GainsPart sunk_old sunk_new (made_for number settings).text
-IsMadeCut number settings sunk_old sunk_new NoMemory = sunk_new ≡ sunk_old
-IsMadeCut number settings sunk_old sunk_new Words = ⊥
-IsMadeCut number settings sunk_old sunk_new TooLong = ⊥
-IsMadeCut number settings sunk_old sunk_new (Text fault) = ⊥
-IsMadeCut number settings sunk_old sunk_new Dimensions = ⊥
-IsMadeCut number settings sunk_old sunk_new ReadFault = ⊥
+abbrev pub IsSummaryPartlyWritten : ℕ → Settings → (sunk_old sunk_new : Option (List ℕ)) → Stop → Type 0
+IsSummaryPartlyWritten number settings sunk_old sunk_new WriteFault = GainsPart sunk_old sunk_new (made_for number settings).text
+IsSummaryPartlyWritten number settings sunk_old sunk_new NoMemory = sunk_new ≡ sunk_old
+IsSummaryPartlyWritten number settings sunk_old sunk_new Words = ⊥
+IsSummaryPartlyWritten number settings sunk_old sunk_new TooLong = ⊥
+IsSummaryPartlyWritten number settings sunk_old sunk_new (Text fault) = ⊥
+IsSummaryPartlyWritten number settings sunk_old sunk_new Dimensions = ⊥
+IsSummaryPartlyWritten number settings sunk_old sunk_new ReadFault = ⊥
 
 -- why the job ended without its summary. Nothing was taken from the source.
 pub record IsUnmade (words : List (String Global)) (old new sunk_old sunk_new : Option (List ℕ)) (stop : Stop) :
@@ -58,10 +58,10 @@ pub record IsUnmade (words : List (String Global)) (old new sunk_old sunk_new : 
   pub settings : Settings
   pub asked : AsksToMake words number settings
   pub untaken : new ≡ old
-  pub cut : IsMadeCut number settings sunk_old sunk_new stop
+  pub cut : IsSummaryPartlyWritten number settings sunk_old sunk_new stop
 
 -- exactly the summary of the number was written, with its status
-pub record IsExactlyMade (number : ℕ) (settings : Settings) (sunk_old sunk_new : Option (List ℕ)) (status : ℕ) :
+pub record IsMakeOutput (number : ℕ) (settings : Settings) (sunk_old sunk_new : Option (List ℕ)) (status : ℕ) :
     Type 0 where
   pub status_is : status ≡ (made_for number settings).status
   pub written : Gains sunk_old sunk_new (made_for number settings).text

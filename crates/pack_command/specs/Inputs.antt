@@ -11,24 +11,24 @@ use Rattle.pack_command.specs.declared.stop.Stop.TheVariants.{Words, TooLong, Te
 use Rattle.pack_command.specs.declared.stop.Stop.TheVariants.{NoMemory}
 
 -- the most bytes that the text of an instance may have: 2 ^ 20
-abbrev pub most_instance_bytes : ℕ
-most_instance_bytes = 1048576
+abbrev pub max_instance_bytes : ℕ
+max_instance_bytes = 1048576
 
 -- the most bytes that `audit` and `explain` read: 2 ^ 24
-abbrev pub most_read_bytes : ℕ
-most_read_bytes = 16777216
+abbrev pub max_audit_bytes : ℕ
+max_audit_bytes = 16777216
 
 -- these bytes are all that the source had to give, and not too many
 pub record IsWholeInput (old new : Option (List ℕ)) (bytes : List ℕ) : Type 0 where
   pub taken : Gives old new bytes
   pub ended : IsAtEnd new
-  pub within : length bytes ≤ most_instance_bytes
+  pub within : length bytes ≤ max_instance_bytes
 
 -- bytes were taken, not more than one block beyond the limit
 pub record IsPartTaken (old new : Option (List ℕ)) : Type 0 where
   pub bytes : List ℕ
   pub taken : Gives old new bytes
-  pub within : length bytes ≤ most_instance_bytes + block
+  pub within : length bytes ≤ max_instance_bytes + block
 
 -- the instance of the whole input, or why there is none
 abbrev pub IsInputRead : Option (List ℕ) → Option (List ℕ) → Result PlainInstance Stop → Type 0
@@ -37,9 +37,9 @@ IsInputRead old new (Ok instance) =
 IsInputRead old new (Err (Text fault)) =
     (bytes : List ℕ) × IsWholeInput old new bytes × (text_instance bytes ≡ Err fault)
 IsInputRead old new (Err TooLong) =
-    (bytes : List ℕ) × Gives old new bytes × (most_instance_bytes < length bytes)
-    × (length bytes ≤ most_instance_bytes + block)
-IsInputRead old new (Err ReadFault) = (bytes : List ℕ) × Gives old new bytes × (length bytes ≤ most_instance_bytes)
+    (bytes : List ℕ) × Gives old new bytes × (max_instance_bytes < length bytes)
+    × (length bytes ≤ max_instance_bytes + block)
+IsInputRead old new (Err ReadFault) = (bytes : List ℕ) × Gives old new bytes × (length bytes ≤ max_instance_bytes)
 IsInputRead old new (Err NoMemory) = IsPartTaken old new
 IsInputRead old new (Err Words) = ⊥
 IsInputRead old new (Err Dimensions) = ⊥

@@ -38,14 +38,14 @@ pub record IsVerified (job : DocumentJob) (instance : PlainInstance) (document :
   pub status_is : status ≡ claim_status claim
 
 -- `fit` or `reduced` was asked, the document says undecided, and it is verified with no claim
-pub record IsUnverified (job : DocumentJob) (document : List ℕ) (status : ℕ) : Type 0 where
+pub record IsUndecidedOutput (job : DocumentJob) (document : List ℕ) (status : ℕ) : Type 0 where
   pub asked : AsksWhetherFits job
   pub undecided : status ≡ 3
   pub refused : IsRefusedBy job document
 
 -- a whole document was written, which is the one or the other
-pub record IsOwnDocument (job : DocumentJob) (instance : PlainInstance) (sunk_old sunk_new : Option (List ℕ))
+pub record IsOutputVerified (job : DocumentJob) (instance : PlainInstance) (sunk_old sunk_new : Option (List ℕ))
     (status : ℕ) : Type 0 where
   pub document : List ℕ
   pub written : Gains sunk_old sunk_new document
-  pub own : IsVerified job instance document status ⊎ IsUnverified job document status
+  pub own : IsVerified job instance document status ⊎ IsUndecidedOutput job document status

@@ -39,7 +39,7 @@ use Rattle.proposed_answers.specs.Values.{value_count, IsLimitedChoice, IsPastBe
 use Rattle.pack_streams.specs.Moves.{Gains}
 use Rattle.pack_streams.specs.Writing.{GainsPart}
 use Rattle.pack_command.specs.Answered.{branchings}
-use Rattle.pack_command.specs.Asked.{ProposedJob, Plain, Bounds, HeightBounds, AsksProposed}
+use Rattle.pack_command.specs.Asked.{ProposedJob, Plain, ValueBounds, HeightBounds, AsksProposed}
 use Rattle.pack_command.specs.Bounded.{IsBoundedFound}
 use Rattle.pack_command.specs.BoundedHeights.{IsBoundedStripFound}
 use Rattle.pack_command.specs.FewestBins.{HasNoBins}
@@ -112,7 +112,7 @@ pub record IsProposedFound (job : SolvingJob) (settings : Settings) (instance : 
 -- of a solving job, of `knapsack` with priced leaves, or of `strip` with families
 abbrev pub IsFound : ProposedJob → Settings → PlainInstance → ℕ → List ℕ → Type 0
 IsFound (Plain job) settings instance status document = IsProposedFound job settings instance status document
-IsFound (Bounds proposals) settings instance status document =
+IsFound (ValueBounds proposals) settings instance status document =
     IsBoundedFound proposals settings instance status document
 IsFound (HeightBounds proposals) settings instance status document =
     IsBoundedStripFound proposals settings instance status document
@@ -139,7 +139,7 @@ pub record IsProposedWritten (words : List (String Global)) (old new sunk_old su
   pub written : Gains sunk_old sunk_new document
 
 -- an answer was found, and a part at the front of its document was written
-pub record IsProposedCut (words : List (String Global)) (old new sunk_old sunk_new : Option (List ℕ)) : Type 0 where
+pub record IsProposedPartlyWritten (words : List (String Global)) (old new sunk_old sunk_new : Option (List ℕ)) : Type 0 where
   pub job : ProposedJob
   pub settings : Settings
   pub instance : PlainInstance
@@ -160,7 +160,7 @@ IsWithoutProposed words old new sunk_old sunk_new (Text fault) =
 IsWithoutProposed words old new sunk_old sunk_new Dimensions = ⊥
 IsWithoutProposed words old new sunk_old sunk_new ReadFault =
     IsInputRead old new (Err ReadFault) × (sunk_new ≡ sunk_old)
-IsWithoutProposed words old new sunk_old sunk_new WriteFault = IsProposedCut words old new sunk_old sunk_new
+IsWithoutProposed words old new sunk_old sunk_new WriteFault = IsProposedPartlyWritten words old new sunk_old sunk_new
 IsWithoutProposed words old new sunk_old sunk_new NoMemory = IsPartTaken old new × (sunk_new ≡ sunk_old)
 IsWithoutProposed words old new sunk_old sunk_new Words = ⊥
 
@@ -328,10 +328,10 @@ IsProposedDecided SolvesKnapsack instance settings sunk_old sunk_new status =
 -- The budget is enough for the trees that the job decides for the instance, by their counts: for `fit` its
 -- class tree; for `bins` the bin tree of each number of bins; for `strip` the share of the budget for the
 -- class tree of each height, and for `knapsack` for the choice tree of each value.
-abbrev pub IsAmple : SolvingJob → Settings → PlainInstance → Type 0
-IsAmple SolvesFit settings instance = branchings settings instance ≤ settings.budget
-IsAmple SolvesStrip settings instance =
+abbrev pub IsBudgetSufficientProposed : SolvingJob → Settings → PlainInstance → Type 0
+IsBudgetSufficientProposed SolvesFit settings instance = branchings settings instance ≤ settings.budget
+IsBudgetSufficientProposed SolvesStrip settings instance =
     (h : ℕ) → height_count instance settings.scales h ≤ level_share settings.budget
-IsAmple SolvesBins settings instance = (k : ℕ) → bins_count instance settings.scales k ≤ settings.budget
-IsAmple SolvesKnapsack settings instance =
+IsBudgetSufficientProposed SolvesBins settings instance = (k : ℕ) → bins_count instance settings.scales k ≤ settings.budget
+IsBudgetSufficientProposed SolvesKnapsack settings instance =
     (t : ℕ) → value_count instance settings.scales t ≤ level_share settings.budget

@@ -11,7 +11,7 @@ use Rattle.answer_streams.specs.Audited.{audit_verdict, audit_line, audit_status
 use Rattle.answer_streams.specs.declared.audited.AuditedVerdict.{AuditedVerdict}
 use Rattle.pack_command.specs.ByLines.{AreHeld, IsBoundedTaken, IsUnaudited, AreAuditable, AreTooMany}
 use Rattle.pack_command.specs.Explanations.{IsExplainedTo}
-use Rattle.pack_command.specs.Inputs.{most_read_bytes}
+use Rattle.pack_command.specs.Inputs.{max_audit_bytes}
 use Rattle.pack_command.specs.declared.stop.Stop.{Stop}
 use Rattle.pack_command.specs.declared.stop.Stop.TheVariants.{Words, TooLong, Text, Dimensions, ReadFault, WriteFault}
 use Rattle.pack_command.specs.declared.stop.Stop.TheVariants.{NoMemory}
@@ -22,25 +22,25 @@ pub data DocumentTask : Type 0 where
   Explains : DocumentTask
 
 -- the status and the text that a document comes to
-abbrev pub ComesTo : DocumentTask → List ℕ → ℕ → List ℕ → Type 0
-ComesTo Audits bytes status text =
+abbrev pub HasTaskResult : DocumentTask → List ℕ → ℕ → List ℕ → Type 0
+HasTaskResult Audits bytes status text =
     (status ≡ audit_status (audit_verdict bytes)) × (text ≡ audit_line (audit_verdict bytes))
-ComesTo Explains bytes status text = IsExplainedTo bytes status text
+HasTaskResult Explains bytes status text = IsExplainedTo bytes status text
 
 -- these bytes are all that the source had to give, and not too many
 pub record IsWholeDocument (old new : Option (List ℕ)) (bytes : List ℕ) : Type 0 where
   pub taken : Gives old new bytes
   pub ended : IsAtEnd new
-  pub within : length bytes ≤ most_read_bytes
+  pub within : length bytes ≤ max_audit_bytes
 
 -- the bytes of the whole input, or why there are none
 abbrev pub IsDocumentRead : Option (List ℕ) → Option (List ℕ) → Result (Vec ℕ Global) Stop → Type 0
 IsDocumentRead old new (Ok bytes) = IsWholeDocument old new bytes.items
 IsDocumentRead old new (Err TooLong) =
-    (bytes : List ℕ) × Gives old new bytes × (most_read_bytes < length bytes) × (length bytes ≤ most_read_bytes + block)
-IsDocumentRead old new (Err ReadFault) = (bytes : List ℕ) × Gives old new bytes × (length bytes ≤ most_read_bytes)
+    (bytes : List ℕ) × Gives old new bytes × (max_audit_bytes < length bytes) × (length bytes ≤ max_audit_bytes + block)
+IsDocumentRead old new (Err ReadFault) = (bytes : List ℕ) × Gives old new bytes × (length bytes ≤ max_audit_bytes)
 IsDocumentRead old new (Err NoMemory) =
-    (bytes : List ℕ) × Gives old new bytes × (length bytes ≤ most_read_bytes + block)
+    (bytes : List ℕ) × Gives old new bytes × (length bytes ≤ max_audit_bytes + block)
 IsDocumentRead old new (Err Words) = ⊥
 IsDocumentRead old new (Err (Text fault)) = ⊥
 IsDocumentRead old new (Err Dimensions) = ⊥
@@ -60,28 +60,28 @@ IsUntaken Explains old new stop = IsDocumentRead old new (Err stop)
 -- not more bytes than the job reads
 abbrev pub AreFew : DocumentTask → List ℕ → Type 0
 AreFew Audits bytes = AreAuditable bytes
-AreFew Explains bytes = length bytes ≤ most_read_bytes
+AreFew Explains bytes = length bytes ≤ max_audit_bytes
 
 -- more bytes than the job reads
 abbrev pub ArePast : DocumentTask → List ℕ → Type 0
 ArePast Audits bytes = AreTooMany bytes
-ArePast Explains bytes = most_read_bytes < length bytes
+ArePast Explains bytes = max_audit_bytes < length bytes
 
 -- enough of the input was taken, and the text that it comes to was written whole
 pub record IsReadingDone (task : DocumentTask) (old new sunk_old sunk_new : Option (List ℕ)) (status : ℕ) : Type 0 where
   pub bytes : List ℕ
   pub input : IsDocumentTaken task old new bytes
   pub text : List ℕ
-  pub comes : ComesTo task bytes status text
+  pub comes : HasTaskResult task bytes status text
   pub written : Gains sunk_old sunk_new text
 
 -- enough of the input was taken, and a part at the front of the text was written
-pub record IsReadingCut (task : DocumentTask) (old new sunk_old sunk_new : Option (List ℕ)) : Type 0 where
+pub record IsTaskPartlyWritten (task : DocumentTask) (old new sunk_old sunk_new : Option (List ℕ)) : Type 0 where
   pub bytes : List ℕ
   pub input : IsDocumentTaken task old new bytes
   pub status : ℕ
   pub text : List ℕ
-  pub comes : ComesTo task bytes status text
+  pub comes : HasTaskResult task bytes status text
   pub part : GainsPart sunk_old sunk_new text
 
 -- why the job ended without its text
@@ -89,16 +89,16 @@ abbrev pub IsWithoutReading : DocumentTask → (old new sunk_old sunk_new : Opti
 IsWithoutReading task old new sunk_old sunk_new TooLong = IsUntaken task old new TooLong × (sunk_new ≡ sunk_old)
 IsWithoutReading task old new sunk_old sunk_new ReadFault = IsUntaken task old new ReadFault × (sunk_new ≡ sunk_old)
 IsWithoutReading task old new sunk_old sunk_new NoMemory = IsUntaken task old new NoMemory × (sunk_new ≡ sunk_old)
-IsWithoutReading task old new sunk_old sunk_new WriteFault = IsReadingCut task old new sunk_old sunk_new
+IsWithoutReading task old new sunk_old sunk_new WriteFault = IsTaskPartlyWritten task old new sunk_old sunk_new
 IsWithoutReading task old new sunk_old sunk_new Words = ⊥
 IsWithoutReading task old new sunk_old sunk_new (Text fault) = ⊥
 IsWithoutReading task old new sunk_old sunk_new Dimensions = ⊥
 
 -- exactly the text that these bytes come to was written, with its status
-pub record IsExactlyRead (task : DocumentTask) (bytes : List ℕ) (sunk_old sunk_new : Option (List ℕ)) (status : ℕ) :
+pub record IsTaskOutput (task : DocumentTask) (bytes : List ℕ) (sunk_old sunk_new : Option (List ℕ)) (status : ℕ) :
     Type 0 where
   pub text : List ℕ
-  pub comes : ComesTo task bytes status text
+  pub comes : HasTaskResult task bytes status text
   pub written : Gains sunk_old sunk_new text
 
 -- the verdict of an audit, or why there is none

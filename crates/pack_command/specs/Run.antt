@@ -34,7 +34,7 @@ pub record IsAnswered (words : List (String Global)) (old new : Option (List ℕ
   pub document_is : document ≡ (answer_for job settings instance).text
 
 -- an answer was found, and a part at the front of its document was written
-pub record IsCutShort (words : List (String Global)) (old new sunk_old sunk_new : Option (List ℕ)) : Type 0 where
+pub record IsDocumentPartlyWritten (words : List (String Global)) (old new sunk_old sunk_new : Option (List ℕ)) : Type 0 where
   pub status : ℕ
   pub document : List ℕ
   pub answered : IsAnswered words old new status document
@@ -54,7 +54,7 @@ IsStopped words old new sunk_old sunk_new (Text fault) = Asks words × IsInputRe
 IsStopped words old new sunk_old sunk_new Dimensions = ⊥
 IsStopped words old new sunk_old sunk_new ReadFault =
     Asks words × IsInputRead old new (Err ReadFault) × (sunk_new ≡ sunk_old)
-IsStopped words old new sunk_old sunk_new WriteFault = IsCutShort words old new sunk_old sunk_new
+IsStopped words old new sunk_old sunk_new WriteFault = IsDocumentPartlyWritten words old new sunk_old sunk_new
 IsStopped words old new sunk_old sunk_new NoMemory = ((new ≡ old) ⊎ (Asks words × IsPartTaken old new))
     × (sunk_new ≡ sunk_old)
 
@@ -66,6 +66,6 @@ pub record IsWritten (words : List (String Global)) (old new sunk_old sunk_new :
   pub written : Gains sunk_old sunk_new document
 
 -- the message is written whole, unless a write of the sink fails, which is the last one then
-abbrev pub IsTold : (sunk_old sunk_new : Option (List ℕ)) → FaultCount → FaultCount → List ℕ → Type 0
-IsTold sunk_old sunk_new before now message =
+abbrev pub IsMessageWritten : (sunk_old sunk_new : Option (List ℕ)) → FaultCount → FaultCount → List ℕ → Type 0
+IsMessageWritten sunk_old sunk_new before now message =
     (told : Result (Unit {0}) WriteFailed) × Writes sunk_old sunk_new before now message told

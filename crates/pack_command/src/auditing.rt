@@ -6,7 +6,7 @@ ghost use Rattle.answer_streams.specs.Verdicts.{plain_verdict};
 ghost use Rattle.front_verdict_terms.specs.Verdicts.{front_document_verdict};
 ghost use Rattle.answer_streams.specs.Audited.{IsExplainedAs, IsFrontToldAs, IsToldAs, audit_verdict};
 ghost use Rattle.pack_command.specs.Counts.{CountsReads, CountsWrites};
-ghost use Rattle.pack_command.specs.Inputs.{most_read_bytes};
+ghost use Rattle.pack_command.specs.Inputs.{max_audit_bytes};
 ghost use Rattle.pack_command.specs.ByLines.{IsRestRead};
 ghost use Rattle.pack_command.specs.Readings.{Audits, IsAuditRead, IsReadingDone, IsWithoutReading};
 
@@ -27,7 +27,7 @@ use verdict_terms::Heading;
 
 // The verdict on these bytes as a reduced document.
 fn reduced_on(alloc: Global, bytes: &[u8]) -> Result<Verdict, NoMemory>
-    requires { length bytes.now ≤ most_read_bytes }
+    requires { length bytes.now ≤ max_audit_bytes }
     ensures { IfOk result (λ v. plain_verdict v ≡ reduced_verdict bytes.now) }
 {
     match audit_document(alloc, Heading::Reduced, bytes) {
@@ -39,7 +39,7 @@ fn reduced_on(alloc: Global, bytes: &[u8]) -> Result<Verdict, NoMemory>
 
 // The verdict on them as a bounded one.
 fn bounded_on(alloc: Global, bytes: &[u8]) -> Result<Verdict, NoMemory>
-    requires { length bytes.now ≤ most_read_bytes }
+    requires { length bytes.now ≤ max_audit_bytes }
     ensures { IfOk result (λ v. plain_verdict v ≡ bounded_verdict bytes.now) }
 {
     match audit_document(alloc, Heading::Bounded, bytes) {
@@ -75,7 +75,7 @@ fn front_on(alloc: Global, bytes: &[u8]) -> Result<FrontAudited, NoMemory>
 
 // The verdict on the document of these bytes, as one of its kind.
 fn verdict_on(alloc: Global, bytes: &[u8]) -> Result<AuditedVerdict, NoMemory>
-    requires { length bytes.now ≤ most_read_bytes }
+    requires { length bytes.now ≤ max_audit_bytes }
     ensures { IfOk result (IsToldAs (audit_verdict bytes.now)) }
 {
     match document_kind(bytes) {
@@ -108,7 +108,7 @@ fn read_bounded<S: Source>(
     input: &mut S,
 ) -> Result<Verdict, Stop>
     requires number { lexer.number ≤ count }
-    requires few { count ≤ most_read_bytes }
+    requires few { count ≤ max_audit_bytes }
     ensures { IsRestRead (S.left input.old) (S.left input.new) (S.faults input.old)
         (S.faults input.new) lexer count job result }
 {

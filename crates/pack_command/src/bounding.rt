@@ -2,7 +2,7 @@
 ghost use Rattle.std.specs.Prelude.{◌≡◌, ◌≢◌, List, String, IfOk, IfErr};
 ghost use Rattle.std.specs.declared.alloc.Global.{Global as PlainGlobal};
 ghost use Rattle.pack_command.specs.Answered.{IsAnswerStatus};
-ghost use Rattle.pack_command.specs.Asked.{AsksProposed, Bounds};
+ghost use Rattle.pack_command.specs.Asked.{AsksProposed, ValueBounds};
 ghost use Rattle.pack_command.specs.Counts.{CountsReads, CountsWrites};
 ghost use Rattle.pack_command.specs.Proposed.{IsProposedWritten, IsWithoutProposed};
 
@@ -18,7 +18,7 @@ use work_share::{Gate, Settings};
 
 /// Reads an instance, finds its greatest value or two values around it, and writes the document. It
 /// answers the status, or why the document wasn't written whole.
-pub(crate) fn tell_bounded<R: Threads + Wait + Sync, S: Source, K: Sink, G: Gate + Sync>(
+pub(crate) fn run_bounded<R: Threads + Wait + Sync, S: Source, K: Sink, G: Gate + Sync>(
     rt: &R,
     alloc: Global,
     proposals: bool,
@@ -28,12 +28,12 @@ pub(crate) fn tell_bounded<R: Threads + Wait + Sync, S: Source, K: Sink, G: Gate
     gate: &G,
 ) -> Result<u8, Stop>
     ensures answered { (words : List (String PlainGlobal))
-        → AsksProposed words (Bounds proposals) settings.now
+        → AsksProposed words (ValueBounds proposals) settings.now
         → IfOk result (IsProposedWritten words (S.left input.old) (S.left input.new)
         (K.written out.old) (K.written out.new)) }
     ensures status { IfOk result IsAnswerStatus }
     ensures stopped { (words : List (String PlainGlobal))
-        → AsksProposed words (Bounds proposals) settings.now
+        → AsksProposed words (ValueBounds proposals) settings.now
         → IfErr result (IsWithoutProposed words (S.left input.old) (S.left input.new)
         (K.written out.old) (K.written out.new)) }
     ensures unwritten { IfErr result (λ stop. stop ≢ Stop.WriteFault → out.new ≡ out.old) }

@@ -18,7 +18,7 @@ use work_share::{Gate, Settings};
 
 /// Reads an instance, finds its least height or two heights around it, and writes the document.
 /// Returns the status, or why the document wasn't written whole.
-pub(crate) fn tell_bounded_strip<R: Threads + Wait + Sync, S: Source, K: Sink, G: Gate + Sync>(
+pub(crate) fn run_bounded_strip<R: Threads + Wait + Sync, S: Source, K: Sink, G: Gate + Sync>(
     rt: &R,
     alloc: Global,
     proposals: bool,

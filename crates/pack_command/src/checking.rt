@@ -4,7 +4,7 @@ ghost use Rattle.verdict_terms.specs.Fed.{NoneRefused};
 ghost use Rattle.document_check.specs.Checked.{most_document_bytes};
 ghost use Rattle.pack_command.specs.Counts.{CountsReads, CountsWrites, CountsStatus, IsFaultStatus};
 ghost use Rattle.pack_command.specs.Stops.{stop_status};
-ghost use Rattle.pack_command.specs.Checks.{IsVerdict, IsVerdictStatus, IsVerdictWritten, IsWithoutVerdict, IsExactly, IsClaimed};
+ghost use Rattle.pack_command.specs.Checks.{IsVerdict, IsVerdictStatus, IsVerdictWritten, IsWithoutVerdict, IsVerdictOutput, IsVerifiedClaim};
 ghost use Rattle.pack_command.specs.declared.stop.Stop.{Stop as PlainStop};
 
 use crate::stop::Stop;
@@ -78,7 +78,7 @@ pub fn check_stream<S: Source, K: Sink>(alloc: Global, input: &mut S, out: &mut 
     // Within the limit it is exactly the line and the status of the definition, unless a read or a
     // write fails or memory is refused.
     ensures exactly { (bytes : List ℕ) → S.left input.old ≡ Some bytes → IsVerdictStatus result
-        → IsExactly bytes (K.written out.old) (K.written out.new) result }
+        → IsVerdictOutput bytes (K.written out.old) (K.written out.new) result }
     ensures completes { (bytes : List ℕ) → S.left input.old ≡ Some bytes
         → length bytes ≤ most_document_bytes → IsVerdictStatus result ⊎ IsFaultStatus result }
 
@@ -89,7 +89,8 @@ pub fn check_stream<S: Source, K: Sink>(alloc: Global, input: &mut S, out: &mut 
 
     // What is verified is true.
     ensures claimed { result ≡ 0
-        → IsClaimed (S.left input.old) (S.left input.new) (K.written out.old) (K.written out.new) }
+        → IsVerifiedClaim (S.left input.old) (S.left input.new) (K.written out.old)
+        (K.written out.new) }
 {
     match check(alloc, input, out) {
         Ok(status) => status,

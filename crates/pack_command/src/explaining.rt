@@ -3,7 +3,7 @@ ghost use Rattle.std.specs.Prelude.{◌≡◌, ◌≢◌, ◌≤◌, length, Ok,
 ghost use Rattle.document_terms.specs.declared.claim.Claim.TheVariants.{NotFitting};
 ghost use Rattle.verdict_terms.specs.Documents.{document_verdict};
 ghost use Rattle.pack_command.specs.Counts.{CountsReads, CountsWrites};
-ghost use Rattle.pack_command.specs.Inputs.{most_read_bytes};
+ghost use Rattle.pack_command.specs.Inputs.{max_audit_bytes};
 ghost use Rattle.pack_command.specs.Explanations.{is_no, IsExplained};
 ghost use Rattle.pack_command.specs.Readings.{Explains, IsReadingDone, IsWithoutReading};
 
@@ -43,7 +43,7 @@ fn explain_no(alloc: Global, bytes: &[u8]) -> Result<Explanation, NoMemory>
 
 // What the document of these bytes comes to.
 fn explanation_of(alloc: Global, bytes: &[u8]) -> Result<Explanation, NoMemory>
-    requires { length bytes.now ≤ most_read_bytes }
+    requires { length bytes.now ≤ max_audit_bytes }
     ensures { IfOk result (IsExplained bytes.now) }
 {
     match audit_document(alloc, Heading::Answer, bytes) {

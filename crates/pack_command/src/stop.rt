@@ -41,14 +41,14 @@ impl Stop {
     }
 
     /// Writes the one line that names the cause.
-    pub fn tell<E: Sink>(self, err: &mut E) -> Result<(), WriteFault>
+    pub fn write_message<E: Sink>(self, err: &mut E) -> Result<(), WriteFault>
         ensures { Writes (E.written err.old) (E.written err.new) (E.faults err.old)
             (E.faults err.new) (message_of self) result }
     {
         match self {
             Stop::Words => write_on(err, Ok(()), USAGE),
             Stop::TooLong => write_on(err, Ok(()), b"pack: input too long\n"),
-            Stop::Text(fault) => tell_fault(err, fault),
+            Stop::Text(fault) => write_text_fault(err, fault),
             Stop::Dimensions => write_on(err, Ok(()), b"pack: front needs two dimensions\n"),
             Stop::ReadFault => write_on(err, Ok(()), b"pack: read fault\n"),
             Stop::WriteFault => write_on(err, Ok(()), b"pack: write fault\n"),
@@ -60,7 +60,7 @@ impl Stop {
 const USAGE: &[u8] = b"usage: pack JOB [--workers N] [--budget B] [--scales yes|no] [--number X]\n";
 
 // Writes the line and the code of a faulty text.
-fn tell_fault<E: Sink>(err: &mut E, fault: TextFault) -> Result<(), WriteFault>
+fn write_text_fault<E: Sink>(err: &mut E, fault: TextFault) -> Result<(), WriteFault>
     ensures { Writes (E.written err.old) (E.written err.new) (E.faults err.old) (E.faults err.new)
         (message_of (Stop.Text fault)) result }
 {

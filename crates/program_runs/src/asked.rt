@@ -1,6 +1,6 @@
 //! What a run answers and writes, each asked by one call: what the run told is compared and dropped
 //! there, so that a test holds nothing.
-use crate::runs::{told_by, told_of, told_read_to, told_written_to};
+use crate::runs::{run_on, run_with_read_fault, run_with_workers, run_with_write_fault};
 use std::alloc::{AllocError, AllocGlobal};
 use std::sync::Wait;
 use std::thread::Threads;
@@ -13,7 +13,7 @@ pub fn ends<R: AllocGlobal + Threads + Wait + Sync>(
     input: &[u8],
     status: u8,
 ) -> Result<bool, AllocError> {
-    Ok(told_of(rt, words, input)?.status == status)
+    Ok(run_on(rt, words, input)?.status == status)
 }
 
 /// Whether a run of the words on the input ends with this status and writes these lines alone.
@@ -24,19 +24,19 @@ pub fn tells<R: AllocGlobal + Threads + Wait + Sync>(
     status: u8,
     lines: &str,
 ) -> Result<bool, AllocError> {
-    Ok(told_of(rt, words, input)?.is_line(status, lines))
+    Ok(run_on(rt, words, input)?.is_line(status, lines))
 }
 
 /// Whether a run of the words reads the input to its end, ends with this status and writes these
 /// lines alone.
-pub fn reads_and_tells<R: AllocGlobal + Threads + Wait + Sync>(
+pub fn reads_all_and_prints<R: AllocGlobal + Threads + Wait + Sync>(
     rt: &R,
     words: &[&str],
     input: &[u8],
     status: u8,
     lines: &str,
 ) -> Result<bool, AllocError> {
-    let told = told_of(rt, words, input)?;
+    let told = run_on(rt, words, input)?;
     Ok(told.is_line(status, lines) && told.left.is_empty())
 }
 
@@ -48,7 +48,7 @@ pub fn writes<R: AllocGlobal + Threads + Wait + Sync>(
     status: u8,
     out: &[u8],
 ) -> Result<bool, AllocError> {
-    Ok(told_of(rt, words, input)?.is_as_written(status, out))
+    Ok(run_on(rt, words, input)?.is_as_written(status, out))
 }
 
 /// Whether a run of the words on the input is refused with this one line.
@@ -58,7 +58,7 @@ pub fn is_refused<R: AllocGlobal + Threads + Wait + Sync>(
     input: &[u8],
     line: &str,
 ) -> Result<bool, AllocError> {
-    Ok(told_of(rt, words, input)?.is_stop(2, line, b""))
+    Ok(run_on(rt, words, input)?.is_stop(2, line, b""))
 }
 
 /// Whether a run ends with a read fault and writes nothing, where the read behind so many bytes of
@@ -69,7 +69,7 @@ pub fn stops_reading<R: AllocGlobal + Threads + Wait + Sync>(
     input: &[u8],
     count: usize,
 ) -> Result<bool, AllocError> {
-    Ok(told_read_to(rt, words, input, count)?.is_stop(4, "pack: read fault\n", b""))
+    Ok(run_with_read_fault(rt, words, input, count)?.is_stop(4, "pack: read fault\n", b""))
 }
 
 /// Whether a run ends with a write fault and leaves so many bytes of the document, where the write
@@ -84,7 +84,7 @@ pub fn stops_writing<R: AllocGlobal + Threads + Wait + Sync>(
     if count > document.len() {
         return Ok(false);
     }
-    let told = told_written_to(rt, words, input, count)?;
+    let told = run_with_write_fault(rt, words, input, count)?;
     Ok(told.is_stop(5, "pack: write fault\n", &document[..count]))
 }
 
@@ -96,7 +96,7 @@ pub fn has_128_boxes<R: AllocGlobal + Threads + Wait + Sync>(
     input: &[u8],
     end: &[u8],
 ) -> Result<bool, AllocError> {
-    let told = told_of(rt, words, input)?;
+    let told = run_on(rt, words, input)?;
     Ok(
         told.status == 0
             && told.lines_from(b'b') == 128
@@ -106,13 +106,13 @@ pub fn has_128_boxes<R: AllocGlobal + Threads + Wait + Sync>(
 }
 
 /// Whether a run by so many workers, which call the gate, answers and writes what one worker does.
-pub fn is_as_alone<R: AllocGlobal + Threads + Wait + Sync, G: Gate + Sync>(
+pub fn matches_one_worker<R: AllocGlobal + Threads + Wait + Sync, G: Gate + Sync>(
     rt: &R,
     words: &[&str],
     workers: &str,
     input: &[u8],
     gate: &G,
 ) -> Result<bool, AllocError> {
-    let told = told_by(rt, words, workers, input, gate)?;
-    Ok(told.is_as(&told_by(rt, words, "1", input, &NoGate)?))
+    let told = run_with_workers(rt, words, workers, input, gate)?;
+    Ok(told.is_as(&run_with_workers(rt, words, "1", input, &NoGate)?))
 }

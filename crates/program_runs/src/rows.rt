@@ -1,5 +1,5 @@
 //! Tables of rows, each gone through by one loop.
-use crate::runs::told_of;
+use crate::runs::run_on;
 use std::alloc::{AllocError, AllocGlobal};
 use std::sync::Wait;
 use std::thread::Threads;
@@ -18,7 +18,7 @@ pub fn is_solved<R: AllocGlobal + Threads + Wait + Sync>(
     row: &Solved,
 ) -> Result<bool, AllocError> {
     let (words, text, status, rest) = *row;
-    let told = told_of(rt, words, text)?;
+    let told = run_on(rt, words, text)?;
     Ok(told.status == status && told.is_document(first, text, rest))
 }
 
@@ -29,5 +29,5 @@ pub fn is_checked<R: AllocGlobal + Threads + Wait + Sync>(
     row: &Checked,
 ) -> Result<bool, AllocError> {
     let (document, line) = *row;
-    Ok(told_of(rt, &["check"], document)?.is_line(status, line))
+    Ok(run_on(rt, &["check"], document)?.is_line(status, line))
 }

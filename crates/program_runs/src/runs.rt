@@ -8,14 +8,14 @@ use work_share::{Gate, NoGate};
 
 /// What a run answered and wrote, and what it left of its input.
 #[derive(Drop)]
-pub struct Told {
+pub struct RunResult {
     pub status: u8,
     pub out: Vec<u8>,
     pub err: Vec<u8>,
     pub left: Vec<u8>,
 }
 
-impl Told {
+impl RunResult {
     /// Whether the run ended with this status and wrote these lines alone.
     pub fn is_line(&self, status: u8, lines: &str) -> bool {
         self.status == status && self.out.as_slice() == lines.as_bytes() && self.err.is_empty()
@@ -34,7 +34,7 @@ impl Told {
     }
 
     /// Whether the other run answered and wrote the same.
-    pub fn is_as(&self, other: &Told) -> bool {
+    pub fn is_as(&self, other: &RunResult) -> bool {
         self.status == other.status
             && self.out.as_slice() == other.out.as_slice()
             && self.err.as_slice() == other.err.as_slice()
@@ -88,13 +88,13 @@ impl<'a> Plans<'a> {
 
 /// Runs the words on the input, where the source and the sinks follow these plans and the workers
 /// call the gate.
-pub fn told_at<R: AllocGlobal + Threads + Wait + Sync, G: Gate + Sync>(
+pub fn run_with<R: AllocGlobal + Threads + Wait + Sync, G: Gate + Sync>(
     rt: &R,
     words: &[&str],
     input: &[u8],
     plans: Plans<'_>,
     gate: &G,
-) -> Result<Told, AllocError> {
+) -> Result<RunResult, AllocError> {
     let given = owned(rt.alloc(), words)?;
     let mut source = source_of(rt.alloc(), input, plans.reads)?;
     told_into(rt, &given, &mut source, plans, gate)
@@ -107,7 +107,7 @@ fn told_into<R: AllocGlobal + Threads + Wait + Sync, G: Gate + Sync>(
     source: &mut MemorySource,
     plans: Plans<'_>,
     gate: &G,
-) -> Result<Told, AllocError> {
+) -> Result<RunResult, AllocError> {
     let alloc = rt.alloc();
     let mut out = sink_of(alloc, 65536, plans.writes)?;
     let mut err = sink_of(alloc, 256, plans.messages)?;
@@ -122,8 +122,8 @@ fn told_behind(
     out: &MemorySink,
     err: &MemorySink,
     source: &mut MemorySource,
-) -> Result<Told, AllocError> {
-    Ok(Told {
+) -> Result<RunResult, AllocError> {
+    Ok(RunResult {
         status,
         out: Vec::from_slice(alloc, out.written())?,
         err: Vec::from_slice(alloc, err.written())?,
@@ -156,64 +156,64 @@ fn sink_of(alloc: Global, room: usize, writes: &[WriteStep]) -> Result<MemorySin
 }
 
 /// Runs the words on the input, where the source and the sink follow these plans.
-pub fn told_with<R: AllocGlobal + Threads + Wait + Sync>(
+pub fn run_with_plans<R: AllocGlobal + Threads + Wait + Sync>(
     rt: &R,
     words: &[&str],
     input: &[u8],
     reads: &[ReadStep],
     writes: &[WriteStep],
-) -> Result<Told, AllocError> {
+) -> Result<RunResult, AllocError> {
     let plans = Plans {
         reads,
         writes,
         messages: &[],
     };
-    told_at(rt, words, input, plans, &NoGate)
+    run_with(rt, words, input, plans, &NoGate)
 }
 
 /// Runs the words on the input, where nothing fails.
-pub fn told_of<R: AllocGlobal + Threads + Wait + Sync>(
+pub fn run_on<R: AllocGlobal + Threads + Wait + Sync>(
     rt: &R,
     words: &[&str],
     input: &[u8],
-) -> Result<Told, AllocError> {
-    told_at(rt, words, input, Plans::none(), &NoGate)
+) -> Result<RunResult, AllocError> {
+    run_with(rt, words, input, Plans::none(), &NoGate)
 }
 
 /// Runs the words on the input, which comes byte by byte up to a fault behind so many bytes.
-pub fn told_read_to<R: AllocGlobal + Threads + Wait + Sync>(
+pub fn run_with_read_fault<R: AllocGlobal + Threads + Wait + Sync>(
     rt: &R,
     words: &[&str],
     input: &[u8],
     count: usize,
-) -> Result<Told, AllocError> {
+) -> Result<RunResult, AllocError> {
     let mut reads = vec![in rt.alloc(); ReadStep::Give(1); count]?;
     reads.push(ReadStep::Fail)?;
-    told_with(rt, words, input, &reads, &[])
+    run_with_plans(rt, words, input, &reads, &[])
 }
 
 /// Runs the words on the input, where so many bytes are taken one by one before a write fails.
-pub fn told_written_to<R: AllocGlobal + Threads + Wait + Sync>(
+pub fn run_with_write_fault<R: AllocGlobal + Threads + Wait + Sync>(
     rt: &R,
     words: &[&str],
     input: &[u8],
     count: usize,
-) -> Result<Told, AllocError> {
+) -> Result<RunResult, AllocError> {
     let mut writes = vec![in rt.alloc(); WriteStep::Take(1); count]?;
     writes.push(WriteStep::Fail)?;
-    told_with(rt, words, input, &[], &writes)
+    run_with_plans(rt, words, input, &[], &writes)
 }
 
 /// Runs the words on the input by so many workers, which call the gate.
-pub fn told_by<R: AllocGlobal + Threads + Wait + Sync, G: Gate + Sync>(
+pub fn run_with_workers<R: AllocGlobal + Threads + Wait + Sync, G: Gate + Sync>(
     rt: &R,
     words: &[&str],
     workers: &str,
     input: &[u8],
     gate: &G,
-) -> Result<Told, AllocError> {
+) -> Result<RunResult, AllocError> {
     let given = with_workers(rt.alloc(), words, workers)?;
-    told_at(rt, &given, input, Plans::none(), gate)
+    run_with(rt, &given, input, Plans::none(), gate)
 }
 
 // The words, and behind them so many workers.
@@ -230,14 +230,14 @@ fn with_workers<'a>(
 
 /// Whether ten runs by each of these numbers of workers answer and write what one worker does,
 /// which is this status.
-pub fn is_same_by<R: AllocGlobal + Threads + Wait + Sync>(
+pub fn is_same_for_workers<R: AllocGlobal + Threads + Wait + Sync>(
     rt: &R,
     words: &[&str],
     input: &[u8],
     status: u8,
     workers: &[&str],
 ) -> Result<bool, AllocError> {
-    let alone = told_by(rt, words, "1", input, &NoGate)?;
+    let alone = run_with_workers(rt, words, "1", input, &NoGate)?;
     Ok(alone.status == status && are_all(rt, words, input, workers, &alone)?)
 }
 
@@ -247,11 +247,11 @@ fn are_all<R: AllocGlobal + Threads + Wait + Sync>(
     words: &[&str],
     input: &[u8],
     workers: &[&str],
-    alone: &Told,
+    alone: &RunResult,
 ) -> Result<bool, AllocError> {
     for count in workers {
         for _ in 0..10 {
-            if !told_by(rt, words, count, input, &NoGate)?.is_as(alone) {
+            if !run_with_workers(rt, words, count, input, &NoGate)?.is_as(alone) {
                 return Ok(false);
             }
         }
@@ -281,7 +281,7 @@ impl Source for CountingSource {
 }
 
 /// How often a run of the words reads the input, of which each read takes what fits.
-pub fn told_read_whole<R: AllocGlobal + Threads + Wait + Sync>(
+pub fn count_reads<R: AllocGlobal + Threads + Wait + Sync>(
     rt: &R,
     words: &[&str],
     input: &[u8],

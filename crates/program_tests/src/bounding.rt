@@ -1,7 +1,7 @@
 //! `knapsack` with priced leaves, each document whole.
 use program_runs::{
-    SACK, Solved, UNIT, ends, is_refused, is_solved, stops_reading, stops_writing, tells,
-    told_read_to,
+    SACK, Solved, UNIT, ends, is_refused, is_solved, run_with_read_fault, stops_reading,
+    stops_writing, tells,
 };
 use std::alloc::Global;
 use std::test::Fail;
@@ -135,7 +135,7 @@ fn audit_reads_no_byte_behind_a_refused_line_of_a_bounded_document(
 ) -> Result<(), Fail> {
     let refused = "refused 3 text 2\n";
     assert!(rt; tells(&rt, AUDIT, DAMAGED, 1, refused)?);
-    assert!(rt; told_read_to(&rt, AUDIT, DAMAGED, 51)?.is_line(1, refused));
+    assert!(rt; run_with_read_fault(&rt, AUDIT, DAMAGED, 51)?.is_line(1, refused));
     for count in 0..51 {
         assert!(rt; stops_reading(&rt, AUDIT, DAMAGED, count)?, "{count}");
     }

@@ -9,8 +9,9 @@ const SPENT: &[&str] = &["strip", "--bounds", "yes", "--scales=no", "--budget", 
 const BY_FAMILY: &[u8] =
     b"result least 8\nplace 0 0\nplace 0 2\nplace 0 4\nplace 0 6\nproof\nk 2 1 2 3 4\nend\n";
 
-// With no branching and no scale functions the class trees leave heights open, and one family closes
-// them. With scale functions their own line stands, and a box that is too wide fits at no height.
+// With no branching and no scale functions the class trees leave heights open, and one family
+// closes them. With scale functions their own line stands, and a box that is too wide fits at no
+// height.
 const ROWS: [Solved; 4] = [
     (SPENT, BOARDS, 0, BY_FAMILY),
     (

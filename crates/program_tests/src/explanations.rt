@@ -1,6 +1,6 @@
 //! Refutations that are explained, and documents that hold none.
 use program_runs::{
-    TWO_BOXES_FIT, ends, reads_and_tells, stops_reading, stops_writing, tells, told_of,
+    TWO_BOXES_FIT, ends, reads_all_and_prints, run_on, stops_reading, stops_writing, tells,
 };
 use std::alloc::AllocGlobal;
 use std::sync::Wait;
@@ -33,7 +33,10 @@ const REFUSED: [(&[u8], &str); 5] = [
 #[test]
 fn what_holds_no_refutation_is_refused(rt: HostRuntime) -> Result<(), Fail> {
     for (document, line) in REFUSED {
-        assert!(rt; reads_and_tells(&rt, EXPLAIN, document, 1, line)?, "{line}");
+        assert!(rt;
+            reads_all_and_prints(&rt, EXPLAIN, document, 1, line)?,
+            "{line}"
+        );
     }
     Ok(())
 }
@@ -49,7 +52,7 @@ fn is_explained<R: AllocGlobal + Threads + Wait + Sync>(
     rt: &R,
     refutation: &[u8],
 ) -> Result<bool, Fail> {
-    let explained = told_of(rt, EXPLAIN, refutation)?;
+    let explained = run_on(rt, EXPLAIN, refutation)?;
     let line = "verified explained fit no\n";
     Ok(explained.status == 0 && tells(rt, &["audit"], &explained.out, 0, line)?)
 }
@@ -59,7 +62,7 @@ fn is_explained_of<R: AllocGlobal + Threads + Wait + Sync>(
     rt: &R,
     instance: &[u8],
 ) -> Result<bool, Fail> {
-    let refuted = told_of(rt, &["fit", "--scales", "no"], instance)?;
+    let refuted = run_on(rt, &["fit", "--scales", "no"], instance)?;
     Ok(refuted.status == 1 && is_explained(rt, &refuted.out)?)
 }
 

@@ -1,5 +1,5 @@
 //! Tasks are explored at the same time: one is held until another was explored.
-use program_runs::{EIGHT_IN_A_ROW, is_as_alone};
+use program_runs::{EIGHT_IN_A_ROW, matches_one_worker};
 use std::alloc::AllocGlobal;
 use std::sync::Wait;
 use std::sync::atomic::{AtomicBool, Ordering};
@@ -73,7 +73,7 @@ fn is_explored_beside<R: AllocGlobal + Threads + Wait + Sync>(
     job: &str,
     gate: &Holding,
 ) -> Result<bool, Fail> {
-    let is_same = is_as_alone(rt, &[job, "--scales", "no"], "2", EIGHT_IN_A_ROW, gate)?;
+    let is_same = matches_one_worker(rt, &[job, "--scales", "no"], "2", EIGHT_IN_A_ROW, gate)?;
     Ok(is_same && gate.is_passed())
 }
 
@@ -121,7 +121,7 @@ fn a_worker_that_found_no_task_comes_back(rt: HostRuntime) -> Result<(), Fail> {
         first: Holding::new(1, 2),
         second: Holding::new(3, 4),
     };
-    assert!(rt; is_as_alone(&rt, &["fit", "--scales", "no"], "2", UNEVEN, &gate)?);
+    assert!(rt; matches_one_worker(&rt, &["fit", "--scales", "no"], "2", UNEVEN, &gate)?);
     assert!(rt; gate.first.is_passed());
     assert!(rt; gate.second.is_passed());
     Ok(())

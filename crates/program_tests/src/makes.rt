@@ -1,5 +1,5 @@
 //! Generated instances, decided by one worker and by several.
-use program_runs::{is_same_by, told_by};
+use program_runs::{is_same_for_workers, run_with_workers};
 use std::alloc::AllocGlobal;
 use std::sync::Wait;
 use std::test::Fail;
@@ -43,7 +43,7 @@ fn is_made<R: AllocGlobal + Threads + Wait + Sync>(
     status: u8,
     lines: &str,
 ) -> Result<bool, Fail> {
-    Ok(told_by(rt, words, workers, b"not read", &NoGate)?.is_line(status, lines))
+    Ok(run_with_workers(rt, words, workers, b"not read", &NoGate)?.is_line(status, lines))
 }
 
 #[test]
@@ -60,7 +60,10 @@ fn made_instances_have_their_lines(rt: HostRuntime) -> Result<(), Fail> {
 fn made_instances_are_the_same_by_all(rt: HostRuntime) -> Result<(), Fail> {
     for number in ["0", "1", "2", "3", "4", "5", "6", "7"] {
         let words = ["make", "--number", number, "--budget", "500"];
-        assert!(rt; is_same_by(&rt, &words, b"", 0, &["2", "8"])?, "{number}");
+        assert!(rt;
+            is_same_for_workers(&rt, &words, b"", 0, &["2", "8"])?,
+            "{number}"
+        );
     }
     Ok(())
 }

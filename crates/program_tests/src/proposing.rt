@@ -1,7 +1,7 @@
 //! Instances that are decided by proposals first, with budgets of the described tree.
 use program_runs::{
-    EIGHT_IN_A_ROW, Solved, TWO_BOXES, UNIT, ends, is_refused, is_solved, stops_reading,
-    stops_writing, tells, told_of, writes,
+    EIGHT_IN_A_ROW, Solved, TWO_BOXES, UNIT, ends, is_refused, is_solved, run_on, stops_reading,
+    stops_writing, tells, writes,
 };
 use std::alloc::AllocGlobal;
 use std::sync::Wait;
@@ -159,7 +159,7 @@ fn is_verified<R: AllocGlobal + Threads + Wait + Sync>(
     row: &Verified,
 ) -> Result<bool, Fail> {
     let (words, shared, text, status, line) = *row;
-    let told = told_of(rt, words, text)?;
+    let told = run_on(rt, words, text)?;
     let is_same = writes(rt, shared, text, status, &told.out)?;
     let is_checked = tells(rt, &["check"], &told.out, 0, line)?;
     Ok(told.status == status && is_same && is_checked)

@@ -1,6 +1,6 @@
 //! Instances that are decided from their symmetry facts on, and the documents that are audited.
 use program_runs::{
-    EIGHT_IN_A_ROW, Solved, TWO_BOXES, UNIT, ends, is_refused, is_solved, reads_and_tells,
+    EIGHT_IN_A_ROW, Solved, TWO_BOXES, UNIT, ends, is_refused, is_solved, reads_all_and_prints,
     stops_reading, stops_writing, tells,
 };
 use std::test::Fail;
@@ -170,7 +170,7 @@ fn audits_write_one_line(rt: HostRuntime) -> Result<(), Fail> {
     for row in &AUDITED {
         let (document, status, line) = *row;
         assert!(rt;
-            reads_and_tells(&rt, AUDIT, document, status, line)?,
+            reads_all_and_prints(&rt, AUDIT, document, status, line)?,
             "{line}"
         );
     }

@@ -1,5 +1,5 @@
 //! The same bytes by every number of workers.
-use program_runs::{EIGHT_IN_A_ROW, PLANKS, SACK, STRIP, is_same_by};
+use program_runs::{EIGHT_IN_A_ROW, PLANKS, SACK, STRIP, is_same_for_workers};
 use std::test::Fail;
 
 const MANY: &[&str] = &["2", "4", "8"];
@@ -34,7 +34,7 @@ const ROWS: [(&[&str], &[u8], u8, &[&str]); 8] = [
 fn each_job_is_the_same_by_all(rt: HostRuntime) -> Result<(), Fail> {
     for row in &ROWS {
         let (words, text, status, workers) = *row;
-        assert!(rt; is_same_by(&rt, words, text, status, workers)?);
+        assert!(rt; is_same_for_workers(&rt, words, text, status, workers)?);
     }
     Ok(())
 }

@@ -1,6 +1,6 @@
 use Rattle.std.proofs.Common.{◌∙◌, ap, arith, inl, inr, List, ℕ}
-use Rattle.pack_command.specs.Asked.{Plain, Bounds, HeightBounds}
-use Rattle.pack_command.specs.Run.{IsTold}
+use Rattle.pack_command.specs.Asked.{Plain, ValueBounds, HeightBounds}
+use Rattle.pack_command.specs.Run.{IsMessageWritten}
 use Rattle.pack_command.specs.Stops.{stop_status}
 use Rattle.pack_command.proofs.OwnWritten.{own_written}
 use Rattle.pack_command.proofs.Generating.{made_exactly, never_four}
@@ -44,17 +44,17 @@ returns-in-Ok-clause-verified g c = λ job settings instance asked answer.
     own_written _ _ _ _ _ _ settings asked.bytes instance
     (solved_done _ _ _ _ _ _ job settings asked.asks c.in-Ok.ensures.answered) asked.told asked.read job asked.asks
 
-pub returns-in-Ok-clause-checks : goal.returns-in-Ok-clause-checks
-returns-in-Ok-clause-checks g c =
+pub returns-in-Ok-clause-check_exact : goal.returns-in-Ok-clause-check_exact
+returns-in-Ok-clause-check_exact g c =
     λ bytes asked answer. judged_exactly _ _ _ _ _ bytes asked.told
     (judged_done _ _ _ _ _ _ asked.asks c.in-Ok.ensures.answered)
 
-pub returns-in-Ok-clause-claimed : goal.returns-in-Ok-clause-claimed
-returns-in-Ok-clause-claimed g c =
+pub returns-in-Ok-clause-check_sound : goal.returns-in-Ok-clause-check_sound
+returns-in-Ok-clause-check_sound g c =
     λ asks zero. judged_claimed _ _ _ _ _ zero (judged_done _ _ _ _ _ _ asks c.in-Ok.ensures.answered)
 
-pub returns-in-Ok-clause-audits : goal.returns-in-Ok-clause-audits
-returns-in-Ok-clause-audits g c =
+pub returns-in-Ok-clause-audit_exact : goal.returns-in-Ok-clause-audit_exact
+returns-in-Ok-clause-audit_exact g c =
     λ bytes asked answer. exactly_read _ _ _ _ _ _ bytes asked.told
     (reading_done _ _ _ _ _ _ _ asked.asks c.in-Ok.ensures.answered)
 
@@ -63,17 +63,17 @@ returns-in-Ok-clause-explains g c =
     λ bytes asked answer. exactly_read _ _ _ _ _ _ bytes asked.told
     (reading_done _ _ _ _ _ _ _ asked.asks c.in-Ok.ensures.answered)
 
-pub returns-in-Ok-clause-attests : goal.returns-in-Ok-clause-attests
-returns-in-Ok-clause-attests g c =
+pub returns-in-Ok-clause-audit_sound : goal.returns-in-Ok-clause-audit_sound
+returns-in-Ok-clause-audit_sound g c =
     λ asks zero. audited_claimed _ _ _ _ _ zero (reading_done _ _ _ _ _ _ _ asks c.in-Ok.ensures.answered)
 
-pub returns-in-Ok-clause-sizes : goal.returns-in-Ok-clause-sizes
-returns-in-Ok-clause-sizes g c =
+pub returns-in-Ok-clause-front_sound : goal.returns-in-Ok-clause-front_sound
+returns-in-Ok-clause-front_sound g c =
     λ settings instance asked answer. told_decided _ _ _ _ _ _ settings instance asked
     (fronted_done _ _ _ _ _ _ settings asked.asks c.in-Ok.ensures.answered)
 
-pub returns-in-Ok-clause-fronts : goal.returns-in-Ok-clause-fronts
-returns-in-Ok-clause-fronts g c =
+pub returns-in-Ok-clause-front_exact : goal.returns-in-Ok-clause-front_exact
+returns-in-Ok-clause-front_exact g c =
     λ settings instance asked answer. told_front _ _ _ _ _ _ settings instance asked
     (fronted_done _ _ _ _ _ _ settings asked.asks c.in-Ok.ensures.answered)
 
@@ -82,58 +82,58 @@ returns-in-Ok-clause-whole g c =
     λ settings instance asked bound. told_whole _ _ _ _ _ _ settings instance asked
     (fronted_done _ _ _ _ _ _ settings asked.asks c.in-Ok.ensures.answered) bound
 
-pub returns-in-Ok-clause-confirmed : goal.returns-in-Ok-clause-confirmed
-returns-in-Ok-clause-confirmed g c =
+pub returns-in-Ok-clause-front_verified : goal.returns-in-Ok-clause-front_verified
+returns-in-Ok-clause-front_verified g c =
     λ settings instance asked answer. told_own _ _ _ _ _ _ settings instance asked
     (fronted_done _ _ _ _ _ _ settings asked.asks c.in-Ok.ensures.answered)
 
-pub returns-in-Ok-clause-proposes : goal.returns-in-Ok-clause-proposes
-returns-in-Ok-clause-proposes g c = λ job settings instance asked answer.
+pub returns-in-Ok-clause-proposals_sound : goal.returns-in-Ok-clause-proposals_sound
+returns-in-Ok-clause-proposals_sound g c = λ job settings instance asked answer.
     proposed_decided _ _ _ _ _ _ job settings instance asked
     (proposed_done _ _ _ _ _ _ (Plain job) settings asked.asks c.in-Ok.ensures.answered)
 
-pub returns-in-Ok-clause-settles : goal.returns-in-Ok-clause-settles
-returns-in-Ok-clause-settles g c = λ job settings instance asked few.
+pub returns-in-Ok-clause-proposals_budget_suffices : goal.returns-in-Ok-clause-proposals_budget_suffices
+returns-in-Ok-clause-proposals_budget_suffices g c = λ job settings instance asked few.
     proposed_within _ _ _ _ _ _ job settings instance asked
     (proposed_done _ _ _ _ _ _ (Plain job) settings asked.asks c.in-Ok.ensures.answered) few
 
-pub returns-in-Ok-clause-settled : goal.returns-in-Ok-clause-settled
-returns-in-Ok-clause-settled g c = λ settings instance asked answer enough.
+pub returns-in-Ok-clause-proposals_decide_fit : goal.returns-in-Ok-clause-proposals_decide_fit
+returns-in-Ok-clause-proposals_decide_fit g c = λ settings instance asked answer enough.
     proposed_exactly _ _ _ _ _ _ settings instance asked
     (proposed_done _ _ _ _ _ _ _ settings asked.asks c.in-Ok.ensures.answered) enough
 
-pub returns-in-Ok-clause-vouched : goal.returns-in-Ok-clause-vouched
-returns-in-Ok-clause-vouched g c = λ job settings instance asked answer.
+pub returns-in-Ok-clause-proposals_verified : goal.returns-in-Ok-clause-proposals_verified
+returns-in-Ok-clause-proposals_verified g c = λ job settings instance asked answer.
     proposed_own _ _ _ _ _ _ job settings instance asked
     (proposed_done _ _ _ _ _ _ (Plain job) settings asked.asks c.in-Ok.ensures.answered)
 
-pub returns-in-Ok-clause-bounds : goal.returns-in-Ok-clause-bounds
-returns-in-Ok-clause-bounds g c = λ proposals settings instance asked answer.
+pub returns-in-Ok-clause-value_bounds_sound : goal.returns-in-Ok-clause-value_bounds_sound
+returns-in-Ok-clause-value_bounds_sound g c = λ proposals settings instance asked answer.
     bounded_decided _ _ _ _ _ _ proposals settings instance asked
-    (proposed_done _ _ _ _ _ _ (Bounds proposals) settings asked.asks c.in-Ok.ensures.answered)
+    (proposed_done _ _ _ _ _ _ (ValueBounds proposals) settings asked.asks c.in-Ok.ensures.answered)
 
-pub returns-in-Ok-clause-bounds_settle : goal.returns-in-Ok-clause-bounds_settle
-returns-in-Ok-clause-bounds_settle g c = λ proposals settings instance asked few.
+pub returns-in-Ok-clause-value_bounds_budget_suffices : goal.returns-in-Ok-clause-value_bounds_budget_suffices
+returns-in-Ok-clause-value_bounds_budget_suffices g c = λ proposals settings instance asked few.
     bounded_within _ _ _ _ _ _ proposals settings instance asked
-    (proposed_done _ _ _ _ _ _ (Bounds proposals) settings asked.asks c.in-Ok.ensures.answered) few
+    (proposed_done _ _ _ _ _ _ (ValueBounds proposals) settings asked.asks c.in-Ok.ensures.answered) few
 
-pub returns-in-Ok-clause-bounds_vouched : goal.returns-in-Ok-clause-bounds_vouched
-returns-in-Ok-clause-bounds_vouched g c = λ proposals settings instance asked answer.
+pub returns-in-Ok-clause-value_bounds_verified : goal.returns-in-Ok-clause-value_bounds_verified
+returns-in-Ok-clause-value_bounds_verified g c = λ proposals settings instance asked answer.
     bounded_own _ _ _ _ _ _ proposals settings instance asked
-    (proposed_done _ _ _ _ _ _ (Bounds proposals) settings asked.asks c.in-Ok.ensures.answered)
+    (proposed_done _ _ _ _ _ _ (ValueBounds proposals) settings asked.asks c.in-Ok.ensures.answered)
 
-pub returns-in-Ok-clause-height_bounds : goal.returns-in-Ok-clause-height_bounds
-returns-in-Ok-clause-height_bounds g c = λ proposals settings instance asked answer.
+pub returns-in-Ok-clause-height_bounds_sound : goal.returns-in-Ok-clause-height_bounds_sound
+returns-in-Ok-clause-height_bounds_sound g c = λ proposals settings instance asked answer.
     heights_decided _ _ _ _ _ _ proposals settings instance asked
     (proposed_done _ _ _ _ _ _ (HeightBounds proposals) settings asked.asks c.in-Ok.ensures.answered)
 
-pub returns-in-Ok-clause-height_bounds_settle : goal.returns-in-Ok-clause-height_bounds_settle
-returns-in-Ok-clause-height_bounds_settle g c = λ proposals settings instance asked few.
+pub returns-in-Ok-clause-height_bounds_budget_suffices : goal.returns-in-Ok-clause-height_bounds_budget_suffices
+returns-in-Ok-clause-height_bounds_budget_suffices g c = λ proposals settings instance asked few.
     heights_within _ _ _ _ _ _ proposals settings instance asked
     (proposed_done _ _ _ _ _ _ (HeightBounds proposals) settings asked.asks c.in-Ok.ensures.answered) few
 
-pub returns-in-Ok-clause-height_bounds_vouched : goal.returns-in-Ok-clause-height_bounds_vouched
-returns-in-Ok-clause-height_bounds_vouched g c = λ proposals settings instance asked answer.
+pub returns-in-Ok-clause-height_bounds_verified : goal.returns-in-Ok-clause-height_bounds_verified
+returns-in-Ok-clause-height_bounds_verified g c = λ proposals settings instance asked answer.
     heights_own _ _ _ _ _ _ proposals settings instance asked
     (proposed_done _ _ _ _ _ _ (HeightBounds proposals) settings asked.asks c.in-Ok.ensures.answered)
 
@@ -175,56 +175,56 @@ pub returns-in-Err-clause-verified : goal.returns-in-Err-clause-verified
 returns-in-Err-clause-verified g c =
     λ job settings instance asked answer. absurd (stop_unanswered c.in-Err.stop _ c.status.ensures answer)
 
-pub returns-in-Err-clause-checks : goal.returns-in-Err-clause-checks
-returns-in-Err-clause-checks g c =
+pub returns-in-Err-clause-check_exact : goal.returns-in-Err-clause-check_exact
+returns-in-Err-clause-check_exact g c =
     λ bytes asked answer. absurd (stop_unanswered c.in-Err.stop _ c.status.ensures answer)
 
-pub returns-in-Err-clause-audits : goal.returns-in-Err-clause-audits
-returns-in-Err-clause-audits g c =
+pub returns-in-Err-clause-audit_exact : goal.returns-in-Err-clause-audit_exact
+returns-in-Err-clause-audit_exact g c =
     λ bytes asked answer. absurd (stop_unanswered c.in-Err.stop _ c.status.ensures answer)
 
 pub returns-in-Err-clause-explains : goal.returns-in-Err-clause-explains
 returns-in-Err-clause-explains g c =
     λ bytes asked answer. absurd (stop_unanswered c.in-Err.stop _ c.status.ensures answer)
 
-pub returns-in-Err-clause-sizes : goal.returns-in-Err-clause-sizes
-returns-in-Err-clause-sizes g c =
+pub returns-in-Err-clause-front_sound : goal.returns-in-Err-clause-front_sound
+returns-in-Err-clause-front_sound g c =
     λ settings instance asked answer. absurd (stop_unanswered c.in-Err.stop _ c.status.ensures answer)
 
-pub returns-in-Err-clause-fronts : goal.returns-in-Err-clause-fronts
-returns-in-Err-clause-fronts g c =
+pub returns-in-Err-clause-front_exact : goal.returns-in-Err-clause-front_exact
+returns-in-Err-clause-front_exact g c =
     λ settings instance asked answer. absurd (stop_unanswered c.in-Err.stop _ c.status.ensures answer)
 
-pub returns-in-Err-clause-confirmed : goal.returns-in-Err-clause-confirmed
-returns-in-Err-clause-confirmed g c =
+pub returns-in-Err-clause-front_verified : goal.returns-in-Err-clause-front_verified
+returns-in-Err-clause-front_verified g c =
     λ settings instance asked answer. absurd (stop_unanswered c.in-Err.stop _ c.status.ensures answer)
 
-pub returns-in-Err-clause-proposes : goal.returns-in-Err-clause-proposes
-returns-in-Err-clause-proposes g c =
+pub returns-in-Err-clause-proposals_sound : goal.returns-in-Err-clause-proposals_sound
+returns-in-Err-clause-proposals_sound g c =
     λ job settings instance asked answer. absurd (stop_unanswered c.in-Err.stop _ c.status.ensures answer)
 
-pub returns-in-Err-clause-settled : goal.returns-in-Err-clause-settled
-returns-in-Err-clause-settled g c =
+pub returns-in-Err-clause-proposals_decide_fit : goal.returns-in-Err-clause-proposals_decide_fit
+returns-in-Err-clause-proposals_decide_fit g c =
     λ settings instance asked answer enough. absurd (stop_unanswered c.in-Err.stop _ c.status.ensures answer)
 
-pub returns-in-Err-clause-vouched : goal.returns-in-Err-clause-vouched
-returns-in-Err-clause-vouched g c =
+pub returns-in-Err-clause-proposals_verified : goal.returns-in-Err-clause-proposals_verified
+returns-in-Err-clause-proposals_verified g c =
     λ job settings instance asked answer. absurd (stop_unanswered c.in-Err.stop _ c.status.ensures answer)
 
-pub returns-in-Err-clause-bounds : goal.returns-in-Err-clause-bounds
-returns-in-Err-clause-bounds g c =
+pub returns-in-Err-clause-value_bounds_sound : goal.returns-in-Err-clause-value_bounds_sound
+returns-in-Err-clause-value_bounds_sound g c =
     λ proposals settings instance asked answer. absurd (stop_unanswered c.in-Err.stop _ c.status.ensures answer)
 
-pub returns-in-Err-clause-bounds_vouched : goal.returns-in-Err-clause-bounds_vouched
-returns-in-Err-clause-bounds_vouched g c =
+pub returns-in-Err-clause-value_bounds_verified : goal.returns-in-Err-clause-value_bounds_verified
+returns-in-Err-clause-value_bounds_verified g c =
     λ proposals settings instance asked answer. absurd (stop_unanswered c.in-Err.stop _ c.status.ensures answer)
 
-pub returns-in-Err-clause-height_bounds : goal.returns-in-Err-clause-height_bounds
-returns-in-Err-clause-height_bounds g c =
+pub returns-in-Err-clause-height_bounds_sound : goal.returns-in-Err-clause-height_bounds_sound
+returns-in-Err-clause-height_bounds_sound g c =
     λ proposals settings instance asked answer. absurd (stop_unanswered c.in-Err.stop _ c.status.ensures answer)
 
-pub returns-in-Err-clause-height_bounds_vouched : goal.returns-in-Err-clause-height_bounds_vouched
-returns-in-Err-clause-height_bounds_vouched g c =
+pub returns-in-Err-clause-height_bounds_verified : goal.returns-in-Err-clause-height_bounds_verified
+returns-in-Err-clause-height_bounds_verified g c =
     λ proposals settings instance asked answer. absurd (stop_unanswered c.in-Err.stop _ c.status.ensures answer)
 
 pub returns-in-Err-clause-makes : goal.returns-in-Err-clause-makes
@@ -241,9 +241,9 @@ returns-in-Err-clause-completes g c =
 pub returns-in-Err-clause-refuses : goal.returns-in-Err-clause-refuses
 returns-in-Err-clause-refuses g c = λ stop asked.
     refuses _ _ _ _ _ stop asked c.in-Err.stop _ c.status.ensures c.in-Err.ensures.stopped
-    (λ (message : List ℕ). IsTold (g.E.Sink.written c.args.err.now) (g.E.Sink.written c.tell-told.new.err)
-    (g.E.Sink.faults c.args.err.now) (g.E.Sink.faults c.tell-told.new.err) message)
-    (c.tell-told.result, c.tell-told.ensures)
+    (λ (message : List ℕ). IsMessageWritten (g.E.Sink.written c.args.err.now) (g.E.Sink.written c.write_message-written.new.err)
+    (g.E.Sink.faults c.args.err.now) (g.E.Sink.faults c.write_message-written.new.err) message)
+    (c.write_message-written.result, c.write_message-written.ensures)
 
 pub returns-in-Err-clause-unwritten : goal.returns-in-Err-clause-unwritten
 returns-in-Err-clause-unwritten g c =

@@ -2,7 +2,7 @@
 ghost use Rattle.std.specs.Prelude.{◌≡◌, ◌≢◌, IfOk, IfErr, OnOk};
 ghost use Rattle.pack_streams.specs.Moves.{Gains};
 ghost use Rattle.pack_command.specs.Counts.{CountsWrites};
-ghost use Rattle.pack_command.specs.Generated.{made_for, IsMadeCut, IsMadeOf};
+ghost use Rattle.pack_command.specs.Generated.{made_for, IsSummaryPartlyWritten, IsMadeOf};
 
 use crate::stop::Stop;
 use answer_streams::{Made, fit_status, stream};
@@ -36,7 +36,7 @@ fn made<R: Threads + Wait + Sync, G: Gate + Sync>(
 
 /// Makes the instance of a number, decides whether it fits, and writes the three lines that tell of
 /// it. It answers the status of the decision, or why the lines weren't written whole.
-pub(crate) fn make_and_tell<R: Threads + Wait + Sync, K: Sink, G: Gate + Sync>(
+pub(crate) fn run_make<R: Threads + Wait + Sync, K: Sink, G: Gate + Sync>(
     rt: &R,
     alloc: Global,
     number: u32,
@@ -48,7 +48,7 @@ pub(crate) fn make_and_tell<R: Threads + Wait + Sync, K: Sink, G: Gate + Sync>(
     ensures written { OnOk result
         (Gains (K.written out.old) (K.written out.new) (made_for number settings.now).text) }
     ensures cut { IfErr result
-        (IsMadeCut number settings.now (K.written out.old) (K.written out.new)) }
+        (IsSummaryPartlyWritten number settings.now (K.written out.old) (K.written out.new)) }
     ensures unwritten { IfErr result (λ stop. stop ≢ Stop.WriteFault → out.new ≡ out.old) }
     ensures writes { CountsWrites (K.faults out.old) (K.faults out.new) result }
 {

@@ -41,7 +41,7 @@ fn found<R: Threads + Wait + Sync, G: Gate + Sync>(
 
 /// Reads an instance, walks along its front, and writes the document. It answers the status of the
 /// front, or why the document wasn't written whole.
-pub(crate) fn tell_front<R: Threads + Wait + Sync, S: Source, K: Sink, G: Gate + Sync>(
+pub(crate) fn run_front<R: Threads + Wait + Sync, S: Source, K: Sink, G: Gate + Sync>(
     rt: &R,
     alloc: Global,
     settings: &Settings,

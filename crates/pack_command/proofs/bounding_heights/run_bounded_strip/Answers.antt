@@ -3,7 +3,7 @@ use Rattle.answer_terms.specs.HeightAnswers.{strip_status, bounded_strip_text}
 use Rattle.bounded_heights.specs.Heights.{plain_strip}
 use Rattle.pack_command.specs.Asked.{HeightBounds}
 use Rattle.pack_command.proofs.ProposedFound.{proposed_cut}
-use Rattle.pack_command.proofs.bounding_heights.tell_bounded_strip.Goals as goal
+use Rattle.pack_command.proofs.bounding_heights.run_bounded_strip.Goals as goal
 
 pub returns-clause-stopped : goal.returns-clause-stopped
 returns-clause-stopped g c = λ words asks.

@@ -1,13 +1,13 @@
 use Rattle.std.proofs.Common.{refl}
 use Rattle.answer_terms.specs.BoundedAnswers.{bounded_status, bounded_text}
 use Rattle.bounded_choice.specs.Levels.{plain_levels}
-use Rattle.pack_command.specs.Asked.{Bounds}
+use Rattle.pack_command.specs.Asked.{ValueBounds}
 use Rattle.pack_command.proofs.ProposedFound.{proposed_cut}
-use Rattle.pack_command.proofs.bounding.tell_bounded.Goals as goal
+use Rattle.pack_command.proofs.bounding.run_bounded.Goals as goal
 
 pub returns-clause-stopped : goal.returns-clause-stopped
 returns-clause-stopped g c = λ words asks.
-    proposed_cut words _ _ _ _ (Bounds c.args.proposals) c.args.settings.now c.in_ok-instance.instance
+    proposed_cut words _ _ _ _ (ValueBounds c.args.proposals) c.args.settings.now c.in_ok-instance.instance
     (bounded_status (plain_levels c.in-Ok.levels)) (bounded_text c.in_ok-instance.instance (plain_levels c.in-Ok.levels))
     asks c.in_ok-instance.ensures.moves c.in_ok-instance.ensures.limits
     (record {

@@ -3,7 +3,7 @@ use Rattle.answer_terms.specs.Answers.{answer_text, status_of}
 use Rattle.answer_streams.specs.Solutions.{answer_found}
 use Rattle.pack_command.specs.Asked.{Plain}
 use Rattle.pack_command.proofs.ProposedFound.{proposed_cut, same_part}
-use Rattle.pack_command.proofs.proposing.tell_proposed.Goals as goal
+use Rattle.pack_command.proofs.proposal_job.run_proposed.Goals as goal
 
 pub returns-clause-stopped : goal.returns-clause-stopped
 returns-clause-stopped g c = λ words asks.

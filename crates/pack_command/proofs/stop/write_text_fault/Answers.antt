@@ -1,5 +1,5 @@
 use Rattle.pack_streams.proofs.Writers.{more}
-use Rattle.pack_command.proofs.stop.tell_fault.Goals as goal
+use Rattle.pack_command.proofs.stop.write_text_fault.Goals as goal
 
 pub returns : goal.returns
 returns g c =

@@ -1,7 +1,7 @@
 use Rattle.std.proofs.Common.{◌≡◌, arith}
 use Rattle.packing_terms.specs.Packing.{dims}
 use Rattle.pack_command.proofs.FrontAnswering.{front_written}
-use Rattle.pack_command.proofs.fronting.tell_front.Goals as goal
+use Rattle.pack_command.proofs.front_job.run_front.Goals as goal
 
 pub returns-in-Ok-stream-clause-answered : goal.returns-in-Ok-stream-clause-answered
 returns-in-Ok-stream-clause-answered g c = λ words asks.

@@ -55,7 +55,7 @@ fn found<R: Threads + Wait + Sync, G: Gate + Sync>(
 
 /// Reads an instance, decides it by proposals first, and writes the document. It answers the
 /// status, or why the document wasn't written whole.
-pub(crate) fn tell_proposed<R: Threads + Wait + Sync, S: Source, K: Sink, G: Gate + Sync>(
+pub(crate) fn run_proposed<R: Threads + Wait + Sync, S: Source, K: Sink, G: Gate + Sync>(
     rt: &R,
     alloc: Global,
     job: SolvingJob,
@@ -64,11 +64,13 @@ pub(crate) fn tell_proposed<R: Threads + Wait + Sync, S: Source, K: Sink, G: Gat
     out: &mut K,
     gate: &G,
 ) -> Result<u8, Stop>
-    ensures answered { (words : List (String PlainGlobal)) → AsksProposed words (Plain job) settings.now
+    ensures answered { (words : List (String PlainGlobal))
+        → AsksProposed words (Plain job) settings.now
         → IfOk result (IsProposedWritten words (S.left input.old) (S.left input.new)
         (K.written out.old) (K.written out.new)) }
     ensures status { IfOk result IsAnswerStatus }
-    ensures stopped { (words : List (String PlainGlobal)) → AsksProposed words (Plain job) settings.now
+    ensures stopped { (words : List (String PlainGlobal))
+        → AsksProposed words (Plain job) settings.now
         → IfErr result (IsWithoutProposed words (S.left input.old) (S.left input.new)
         (K.written out.old) (K.written out.new)) }
     ensures unwritten { IfErr result (λ stop. stop ≢ Stop.WriteFault → out.new ≡ out.old) }

@@ -6,7 +6,7 @@ use Rattle.pack_command.proofs.ProposedFit.{fit_proposed}
 use Rattle.pack_command.proofs.ProposedStrip.{strip_proposed}
 use Rattle.pack_command.proofs.ProposedBins.{bins_proposed}
 use Rattle.pack_command.proofs.ProposedChoice.{choice_proposed}
-use Rattle.pack_command.proofs.proposing.found.Goals as goal
+use Rattle.pack_command.proofs.proposal_job.found.Goals as goal
 
 pub returns-in_ok-outcome-in-Fit : goal.returns-in_ok-outcome-in-Fit
 returns-in_ok-outcome-in-Fit g c =

@@ -2,7 +2,7 @@ use Rattle.std.proofs.Common.{◌∙◌, refl, ap, []}
 use Rattle.packing_terms.specs.Packing.{PlainInstance}
 use Rattle.tree_terms.specs.Trees.{outcome, told}
 use Rattle.tree_terms.specs.ClassTree.{class_tree}
-use Rattle.pack_command.proofs.making.made.Goals as goal
+use Rattle.pack_command.proofs.make_job.made.Goals as goal
 
 pub returns : goal.returns
 returns g c = record {
