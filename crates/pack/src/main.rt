@@ -2,8 +2,11 @@
 //! process.
 #![tactic(auto)]
 
+mod input;
+
+use input::BufferedSource;
 use pack_command::run;
-use pack_streams::{Sink, StdSink, StdSource, write_all};
+use pack_streams::{Sink, StdSink, write_all};
 use std::io::BufReader;
 use std::process::ExitCode;
 use std::{env, io};
@@ -15,7 +18,7 @@ fn main(rt: HostRuntime) -> ExitCode {
     let mut err = StdSink::new(rt.stderr());
     // `check` reads a byte at a time, which is no system call each behind a buffer.
     let mut input = match BufReader::new(alloc, rt.stdin()) {
-        Ok(reader) => StdSource::new(reader),
+        Ok(reader) => BufferedSource::new(reader),
         Err(_) => return out_of_memory(&mut err),
     };
     let words = match command_words(&rt) {
