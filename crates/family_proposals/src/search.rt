@@ -2,9 +2,11 @@
 
 use crate::growing::{JoinOrder, grown, sorted_boxes};
 use crate::lines::family_lines;
-use crate::space::{apart_rows, root_closure};
+use crate::space::{Root, apart_rows, root};
 use box_instances::{Instance, NoMemory};
-use family_tokens::FamilyToken;
+use edge_state::EdgeState;
+use family_tokens::{FamilyToken, Token};
+use loose_lists::pushed;
 use std::alloc::Global;
 
 // A family in one dimension that is longer than the container: begun with each box in turn, and
@@ -41,9 +43,32 @@ fn family_in(
     Ok(None)
 }
 
-/// A refutation of an instance by one family of boxes side by side: boxes that are apart two by two
-/// in one dimension at the root, and together longer than the container there. `None` if the search
-/// finds none.
+// The lines of such a family in the first dimension that has one.
+fn family_of(
+    alloc: Global,
+    instance: &Instance,
+    state: &EdgeState,
+) -> Result<Option<Vec<FamilyToken>>, NoMemory> {
+    for dim in 0..instance.dims() {
+        let rows = apart_rows(alloc, state, dim)?;
+        let lines = family_in(alloc, instance, dim, &rows)?;
+        if lines.is_some() {
+            return Ok(lines);
+        }
+    }
+    Ok(None)
+}
+
+// A tree of one leaf.
+fn leaf_alone(alloc: Global, leaf: Token) -> Result<Vec<FamilyToken>, NoMemory> {
+    let mut lines = Vec::new(alloc);
+    pushed(&mut lines, FamilyToken::Plain(leaf))?;
+    Ok(lines)
+}
+
+/// A refutation of an instance at its root: the leaf of a box that is longer than the container or
+/// of a conflict of the closure, else one family of boxes side by side, which are apart two by two
+/// in one dimension and together longer than the container there. `None` if the search finds none.
 ///
 /// It closes the root once, and grows at most two families from each box in each dimension: some
 /// `2 d n^2` steps behind the closure, for n boxes in d dimensions. The lines are proposed alone:
@@ -52,15 +77,8 @@ pub fn propose_family(
     alloc: Global,
     instance: &Instance,
 ) -> Result<Option<Vec<FamilyToken>>, NoMemory> {
-    let Some(state) = root_closure(alloc, instance)? else {
-        return Ok(None);
-    };
-    for dim in 0..instance.dims() {
-        let rows = apart_rows(alloc, &state, dim)?;
-        let lines = family_in(alloc, instance, dim, &rows)?;
-        if lines.is_some() {
-            return Ok(lines);
-        }
+    match root(alloc, instance)? {
+        Root::Leaf(leaf) => Ok(Some(leaf_alone(alloc, leaf)?)),
+        Root::Open(state) => family_of(alloc, instance, &state),
     }
-    Ok(None)
 }

@@ -1,24 +1,40 @@
-//! The pairs of boxes that are apart in every packing.
+//! The root: what closes it, or the pairs of boxes that are apart in every packing.
 use crate::slots::bit;
 use box_instances::{Instance, NoMemory};
+use class_search::first_too_large;
 use edge_state::EdgeState;
+use family_tokens::Token;
 use loose_lists::pushed;
 use packing_terms::Rel;
 use rule_closure::{Closed, Closer};
 use std::alloc::Global;
 
-/// The closure of no exclusion, or `None` if it has a conflict: then no family is needed.
-pub(crate) fn root_closure(
-    alloc: Global,
-    instance: &Instance,
-) -> Result<Option<EdgeState>, NoMemory> {
+/// What the root comes to: the leaf that refutes it with no family, or its closure.
+pub(crate) enum Root {
+    Leaf(Token),
+    Open(EdgeState),
+}
+
+// The closure of no exclusion.
+fn closed_root(alloc: Global, instance: &Instance) -> Result<Root, NoMemory> {
     let dims = instance.dims();
     let count = instance.len();
     let mut state = EdgeState::new(alloc, dims, count)?;
     let mut closer = Closer::new(alloc, dims, count)?;
     match closer.close(instance, &mut state) {
-        Closed::Conflict => Ok(None),
-        Closed::Stable => Ok(Some(state)),
+        Closed::Conflict => Ok(Root::Leaf(Token::Rules)),
+        Closed::Stable => Ok(Root::Open(state)),
+    }
+}
+
+/// The root of an instance: a box that is longer than the container, else what its closure comes to.
+pub(crate) fn root(alloc: Global, instance: &Instance) -> Result<Root, NoMemory> {
+    match first_too_large(instance) {
+        Some((v, dim)) => Ok(Root::Leaf(Token::TooLarge {
+            box_no: v + 1,
+            dim: dim + 1,
+        })),
+        None => closed_root(alloc, instance),
     }
 }
 
